@@ -1,7 +1,8 @@
 """The page of bin/build_page beside the program, on an archive of annotated games.
 
 Headless Chromium opens the archive on the page, which is loaded anew: from the file's choice to the
-end of the conversion, by the page's own clock. The page's export has to be the program's.
+end of the conversion, by the page's own clock. The page's export has to be the program's. It needs
+selenium, which Debian's Python has: /usr/bin/python3 bench/run page.
 """
 import contextlib
 import hashlib
@@ -39,11 +40,10 @@ class Resources(contextlib.ExitStack):
 
 
 def seconds_of_page(test_page, browser, file):
-    browser.open(test_page.need_page())
+    browser.get(test_page.need_page())
     browser.wait_for(test_page.IS_READY)
-    field = browser.post("/element", {"using": "css selector", "value": "#files"})
     browser.run(BEGIN)
-    browser.post("/element/%s/value" % next(iter(field.values())), {"text": file})
+    browser.open_file(file)
     if browser.wait_for(test_page.IS_SHOWN) != "done":
         stop("the page does not end with an export")
     return browser.run("return (window.ended - window.begun) / 1000")

@@ -449,8 +449,9 @@ class Run:
                 process.terminate()
             pool.shutdown(wait=False, cancel_futures=True)
             for process in processes:
-                # each removes its temporary file
+                # each removes its temporary file; one that cannot would keep the output open
                 process.join(END_SECONDS)
+                process.kill()
             if isinstance(error, BrokenProcessPool):
                 raise LostProcess from None
             raise

@@ -1,106 +1,73 @@
-"""Drives headless Chromium through chromedriver, by the WebDriver protocol over HTTP."""
+"""A window of headless Chromium, driven by selenium."""
 import base64
 import json
-import re
-import shutil
-import subprocess
-import tempfile
-import time
-import urllib.error
-import urllib.request
+import unittest
 
 import programs
+
+try:
+    from selenium import webdriver
+    from selenium.webdriver.chrome.service import Service
+    from selenium.webdriver.support.wait import WebDriverWait
+except ImportError:
+    raise unittest.SkipTest("selenium is missing: Debian has it in python3-selenium") from None
 
 CHROMIUM, DRIVER = "chromium", "chromedriver"
 # how long a page may take for one answer, in seconds
 PATIENCE = 120
 
 
-class Browser:
+class Browser(webdriver.Chrome):
     """A browser window of a test. `flags` are further words for Chromium."""
 
     def __init__(self, test, *flags, size=(900, 1400)):
         programs.need(CHROMIUM, DRIVER)
-        self.folder = tempfile.mkdtemp()
-        test.addCleanup(shutil.rmtree, self.folder, True)
-        self.driver = subprocess.Popen(
-            [programs.found(DRIVER), "--port=0"], stdin=subprocess.DEVNULL,
-            stdout=subprocess.PIPE, stderr=subprocess.DEVNULL, text=True)
-        test.addCleanup(self.end)
-        self.session = None
-        self.root = "http://127.0.0.1:%s" % self.port()
-        words = ["--headless=new", "--no-sandbox", "--disable-gpu", "--disable-dev-shm-usage",
-                 "--no-first-run", "--hide-scrollbars", "--user-data-dir=" + self.folder,
-                 "--window-size=%d,%d" % size, *flags]
-        begun = self.call("POST", "/session", {"capabilities": {"alwaysMatch": {
-            "browserName": "chrome",
-            "goog:chromeOptions": {"binary": programs.found(CHROMIUM), "args": words},
-            "goog:loggingPrefs": {"performance": "ALL", "browser": "ALL"},
-        }}})
-        self.session, self.version = begun["sessionId"], begun["capabilities"]["browserVersion"]
-        self.post("/timeouts", {"script": 1000 * PATIENCE})
-        self.open("about:blank")
-        self.log("performance")  # what the browser asked for by itself as it began
-
-    def port(self):
-        """The port that the driver has chosen."""
-        for line in self.driver.stdout:
-            found = re.search(r"started successfully on port ([0-9]+)", line)
-            if found:
-                return found[1]
-        raise AssertionError("chromedriver says no port")
-
-    def end(self):
-        if self.session:
-            try:
-                self.call("DELETE", "/session/" + self.session)
-            except (OSError, AssertionError):
-                pass
-        self.driver.terminate()
-        self.driver.wait(timeout=30)
-        self.driver.stdout.close()
-
-    def call(self, method, path, body=None):
-        data = None if body is None else json.dumps(body).encode()
-        request = urllib.request.Request(self.root + path, data=data, method=method,
-                                         headers={"Content-Type": "application/json"})
-        try:
-            with urllib.request.urlopen(request, timeout=PATIENCE) as answer:
-                return json.load(answer)["value"]
-        except urllib.error.HTTPError as error:
-            raise AssertionError(json.load(error)["value"]["message"]) from None
-
-    def post(self, path, body):
-        return self.call("POST", "/session/%s%s" % (self.session, path), body)
-
-    def open(self, address):
-        self.post("/url", {"url": address})
+        options = webdriver.ChromeOptions()
+        options.binary_location = programs.found(CHROMIUM)
+        for word in ("--headless=new", "--no-sandbox", "--disable-gpu", "--disable-dev-shm-usage",
+                     "--no-first-run", "--hide-scrollbars", "--window-size=%d,%d" % size, *flags):
+            options.add_argument(word)
+        options.set_capability("goog:loggingPrefs", {"performance": "ALL", "browser": "ALL"})
+        super().__init__(service=Service(programs.found(DRIVER)), options=options)
+        test.addCleanup(self.quit)
+        self.set_script_timeout(PATIENCE)
+        self.get("about:blank")
+        self.get_log("performance")  # what the browser asked for by itself as it began
 
     def run(self, script, *values):
         """What a script returns: the body of a function of the values."""
-        return self.post("/execute/sync", {"script": script, "args": list(values)})
+        return self.execute_script(script, *values)
 
     def wait_for(self, script, *values):
         """Waits until a script returns something true, and gives that."""
-        until = time.monotonic() + PATIENCE
-        while time.monotonic() < until:
-            found = self.run(script, *values)
-            if found:
-                return found
-            time.sleep(0.05)
-        raise AssertionError("this did not become true: " + script)
+        return WebDriverWait(self, PATIENCE, 0.05).until(
+            lambda _: self.run(script, *values), "this did not become true: " + script)
 
     def await_script(self, script, *values):
         """What the promise of a script resolves to: the body of an async function."""
-        return self.post("/execute/async", {
-            "script": "const answer = arguments[arguments.length - 1];"
-                      "(async (...values) => {%s})(...arguments).then("
-                      "it => answer({value: it}), error => answer({error: String(error)}))"
-                      % script, "args": list(values)})
+        return self.execute_async_script(
+            "const answer = arguments[arguments.length - 1];"
+            "(async (...values) => {%s})(...arguments).then("
+            "it => answer({value: it}), error => answer({error: String(error)}))" % script, *values)
+
+    def open_file(self, path):
+        """Opens a file by its path, as a person does by a dialog."""
+        self.find_element("css selector", "#files").send_keys(path)
+
+    def press(self, *keys):
+        """Presses keys of the keyboard, in turn; those of a list together."""
+        actions = webdriver.ActionChains(self, 0)
+        for key in keys:
+            chord = key if isinstance(key, list) else [key]
+            for it in chord:
+                actions.key_down(it)
+            for it in reversed(chord):
+                actions.key_up(it)
+        actions.perform()
 
     def command(self, name, **parameters):
         """A command of Chromium's own protocol."""
-        return self.post("/goog/cdp/execute", {"cmd": name, "params": parameters})
+        return self.execute_cdp_cmd(name, parameters)
 
     def picture(self, path):
         """Writes a picture of the whole page."""
@@ -108,14 +75,8 @@ class Browser:
         with open(path, "wb") as file:
             file.write(base64.b64decode(data))
 
-    def log(self, kind):
-        return self.post("/se/log", {"type": kind})
-
     def requests(self):
         """The address of each request that the browser has made."""
-        found = []
-        for entry in self.log("performance"):
-            message = json.loads(entry["message"])["message"]
-            if message["method"] == "Network.requestWillBeSent":
-                found.append(message["params"]["request"]["url"])
-        return found
+        messages = [json.loads(it["message"])["message"] for it in self.get_log("performance")]
+        return [it["params"]["request"]["url"] for it in messages
+                if it["method"] == "Network.requestWillBeSent"]

@@ -1,8 +1,11 @@
 """What several tests of the tools need: the program, and other programs that may be missing."""
 import bz2
+import fcntl
 import functools
 import glob
 import gzip
+import importlib.machinery
+import importlib.util
 import io
 import json
 import lzma
@@ -43,9 +46,10 @@ def need(*names):
 
 @functools.lru_cache(maxsize=None)
 def printed_by_build(*options):
-    """The path that bin/build_program prints, or an empty text."""
-    ran = subprocess.run([os.path.join(ROOT, "bin/build_program"), *options],
-                         stdout=subprocess.PIPE, check=False)
+    """The path that bin/build_program prints, or an empty text. One process at a time builds."""
+    with open(os.path.join(ROOT, "bin/build_program"), "rb") as script:
+        fcntl.flock(script, fcntl.LOCK_EX)
+        ran = subprocess.run([script.name, *options], stdout=subprocess.PIPE, check=False)
     return os.fsdecode(ran.stdout).rstrip("\n")
 
 
@@ -123,13 +127,50 @@ def vectors():
         return json.load(file)["vectors"]
 
 
+def new_folder(test):
+    """A new folder, which is removed behind a test, or behind all tests of a class."""
+    folder = os.path.realpath(tempfile.mkdtemp())
+    clean = test.addClassCleanup if isinstance(test, type) else test.addCleanup
+    clean(shutil.rmtree, folder, True)
+    return folder
+
+
+class Folder:
+    """What a test has that works in a folder of its own."""
+
+    def setUp(self):
+        self.folder = new_folder(self)
+
+    def put(self, name, data):
+        """Writes a file, perhaps in a new folder of that one, and gives its path."""
+        path = os.path.join(os.fsencode(self.folder), os.fsencode(name))
+        os.makedirs(os.path.dirname(path), exist_ok=True)
+        with open(path, "wb") as file:
+            file.write(data if isinstance(data, bytes) else data.encode())
+        return os.fsdecode(path)
+
+    def get(self, name):
+        """The bytes of a file."""
+        with open(os.path.join(self.folder, name), "rb") as file:
+            return file.read()
+
+
+def load(script):
+    """The module that a script without a suffix is, by its path in the repository."""
+    loader = importlib.machinery.SourceFileLoader(os.path.basename(script),
+                                                  os.path.join(ROOT, script))
+    module = importlib.util.module_from_spec(
+        importlib.util.spec_from_loader(loader.name, loader))
+    loader.exec_module(module)
+    return module
+
+
 def without_rights(test, program):
     """The words that call a program as a user whom permissions bind: for root, as another one."""
     if os.geteuid() != 0:
         return [program]
     need("setpriv")
-    folder = tempfile.mkdtemp()
-    test.addCleanup(shutil.rmtree, folder)
+    folder = new_folder(test)
     os.chmod(folder, 0o755)
     copy = shutil.copy(program, folder + "/program")
     return ["setpriv", "--reuid=65534", "--clear-groups", copy]

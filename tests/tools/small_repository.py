@@ -2,10 +2,9 @@
 import os
 import shutil
 import sys
-import tempfile
 import time
 
-from programs import ROOT, run
+from programs import ROOT, new_folder, run
 
 # They stand for the two toolchains. What they build says which text its source had.
 RT = """#!/bin/sh
@@ -71,8 +70,7 @@ class Repository:
     """A copy of the scripts among crates that have one source each."""
 
     def __init__(self, test, commands=("cargo", "rustc")):
-        self.root = os.path.realpath(tempfile.mkdtemp())
-        test.addCleanup(shutil.rmtree, self.root)
+        self.root = new_folder(test)
         for folder in ("bin", "python"):
             shutil.copytree(ROOT + "/" + folder, self.root + "/" + folder,
                             ignore=shutil.ignore_patterns("__pycache__"))

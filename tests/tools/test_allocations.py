@@ -1,17 +1,11 @@
-#!/usr/bin/env python3
 """Tests of bin/try_allocations: on the program, and on one that gives wrong answers."""
 import contextlib
 import io
 import os
-import shutil
 import subprocess
-import sys
-import tempfile
 import unittest
 
-sys.path.insert(0, os.path.dirname(os.path.realpath(__file__)))
-from programs import need, need_proved_program, run
-from test_cargo import load
+from programs import Folder, load, need, need_proved_program, run
 
 # Without memory for its second block it forgets its line; without the first it says so.
 FORGETFUL = """
@@ -27,11 +21,10 @@ int main(void) {
 """
 
 
-class AllocationsTest(unittest.TestCase):
+class AllocationsTest(Folder, unittest.TestCase):
     def setUp(self):
         need("cc")
-        self.folder = tempfile.mkdtemp()
-        self.addCleanup(shutil.rmtree, self.folder, True)
+        super().setUp()
 
     def test_program(self):
         need_proved_program()
@@ -49,9 +42,7 @@ class AllocationsTest(unittest.TestCase):
         self.assertRegex(ran.stdout, rb"^check: \d+ refusals, \d+ reported, 0 wrong\n$")
 
     def test_wrong_answer_is_noticed(self):
-        source, program = self.folder + "/a.c", self.folder + "/a"
-        with open(source, "w", encoding="ascii") as file:
-            file.write(FORGETFUL)
+        source, program = self.put("a.c", FORGETFUL), self.folder + "/a"
         subprocess.run(["cc", "-O0", "-o", program, source], check=True)
         module = load("bin/try_allocations")
         module.BUILT = program
@@ -69,7 +60,3 @@ class AllocationsTest(unittest.TestCase):
         ran = run(["bin/try_allocations"], env=dict(os.environ, CC="/missing/cc"))
         self.assertEqual((ran.returncode, ran.stdout), (2, b""))
         self.assertIn(b"no C compiler", ran.stderr)
-
-
-if __name__ == "__main__":
-    unittest.main()

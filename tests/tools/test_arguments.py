@@ -1,4 +1,3 @@
-#!/usr/bin/env python3
 """A test of the command line: the proved program and Cargo's answer thousands of lists of words.
 
 Both have the same source, on two libraries: the proved one on the port of clap that the Rattle
@@ -17,11 +16,9 @@ import itertools
 import os
 import re
 import shutil
-import sys
 import tempfile
 import unittest
 
-sys.path.insert(0, os.path.dirname(os.path.realpath(__file__)))
 import programs
 import test_cargo
 
@@ -185,7 +182,3 @@ class Answers(unittest.TestCase):
         runner = Runner()
         self.addCleanup(runner.close)
         self.assertEqual(len({repr(runner.answer(proved, it)) for it in calls}), len(calls))
-
-
-if __name__ == "__main__":
-    unittest.main()

@@ -1,4 +1,3 @@
-#!/usr/bin/env python3
 """Tests of bench/run: its words, its readers of other tools' output, and its tables. No timing."""
 import contextlib
 import copy
@@ -7,12 +6,9 @@ import os
 import re
 import shutil
 import sys
-import tempfile
 import unittest
 
-sys.path.insert(0, os.path.dirname(os.path.realpath(__file__)))
-from programs import ROOT, run
-from test_cargo import load
+from programs import ROOT, Folder, load, new_folder, run
 
 sys.dont_write_bytecode = True
 sys.path.insert(0, ROOT + "/bench")
@@ -139,8 +135,7 @@ class Words(unittest.TestCase):
 
     def test_two_builds(self):
         """Programs that print their words and what they read stand for the builds."""
-        folder = tempfile.mkdtemp()
-        self.addCleanup(shutil.rmtree, folder)
+        folder = new_folder(self)
         for build, prints in (("old", "cat -"), ("new", "cat -"), ("other", "echo other")):
             os.makedirs("%s/%s/bench" % (folder, build))
             os.makedirs("%s/%s/crates/jobs/out" % (folder, build))
@@ -165,8 +160,7 @@ class Words(unittest.TestCase):
 
     def test_nothing_is_installed(self):
         """Of the tools only apt-get is there, which would fail, and bench/run does not call it."""
-        folder = tempfile.mkdtemp()
-        self.addCleanup(shutil.rmtree, folder)
+        folder = new_folder(self)
         shutil.copytree(ROOT + "/bench", folder + "/bench", ignore=shutil.ignore_patterns("out"))
         for name in ("strace", "apt-get"):
             with open(os.path.join(folder, name), "w", encoding="ascii") as file:
@@ -216,8 +210,7 @@ class Readers(unittest.TestCase):
                          [500, 3, 1, 250, 0, 250])
 
     def test_the_room_in_memory(self):
-        folder = tempfile.mkdtemp()
-        self.addCleanup(shutil.rmtree, folder)
+        folder = new_folder(self)
         self.addCleanup(setattr, measure, "IN_MEMORY", measure.IN_MEMORY)
         measure.IN_MEMORY = folder
         self.assertTrue(measure.has_room(__file__, 1))
@@ -356,12 +349,11 @@ class Tables(unittest.TestCase):
         self.assertEqual(line, "The least that was measured is 132 KiB, and 180 KiB with --checked,")
 
 
-class Builds(unittest.TestCase):
+class Builds(Folder, unittest.TestCase):
     """How calls are compared, with small programs in place of those that cargo builds."""
 
     def setUp(self):
-        self.folder = tempfile.mkdtemp()
-        self.addCleanup(shutil.rmtree, self.folder)
+        super().setUp()
         for name, other in (("found", lambda name: None), ("archive", self.archive),
                             ("callgrind", lambda words, file: [{"Ir": os.path.getsize(file)}]),
                             ("output_of", lambda name: "%s/%s" % (self.folder, name))):
@@ -399,16 +391,10 @@ class Builds(unittest.TestCase):
         self.assertIn("cargo failed; goes on without", said.getvalue())
 
 
-class Records(unittest.TestCase):
-    def setUp(self):
-        self.folder = tempfile.mkdtemp()
-        self.addCleanup(shutil.rmtree, self.folder)
-
+class Records(Folder, unittest.TestCase):
     def record(self, name, text, lines, script="bench/run"):
         """The text of the file afterwards, or None if it was rejected and left as it was."""
-        path = os.path.join(self.folder, name)
-        with open(path, "w", encoding="utf-8") as file:
-            file.write(text)
+        path = self.put(name, text)
         try:
             tables.record(path, lines, script)
         except ValueError:
@@ -452,7 +438,3 @@ class Records(unittest.TestCase):
         for name, table in script.TABLES.items():
             for path, _ in table.RECORDS:
                 self.expect_markers(os.path.relpath(path, ROOT), script.marker_of(name))
-
-
-if __name__ == "__main__":
-    unittest.main()

@@ -1,17 +1,14 @@
-#!/usr/bin/env python3
 """Tests of the library for C as it is installed, by Cargo and by rt: one call for each game."""
 import ctypes
 import os
 import re
-import shutil
 import sys
-import tempfile
 import unittest
 from ctypes import c_char, c_size_t, c_uint32, c_uint64, c_void_p
 
-sys.path.insert(0, os.path.dirname(os.path.realpath(__file__)))
 from documents import samples
-from programs import ROOT, need, need_library, need_program, need_proved_program, run, vectors
+from programs import (ROOT, need, need_library, need_program, need_proved_program, new_folder,
+                      run, vectors)
 
 OK, FAULT, FULL, NO_MODE, NO_GAME, MORE, BAD_PLACE = range(7)
 SAN, UCI = range(2)
@@ -169,8 +166,7 @@ class Installed:
         need_library(cls.build)
         if cls.build == "--proved":
             need_proved_program()
-        cls.folder = tempfile.mkdtemp()
-        cls.addClassCleanup(shutil.rmtree, cls.folder)
+        cls.folder = new_folder(cls)
         cls.prefix = cls.folder + "/prefix"
         ran = run([ROOT + "/bin/install", cls.build, cls.prefix], timeout=300)
         assert ran.returncode == 0, ran.stderr.decode()
@@ -587,7 +583,3 @@ class InstalledByCargo(Installed, unittest.TestCase):
 
 class InstalledByRt(Installed, unittest.TestCase):
     build = "--proved"
-
-
-if __name__ == "__main__":
-    unittest.main()

@@ -1,8 +1,5 @@
-#!/usr/bin/env python3
 """Tests of bin/to_cargo, and of what cargo builds from it."""
 import glob
-import importlib.machinery
-import importlib.util
 import os
 import re
 import shutil
@@ -12,10 +9,9 @@ import tarfile
 import tempfile
 import unittest
 
-sys.path.insert(0, os.path.dirname(os.path.realpath(__file__)))
 import programs
 from documents import blocks_of, code_of, lines_of, printed_by, table
-from programs import ROOT, need_cargo, run
+from programs import ROOT, Folder, need_cargo, run
 
 # One folder for all runs, so that only the first one builds everything.
 OUT = os.path.join(ROOT, "cargo/out")
@@ -82,7 +78,9 @@ OF_STANDARD = re.compile(
 
 
 def cargo(*words, env=None):
-    env = dict(os.environ, PATH=programs.PATH, CARGO_TARGET_DIR=OUT + "/target", **(env or {}))
+    # nothing here needs what a debugger reads, and it takes two fifths of the time
+    env = dict(os.environ, PATH=programs.PATH, CARGO_TARGET_DIR=OUT + "/target",
+               CARGO_PROFILE_DEV_DEBUG="0", **(env or {}))
     return run(["cargo", *words, "--offline"], cwd=OUT, env=env, timeout=500)
 
 
@@ -211,8 +209,7 @@ class Built(unittest.TestCase):
 
     def test_the_program_does_what_the_proved_one_does(self):
         proved, program = programs.need_proved_program(), built()
-        folder = tempfile.mkdtemp()
-        self.addCleanup(shutil.rmtree, folder)
+        folder = programs.new_folder(self)
         files = sorted(glob.glob(ROOT + "/examples/*.pgn"))
         for style in ("plain", "annotated"):
             file = "%s/%s.pgn" % (folder, style)
@@ -258,8 +255,7 @@ class Built(unittest.TestCase):
 
     def test_a_program_in_another_folder(self):
         """The one of LIBRARY, which depends on the crates by their paths."""
-        folder = tempfile.mkdtemp()
-        self.addCleanup(shutil.rmtree, folder)
+        folder = programs.new_folder(self)
         os.makedirs(folder + "/mine/src")
         os.symlink(OUT, folder + "/gillspoon-cargo")
         shutil.copytree(OUT + "/.cargo", folder + "/mine/.cargo")
@@ -287,11 +283,14 @@ class Built(unittest.TestCase):
         ran = run(["bin/test_tools", *DEVICES], env=env, timeout=500)
         self.assertEqual(ran.returncode, 0, ran.stdout.decode())
 
+
+class Memory(unittest.TestCase):
+    """The program that cargo makes, with allocations refused."""
+
     def test_want_of_memory_has_status_3_where_the_program_asks_for_it(self):
         programs.need("cc")
-        folder = tempfile.mkdtemp()
-        self.addCleanup(shutil.rmtree, folder)
-        tries = load("bin/try_allocations")
+        folder = programs.new_folder(self)
+        tries = programs.load("bin/try_allocations")
         tries.BUILT = built()
         library = tries.build(folder)
         # The name of FILE or DIR, the buffer of standard output, and the path of each file.
@@ -313,13 +312,12 @@ class Built(unittest.TestCase):
             self.assertGreaterEqual(reported, asks, words)
 
 
-class Release(unittest.TestCase):
+class Release(Folder, unittest.TestCase):
     """What bin/dist writes."""
 
     def setUp(self):
         need_cargo()
-        self.folder = tempfile.mkdtemp()
-        self.addCleanup(shutil.rmtree, self.folder)
+        super().setUp()
 
     def dist(self, script="bin/dist"):
         out = self.folder + "/out"
@@ -329,7 +327,7 @@ class Release(unittest.TestCase):
     def test_a_package_for_each_crate(self):
         out, status, said, errors = self.dist()
         self.assertEqual(status, 0, errors)
-        version = load("bin/to_cargo").version()
+        version = programs.load("bin/to_cargo").version()
         workspace = "%s/gillspoon-%s" % (out, version)
         crates = os.listdir(workspace + "/crates")
         packages = ["%s-%s.crate" % (it, version) for it in crates]
@@ -345,10 +343,10 @@ class Release(unittest.TestCase):
         self.assertIn("gillspoon-%s: " % version, said)
 
     def test_the_page_of_changes_has_the_version(self):
-        version = load("bin/to_cargo").version()
+        version = programs.load("bin/to_cargo").version()
         heads = re.findall(r"^## (\S+?),? ", read(ROOT + "/CHANGELOG.md"), re.MULTILINE)
         self.assertEqual(heads[0], version)
-        changes = load("bin/dist").check_changes
+        changes = programs.load("bin/dist").check_changes
         with self.assertRaises(SystemExit):
             changes("# Changes\n\n## 9.8.7\n", version)
         with self.assertRaises(SystemExit):
@@ -370,24 +368,12 @@ class Release(unittest.TestCase):
         self.assertNotIn(b"warning", ran.stderr)
 
 
-def load(script):
-    """A script of the repository as a module."""
-    loader = importlib.machinery.SourceFileLoader("script", os.path.join(ROOT, script))
-    module = importlib.util.module_from_spec(importlib.util.spec_from_loader("script", loader))
-    loader.exec_module(module)
-    return module
-
-
 def shown(ran):
     return ran.returncode, ran.stdout, ran.stderr
 
 
-class Written(unittest.TestCase):
+class Written(Folder, unittest.TestCase):
     """What bin/to_cargo writes, without cargo."""
-
-    def setUp(self):
-        self.folder = tempfile.mkdtemp()
-        self.addCleanup(shutil.rmtree, self.folder)
 
     def write(self, *words):
         out = self.folder + "/out"
@@ -530,7 +516,7 @@ class Written(unittest.TestCase):
         rows = [[it.strip("`") for it in row]
                 for row in table("cargo/README.md", *OTHER_LINES)]
         made = [[name, file.replace("crates/", "").replace(".rt", ".rs"), line, " ".join(others)]
-                for file, lines in load("bin/to_cargo").OTHER_LINES.items()
+                for file, lines in programs.load("bin/to_cargo").OTHER_LINES.items()
                 for name, (line, others) in lines.items()]
         self.assertEqual(sorted(it[:4] for it in rows), sorted(made))
         for _, file, line, other, reason in rows:
@@ -613,7 +599,7 @@ class Written(unittest.TestCase):
 
 def without_added(path, lines):
     """The lines of a file without those that bin/to_cargo adds, each of which has to be there."""
-    script = load("bin/to_cargo")
+    script = programs.load("bin/to_cargo")
     file = "crates/%s.rt" % path.split("/crates/")[1][:-3]
     added = []
     for conditions in script.ASSERTED.get(file, {}).values():
@@ -653,7 +639,3 @@ def is_made(line, source):
     if source == "use std::marker::{Brand, PhantomData};":
         made.append("use std::marker::PhantomData;")
     return line in made
-
-
-if __name__ == "__main__":
-    unittest.main()

@@ -1,15 +1,10 @@
-#!/usr/bin/env python3
 """Tests of `pgn_tool export --checked` with real files, pipes and devices."""
 import os
-import shutil
 import subprocess
-import sys
-import tempfile
 import time
 import unittest
 
-sys.path.insert(0, os.path.dirname(os.path.realpath(__file__)))
-from programs import need_program, not_tried, run, vectors
+from programs import Folder, need_program, not_tried, run, vectors
 
 HEAD = (b'[Event "?"]\n[Site "?"]\n[Date "????.??.??"]\n[Round "?"]\n[White "?"]\n[Black "?"]\n'
         b'[Result "%s"]\n\n')
@@ -20,17 +15,13 @@ def game(moves, result=b"*"):
     return HEAD % result + moves + b"\n\n"
 
 
-class CheckedTest(unittest.TestCase):
+class CheckedTest(Folder, unittest.TestCase):
     def setUp(self):
+        super().setUp()
         self.program = need_program()
-        self.folder = tempfile.mkdtemp()
-        self.addCleanup(shutil.rmtree, self.folder, True)
 
     def write(self, text):
-        path = os.path.join(self.folder, "games.pgn")
-        with open(path, "wb") as file:
-            file.write(text)
-        return path
+        return self.put("games.pgn", text)
 
     def export(self, *words, **more):
         return run([self.program, "export", "--checked", *words], **more)
@@ -157,7 +148,3 @@ class CheckedTest(unittest.TestCase):
         with open("/dev/full", "wb") as full:
             ran = run([self.program, "export", "--checked", self.write(b"1-0")], stdout=full)
         self.assertEqual((ran.returncode, ran.stderr), (1, b"output cannot be written\n"))
-
-
-if __name__ == "__main__":
-    unittest.main()

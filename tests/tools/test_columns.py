@@ -1,13 +1,10 @@
-#!/usr/bin/env python3
 """Tests of bin/check_columns, and of the repository by it."""
 import os
 import shutil
 import sys
-import tempfile
 import unittest
 
-sys.path.insert(0, os.path.dirname(os.path.realpath(__file__)))
-from programs import ROOT, run
+from programs import ROOT, Folder, run
 
 SCRIPT = ROOT + "/bin/check_columns"
 # 100 and 101 columns, in words.
@@ -15,16 +12,9 @@ FULL = "word " * 19 + "words"
 LONG = "word " * 19 + "wordss"
 
 
-class Columns(unittest.TestCase):
-    def setUp(self):
-        self.folder = tempfile.mkdtemp()
-        self.addCleanup(shutil.rmtree, self.folder)
-
+class Columns(Folder, unittest.TestCase):
     def put(self, name, *lines):
-        path = os.path.join(self.folder, name)
-        os.makedirs(os.path.dirname(path), exist_ok=True)
-        with open(path, "w", encoding="utf-8") as file:
-            file.write("\n".join(lines) + "\n")
+        super().put(name, "\n".join(lines) + "\n")
 
     def check(self, *words):
         ran = run([sys.executable, SCRIPT, *words])
@@ -110,6 +100,3 @@ class Columns(unittest.TestCase):
         self.assertEqual((status, said), (0, ""))
         self.assertIn("100 columns", shown)
 
-
-if __name__ == "__main__":
-    unittest.main()

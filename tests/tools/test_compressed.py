@@ -1,14 +1,9 @@
-#!/usr/bin/env python3
 """Tests of compressed input: each script takes each kind, by a name and as standard input."""
 import os
-import shutil
-import sys
-import tempfile
 import unittest
 
-sys.path.insert(0, os.path.dirname(os.path.realpath(__file__)))
 import programs
-from programs import PACKERS, ROOT, need, need_program, run
+from programs import PACKERS, ROOT, Folder, need, need_program, run
 from test_python import library
 
 # A bad game of 30 bytes between two sound ones of 27; what is mended of it, and its place.
@@ -18,22 +13,13 @@ MENDED = TEXT.replace(b"e2-e4", b"e2e4")
 PLACE = 45
 
 
-class Compressed(unittest.TestCase):
+class Compressed(Folder, unittest.TestCase):
     def setUp(self):
         need("zstd")
-        self.folder = tempfile.mkdtemp()
-        self.addCleanup(shutil.rmtree, self.folder)
+        super().setUp()
         self.env = dict(os.environ, PATH=programs.PATH, PGN_TOOL=need_program(),
                         GILLSPOON_LIBRARY=library(), LC_ALL="C.UTF-8", TMPDIR=self.folder + "/tmp")
         os.mkdir(self.folder + "/tmp")
-
-    def put(self, name, data):
-        with open(os.path.join(self.folder, name), "wb") as file:
-            file.write(data)
-
-    def read(self, name):
-        with open(os.path.join(self.folder, name), "rb") as file:
-            return file.read()
 
     def call(self, script, *words, data=b""):
         """Runs a script, which leaves no temporary file."""
@@ -75,7 +61,7 @@ class Compressed(unittest.TestCase):
                     if kind == "zip" and "--fix" in words:
                         out = out[:-2]
                     self.assertEqual((status, out, told), said)
-            self.assertIn(b"% byte 45: not a move; line 7\n", self.read("bad"))
+            self.assertIn(b"% byte 45: not a move; line 7\n", self.get("bad"))
             status, out, told = self.call("pgn_lint", "--diff", "-", data=data)
             self.assertEqual((status, out[:31]), (1, b"--- <stdin>\n+++ <stdin> mended\n"), told)
             self.assertIn(b"\n-1. e2-e4 e5 *\n+1. e2e4 e5 *\n", out)
@@ -101,7 +87,7 @@ class Compressed(unittest.TestCase):
                 found, out, told = self.call(script, *words)
                 self.assertEqual(found, status, (kind, script, told))
                 self.assertIn(said.replace(b"%s", name.encode()), out + told)
-            self.assertIn(b"% byte 45: not a move; line 7\n", self.read("bad"))
+            self.assertIn(b"% byte 45: not a move; line 7\n", self.get("bad"))
 
     def test_what_is_cut_off_is_told_without_a_temporary_name(self):
         """The status is 3, in one line; an output that is there stays as it is."""
@@ -119,7 +105,7 @@ class Compressed(unittest.TestCase):
                     self.assertEqual(status, 3)
                     self.assertRegex(lines[0], r"^%s: (<stdin>|standard input): \S" % script)
                     self.assertNotIn("/", lines[0])
-                    self.assertEqual((self.read("good"), self.read("bad")), (b"old", b"old"), out)
+                    self.assertEqual((self.get("good"), self.get("bad")), (b"old", b"old"), out)
 
     def test_a_zip_without_games(self):
         import io

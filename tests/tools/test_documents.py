@@ -1,4 +1,3 @@
-#!/usr/bin/env python3
 """Runs the console blocks of the documents, and compares all that they show. Tests links too.
 
 A console block is a fenced block with a line that begins with '$ '. docs/CONTRIBUTING.md says what
@@ -11,11 +10,8 @@ import os
 import re
 import shlex
 import shutil
-import sys
-import tempfile
 import unittest
 
-sys.path.insert(0, os.path.dirname(os.path.realpath(__file__)))
 import programs
 from documents import blocks_of, code_of, documents, is_console, lines_of, prose_of, table
 from programs import ROOT, on_a_terminal, run
@@ -65,8 +61,7 @@ class Home:
     """A home folder with a copy of the repository, and what is built of it."""
 
     def __init__(self, test):
-        folder = os.path.realpath(tempfile.mkdtemp())
-        test.addCleanup(shutil.rmtree, folder)
+        folder = programs.new_folder(test)
         self.path, self.copy = folder + "/me", folder + "/me/gillspoon"
         skipped = shutil.ignore_patterns(".git", "out", "__pycache__")
         shutil.copytree(ROOT, self.copy, ignore=skipped, symlinks=True)
@@ -347,6 +342,3 @@ class Length(unittest.TestCase):
         for document, most in MOST_LINES.items():
             self.assertLessEqual(len(lines_of(document)) - 1, most, "lines of " + document)
 
-
-if __name__ == "__main__":
-    unittest.main()

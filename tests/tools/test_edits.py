@@ -1,15 +1,13 @@
 """The wrong bodies of edits/ fit the sources, each function that docs/PROVED.md names has one, and
 bin/try_edits reads what a check says of an edit."""
 import glob
-import importlib.machinery
-import importlib.util
 import os
 import re
 import subprocess
 import tempfile
 import unittest
 
-from programs import ROOT
+from programs import ROOT, load
 
 SCRIPT = os.path.join(ROOT, "bin", "try_edits")
 # Rows of docs/PROVED.md that the proof alone holds, by some of their names. Those with conditions
@@ -23,10 +21,7 @@ PROOF_ALONE = (
 
 def loaded():
     """The script as a module."""
-    loader = importlib.machinery.SourceFileLoader("try_edits", SCRIPT)
-    module = importlib.util.module_from_spec(importlib.util.spec_from_loader("try_edits", loader))
-    loader.exec_module(module)
-    return module
+    return load("bin/try_edits")
 
 
 def call(*words):
@@ -364,6 +359,8 @@ class Verdicts(unittest.TestCase):
             "fn a::f: no proof: expected answers in ./proofs/f/Answers.antt",
         ):
             self.check("refused", 1, line, "logic=not-proved", "rt: rt lemma WORD.. finds a lemma")
+            # what a check of one function says
+            self.check("refused", 1, line, "fn a::f: not proved", "only=2 proved=1")
 
     def test_only_a_proof_names_what_is_gone(self):
         gone = "./proofs/A.antt:4:2: error: `returns`: `x` is not in scope"
@@ -442,7 +439,3 @@ class Lanes(unittest.TestCase):
             "HANDLES", "crates.txt", "crates/low/src/lib.rt", "crates/low/out/rlib/low",
             "crates/top/src/lib.rt", "crates/top/out/incremental/b", "crates/other/src/lib.rt",
         ]))
-
-
-if __name__ == "__main__":
-    unittest.main()

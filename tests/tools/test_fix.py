@@ -1,4 +1,3 @@
-#!/usr/bin/env python3
 """Tests of the fixes: pgn_lint --fix and --diff, gillspoon.fixes, and the table of spellings."""
 import glob
 import json
@@ -12,7 +11,6 @@ import sys
 import time
 import unittest
 
-sys.path.insert(0, os.path.dirname(os.path.realpath(__file__)))
 from programs import ROOT, need
 from spellings import LEFT, SAFE, UNSAFE
 from test_lint import LINT, Lint, setUpModule as _set_up_lint
@@ -366,15 +364,11 @@ class Warnings(Lint):
 class Command(Lint):
     """pgn_lint --fix, --diff and --fixes."""
 
-    def read(self, name):
-        with open(os.path.join(self.folder, name), "rb") as file:
-            return file.read()
-
     def test_fix(self):
         self.put("a.pgn", BAD)
         self.assertEqual(self.lint("--fix", "a.pgn"),
                          (0, LINE + "1 file, 1 game, 0 faults, 1 edit\n", ""))
-        self.assertEqual(self.read("a.pgn"), MENDED)
+        self.assertEqual(self.get("a.pgn"), MENDED)
         before = os.stat(self.folder + "/a.pgn").st_ino
         self.assertEqual(self.lint("--fix", "a.pgn"), (0, "1 file, 1 game, 0 faults, 0 edits\n", ""))
         self.assertEqual(os.stat(self.folder + "/a.pgn").st_ino, before)
@@ -389,7 +383,7 @@ class Command(Lint):
                 "a.pgn:8:9: stray byte (game 2, Ada \u2013 Bob)\n"
                 "1 file, 2 games, 1 fault in 1 file, 3 edits, 1 more with --unsafe-fixes\n")
         self.assertEqual(self.lint("--fix", "a.pgn"), (1, said, ""))
-        self.assertEqual(self.read("a.pgn"), b'[Result "1-0"]\n\n1. e2e4 1-0\n\n' + wanted)
+        self.assertEqual(self.get("a.pgn"), b'[Result "1-0"]\n\n1. e2e4 1-0\n\n' + wanted)
         said = ("a.pgn:8:9: fixed (unsafe): null move: -- 2. d4 \u2192 {-- 2. d4}\n"
                 "1 file, 2 games, 0 faults, 1 edit\n")
         self.assertEqual(self.lint("--fix", "--unsafe-fixes", "a.pgn"), (0, said, ""))
@@ -409,7 +403,7 @@ class Command(Lint):
                          (1, ["--- a.pgn", "+++ a.pgn mended"], LINE.replace("fixed", "would fix")))
         self.assertEqual([it for it in out.splitlines()[2:] if it[0] in "+-"],
                          ["-1. e2-e4 e5 *", "+1. e2e4 e5 *"])
-        self.assertEqual(self.read("a.pgn"), BAD)
+        self.assertEqual(self.get("a.pgn"), BAD)
         self.put("a.pgn", MENDED)
         self.assertEqual(self.lint("--diff", "--quiet", "a.pgn"), (0, "", ""))
 
@@ -417,7 +411,7 @@ class Command(Lint):
         self.put("a.pgn", BAD)
         self.assertEqual(self.lint("--fix", "--ignore", "long-notation", "a.pgn")[0], 1)
         self.assertEqual(self.lint("--fix", "--select", "castling,small letter", "a.pgn")[0], 1)
-        self.assertEqual(self.read("a.pgn"), BAD)
+        self.assertEqual(self.get("a.pgn"), BAD)
         self.assertEqual(self.lint("--fix", "--select", "long notation", "a.pgn")[0], 0)
         self.assertEqual(self.lint("--fix", "--select", "none", "a.pgn"), (2, "", (
             "pgn_lint: argument --select: there is no fix none; --fixes lists them "
@@ -501,13 +495,13 @@ class Command(Lint):
                                              "names keep the old text\n"))
         self.assertTrue(os.path.islink(self.folder + "/link.pgn"))
         self.assertEqual(stat.S_IMODE(os.stat(self.folder + "/a.pgn").st_mode), 0o640)
-        self.assertEqual((self.read("a.pgn"), self.read("hard.txt")), (MENDED, BAD))
+        self.assertEqual((self.get("a.pgn"), self.get("hard.txt")), (MENDED, BAD))
         self.put("b.pgn", BAD)
         os.chmod(self.folder + "/b.pgn", 0o444)
         status, out, told = self.lint("--fix", "b.pgn")
         self.assertEqual((status, told), (
             3, "pgn_lint: b.pgn: is read-only; it is left as it is\n"))
-        self.assertEqual((self.read("b.pgn"), sorted(os.listdir(self.folder))),
+        self.assertEqual((self.get("b.pgn"), sorted(os.listdir(self.folder))),
                          (BAD, ["a.pgn", "b.pgn", "hard.txt", "link.pgn"]))
 
     def test_a_full_disk(self):
@@ -522,7 +516,7 @@ class Command(Lint):
 
         status, _, told = self.lint("--fix", "a.pgn", preexec_fn=limit)
         self.assertEqual(status, 3, told)
-        self.assertEqual((self.read("a.pgn"), os.listdir(self.folder)), (text, ["a.pgn"]))
+        self.assertEqual((self.get("a.pgn"), os.listdir(self.folder)), (text, ["a.pgn"]))
 
     def test_a_kill(self):
         text = BAD * 20000
@@ -536,7 +530,7 @@ class Command(Lint):
                 running.stdout.read()
             self.assertEqual(running.returncode, -number)
             left = sorted(os.listdir(self.folder))
-            self.assertEqual(self.read("a.pgn"), text)
+            self.assertEqual(self.get("a.pgn"), text)
             if number != signal.SIGKILL:
                 self.assertEqual(left, ["a.pgn"])
 
@@ -558,11 +552,7 @@ class Processes(Lint):
         os.symlink("one.pgn", self.folder + "/all/three.pgn")
 
     def texts(self):
-        found = {}
-        for name in sorted(os.listdir(self.folder + "/all")):
-            with open(os.path.join(self.folder, "all", name), "rb") as file:
-                found[name] = file.read()
-        return found
+        return {it: self.get("all/" + it) for it in sorted(os.listdir(self.folder + "/all"))}
 
     def empty(self):
         import shutil
@@ -613,11 +603,7 @@ class Processes(Lint):
             self.assertEqual((running.returncode, told), (-number, b""))
             self.assertEqual(sorted(os.listdir(self.folder)), ["a.pgn", "b.pgn", "c.pgn"])
             for name in ("a.pgn", "b.pgn", "c.pgn"):
-                self.assertIn(self.read(name), (text, MENDED * 20000))
-
-    def read(self, name):
-        with open(os.path.join(self.folder, name), "rb") as file:
-            return file.read()
+                self.assertIn(self.get(name), (text, MENDED * 20000))
 
     def test_sound_files_import_no_fix(self):
         """They cost what pgn_lint costs."""

@@ -1,18 +1,14 @@
-#!/usr/bin/env python3
 """Tests of bin/pgn_fmt."""
 import doctest
 import importlib
 import os
-import shutil
 import signal
 import subprocess
 import sys
-import tempfile
 import time
 import unittest
 
-sys.path.insert(0, os.path.dirname(os.path.realpath(__file__)))
-from programs import ROOT, need, need_program, run, vectors
+from programs import ROOT, Folder, need, need_program, run, vectors
 from test_python import PACKAGE, library
 
 FMT = ROOT + "/bin/pgn_fmt"
@@ -23,22 +19,13 @@ LOOSE, TIDY = b'[White "A"] e4 e5 *', HEAD % b"A" + b"1. e4 e5 *\n\n"
 BAD = b'[White "B"] e4 e9 *\n'
 
 
-class FmtTest(unittest.TestCase):
+class FmtTest(Folder, unittest.TestCase):
     def setUp(self):
+        super().setUp()
         self.program = need_program()
-        self.folder = tempfile.mkdtemp()
-        self.addCleanup(shutil.rmtree, self.folder)
-        self.write("loose.pgn", LOOSE)
-        self.write("tidy.pgn", TIDY)
-        self.write("bad.pgn", BAD)
-
-    def write(self, name, text):
-        with open(os.path.join(self.folder, name), "wb") as file:
-            file.write(text)
-
-    def read(self, name):
-        with open(os.path.join(self.folder, name), "rb") as file:
-            return file.read()
+        self.put("loose.pgn", LOOSE)
+        self.put("tidy.pgn", TIDY)
+        self.put("bad.pgn", BAD)
 
     def call(self, *words, program=None, **more):
         env = dict(os.environ, PGN_TOOL=program or self.program)
@@ -56,7 +43,7 @@ class FmtTest(unittest.TestCase):
     def test_compressed(self):
         """It is read by its first bytes, and --write leaves it as it is."""
         import gzip
-        self.write("packed.pgn", gzip.compress(LOOSE))
+        self.put("packed.pgn", gzip.compress(LOOSE))
         self.check(self.call("packed.pgn"), 0, TIDY)
         self.check(self.call("--checked", "packed.pgn"), 0, TIDY)
         self.check(self.call("--check", "packed.pgn"), 1, b"packed.pgn\n")
@@ -64,22 +51,22 @@ class FmtTest(unittest.TestCase):
             b"pgn_fmt: packed.pgn: is compressed, and left as it is: unpack it first\n"))
         need("diff")
         self.assertIn(b"\n+1. e4 e5 *\n", self.call("--diff", "packed.pgn").stdout)
-        self.write("packed.pgn", gzip.compress(TIDY))
+        self.put("packed.pgn", gzip.compress(TIDY))
         self.check(self.call("--check", "packed.pgn"), 0, b"")
 
     def test_merge(self):
         # a byte order mark, and no LF at the end
-        self.write("mark.pgn", b"\xef\xbb\xbf" + LOOSE)
+        self.put("mark.pgn", b"\xef\xbb\xbf" + LOOSE)
         self.check(self.call("mark.pgn", "loose.pgn", "mark.pgn"), 0, TIDY * 3)
         self.check(self.call("--output", "all.pgn", "mark.pgn", "tidy.pgn"), 0, b"")
-        self.assertEqual(self.read("all.pgn"), TIDY * 2)
+        self.assertEqual(self.get("all.pgn"), TIDY * 2)
 
     def test_file_with_a_fault_adds_nothing(self):
         told = b"pgn_fmt: bad.pgn: byte 15: not a move\n"
         self.check(self.call("loose.pgn", "bad.pgn", "tidy.pgn"), 1, TIDY * 2, told)
-        self.write("all.pgn", b"old")
+        self.put("all.pgn", b"old")
         self.check(self.call("-o", "all.pgn", "loose.pgn", "bad.pgn"), 1, b"", told)
-        self.assertEqual(self.read("all.pgn"), b"old")
+        self.assertEqual(self.get("all.pgn"), b"old")
         self.check(self.call(input=BAD), 1, b"", b"pgn_fmt: standard input: byte 15: not a move\n")
         self.assertEqual(sorted(os.listdir(self.folder)),
                          ["all.pgn", "bad.pgn", "loose.pgn", "tidy.pgn"])
@@ -92,7 +79,7 @@ class FmtTest(unittest.TestCase):
             self.assertEqual((ran.returncode, ran.stderr.count(b"\n")), (2, 1))
         with open(self.folder + "/loose.pgn", "ab") as out:
             self.assertEqual(self.call("tidy.pgn", "loose.pgn", stdout=out).returncode, 2)
-        self.assertEqual(self.read("loose.pgn"), LOOSE)
+        self.assertEqual(self.get("loose.pgn"), LOOSE)
 
     def test_check(self):
         self.check(self.call("--check", "tidy.pgn"), 0, b"")
@@ -101,10 +88,10 @@ class FmtTest(unittest.TestCase):
         for name, text in (("short.pgn", TIDY[:-1]), ("long.pgn", TIDY + b"\n"),
                            ("mark.pgn", b"\xef\xbb\xbf" + TIDY),
                            ("crlf.pgn", TIDY.replace(b"\n", b"\r\n"))):
-            self.write(name, text)
+            self.put(name, text)
             self.check(self.call("--check", name, "tidy.pgn"), 1, name.encode() + b"\n")
         # a file that stops at a fault is no export, also where all before the fault is
-        self.write("torn.pgn", TIDY + HEAD % b"A" + b"1. e4 e9\n")
+        self.put("torn.pgn", TIDY + HEAD % b"A" + b"1. e4 e9\n")
         ran = self.call("--check", "torn.pgn", "loose.pgn")
         self.check(ran, 1, b"loose.pgn\n",
                    b"pgn_fmt: torn.pgn: byte %d: not a move\n" % (len(TIDY + HEAD) - 1 + 6))
@@ -114,7 +101,7 @@ class FmtTest(unittest.TestCase):
         told = b"pgn_fmt: bad.pgn: byte 15: not a move\n"
         self.check(self.call("--write", "loose.pgn", "bad.pgn", "tidy.pgn"), 1, b"loose.pgn\n",
                    told)
-        self.assertEqual([self.read(it) for it in ("loose.pgn", "bad.pgn", "tidy.pgn")],
+        self.assertEqual([self.get(it) for it in ("loose.pgn", "bad.pgn", "tidy.pgn")],
                          [TIDY, BAD, TIDY])
         after = os.stat(self.folder + "/tidy.pgn")
         self.assertEqual((after.st_ino, after.st_mtime_ns), (before.st_ino, before.st_mtime_ns))
@@ -123,26 +110,26 @@ class FmtTest(unittest.TestCase):
 
     def test_write_keeps_mode_and_link(self):
         os.makedirs(self.folder + "/sub")
-        self.write("sub/far.pgn", LOOSE)
+        self.put("sub/far.pgn", LOOSE)
         os.chmod(self.folder + "/sub/far.pgn", 0o604)
         os.symlink("sub/far.pgn", self.folder + "/near.pgn")
         self.check(self.call("-w", "near.pgn"), 0, b"near.pgn\n")
         self.assertEqual(os.readlink(self.folder + "/near.pgn"), "sub/far.pgn")
-        self.assertEqual(self.read("sub/far.pgn"), TIDY)
+        self.assertEqual(self.get("sub/far.pgn"), TIDY)
         self.assertEqual(os.stat(self.folder + "/sub/far.pgn").st_mode & 0o777, 0o604)
         self.assertEqual(os.listdir(self.folder + "/sub"), ["far.pgn"])
 
     def test_write_keeps_a_file_that_changed_meanwhile(self):
-        self.write("program", b'#!/bin/sh\ncat >/dev/null\necho more >>loose.pgn\necho "export"\n')
+        self.put("program", b'#!/bin/sh\ncat >/dev/null\necho more >>loose.pgn\necho "export"\n')
         os.chmod(self.folder + "/program", 0o755)
         ran = self.call("-w", "loose.pgn", program=self.folder + "/program")
         self.assertEqual((ran.returncode, ran.stdout), (3, b""))
-        self.assertEqual(self.read("loose.pgn"), LOOSE + b"more\n")
+        self.assertEqual(self.get("loose.pgn"), LOOSE + b"more\n")
 
     def test_diff(self):
         need("diff")
         self.check(self.call("--diff", "tidy.pgn"), 0, b"")
-        self.write("near.pgn", TIDY.replace(b"1. e4", b"1.e4"))
+        self.put("near.pgn", TIDY.replace(b"1. e4", b"1.e4"))
         ran = self.call("-d", "tidy.pgn", "near.pgn")
         self.assertEqual((ran.returncode, ran.stderr), (1, b""))
         lines = ran.stdout.split(b"\n")
@@ -153,7 +140,7 @@ class FmtTest(unittest.TestCase):
                    b"pgn_fmt: bad.pgn: byte 15: not a move\n")
 
     def test_checked_is_handed_on(self):
-        self.write("won.pgn", b"1. e4 1-0")
+        self.put("won.pgn", b"1. e4 1-0")
         self.check(self.call("won.pgn"), 1, b"",
                    b"pgn_fmt: won.pgn: byte 6: result differs from the Result tag\n")
         ran = self.call("--checked", "won.pgn")
@@ -175,7 +162,7 @@ class FmtTest(unittest.TestCase):
             ran = self.call(*words)
             self.assertEqual((ran.returncode, ran.stdout, ran.stderr.count(b"\n")),
                              (status, b"", 1), (words, ran.stderr))
-        self.write("program", b'#!/bin/sh\necho "out of memory" >&2\nexit 3\n')
+        self.put("program", b'#!/bin/sh\necho "out of memory" >&2\nexit 3\n')
         os.chmod(self.folder + "/program", 0o755)
         ran = self.call("tidy.pgn", program=self.folder + "/program")
         self.check(ran, 3, b"", b"pgn_fmt: tidy.pgn: out of memory\n")
@@ -191,10 +178,10 @@ class FmtTest(unittest.TestCase):
                   cwd=self.folder)
         self.assertEqual((ran.returncode, ran.stderr),
                          (3, b"pgn_fmt: standard output is closed\n"))
-        self.assertEqual(self.read("loose.pgn"), LOOSE)
+        self.assertEqual(self.get("loose.pgn"), LOOSE)
 
     def test_a_closed_pipe_ends_it_silently(self):
-        self.write("many.pgn", LOOSE * 3000)
+        self.put("many.pgn", LOOSE * 3000)
         for words in (["many.pgn"], ["--check", "loose.pgn"]):
             ours, its = os.pipe()
             os.close(ours)
@@ -220,14 +207,14 @@ class FmtTest(unittest.TestCase):
         self.assertEqual((ran.returncode, ran.stderr), (0, b""))
         self.assertTrue(ran.stdout.endswith(b'[Result "1-0"]\n\n1. e4 1-0\n\n'), ran.stdout)
         self.check(self.call(*name, "-o", "all.pgn", input=LOOSE), 0, b"")
-        self.assertEqual(self.read("all.pgn"), TIDY)
+        self.assertEqual(self.get("all.pgn"), TIDY)
 
     def test_standard_input_among_files(self):
         self.check(self.call("tidy.pgn", "-", input=LOOSE), 0, TIDY * 2)
         self.check(self.call("--check", "-", "tidy.pgn", input=LOOSE), 1, b"standard input\n")
         self.check(self.call("--stdin-name", "a", "--check", "-", input=LOOSE), 1, b"a\n")
         self.check(self.call("-o", "all.pgn", "-", "loose.pgn", input=TIDY), 0, b"")
-        self.assertEqual(self.read("all.pgn"), TIDY * 2)
+        self.assertEqual(self.get("all.pgn"), TIDY * 2)
         ran = self.call("--checked", "-", input=b"1. e4 1-0")
         self.assertTrue(ran.stdout.endswith(b'[Result "1-0"]\n\n1. e4 1-0\n\n'), ran.stdout)
         for words in (["-", "-"], ["--write", "-"], ["--stdin-name", "a", "-", "tidy.pgn"]):
@@ -242,12 +229,12 @@ class FmtTest(unittest.TestCase):
         packed = gzip.compress(LOOSE)
         for words in ([], ["-"], ["--stdin-name", "a"], ["--checked", "-"]):
             self.check(self.call(*words, input=packed), 0, TIDY)
-        self.write("all.pgn", b"old")
+        self.put("all.pgn", b"old")
         for words in (["-"], ["-o", "all.pgn", "-"], ["-o", "all.pgn", "tidy.pgn", "-"]):
             ran = self.call(*words, input=packed[:-9])
             self.check(ran, 3, b"", b"pgn_fmt: standard input: Compressed file ended before the "
                        b"end-of-stream marker was reached\n")
-            self.assertEqual(self.read("all.pgn"), b"old")
+            self.assertEqual(self.get("all.pgn"), b"old")
 
     def test_write_refuses_a_read_only_file(self):
         """Also as root, whom permissions do not bind. What is in form has nothing to write."""
@@ -255,7 +242,7 @@ class FmtTest(unittest.TestCase):
             os.chmod(os.path.join(self.folder, name), 0o444)
         self.check(self.call("--write", "loose.pgn", "tidy.pgn"), 3, b"",
                    b"pgn_fmt: loose.pgn: is read-only; it is left as it is\n")
-        self.assertEqual(self.read("loose.pgn"), LOOSE)
+        self.assertEqual(self.get("loose.pgn"), LOOSE)
         os.chmod(self.folder + "/loose.pgn", 0o644)
         self.check(self.call("--write", "loose.pgn"), 0, b"loose.pgn\n")
 
@@ -263,7 +250,7 @@ class FmtTest(unittest.TestCase):
         os.link(self.folder + "/loose.pgn", self.folder + "/other.pgn")
         self.check(self.call("--write", "loose.pgn"), 0, b"loose.pgn\n",
                    b"loose.pgn: had 2 hard links: those of other names keep the old text\n")
-        self.assertEqual((self.read("loose.pgn"), self.read("other.pgn")), (TIDY, LOOSE))
+        self.assertEqual((self.get("loose.pgn"), self.get("other.pgn")), (TIDY, LOOSE))
         os.link(self.folder + "/loose.pgn", self.folder + "/third.pgn")
         self.check(self.call("--write", "loose.pgn"), 0, b"")
 
@@ -277,23 +264,23 @@ class FmtTest(unittest.TestCase):
                 (b"%a\n" + LOOSE + b"\n%b\n", b"", "1 line with '%', 2 bytes behind the last game"),
                 (LOOSE + b" {ab}\n;c\n", b"", "7 bytes behind the last game")):
             with self.subTest(text):
-                self.write("a.pgn", text)
+                self.put("a.pgn", text)
                 ran = self.call("--write", "a.pgn")
                 self.check(ran, 3, b"", b"pgn_fmt: a.pgn: is left as it is: export format has no "
                            b"place for %s (--diff shows them, --drop drops them)\n" % what.encode())
-                self.assertEqual(self.read("a.pgn"), text)
+                self.assertEqual(self.get("a.pgn"), text)
                 self.check(self.call("--write", "--drop", "a.pgn"), 0, b"a.pgn\n",
                            b"a.pgn: dropped %s\n" % what.encode())
-                self.assertEqual(self.read("a.pgn"), TIDY.replace(b"1. e4", b"1. e4" + kept))
-        self.write("a.pgn", b"; a note\n")
+                self.assertEqual(self.get("a.pgn"), TIDY.replace(b"1. e4", b"1. e4" + kept))
+        self.put("a.pgn", b"; a note\n")
         self.assertEqual(self.call("--write", "a.pgn").returncode, 3)
-        self.assertEqual(self.read("a.pgn"), b"; a note\n")
+        self.assertEqual(self.get("a.pgn"), b"; a note\n")
         # what is kept is no reason to refuse
-        self.write("a.pgn", b'\xef\xbb\xbf[White "{; A"] {a} e4 ; b {\n ({c}d4) *\n\n')
+        self.put("a.pgn", b'\xef\xbb\xbf[White "{; A"] {a} e4 ; b {\n ({c}d4) *\n\n')
         self.check(self.call("--write", "a.pgn"), 0, b"a.pgn\n")
 
     def test_signal_leaves_the_file(self):
-        self.write("program", b"#!/bin/sh\nexec >&-\nexec 2>&-\nexec sleep 100\n")
+        self.put("program", b"#!/bin/sh\nexec >&-\nexec 2>&-\nexec sleep 100\n")
         os.chmod(self.folder + "/program", 0o755)
         started = subprocess.Popen([sys.executable, FMT, "-w", "loose.pgn"], cwd=self.folder,
                                    env=dict(os.environ, PGN_TOOL=self.folder + "/program"))
@@ -305,7 +292,7 @@ class FmtTest(unittest.TestCase):
         self.assertEqual(started.wait(timeout=20), -signal.SIGTERM)
         self.assertEqual(sorted(os.listdir(self.folder)),
                          ["bad.pgn", "loose.pgn", "program", "tidy.pgn"])
-        self.assertEqual(self.read("loose.pgn"), LOOSE)
+        self.assertEqual(self.get("loose.pgn"), LOOSE)
 
 
 class LeftOut(unittest.TestCase):
@@ -364,7 +351,3 @@ class LeftOut(unittest.TestCase):
         if not is_kept and after.behind == before.behind:
             more = after.comments - before.comments, after.escapes - before.escapes
             self.assertEqual(more, (0, 1) if b"%" in part else (1, 0), (text, before, after))
-
-
-if __name__ == "__main__":
-    unittest.main()

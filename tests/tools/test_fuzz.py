@@ -1,4 +1,3 @@
-#!/usr/bin/env python3
 """Runs each input of fuzz/corpus once, and tries whether it finds a planted bug for each law.
 
 Nothing here is random, takes the time or needs clang. bin/fuzz looks for new inputs.
@@ -10,10 +9,8 @@ import os
 import re
 import shutil
 import sys
-import tempfile
 import unittest
 
-sys.path.insert(0, os.path.dirname(os.path.realpath(__file__)))
 import programs
 import test_cargo
 from programs import ROOT, run
@@ -51,7 +48,9 @@ class Corpus(unittest.TestCase):
 
     def check_run(self, root):
         """Builds the laws over the workspace below this folder, and runs the corpus."""
-        env = dict(os.environ, PATH=programs.PATH, CARGO_TARGET_DIR=OUT + "/target")
+        # the corpus takes a moment, so what is quick to build is quickest
+        env = dict(os.environ, PATH=programs.PATH, CARGO_TARGET_DIR=OUT + "/target",
+                   CARGO_PROFILE_DEV_OPT_LEVEL="0", CARGO_PROFILE_DEV_DEBUG="0")
         words = ["cargo", "build", "--offline", "--manifest-path", root + "/fuzz/Cargo.toml"]
         ran = run(words, cwd=root + "/cargo/out", env=env, timeout=500)
         said = ran.stderr.decode()
@@ -107,8 +106,7 @@ class Files(unittest.TestCase):
 
     def test_an_input_written_by_hand_stays(self):
         """Here a program that keeps nothing stands for libFuzzer."""
-        fuzz, folder = test_cargo.load("bin/fuzz"), tempfile.mkdtemp()
-        self.addCleanup(shutil.rmtree, folder)
+        fuzz, folder = programs.load("bin/fuzz"), programs.new_folder(self)
         fuzz.OUT, fuzz.CORPUS, fuzz.seeds = folder + "/out", folder + "/corpus", lambda: folder
         os.makedirs(fuzz.CORPUS)
         for name in ("09e2b5bc40dfc0980b9be3410625549275e492eb", "two-backslashes"):
@@ -127,7 +125,3 @@ class Files(unittest.TestCase):
         listed = re.findall(r"^    (\w[\w ]+?)  +\w", test_cargo.read(ROOT + "/bin/fuzz").split(
             "status:")[0], re.MULTILINE)
         self.assertEqual({it.lower() for it in listed if not it.startswith("bin/")}, laws)
-
-
-if __name__ == "__main__":
-    unittest.main()

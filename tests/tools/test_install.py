@@ -1,13 +1,8 @@
-#!/usr/bin/env python3
 """Tests of bin/install and bin/uninstall, and of what they put in place."""
 import os
 import re
-import shutil
-import sys
-import tempfile
 import unittest
 
-sys.path.insert(0, os.path.dirname(os.path.realpath(__file__)))
 import programs
 from programs import ROOT, run
 from small_repository import CARGO, Repository
@@ -314,8 +309,7 @@ class Installed(unittest.TestCase):
     @classmethod
     def setUpClass(cls):
         programs.need_program()
-        cls.folder = os.path.realpath(tempfile.mkdtemp())
-        cls.addClassCleanup(shutil.rmtree, cls.folder)
+        cls.folder = programs.new_folder(cls)
         cls.prefix = cls.folder + "/there"
         cls.env = {"PATH": cls.prefix + "/bin:/usr/bin:/bin", "HOME": cls.folder,
                    "LC_ALL": "C.UTF-8"}
@@ -383,7 +377,3 @@ class Installed(unittest.TestCase):
                   "zpty -d shell" % line)
         ran = self.shell(script, "zsh", ("-f", "-c"), TERM="dumb")
         self.assertEqual(ran.stdout, b"found\n", ran.stderr)
-
-
-if __name__ == "__main__":
-    unittest.main()

@@ -1,14 +1,9 @@
-#!/usr/bin/env python3
 """Tests of the program with calls of the system that are interrupted once each."""
 import os
-import shutil
 import subprocess
-import sys
-import tempfile
 import unittest
 
-sys.path.insert(0, os.path.dirname(os.path.realpath(__file__)))
-from programs import need, need_program, run
+from programs import Folder, need, need_program, run
 
 # Interrupts one call of read, of write, or of open for a file of games: CALL is its name, AT its
 # number from 1. The file MET is made when that happens. Standard error is left alone.
@@ -78,21 +73,16 @@ UNREAD = b"byte %d: input cannot be read\n"
 UNWRITTEN = b"output cannot be written\n"
 
 
-class InterruptedTest(unittest.TestCase):
+class InterruptedTest(Folder, unittest.TestCase):
     def setUp(self):
         need("cc")
+        super().setUp()
         self.program = need_program()
-        self.folder = tempfile.mkdtemp()
-        self.addCleanup(shutil.rmtree, self.folder, True)
-        source = self.folder + "/interrupt.c"
-        with open(source, "w", encoding="ascii") as file:
-            file.write(SOURCE)
+        source = self.put("interrupt.c", SOURCE)
         subprocess.run(["cc", "-shared", "-fPIC", "-o", self.folder + "/interrupt.so", source,
                         "-ldl"], check=True)
         self.met = self.folder + "/met"
-        self.file = self.folder + "/games.pgn"
-        with open(self.file, "wb") as file:
-            file.write(b"* *")
+        self.file = self.put("games.pgn", b"* *")
 
     def call(self, call, at, *words, **more):
         """A run in which this call is interrupted; whether it came to that call is told too."""
@@ -152,7 +142,3 @@ class InterruptedTest(unittest.TestCase):
         for at in (1, 2):
             answer = self.call("open", at, "export", "--checked", self.file)
             self.assertEqual(answer, (True, (0, 2 * UNKNOWN, b"")))
-
-
-if __name__ == "__main__":
-    unittest.main()

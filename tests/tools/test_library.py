@@ -1,15 +1,12 @@
-#!/usr/bin/env python3
 """Tests of the library for C (crates/pgn_c): its header, and the example in C."""
 import glob
 import os
 import re
 import shutil
 import subprocess
-import sys
 import tempfile
 import unittest
 
-sys.path.insert(0, os.path.dirname(os.path.realpath(__file__)))
 from documents import printed_by
 from programs import ROOT, need, need_library, need_program, run
 from small_repository import Repository
@@ -331,7 +328,3 @@ class CExampleOfCargo(CExample, unittest.TestCase):
 
 class CExampleOfProved(CExample, unittest.TestCase):
     build = "--proved"
-
-
-if __name__ == "__main__":
-    unittest.main()

@@ -1,4 +1,3 @@
-#!/usr/bin/env python3
 """Tests of pgn_lint: what it says of bad games, its options, its statuses, and what reads it."""
 import bz2
 import doctest
@@ -8,19 +7,16 @@ import importlib
 import json
 import os
 import re
-import shutil
 import signal
 import stat
 import subprocess
 import sys
-import tempfile
 import time
 import unittest
 
-sys.path.insert(0, os.path.dirname(os.path.realpath(__file__)))
 import programs
 from documents import blocks_of, lines_of, table
-from programs import ROOT, need, not_tried, run, vectors
+from programs import ROOT, Folder, need, not_tried, run, vectors
 from test_python import PACKAGE, REAL, library
 
 LINT = ROOT + "/bin/pgn_lint"
@@ -289,22 +285,15 @@ def setUpModule():
         unittest.addModuleCleanup(os.environ.pop, "GILLSPOON_LIBRARY")
 
 
-class Lint(unittest.TestCase):
+class Lint(Folder, unittest.TestCase):
     """A test with a folder of its own."""
 
     def setUp(self):
-        self.folder = tempfile.mkdtemp()
-        self.addCleanup(shutil.rmtree, self.folder)
+        super().setUp()
         self.env = dict(os.environ, PATH=ROOT + "/bin:" + programs.PATH, LC_ALL="C.UTF-8",
                         PYTHONDONTWRITEBYTECODE="1")
         for name in ("NO_COLOR", "INSIDE_EMACS"):
             self.env.pop(name, None)
-
-    def put(self, name, data):
-        path = os.path.join(os.fsencode(self.folder), os.fsencode(name))
-        os.makedirs(os.path.dirname(path), exist_ok=True)
-        with open(path, "wb") as file:
-            file.write(data)
 
     def lint(self, *words, **more):
         """The status, the output and the errors of a call in the folder."""
@@ -778,8 +767,8 @@ class Streams(Lint):
         self.assertEqual(self.interrupted("-j", "2", "pipe.pgn", "b.pgn"),
                          (-signal.SIGINT, b""))
 
-    def test_a_process_that_is_killed(self):
-        """As for lack of memory: it is no fault of a file, and no traceback."""
+    def check_lost_processes(self, *signals):
+        """A call by two processes that get these signals: no fault of a file, no traceback."""
         os.mkfifo(self.folder + "/pipe.pgn")
         self.put("b.pgn", GOOD)
         with subprocess.Popen([LINT, "-j", "2", "b.pgn", "pipe.pgn"], cwd=self.folder,
@@ -790,11 +779,19 @@ class Streams(Lint):
                 pipe.write(b"1. e4 ")
                 with open("/proc/%d/task/%d/children" % (child.pid, child.pid),
                           encoding="ascii") as children:
-                    for process in children.read().split():
-                        os.kill(int(process), signal.SIGKILL)
+                    for process, number in zip(children.read().split(), signals):
+                        os.kill(int(process), number)
                 _, told = child.communicate(timeout=20)
         self.assertEqual((child.returncode, told), (
             3, b"pgn_lint: a process ended before its file was checked; try again without -j\n"))
+
+    def test_a_process_that_is_killed(self):
+        """As for lack of memory."""
+        self.check_lost_processes(signal.SIGKILL, signal.SIGKILL)
+
+    def test_no_process_outlives_the_call(self):
+        """A stopped one does not end when asked, and would keep standard error open."""
+        self.check_lost_processes(signal.SIGSTOP, signal.SIGKILL)
 
     def test_colours_on_a_terminal_alone(self):
         self.put("a.pgn", BAD)
@@ -922,7 +919,3 @@ class Others(Lint):
 class Script(unittest.TestCase):
     def test_it_can_be_run(self):
         self.assertTrue(os.stat(LINT).st_mode & stat.S_IXUSR)
-
-
-if __name__ == "__main__":
-    unittest.main()

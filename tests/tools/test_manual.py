@@ -1,21 +1,15 @@
-#!/usr/bin/env python3
 """Tests of the manual pages and of the completions: against the programs and their sources."""
 import contextlib
 import glob
-import importlib.machinery
-import importlib.util
 import os
 import pty
 import re
 import shutil
 import subprocess
-import sys
-import tempfile
 import unittest
 
-sys.path.insert(0, os.path.dirname(os.path.realpath(__file__)))
 import programs
-from programs import ROOT, run
+from programs import ROOT, Folder, run
 
 PAGES = ROOT + "/share/man/man1/"
 PAGE = PAGES + "pgn_tool.1"
@@ -48,11 +42,7 @@ def text_of(file):
 
 def reasons():
     """Number and words of each reason, read from the source by bin/write_vectors."""
-    path = ROOT + "/bin/write_vectors"
-    loader = importlib.machinery.SourceFileLoader("write_vectors", path)
-    spec = importlib.util.spec_from_loader("write_vectors", loader)
-    module = importlib.util.module_from_spec(spec)
-    loader.exec_module(module)
+    module = programs.load("bin/write_vectors")
     return {number: words for _, number, words in module.reasons().values()}
 
 
@@ -75,11 +65,7 @@ def options(*words):
     return sorted(it for it in re.findall(r"--[\w-]+", rows) if it != "--help")
 
 
-class Folder(unittest.TestCase):
-    def setUp(self):
-        self.folder = tempfile.mkdtemp()
-        self.addCleanup(shutil.rmtree, self.folder)
-
+class Shell(Folder, unittest.TestCase):
     def shell(self, script, run=run, **more):
         program = programs.need_program()
         path = ":".join((os.path.dirname(program), ROOT + "/bin", programs.PATH))
@@ -87,7 +73,7 @@ class Folder(unittest.TestCase):
         return run(["bash", "-c", script], cwd=more.pop("cwd", self.folder), env=env, **more)
 
 
-class Page(Folder):
+class Page(Shell):
     def test_every_fault_is_there(self):
         rows = re.findall(r"^\.It (\d+) Em (.*)$", section(text_of(PAGE), "DIAGNOSTICS"), re.M)
         found = {int(number): words for number, words in rows}
@@ -243,7 +229,7 @@ class Scripts(unittest.TestCase):
             self.assertEqual(said, VARIABLES.get(name, ["PGN_TOOL"]))
 
 
-class Statuses(Folder):
+class Statuses(Shell):
     def status(self, script):
         return self.shell(script).returncode
 
@@ -302,7 +288,7 @@ class Statuses(Folder):
         self.assertLess(int(ran.stderr.split()[-1]), 3000)
 
 
-class Completions(Folder):
+class Completions(Shell):
     def words(self, *line):
         """What bash completes as the last word of a line."""
         if shutil.which("bash") is None:
@@ -378,8 +364,7 @@ class Completions(Folder):
 
     def zsh_words(self, line):
         """What zsh completes as the last word of a line: it runs on a terminal."""
-        folder = tempfile.mkdtemp()
-        self.addCleanup(shutil.rmtree, folder)
+        folder = programs.new_folder(self)
         open(folder + "/some games.pgn", "wb").close()
         with open(folder + "/.zshrc", "w", encoding="ascii") as file:
             file.write(ZSHRC % COMPLETIONS)
@@ -413,7 +398,3 @@ class Completions(Folder):
                       "pgn_sieve a s", "pgn_conform cat - s"):
             self.assertEqual(self.zsh_words(words), ["some\\ games.pgn"], words)
         self.assertEqual(self.zsh_words("pgn_lint --language "), "de es fr it nl ru".split())
-
-
-if __name__ == "__main__":
-    unittest.main()

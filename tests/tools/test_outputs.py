@@ -1,18 +1,13 @@
-#!/usr/bin/env python3
 """An output that is there keeps its bytes until the input was read and understood.
 
 Each script and option that writes a file is tried with inputs that are bad, cut off, of another
 kind, or missing. bin/pgn_conform is tried by test_vectors, and bin/to_cargo by test_cargo.
 """
 import os
-import shutil
-import sys
-import tempfile
 import unittest
 
-sys.path.insert(0, os.path.dirname(os.path.realpath(__file__)))
 import programs
-from programs import PACKERS, ROOT, need, need_program, run, without_rights
+from programs import PACKERS, ROOT, Folder, need, need_program, run, without_rights
 from test_python import library
 
 SOUND = b'[White "Ada"]\n\n1. e4 e5 *\n\n'
@@ -28,13 +23,12 @@ OTHERS = {
 }
 
 
-class Kept(unittest.TestCase):
+class Kept(Folder, unittest.TestCase):
     """A test with a folder in which each output has text."""
 
     def setUp(self):
         need("zstd")
-        self.folder = tempfile.mkdtemp()
-        self.addCleanup(shutil.rmtree, self.folder)
+        super().setUp()
         self.env = dict(os.environ, PATH=programs.PATH, PGN_TOOL=need_program(),
                         GILLSPOON_LIBRARY=library(), LC_ALL="C.UTF-8")
         for name, text in OTHERS.items():
@@ -52,14 +46,6 @@ class Kept(unittest.TestCase):
         """Names of what no script can read."""
         return ["missing.pgn", "folder", "not.pgn.gz"] + ["cut.pgn." + it for it in PACKERS]
 
-    def put(self, name, data):
-        with open(os.path.join(self.folder, name), "wb") as file:
-            file.write(data)
-
-    def read(self, name):
-        with open(os.path.join(self.folder, name), "rb") as file:
-            return file.read()
-
     def call(self, script, *words, env=None, **more):
         return run([ROOT + "/bin/" + script, *words], cwd=self.folder,
                    env=dict(self.env, **(env or {})), **more)
@@ -72,13 +58,13 @@ class Kept(unittest.TestCase):
         ran = self.call(*words, **more)
         with self.subTest(words):
             self.assertEqual((ran.returncode, ran.stderr.count(b"\n")), (status, 1), ran.stderr)
-            self.assertEqual([self.read(name) for name in outputs], [OLD] * len(outputs))
+            self.assertEqual([self.get(name) for name in outputs], [OLD] * len(outputs))
             self.assertEqual(sorted(os.listdir(self.folder)), before)
 
     def standard_input(self, name):
         """The text of a file as standard input, or nothing if it is none."""
         path = os.path.join(self.folder, name)
-        return self.read(name) if os.path.isfile(path) and name != "not.pgn.gz" else None
+        return self.get(name) if os.path.isfile(path) and name != "not.pgn.gz" else None
 
 
 class Format(Kept):
@@ -95,7 +81,7 @@ class Format(Kept):
         for name in [*OTHERS, "bad.pgn"]:
             self.stays(1, ["out"], "pgn_fmt", "-o", "out", name)
             self.stays(1, ["out"], "pgn_fmt", "-o", "out", "sound.pgn", name)
-            self.stays(1, ["out"], "pgn_fmt", "-o", "out", input=self.read(name))
+            self.stays(1, ["out"], "pgn_fmt", "-o", "out", input=self.get(name))
 
     def test_output_of_no_game(self):
         """A filter that failed gives none. An output that is not there is made."""
@@ -107,7 +93,7 @@ class Format(Kept):
         self.assertEqual(self.call("pgn_fmt", "-o", "new", "empty.pgn").returncode, 0)
         self.assertEqual(self.call("pgn_fmt", "-o", "new", "empty.pgn").returncode, 0)
         self.assertEqual(self.call("pgn_fmt", "-o", "/dev/null", "empty.pgn").returncode, 0)
-        self.assertEqual(self.read("new"), b"")
+        self.assertEqual(self.get("new"), b"")
 
     def test_output_without_a_program(self):
         self.stays(127, ["out"], "pgn_fmt", "-o", "out", "sound.pgn", env={"PGN_TOOL": "/none"})
@@ -115,20 +101,20 @@ class Format(Kept):
 
     def test_write(self):
         for name in [*OTHERS, "bad.pgn"]:
-            self.put("copy", self.read(name))
+            self.put("copy", self.get(name))
             ran = self.call("pgn_fmt", "--write", "--drop", "copy")
-            self.assertEqual((ran.returncode, self.read("copy")), (1, self.read(name)))
+            self.assertEqual((ran.returncode, self.get("copy")), (1, self.get(name)))
         for name in [it for it in os.listdir(self.folder) if it.startswith("cut")] + ["not.pgn.gz"]:
-            before = self.read(name)
+            before = self.get(name)
             ran = self.call("pgn_fmt", "--write", "--drop", name)
-            self.assertEqual((ran.returncode, self.read(name)), (3, before))
+            self.assertEqual((ran.returncode, self.get(name)), (3, before))
         # comments alone would leave an empty file
         self.put("copy", b"{only} ; this\n")
         ran = self.call("pgn_fmt", "--write", "copy")
-        self.assertEqual((ran.returncode, self.read("copy")), (3, b"{only} ; this\n"))
+        self.assertEqual((ran.returncode, self.get("copy")), (3, b"{only} ; this\n"))
         for program in ("/none", "/bin/false"):
             self.call("pgn_fmt", "--write", "sound.pgn", env={"PGN_TOOL": program})
-            self.assertEqual(self.read("sound.pgn"), SOUND)
+            self.assertEqual(self.get("sound.pgn"), SOUND)
 
 
 class Sieve(Kept):
@@ -147,7 +133,7 @@ class Sieve(Kept):
         for name in OTHERS:
             self.stays(3, ["g", "b"], "pgn_sieve", name, "g", "b")
             self.stays(3, ["g", "b"], "pgn_sieve", "--checked", name, "g", "b")
-            self.stays(3, ["g", "b"], "pgn_sieve", "-", "g", "b", input=self.read(name))
+            self.stays(3, ["g", "b"], "pgn_sieve", "-", "g", "b", input=self.get(name))
             self.stays(3, [], "pgn_sieve", name, "g2", "b2")
         self.assertEqual(self.call("pgn_sieve", "utf-16.pgn", "g", "b").stderr, (
             b"pgn_sieve: utf-16.pgn: is not a text of games: UTF-16 has to be converted, and "
@@ -164,12 +150,12 @@ class Sieve(Kept):
         for name in ("empty.pgn", "words.pgn"):
             self.stays(3, ["g", "b"], "pgn_sieve", name, "g", "b")
             self.stays(3, ["b"], "pgn_sieve", name, "/dev/null", "b")
-            self.stays(3, ["g", "b"], "pgn_sieve", "-", "g", "b", input=self.read(name))
+            self.stays(3, ["g", "b"], "pgn_sieve", "-", "g", "b", input=self.get(name))
         self.assertEqual(self.call("pgn_sieve", "empty.pgn", "g", "b").stderr,
                          b"pgn_sieve: empty.pgn: has no game; g is left as it is\n")
         for _ in range(2):
             self.assertEqual(self.call("pgn_sieve", "empty.pgn", "g3", "b3").returncode, 0)
-            self.assertEqual((self.read("g3"), self.read("b3")), (b"", b""))
+            self.assertEqual((self.get("g3"), self.get("b3")), (b"", b""))
 
     def test_all_games_are_bad(self):
         """That is understood: the old text goes."""
@@ -177,7 +163,7 @@ class Sieve(Kept):
         self.put("g", OLD)
         self.put("b", OLD)
         self.assertEqual(self.call("pgn_sieve", "all.pgn", "g", "b").returncode, 1)
-        self.assertEqual((self.read("g"), self.read("b").count(BAD)), (b"", 2))
+        self.assertEqual((self.get("g"), self.get("b").count(BAD)), (b"", 2))
 
     def test_without_a_program_or_library(self):
         for env, status in (({"PGN_TOOL": "/none"}, 127), ({"PGN_TOOL": "/bin/false"}, 3),
@@ -192,7 +178,7 @@ class Lint(Kept):
         for name in sorted(os.listdir(self.folder)):
             if os.path.isdir(os.path.join(self.folder, name)):
                 continue
-            before = self.read(name)
+            before = self.get(name)
             status = 0 if name in ("empty.pgn", "words.pgn", "sound.pgn") else \
                 3 if name.startswith(("cut", "not")) else 1
             for words in (["--fix"], ["--fix", "--unsafe-fixes", "--ignore", "trailing text"]):
@@ -201,11 +187,11 @@ class Lint(Kept):
                     # what it would mend is still no game
                     self.assertEqual(ran.returncode, 1)
                     continue
-                self.assertEqual((ran.returncode, self.read(name)), (status, before), name)
+                self.assertEqual((ran.returncode, self.get(name)), (status, before), name)
 
     def test_without_a_library(self):
         ran = self.call("pgn_lint", "--fix", "bad.pgn", env={"GILLSPOON_LIBRARY": "/none"})
-        self.assertEqual((ran.returncode, self.read("bad.pgn")), (127, SOUND + BAD))
+        self.assertEqual((ran.returncode, self.get("bad.pgn")), (127, SOUND + BAD))
 
 
 class Split(Kept):
@@ -218,7 +204,7 @@ class Split(Kept):
                 *OTHERS, "empty.pgn", "words.pgn"]:
             self.put("out/000001.pgn", OLD)
             run([self.env["PGN_TOOL"], "split", "out", name], cwd=self.folder)
-            self.assertEqual((self.read("out/000001.pgn"), os.listdir(self.folder + "/out")),
+            self.assertEqual((self.get("out/000001.pgn"), os.listdir(self.folder + "/out")),
                              (OLD, ["000001.pgn"]), name)
 
 
@@ -243,9 +229,5 @@ class Rights(Kept):
             user = without_rights(self, self.env["PGN_TOOL"])[:-1]
             ran = run([*user, ROOT + "/bin/" + words[0], *words[1:]], cwd=self.folder,
                       env=self.env)
-            self.assertEqual((ran.returncode, self.read("g"), self.read("b")), (3, OLD, OLD),
+            self.assertEqual((ran.returncode, self.get("g"), self.get("b")), (3, OLD, OLD),
                              ran.stderr)
-
-
-if __name__ == "__main__":
-    unittest.main()

@@ -1,4 +1,3 @@
-#!/usr/bin/env python3
 """Tests of the page that bin/build_page writes, in headless Chromium.
 
 Each state that is compared here is also written as a picture, to page/out/pictures.
@@ -8,12 +7,10 @@ import json
 import os
 import random
 import re
-import shutil
 import sys
 import tempfile
 import unittest
 
-sys.path.insert(0, os.path.dirname(os.path.realpath(__file__)))
 import programs
 from browser import Browser
 from documents import lines_of
@@ -139,7 +136,7 @@ class Case(unittest.TestCase):
     def page(self, *flags, **more):
         address = need_page()
         self.browser = Browser(self, *flags, **more)
-        self.browser.open(address)
+        self.browser.get(address)
         self.browser.wait_for(IS_READY)
         return self.browser
 
@@ -151,8 +148,7 @@ class Case(unittest.TestCase):
     def open_path(self, path):
         """Opens a file by its path, as a person does by a dialog."""
         self.browser.run("delete document.getElementById('work').dataset.shown")
-        field = self.browser.post("/element", {"using": "css selector", "value": "#files"})
-        self.browser.post("/element/%s/value" % next(iter(field.values())), {"text": path})
+        self.browser.open_file(path)
 
     def paste(self, text):
         self.browser.run("delete document.getElementById('work').dataset.shown")
@@ -162,13 +158,7 @@ class Case(unittest.TestCase):
 
     def press(self, *keys):
         """Presses keys of the keyboard, in turn; those of a list together."""
-        actions = []
-        for key in keys:
-            chord = key if isinstance(key, list) else [key]
-            actions += [{"type": "keyDown", "value": it} for it in chord]
-            actions += [{"type": "keyUp", "value": it} for it in reversed(chord)]
-        self.browser.post("/actions", {"actions": [
-            {"type": "key", "id": "keys", "actions": actions}]})
+        self.browser.press(*keys)
 
     def focused(self):
         return self.browser.run("return document.activeElement.id")
@@ -200,7 +190,7 @@ class Case(unittest.TestCase):
 
     def assertQuiet(self):
         """The browser has nothing to complain of, and asked for the page and its worker alone."""
-        self.assertEqual(self.browser.log("browser"), [])
+        self.assertEqual(self.browser.get_log("browser"), [])
         for address in self.browser.requests():
             self.assertTrue(address == "file://" + PAGE or address.startswith("blob:"), address)
 
@@ -356,7 +346,7 @@ class States(Case):
         for lacking in ("Worker", "BigInt", "WebAssembly"):
             identifier = self.browser.command("Page.addScriptToEvaluateOnNewDocument",
                                               source="delete window.%s" % lacking)["identifier"]
-            self.browser.open(need_page())
+            self.browser.get(need_page())
             self.browser.wait_for(IS_READY)
             self.browser.command("Page.removeScriptToEvaluateOnNewDocument", identifier=identifier)
             self.assertEqual(
@@ -371,7 +361,7 @@ class States(Case):
         self.page()
         self.browser.command("Page.addScriptToEvaluateOnNewDocument", source=(
             "WebAssembly.instantiate = () => Promise.reject(new Error('no BigInt in calls'))"))
-        self.browser.open(need_page())
+        self.browser.get(need_page())
         self.browser.wait_for(IS_READY)
         self.assertEqual(
             self.text("unable"),
@@ -427,8 +417,7 @@ class Large(Case):
     @classmethod
     def setUpClass(cls):
         need_page()
-        cls.folder = tempfile.mkdtemp()
-        cls.addClassCleanup(shutil.rmtree, cls.folder)
+        cls.folder = programs.new_folder(cls)
         cls.archive = cls.folder + "/large.pgn"
         with open(cls.archive, "wb") as file:
             ran = run([sys.executable, "bench/make_archive.py", "--games", str(ARCHIVE_GAMES),
@@ -509,8 +498,7 @@ class Files(Case):
     """Files that are chosen."""
 
     def setUp(self):
-        self.folder = tempfile.mkdtemp()
-        self.addCleanup(shutil.rmtree, self.folder)
+        self.folder = programs.new_folder(self)
         self.path = self.folder + "/in.pgn"
 
     def put(self, text):
@@ -1022,7 +1010,7 @@ class Rest(Case):
               "async () => { throw new DOMException('no', 'NotReadableError'); };";
             URL.createObjectURL = (it) => make.call(URL, it.type === "text/javascript"
               ? new Blob([refusing, it], {type: it.type}) : it);""")
-        self.browser.open(need_page())
+        self.browser.get(need_page())
         self.browser.wait_for(IS_READY)
         self.assertEqual(self.convert(("annotated.pgn", example("annotated")),
                                       ("two.pgn", example("two-games"))), "done")
@@ -1385,7 +1373,7 @@ class Rest(Case):
         self.page()
         answer = self.browser.await_script("await fetch('http://127.0.0.1:9/');")
         self.assertIn("Failed to fetch", answer.get("error", ""))
-        said = [it["message"] for it in self.browser.log("browser")]
+        said = [it["message"] for it in self.browser.get_log("browser")]
         self.assertTrue(any("Content Security Policy" in it for it in said), said)
 
 
@@ -1393,8 +1381,7 @@ class Builder(unittest.TestCase):
     """bin/build_page, and what it puts together."""
 
     def setUp(self):
-        self.folder = tempfile.mkdtemp()
-        self.addCleanup(shutil.rmtree, self.folder)
+        self.folder = programs.new_folder(self)
 
     def build(self, *words, **env):
         ran = run([sys.executable, ROOT + "/bin/build_page", *words], env=env or None)
@@ -1453,7 +1440,3 @@ class Builder(unittest.TestCase):
             fields = ["%s %s%s" % (kind, field, "[%s]" % count if count else "") for
                       field, kind, count in re.findall(r'\["(\w+)", "(\w+)"(?:, (\d+))?\]', body)]
             self.assertEqual(fields, header[name], name)
-
-
-if __name__ == "__main__":
-    unittest.main()

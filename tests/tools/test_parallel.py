@@ -1,17 +1,12 @@
-#!/usr/bin/env python3
 """Tests of the recipe of docs/RECIPES.md that uses all processors, also over ssh."""
 import getpass
 import os
-import shutil
 import socket
 import subprocess
-import sys
-import tempfile
 import unittest
 
-sys.path.insert(0, os.path.dirname(os.path.realpath(__file__)))
 import programs
-from programs import run
+from programs import Folder, run
 from test_recipes import sections
 
 SHORT, WHOLE, STREAM, REMOTE, COUNTS = range(5)
@@ -37,21 +32,12 @@ def archive(games=600):
     return "".join(text % (it, it * it, moves[it % 4]) for it in range(games))
 
 
-class Spread(unittest.TestCase):
+class Spread(Folder, unittest.TestCase):
     """Runs blocks of the recipe on archives, beside one run of the program."""
 
     def setUp(self):
         programs.need("parallel")
-        self.folder = tempfile.mkdtemp()
-        self.addCleanup(shutil.rmtree, self.folder)
-
-    def put(self, text, name="games.pgn"):
-        with open(os.path.join(self.folder, name), "w", encoding="utf-8") as file:
-            file.write(text)
-
-    def get(self, name):
-        with open(os.path.join(self.folder, name), "rb") as file:
-            return file.read()
+        super().setUp()
 
     def shell(self, script, **more):
         path = os.path.dirname(programs.need_program()) + ":" + programs.PATH
@@ -64,7 +50,7 @@ class Spread(unittest.TestCase):
 
     def agrees(self, text, kind=WHOLE, status=0, **more):
         """The script and one run write the same bytes and messages, with this status."""
-        self.put(text)
+        self.put("games.pgn", text)
         self.shell("rm -f export.pgn games.pgn.zst")
         if kind == STREAM:
             self.shell("zstd -q games.pgn")
@@ -82,7 +68,7 @@ class OneMachine(Spread):
         self.assertEqual(len(blocks()), COUNTS + 1)
 
     def test_the_short_form(self):
-        self.put(archive())
+        self.put("games.pgn", archive())
         ran = self.shell(blocks()[SHORT])
         self.assertEqual((ran.returncode, ran.stderr), (0, b""))
         one = self.shell("pgn_tool export games.pgn | cmp - export.pgn")
@@ -132,20 +118,20 @@ class OneMachine(Spread):
         self.agrees(archive().replace("[Event", "[Annotator"))
 
     def test_lines_of_dos(self):
-        self.put(archive().replace("\n", "\r\n"))
+        self.put("games.pgn", archive().replace("\n", "\r\n"))
         self.shell(blocks()[SHORT].replace(r"'\n\n'", r"'\r\n\r\n'"))
         one = self.shell("pgn_tool export games.pgn | cmp - export.pgn")
         self.assertEqual((one.returncode, one.stderr), (0, b""))
 
     def test_a_full_disk(self):
-        self.put(archive(4000))
+        self.put("games.pgn", archive(4000))
         os.symlink("/dev/full", self.folder + "/export.pgn")
         ran = self.shell(self.script(WHOLE))
         self.assertEqual((ran.returncode, ran.stderr), (1, b"output cannot be written\n"))
 
     def test_counts_and_lists(self):
         text = archive()
-        self.put(text)
+        self.put("games.pgn", text)
         self.shell("pgn_tool export games.pgn > export.pgn")
         ran = self.shell(blocks()[COUNTS])
         lines = ran.stdout.splitlines(True)
@@ -157,7 +143,7 @@ class OneMachine(Spread):
         self.assertGreater(len(self.get("counts.txt").splitlines()), 3)
 
     def test_counts_after_a_fault(self):
-        self.put(archive() + "e9")
+        self.put("games.pgn", archive() + "e9")
         self.shell("pgn_tool export games.pgn > export.pgn")
         ran = self.shell(blocks()[COUNTS])
         self.assertNotEqual(ran.returncode, 0)
@@ -188,20 +174,19 @@ class Streams(Spread):
         self.assertTrue(any(job[6] != b"0" for job in jobs))
 
 
-class Server:
+class Server(Folder):
     """A server of ssh on this machine alone, with keys made for one test."""
 
     def __init__(self, test, path):
-        self.folder = tempfile.mkdtemp()
-        test.addCleanup(shutil.rmtree, self.folder)
+        self.folder = programs.new_folder(test)
         for name in ("host", "user"):
             run(["ssh-keygen", "-q", "-t", "ed25519", "-N", "", "-f", self.folder + "/" + name])
         with socket.socket() as probe:
             probe.bind(("127.0.0.1", 0))
             self.port = probe.getsockname()[1]
-        self.write("server", SERVER % {"path": path, "port": self.port, "folder": self.folder})
+        self.put("server", SERVER % {"path": path, "port": self.port, "folder": self.folder})
         names = {"port": self.port, "folder": self.folder, "user": getpass.getuser()}
-        self.write("client", CLIENT % names)
+        self.put("client", CLIENT % names)
         self.client = "ssh -F %s/client" % self.folder
         words = [programs.found("sshd"), "-D", "-f", self.folder + "/server"]
         if run(words + ["-t"]).returncode:
@@ -209,10 +194,6 @@ class Server:
         with open(self.folder + "/log", "wb") as log:
             self.process = subprocess.Popen(words, stdin=subprocess.DEVNULL, stdout=log, stderr=log)
         test.addCleanup(self.stop)
-
-    def write(self, name, text):
-        with open(os.path.join(self.folder, name), "w", encoding="utf-8") as file:
-            file.write(text)
 
     def answers(self):
         return run(self.client.split() + ["alpha", "pgn_tool", "--version"]).returncode == 0
@@ -268,7 +249,3 @@ class SeveralMachines(Spread):
         os.chmod(self.server.folder + "/lacking", 0o755)
         jobs = self.agrees(archive(), REMOTE, PARALLEL_SSH=self.server.folder + "/lacking")
         self.assertTrue(any(job[6] != b"0" for job in jobs))
-
-
-if __name__ == "__main__":
-    unittest.main()

@@ -1,4 +1,3 @@
-#!/usr/bin/env python3
 """Tests of bin/pgn_tool and bin/build_program, with commands that build nothing, and of helps."""
 import os
 import shutil
@@ -6,7 +5,6 @@ import subprocess
 import sys
 import unittest
 
-sys.path.insert(0, os.path.dirname(os.path.realpath(__file__)))
 from programs import need_program, run
 from small_repository import CARGO, Repository
 
@@ -319,7 +317,3 @@ class Helps(unittest.TestCase):
             without_examples = ("test_tools", "build_program")
             for word in (b"xample", b"tatus") if script not in without_examples else (b"tatus",):
                 self.assertIn(word, ran.stdout)
-
-
-if __name__ == "__main__":
-    unittest.main()

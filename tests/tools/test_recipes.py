@@ -1,15 +1,11 @@
-#!/usr/bin/env python3
 """Runs each block of shell of docs/RECIPES.md on a sample, but those that use all processors."""
 import os
 import re
 import shutil
-import sys
-import tempfile
 import unittest
 
-sys.path.insert(0, os.path.dirname(os.path.realpath(__file__)))
 import programs
-from programs import ROOT, run
+from programs import ROOT, Folder, run
 
 RECIPES = ROOT + "/docs/RECIPES.md"
 # Their tests are in test_parallel.
@@ -41,21 +37,7 @@ def game(moves="1. e4 e5 *", result="*", **tags):
     return "\n".join(lines + ['[Result "%s"]' % result, "", moves, "", ""])
 
 
-class Recipe(unittest.TestCase):
-    def setUp(self):
-        self.folder = tempfile.mkdtemp()
-        self.addCleanup(shutil.rmtree, self.folder)
-
-    def put(self, name, data):
-        path = os.path.join(self.folder, name)
-        os.makedirs(os.path.dirname(path), exist_ok=True)
-        with open(path, "wb") as file:
-            file.write(data if isinstance(data, bytes) else data.encode())
-
-    def get(self, name):
-        with open(os.path.join(self.folder, name), "rb") as file:
-            return file.read()
-
+class Recipe(Folder, unittest.TestCase):
     def shell(self, script):
         program = programs.need_program()
         path = ":".join([os.path.dirname(program), ROOT + "/bin", programs.PATH])
@@ -260,7 +242,3 @@ class Mended(Recipe):
             + game("1. f4 1/2-1/2", "1/2-1/2", White="d")
         message = "byte 28: result differs from the Result tag"
         self.mend("Take a missing Result from the end of its game", text, message, wanted)
-
-
-if __name__ == "__main__":
-    unittest.main()

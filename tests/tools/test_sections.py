@@ -1,4 +1,3 @@
-#!/usr/bin/env python3
 """Tests of the call pgn_next_section, against the rule as section_rule.py has it from its words.
 
 The texts are those of fuzz/corpus, the worked inputs, the examples, games as bench/ makes them, and
@@ -11,7 +10,6 @@ import random
 import sys
 import unittest
 
-sys.path.insert(0, os.path.dirname(os.path.realpath(__file__)))
 import section_rule
 from programs import ROOT, run, vectors
 from test_python import PACKAGE, library
@@ -139,7 +137,3 @@ class Statuses(unittest.TestCase):
             "begin": 0, "fault": 0, "at": 26, "comment_at": 23, "escapes_at": 0, "ends": 0,
             "has_tags": 1, "has_movetext": 1, "is_behind_text": 1, "has_comment": 1,
             "has_escapes": 0})
-
-
-if __name__ == "__main__":
-    unittest.main()

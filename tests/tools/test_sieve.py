@@ -1,10 +1,8 @@
-#!/usr/bin/env python3
 """Tests of bin/pgn_sieve."""
 import os
 import pty
 import random
 import re
-import shutil
 import signal
 import subprocess
 import sys
@@ -12,7 +10,6 @@ import tempfile
 import time
 import unittest
 
-sys.path.insert(0, os.path.dirname(os.path.realpath(__file__)))
 import programs
 from programs import ROOT, need_program, run
 
@@ -91,8 +88,7 @@ class Sieved:
 
     def __init__(self, test, text, *options):
         need_program()
-        self.folder = tempfile.mkdtemp()
-        test.addCleanup(shutil.rmtree, self.folder)
+        self.folder = programs.new_folder(test)
         self.paths = [self.folder + it for it in ("/in.pgn", "/good.pgn", "/bad.pgn")]
         with open(self.paths[0], "wb") as file:
             file.write(text)
@@ -288,8 +284,7 @@ class SieveTest(unittest.TestCase):
 
     def test_refused_files(self):
         need_program()
-        folder = tempfile.mkdtemp()
-        self.addCleanup(shutil.rmtree, folder)
+        folder = programs.new_folder(self)
         file, link, other = folder + "/a.pgn", folder + "/link.pgn", folder + "/b.pgn"
         with open(file, "wb") as out:
             out.write(sound(b"A"))
@@ -442,8 +437,7 @@ class StoppedTest(unittest.TestCase):
     """A program that never ends stands for a long file."""
 
     def start(self, script, **more):
-        folder = tempfile.mkdtemp()
-        self.addCleanup(shutil.rmtree, folder)
+        folder = programs.new_folder(self)
         self.paths = [folder + it for it in ("/in.pgn", "/good.pgn", "/bad.pgn")]
         for path in self.paths:
             with open(path, "wb") as file:
@@ -485,8 +479,7 @@ def stopped(**more):
 tempfile.mkstemp = stopped
 pgn_files.run_script("script", lambda: pgn_files.Replacement(sys.argv[2]))
 """
-        folder = tempfile.mkdtemp()
-        self.addCleanup(shutil.rmtree, folder)
+        folder = programs.new_folder(self)
         words = [sys.executable, "-c", script, os.path.dirname(SIEVE), folder + "/good.pgn"]
         self.assertEqual(subprocess.run(words).returncode, -signal.SIGTERM)
         self.assertEqual(os.listdir(folder), [])
@@ -523,7 +516,3 @@ pgn_files.run_script("script", lambda: pgn_files.Replacement(sys.argv[2]))
         self.assertIn(b"0.0 of 0.0 MB, ", os.read(head, 1000))
         started = self.start(script, stdout=subprocess.PIPE, stderr=subprocess.PIPE)
         self.assertEqual(started.communicate(timeout=20)[1], b"")
-
-
-if __name__ == "__main__":
-    unittest.main()

@@ -1,14 +1,10 @@
-#!/usr/bin/env python3
 """Tests of `pgn_tool split` with real files, folders and devices, and of FILE and its absence."""
 import os
-import shutil
 import subprocess
-import sys
 import tempfile
 import unittest
 
-sys.path.insert(0, os.path.dirname(os.path.realpath(__file__)))
-from programs import need_program, not_tried, opens_closed_streams, run, without_rights
+from programs import Folder, need_program, not_tried, opens_closed_streams, run, without_rights
 
 HEAD = (b'[Event "?"]\n[Site "?"]\n[Date "????.??.??"]\n[Round "?"]\n[White "?"]\n[Black "?"]\n'
         b'[Result "*"]\n\n')
@@ -16,21 +12,16 @@ UNKNOWN = HEAD + b"*\n\n"
 UNWRITTEN = b"byte %d: output cannot be written\n"
 
 
-class SplitTest(unittest.TestCase):
+class SplitTest(Folder, unittest.TestCase):
     def setUp(self):
+        super().setUp()
         self.program = need_program()
-        self.folder = tempfile.mkdtemp()
-        self.addCleanup(shutil.rmtree, self.folder, True)
 
     def split(self, text, *words, folder=None, **more):
         return run([self.program, "split", folder or self.folder, *words], input=text, **more)
 
     def files(self):
-        found = {}
-        for name in os.listdir(self.folder):
-            with open(os.path.join(self.folder, name), "rb") as file:
-                found[name] = file.read()
-        return found
+        return {name: self.get(name) for name in os.listdir(self.folder)}
 
     def check(self, ran, status, err, files):
         self.assertEqual((ran.returncode, ran.stdout, ran.stderr), (status, b"", err))
@@ -66,10 +57,9 @@ class SplitTest(unittest.TestCase):
                    {"000001.pgn": UNKNOWN})
 
     def test_old_files(self):
-        for name in ("000001.pgn", "000003.pgn", "other"):
-            with open(os.path.join(self.folder, name), "wb") as file:
-                file.write(b"old " * 100)
         old = b"old " * 100
+        for name in ("000001.pgn", "000003.pgn", "other"):
+            self.put(name, old)
         self.check(self.split(b"* *"), 0, b"", {"000001.pgn": UNKNOWN, "000002.pgn": UNKNOWN,
                                                 "000003.pgn": old, "other": old})
 
@@ -170,7 +160,3 @@ class InputTest(unittest.TestCase):
             with open("/dev/full", "wb") as full:
                 ran = run([self.program, command], input=b"*", stdout=full)
             self.assertEqual((ran.returncode, ran.stderr), (1, b"output cannot be written\n"))
-
-
-if __name__ == "__main__":
-    unittest.main()

@@ -1,16 +1,12 @@
-#!/usr/bin/env python3
 """Tests of bin/pgn_tool with pipes, and with standard streams that are closed, full or broken."""
 import os
-import shutil
 import signal
 import subprocess
-import sys
-import tempfile
 import threading
 import unittest
 
-sys.path.insert(0, os.path.dirname(os.path.realpath(__file__)))
-from programs import need, need_program, not_tried, opens_closed_streams, run, without_rights
+from programs import (Folder, need, need_program, not_tried, opens_closed_streams, run,
+                      without_rights)
 
 HEAD = (b'[Event "?"]\n[Site "?"]\n[Date "????.??.??"]\n[Round "?"]\n[White "?"]\n[Black "?"]\n'
         b'[Result "*"]\n\n')
@@ -28,17 +24,10 @@ WRITTEN = {
 }
 
 
-class StreamTest(unittest.TestCase):
+class StreamTest(Folder, unittest.TestCase):
     def setUp(self):
+        super().setUp()
         self.program = need_program()
-        self.folder = tempfile.mkdtemp()
-        self.addCleanup(shutil.rmtree, self.folder, True)
-
-    def write(self, name, text):
-        path = os.path.join(self.folder, name)
-        with open(path, "wb") as file:
-            file.write(text)
-        return path
 
     def closing(self, stream, *words, **more):
         """Calls the program with a standard stream closed, as a shell closes it."""
@@ -60,19 +49,19 @@ class StreamTest(unittest.TestCase):
         path = os.path.join(self.folder, "pipe")
         os.mkfifo(path)
         for task, text in WRITTEN.items():
-            writer = threading.Thread(target=self.write, args=("pipe", TWO))
+            writer = threading.Thread(target=self.put, args=("pipe", TWO))
             writer.start()
             ran = run([self.program, task, path], input=b"* * *")
             writer.join()
             self.check(ran, 0, text, b"")
 
     def test_file_named_as_a_hyphen(self):
-        self.write("-", TWO)
+        self.put("-", TWO)
         self.check(run([self.program, "check", "-"], input=b"*", cwd=self.folder), 0,
                    WRITTEN["check"], b"")
 
     def test_file_that_may_not_be_read(self):
-        path = self.write("hidden.pgn", TWO)
+        path = self.put("hidden.pgn", TWO)
         os.chmod(path, 0)
         os.chmod(self.folder, 0o755)
         words = without_rights(self, self.program)
@@ -86,12 +75,12 @@ class StreamTest(unittest.TestCase):
             self.check(run([self.program, task, path], input=TWO), 1, b"", UNREAD)
 
     def test_closed_standard_input_with_a_file(self):
-        path = self.write("two.pgn", TWO)
+        path = self.put("two.pgn", TWO)
         for task, text in WRITTEN.items():
             self.check(self.closing("<&-", task, path), 0, text, b"")
 
     def test_closed_standard_output(self):
-        path = self.write("two.pgn", TWO)
+        path = self.put("two.pgn", TWO)
         status, told = (0, b"") if opens_closed_streams(self.program) else (1, UNWRITTEN)
         for words in (["--help"], ["--version"], *[[it] for it in WRITTEN],
                       *[[it, path] for it in WRITTEN]):
@@ -104,7 +93,7 @@ class StreamTest(unittest.TestCase):
                    b"byte 2: result differs from the Result tag\n")
 
     def test_closed_standard_error(self):
-        path = self.write("bad.pgn", b"* 1. e4")
+        path = self.put("bad.pgn", b"* 1. e4")
         for words, status in ((["export"], 1), (["check"], 1), (["list"], 1), (["convert"], 2),
                               (["check", self.folder + "/missing"], 1)):
             for stream in ("2>&-", "2>/dev/full"):
@@ -150,7 +139,7 @@ class StreamTest(unittest.TestCase):
         """What fits into the buffer is written by the last flush."""
         if not os.path.exists("/dev/full"):
             not_tried("/dev/full is missing")
-        path = self.write("two.pgn", TWO)
+        path = self.put("two.pgn", TWO)
         for words in (["--help"], ["--version"], ["export", "--checked", path],
                       *[[it] for it in WRITTEN], *[[it, path] for it in WRITTEN]):
             with open("/dev/full", "wb") as full:
@@ -163,7 +152,7 @@ class StreamTest(unittest.TestCase):
             self.assertEqual((ran.returncode, ran.stderr), (1, NO_MOVE), task)
 
     def test_output_goes_out_before_the_report(self):
-        path = self.write("bad.pgn", b"* e9")
+        path = self.put("bad.pgn", b"* e9")
         line = b"1\t?\t?\t*\t0\trnbqkbnr/pppppppp/8/8/8/8/PPPPPPPP/RNBQKBNR w KQkq - 0 1\n"
         for words, text in (("export", UNKNOWN), ("export --checked", UNKNOWN), ("check", b""),
                             ("list", line)):
@@ -187,7 +176,3 @@ class StreamTest(unittest.TestCase):
         for words in ((b"check", b"a\xff.pgn"), (b"split", b"\xff"), (b"\xff",)):
             self.check(run([self.program.encode(), *words], input=TWO), 2, b"",
                        b"arguments cannot be read\n")
-
-
-if __name__ == "__main__":
-    unittest.main()

@@ -1,14 +1,11 @@
-#!/usr/bin/env python3
 """Tests of bin/test_tools, on made tests that pass, fail and are skipped."""
 import os
+import re
 import shutil
-import sys
-import tempfile
 import textwrap
 import unittest
 
-sys.path.insert(0, os.path.dirname(os.path.realpath(__file__)))
-from programs import ROOT, run
+from programs import ROOT, new_folder, run
 
 MIXED = """
     import unittest
@@ -26,8 +23,6 @@ MIXED = """
                 self.skipTest("part is missing")
         @unittest.expectedFailure
         def test_unexpected(self): pass
-        @unittest.expectedFailure
-        def test_expected(self): self.fail("known")
 """
 SKIPPED = """
     import unittest
@@ -35,19 +30,25 @@ SKIPPED = """
         @classmethod
         def setUpClass(cls): raise unittest.SkipTest("server is missing")
         def test_one(self): pass
-        def test_two(self): pass
     class Other(unittest.TestCase):
+        def test_passes(self): pass
+"""
+MODULE = """
+    import os, unittest
+    def setUpModule():
+        unittest.addModuleCleanup(os.environ.pop, "MADE_BY_A_MODULE")
+        assert os.environ.setdefault("MADE_BY_A_MODULE", __name__) == __name__
+    class One(unittest.TestCase):
         def test_passes(self): pass
 """
 
 
 class TestToolsTest(unittest.TestCase):
     def setUp(self):
-        self.root = tempfile.mkdtemp()
-        self.addCleanup(shutil.rmtree, self.root)
-        for folder in ("bin", "tests/tools"):
-            os.makedirs(os.path.join(self.root, folder))
-        shutil.copy(ROOT + "/bin/test_tools", self.root + "/bin")
+        self.root = new_folder(self)
+        for path in ("bin/test_tools", "tests/tools/conftest.py", "tests/tools/pytest.ini"):
+            os.makedirs(os.path.dirname(os.path.join(self.root, path)), exist_ok=True)
+            shutil.copy(os.path.join(ROOT, path), os.path.join(self.root, path))
 
     def write(self, name, text):
         path = os.path.join(self.root, "tests/tools", name)
@@ -55,69 +56,56 @@ class TestToolsTest(unittest.TestCase):
             file.write(textwrap.dedent(text))
 
     def call(self, *words):
-        """The status and the lines of output."""
-        ran = run([self.root + "/bin/test_tools", *words])
+        """The status, the output, and its last line without the time."""
+        ran = run([self.root + "/bin/test_tools", *words], cwd="/")
         self.assertEqual(ran.stderr, b"")
-        return ran.returncode, ran.stdout.decode().splitlines()
+        shown = ran.stdout.decode()
+        return ran.returncode, shown, re.sub("^=+ | in .*", "", shown.splitlines()[-1])
 
     def test_counts(self):
         self.write("test_mixed.py", MIXED)
-        status, lines = self.call()
-        self.assertEqual((status, lines[-1]), (1, "1 passed, 6 failed, 2 skipped"))
-        self.assertEqual([it for it in lines if it[:1].strip()][:-3], [
-            "FAILED  test_mixed.Mixed.test_expected",
-            "FAILED  test_mixed.Mixed.test_fails",
-            "FAILED  test_mixed.Mixed.test_has_an_error",
-            "FAILED  test_mixed.Mixed.test_parts (part=0)",
-            "FAILED  test_mixed.Mixed.test_parts (part=2)",
-            "ok      test_mixed.Mixed.test_passes",
-            "skipped test_mixed.Mixed.test_skipped: tool is missing",
-            "skipped test_mixed.Mixed.test_skipped_in_a_part [part]: part is missing",
-            "FAILED  test_mixed.Mixed.test_unexpected"])
-        for error in ("AssertionError: because of this", "OSError: no such device"):
-            self.assertIn("    " + error, lines)
-        self.assertEqual(lines[-11:-1], [
-            "Skipped:",
-            "    test_mixed.Mixed.test_skipped: tool is missing",
-            "    test_mixed.Mixed.test_skipped_in_a_part [part]: part is missing",
-            "Failed:",
-            "    test_mixed.Mixed.test_expected",
-            "    test_mixed.Mixed.test_fails",
-            "    test_mixed.Mixed.test_has_an_error",
-            "    test_mixed.Mixed.test_parts (part=0)",
-            "    test_mixed.Mixed.test_parts (part=2)",
-            "    test_mixed.Mixed.test_unexpected"])
+        status, shown, counts = self.call("-n2")
+        self.assertEqual((status, counts), (1, "5 failed, 2 passed, 2 skipped"))
+        for word in ("FAILED tests/tools/test_mixed.py::Mixed::test_fails",
+                     "FAILED tests/tools/test_mixed.py::Mixed::test_unexpected",
+                     "SUBFAIL tests/tools/test_mixed.py::Mixed::test_parts",
+                     "Mixed.test_parts (part=0)", "Mixed.test_parts (part=2)",
+                     "AssertionError: because of this", "OSError: no such device",
+                     "tool is missing", "part is missing"):
+            self.assertIn(word, shown)
 
     def test_a_skipped_test_is_no_success(self):
         self.write("test_skipped.py", SKIPPED)
-        status, lines = self.call()
-        self.assertEqual((status, lines[-1]), (0, "1 passed, 0 failed, 1 skipped"))
-        self.assertEqual(lines[-3:-1],
-                         ["Skipped:", "    setUpClass (test_skipped.Class): server is missing"])
-        self.assertEqual(self.call("--all"), (1, lines))
-
-    def test_all_pass(self):
-        self.write("test_one.py", SKIPPED.replace("raise unittest.SkipTest", "print"))
-        status, lines = self.call("--all", "one")
-        self.assertEqual((status, lines[-1]), (0, "3 passed, 0 failed, 0 skipped"))
-        self.assertNotIn("Skipped:", lines)
+        status, shown, counts = self.call("-n0")
+        self.assertEqual((status, counts), (0, "1 passed, 1 skipped"))
+        self.assertRegex(shown, r"SKIPPED .*: server is missing")
+        for words in (["-n0"], ["-n2", "skipped"]):
+            status, shown, counts = self.call("--all", *words)
+            self.assertEqual((status, counts), (1, "1 passed, 1 error"))
+            self.assertIn("server is missing", shown)
+        self.write("test_skipped.py", "import unittest\nraise unittest.SkipTest('it is missing')\n")
+        status, shown, counts = self.call("--all", "-n0")
+        self.assertIn("it is missing", shown)
+        self.assertEqual((status, counts), (2, "1 error"))
 
     def test_names(self):
         self.write("test_one.py", "raise OSError('cannot be loaded')\n")
-        self.write("test_two.py", SKIPPED)
-        self.assertEqual(self.call("two")[0], 0)
-        self.assertEqual(self.call()[1][-1], "1 passed, 1 failed, 1 skipped")
-        ran = run([self.root + "/bin/test_tools", "two", "three"])
-        self.assertEqual((ran.returncode, ran.stdout), (2, b""))
-        self.assertEqual(ran.stderr, b"bin/test_tools: there is no tests/tools/test_three.py\n")
+        self.write("test_two.py", MODULE)
+        self.write("test_three.py", MODULE)
+        self.assertEqual(self.call("--all", "two", "three", "-n0")[::2], (0, "2 passed"))
+        for words in ([], ["-n2", "two", "one"]):
+            status, shown, _ = self.call(*words)
+            self.assertNotEqual(status, 0)
+            self.assertIn("cannot be loaded", shown)
+        ran = run([self.root + "/bin/test_tools", "two", "four"])
+        self.assertEqual((ran.returncode, ran.stdout, ran.stderr), (
+            2, b"", b"bin/test_tools: there is no tests/tools/test_four.py\n"))
 
     def test_nothing_that_passes(self):
-        self.assertEqual(self.call(), (1, ["0 passed, 0 failed, 0 skipped"]))
-        self.write("test_none.py", "import unittest\n\ndef test_alone():\n    pass\n")
-        status, lines = self.call()
-        self.assertEqual((status, lines[-1]), (1, "0 passed, 1 failed, 0 skipped"))
-        self.assertIn("    it has no test", lines)
-
-
-if __name__ == "__main__":
-    unittest.main()
+        self.assertNotEqual(self.call("-n0")[0], 0)
+        self.write("test_two.py", MODULE)
+        self.write("test_none.py", "import unittest\n")
+        for words in (["-n0"], ["-n2"]):
+            status, shown, _ = self.call(*words)
+            self.assertNotEqual(status, 0)
+            self.assertIn("it has no test", shown)

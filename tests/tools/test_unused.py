@@ -1,14 +1,10 @@
-#!/usr/bin/env python3
 """Tests of bin/unused."""
 import os
 import re
-import shutil
 import sys
-import tempfile
 import unittest
 
-sys.path.insert(0, os.path.dirname(os.path.realpath(__file__)))
-from programs import ROOT, need, run
+from programs import ROOT, need, new_folder, run
 
 # Names the files of the repository, new ones too.
 WORKING = ["git", "ls-files", "--cached", "--others", "--exclude-standard"]
@@ -136,8 +132,7 @@ class RealTree(unittest.TestCase):
 class MadeTree(unittest.TestCase):
     def setUp(self):
         need("vulture")
-        self.folder = tempfile.mkdtemp()
-        self.addCleanup(shutil.rmtree, self.folder)
+        self.folder = new_folder(self)
         for name, text in FILES.items():
             self.write(name, text)
 
@@ -254,7 +249,3 @@ class Scripts(unittest.TestCase):
         self.assertGreater(len(files), 50)
         ran = run(["pyflakes3", *files], cwd=ROOT)
         self.assertEqual((ran.returncode, ran.stdout.decode()), (0, ""))
-
-
-if __name__ == "__main__":
-    unittest.main()

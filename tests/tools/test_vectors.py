@@ -1,4 +1,3 @@
-#!/usr/bin/env python3
 """Tests of bin/write_vectors, of what it writes, and of bin/pgn_conform."""
 import glob
 import json
@@ -8,10 +7,8 @@ import resource
 import shutil
 import signal
 import sys
-import tempfile
 import unittest
 
-sys.path.insert(0, os.path.dirname(os.path.realpath(__file__)))
 import programs
 from programs import ROOT, run
 
@@ -42,8 +39,7 @@ class Copy:
     """A copy of the data and of what is written from it, to be changed."""
 
     def __init__(self, test):
-        self.root = tempfile.mkdtemp()
-        test.addCleanup(shutil.rmtree, self.root)
+        self.root = programs.new_folder(test)
         for path in DATA:
             to = os.path.join(self.root, path)
             os.makedirs(os.path.dirname(to), exist_ok=True)
@@ -300,8 +296,7 @@ class Conform(unittest.TestCase):
         self.assertEqual(self.conform("--theme", "variations", *words)[1], wanted)
 
     def test_the_files(self):
-        folder = tempfile.mkdtemp()
-        self.addCleanup(shutil.rmtree, folder)
+        folder = programs.new_folder(self)
         ran = run(["bin/pgn_conform", "--files", folder])
         self.assertEqual((ran.returncode, ran.stdout, ran.stderr), (0, b"", b""))
         wanted = {}
@@ -384,8 +379,7 @@ class Conform(unittest.TestCase):
 
     def test_files_that_cannot_be_written(self):
         """The status is 3, and what is there stays as it is."""
-        folder = tempfile.mkdtemp()
-        self.addCleanup(shutil.rmtree, folder)
+        folder = programs.new_folder(self)
         old = folder + "/limits.tag-pairs.in"
         with open(old, "w", encoding="ascii") as file:
             file.write("old")
@@ -413,7 +407,3 @@ class Conform(unittest.TestCase):
         ran = run(words)
         self.assertEqual((ran.returncode, ran.stdout, ran.stderr.count(b"\n")), (3, b"", 1))
         self.assertEqual(copy.text("vectors/README.md"), before)
-
-
-if __name__ == "__main__":
-    unittest.main()

@@ -1,26 +1,21 @@
-#!/usr/bin/env python3
 """Tests of bin/pgn_where."""
 import bz2
 import gzip
 import os
-import shutil
 import subprocess
 import sys
-import tempfile
 import unittest
 
-sys.path.insert(0, os.path.dirname(os.path.realpath(__file__)))
-from programs import ROOT, need, need_program, run
+from programs import ROOT, Folder, need, need_program, run
 
 WHERE = ROOT + "/bin/pgn_where"
 TAGS = b'[Event "Cup"]\n[White "Ann"]\n[Black "Bob"]\n\n'
 GAME = 'game 1: White "Ann", Black "Bob", Event "Cup"\n'
 
 
-class WhereTest(unittest.TestCase):
+class WhereTest(Folder, unittest.TestCase):
     def setUp(self):
-        self.folder = tempfile.mkdtemp()
-        self.addCleanup(shutil.rmtree, self.folder)
+        super().setUp()
         self.file = self.folder + "/a.pgn"
 
     def call(self, words, **more):
@@ -224,10 +219,6 @@ class WhereTest(unittest.TestCase):
         self.assertEqual((ran.returncode, ran.stderr), (1, b""), told)
         return ran.stdout.decode()
 
-    def put(self, name, text):
-        with open(os.path.join(self.folder, name), "wb") as file:
-            file.write(text)
-
     def test_messages_of_pgn_lint(self):
         bad = TAGS + b"1. e4 e5 2. Ke3 *\n\n"
         name = "a\n: 1:2 \u00fc.pgn"
@@ -385,7 +376,3 @@ class WhereTest(unittest.TestCase):
             with open(its, "wb") as closed:
                 ran = self.call(words, stdout=closed, input=b"byte 3: no\nmore\n")
             self.assertEqual((ran.returncode, ran.stderr), (3, b""))
-
-
-if __name__ == "__main__":
-    unittest.main()
