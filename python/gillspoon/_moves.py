@@ -86,12 +86,10 @@ class Ply:
     @property
     def notes(self) -> List[Note]:
         """NAGs (int), comments (str) and variations (Line) behind the move, in order."""
-        try:
-            return self._notes
-        except AttributeError:
-            # most plies have none, so the list is made when it is asked for
+        # most plies have none, so the list is made when it is asked for
+        if not hasattr(self, "_notes"):
             self._notes = []
-            return self._notes
+        return self._notes
 
     @notes.setter
     def notes(self, notes: List[Note]) -> None:
