@@ -53,7 +53,7 @@ def normalize_fen(fen: str) -> str:
     result = _library.normalize_fen(data, len(data), buffer, len(buffer))
     if result.status != _library.OK:
         raise FenFault(result.field, fen)
-    return buffer.raw[:result.length].decode("ascii")
+    return _library.front_of(buffer, result.length).decode()
 
 
 def san(fen: str, move: str, *, uci: bool = False) -> Played:
@@ -92,7 +92,7 @@ def texts_of_plies(fen: str, sans: List[str]) -> List[str]:
     played = _line(position, len(position), text, len(text), _library.SAN, buffer, len(buffer))
     if played.status:
         _refuse(played.fault, played.field, fen, text[played.place:].split(b" ")[0].decode())
-    lines = ctypes.string_at(buffer, played.written).decode("ascii")
+    lines = _library.front_of(buffer, played.written).decode()
     _buffers.append(buffer)
     return lines.replace("\n", "\t").split("\t")
 

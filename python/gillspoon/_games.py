@@ -6,7 +6,8 @@ import re
 from collections import deque
 from functools import cached_property
 from itertools import chain
-from typing import Callable, Deque, Iterator, List, Mapping, NamedTuple, Optional, Union
+from typing import (Callable, Deque, Iterator, List, Mapping, NamedTuple, Optional, Tuple,
+                    Union)
 
 from . import _calls, _library
 from ._bad_games import move_at, players_of
@@ -44,29 +45,22 @@ class Totals(NamedTuple):
     plies: int
 
 
-class _Unwritten(NamedTuple):
-    """What the export text of a game is written of, and how.
+def _export_text(source: bytes, mode: int, missing: int) -> bytes:
+    """The export text of a game, in a mode; `missing` says what a missing Result counts as.
 
     `source` is all of the game, from its first byte on that is no white space. A `%` there was in
     the first column, or the game would have had a fault. So it is an escape line in these bytes by
     themselves too.
     """
-
-    source: bytes
-    mode: int
-    missing: int
-
-    def text(self) -> bytes:
-        """The export text."""
-        data, size = self.source, max(_CAPACITY, 2 * len(self.source))
-        while True:
-            buffer = ctypes.create_string_buffer(size)
-            found = _library.next_game(data, len(data), 0, self.mode, self.missing, buffer, size)
-            if found.status != _library.FULL:
-                break
-            size *= 2
-        assert found.status == _library.OK and found.end == len(data), found.message
-        return ctypes.string_at(buffer, found.written)
+    size = max(_CAPACITY, 2 * len(source))
+    while True:
+        buffer = ctypes.create_string_buffer(size)
+        found = _library.next_game(source, len(source), 0, mode, missing, buffer, size)
+        if found.status != _library.FULL:
+            break
+        size *= 2
+    assert found.status == _library.OK and found.end == len(source), found.message
+    return _library.front_of(buffer, found.written)
 
 
 class Game:
@@ -88,6 +82,7 @@ class Game:
         "plies": "How many plies the game has, without variations.",
         "fen": "The FEN of its last position.",
         "_text": None,
+        "_section": None,
         "_unwritten": None,
         "_is_used": None,
         "_tags": None,
@@ -98,8 +93,9 @@ class Game:
                  text: bytes) -> None:
         self.number, self.offset, self.end = number, offset, end
         self.result, self.plies, self.fen, self._text = result, plies, fen, text
-        # as long as it is there, the text has the tag section alone
-        self._unwritten: Optional[_Unwritten] = None
+        # where the text is not made yet: the tag section, and what `_export_text` makes it of
+        self._section: Optional[bytes] = None
+        self._unwritten: Optional[Tuple[bytes, int, int]] = None
         # whether the text was asked for
         self._is_used = False
         self._tags: Optional[Tags] = None
@@ -115,7 +111,7 @@ class Game:
         """The game in export format, as bytes, with an empty line at its end."""
         unwritten = self._unwritten
         if unwritten is not None:
-            self.text = unwritten.text()
+            self.text = _export_text(*unwritten)
         self._is_used = True
         return self._text
 
@@ -123,14 +119,14 @@ class Game:
     def text(self, text: bytes) -> None:
         # in this order, since other threads may ask for it
         self._text = text
-        self._unwritten = None
+        self._unwritten = self._section = None
 
     @property
     def encoding(self) -> str:
         """The encoding of its text: `utf-8` if the text is UTF-8, else `latin-1`."""
         unwritten = self._unwritten
         # no word and no value is cut: where the source is UTF-8, the text is
-        if is_utf_8(self._text if unwritten is None else unwritten.source):
+        if is_utf_8(self._text if unwritten is None else unwritten[0]):
             return "utf-8"
         return "utf-8" if is_utf_8(self.text) else "latin-1"
 
@@ -142,7 +138,7 @@ class Game:
         `{**game.tags, "Annotator": "Ada"}`.
         """
         if self._tags is None:
-            self._tags = Tags(read_tags(self._section()))
+            self._tags = read_tags(self._tag_section())
         return self._tags
 
     def mainline(self) -> Iterator[Ply]:
@@ -154,7 +150,7 @@ class Game:
         1 e4 [] rnbqkbnr/pppppppp/8/8/4P3/8/PPPP1PPP/RNBQKBNR b KQkq e3 0 1
         2 e5 [1] rnbqkbnr/pppp1ppp/8/4p3/4P3/8/PPPP1PPP/RNBQKBNR w KQkq e6 0 2
         """
-        return iter(self.moves())
+        return iter(self.moves().plies)
 
     def moves(self) -> Line:
         """The moves as a tree: each ply has its NAGs, its comments and its variations.
@@ -186,17 +182,18 @@ class Game:
         fen = self.tags.get("FEN")
         return INITIAL_FEN if fen is None else _calls.normalize_fen(fen)
 
-    def _section(self) -> str:
+    def _tag_section(self) -> str:
         """The tag section, in the encoding of the whole text."""
         section = section_of(self)
         if section.isascii():
-            return section.decode("ascii")
+            return section.decode()
         return section.decode(self.encoding if is_utf_8(section) else "latin-1")
 
 
 def section_of(game: Game) -> bytes:
     """The tag section of a game, for which its text is not made."""
-    return game._text.partition(b"\n\n")[0]
+    section = game._section
+    return game._text.partition(b"\n\n")[0] if section is None else section
 
 
 class Reader:
@@ -212,16 +209,21 @@ class Reader:
 
     def games(self, on_fault: Optional[OnFault]) -> Iterator[Game]:
         """The games in turn; a fault is raised, or given to `on_fault`."""
-        window, size, call = self.window, _CAPACITY, _library.read_game
+        window, call, length, size = self.window, _library.read_game, 0, _CAPACITY
         buffer, base, data = ctypes.create_string_buffer(size), window.base, window.data
-        length = 0
+        # arguments that stay the same are made once
+        mode, missing = ctypes.c_uint32(self.mode), ctypes.c_uint32(self.missing)
+        limit, room = ctypes.c_size_t(length), ctypes.c_size_t(size)
         while True:
-            found = call(data, length, self.at - base, self.mode, self.missing, buffer, size)
-            status = found.status
-            if status == _library.OK and (found.end < length or window.is_whole):
-                game = self._game(found, ctypes.string_at(buffer, found.written))
+            found = call(data, limit, self.at - base, mode, missing, buffer, room)
+            status, end = found.status, found.end
+            if status == _library.OK and (end < length or window.is_whole):
+                game = self._game(found, end)
                 if call is _library.read_game:
-                    self._leave_unwritten(game, found.end)
+                    # without the empty line behind it
+                    game._section = _library.front_of(buffer, found.written - 2)
+                else:
+                    game.text = _library.front_of(buffer, found.written)
                 yield game
                 # who has asked for the text of this game may ask for that of the next one too
                 call = _library.next_game if game._is_used else _library.read_game
@@ -229,7 +231,7 @@ class Reader:
                 continue
             if status == _library.FULL:
                 size *= 2
-                buffer = ctypes.create_string_buffer(size)
+                buffer, room = ctypes.create_string_buffer(size), ctypes.c_size_t(size)
                 continue
             if status == _library.FAULT or status == _library.MORE and window.is_whole:
                 self._go_on(self._fault(found), on_fault)
@@ -241,18 +243,18 @@ class Reader:
                 window.more(self.at)
             base, data = window.base, window.data
             length = len(data)
+            limit = ctypes.c_size_t(length)
 
-    def _game(self, found: _library.NextGame, written: bytes) -> Game:
-        base, marker = self.window.base, self.window.data[found.marker_at:found.end]
-        game = Game(self.number, self._text_at(), base + found.end, marker.decode("ascii"),
-                    found.plies, found.fen.decode("ascii"), written)
-        self.number, self.at = self.number + 1, base + found.end
+    def _game(self, found: _library.NextGame, end: int) -> Game:
+        """The game that was found up to an index of the data, without its text."""
+        window, number = self.window, self.number
+        base = window.base
+        source = window.data[self.at - base:end].lstrip()
+        self.number, self.at = number + 1, base + end
+        game = Game(number, base + end - len(source), base + end, _library.RESULTS[found.marker],
+                    found.plies, found.fen.decode(), b"")
+        game._unwritten = source, self.mode, self.missing
         return game
-
-    def _leave_unwritten(self, game: Game, end: int) -> None:
-        """Keeps what the text of a game is made of, when it is asked for."""
-        source = self.window.data[game.offset - self.window.base:end]
-        game._unwritten = _Unwritten(source, self.mode, self.missing)
 
     def _text_at(self) -> int:
         """The offset of the first byte from `at` on that is no white space."""
@@ -487,7 +489,7 @@ def write_game(tags: Mapping[str, str], moves: Union[Line, str], *,
     whole = text + tags.get("Result", "*").encode(encoding)
     export = _Conversion(_library.FULL_FORMAT)(_Piece(whole, len(whole)))
     if export is not None and export.games == 1:
-        return ctypes.string_at(export.buffer, export.length)
+        return _library.front_of(export.buffer, export.length)
     # where the moves have a result at their end, the marker behind them is a game of its own
     found = games(whole, checked=True)
     game, other = next(found), next(found, None)

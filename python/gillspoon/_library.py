@@ -14,7 +14,7 @@ the conditions of the header, since both stay where they are while it runs.
 import ctypes
 import os
 import sys
-from typing import Callable
+from typing import Callable, Union
 
 VARIABLE = "GILLSPOON_LIBRARY"
 FILE = "libpgn_c.dylib" if sys.platform == "darwin" else "libpgn_c.so"
@@ -26,6 +26,8 @@ OK, FAULT, FULL, NO_MODE, NO_GAME, MORE, BAD_PLACE = range(7)
 FULL_FORMAT, REDUCED_FORMAT = range(2)
 RESULT_UNKNOWN, RESULT_FROM_MARKER = range(2)
 SAN, UCI = range(2)
+# the result that each termination marker is, by its number
+RESULTS = ("", "1-0", "0-1", "1/2-1/2", "*")
 # which lines can show where a game ends
 ENDS_ANYWHERE, ENDS_IN_COMMENTS, ENDS_NOWHERE = range(3)
 # the most bytes of a FEN, and of a ply as pgn_line writes it
@@ -197,6 +199,9 @@ class Section(ctypes.Structure):
 
 
 Buffer = ctypes.Array[ctypes.c_char]
+# An int of ctypes that is made once for many calls is passed several times as fast.
+_Size = Union[int, ctypes.c_size_t]
+_Number = Union[int, ctypes.c_uint32]
 
 _TEXT = (ctypes.c_void_p, ctypes.c_size_t)
 _CALLS = {
@@ -248,7 +253,14 @@ convert: Callable[[bytes, int, Buffer, int, int], Result] = _library.pgn_convert
 normalize_fen: Callable[[bytes, int, Buffer, int], Text] = _library.pgn_fen_normalize
 san: Callable[[bytes, int, bytes, int, int], Move] = _library.pgn_san
 line: Callable[[bytes, int, bytes, int, int, Buffer, int], Plies] = _library.pgn_line
-next_game: Callable[[bytes, int, int, int, int, Buffer, int], NextGame] = _library.pgn_next_game
-read_game: Callable[[bytes, int, int, int, int, Buffer, int], NextGame] = _library.pgn_read_game
+next_game: Callable[[bytes, _Size, int, _Number, _Number, Buffer, _Size],
+                    NextGame] = _library.pgn_next_game
+read_game: Callable[[bytes, _Size, int, _Number, _Number, Buffer, _Size],
+                    NextGame] = _library.pgn_read_game
 next_section: Callable[[BadGame, bytes, int, bool], Section] = _library.pgn_next_section
 explain: Callable[[bytes, int, bytes, int], Explanation] = _library.pgn_explain
+
+
+def front_of(buffer: Buffer, length: int) -> bytes:
+    """The first bytes of a buffer."""
+    return buffer[:length]  # type: ignore[return-value]

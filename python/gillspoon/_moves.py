@@ -4,7 +4,7 @@ Export text is a normal form, and what is read here is that form alone: docs/PRO
 grammar. The library has checked every move, so nothing is checked again.
 """
 import re
-from itertools import count, groupby, repeat
+from itertools import groupby, repeat, starmap
 from typing import Any, Callable, Iterator, List, Optional, Tuple, Union
 
 from . import _calls
@@ -61,13 +61,11 @@ class Ply:
         "_played": None,
         "_notes": None,
     }
+    san: str
+    # how many moves were played before it
+    _at: int
+    _played: _Played
     _notes: List[Note]
-
-    def __init__(self, at: int, san: str, played: _Played) -> None:
-        # how many moves were played before it
-        self._at = at
-        self.san = san
-        self._played = played
 
     def __repr__(self) -> str:
         return "Ply(%d, %r)" % (self.number, self.san)
@@ -88,12 +86,10 @@ class Ply:
     @property
     def notes(self) -> List[Note]:
         """NAGs (int), comments (str) and variations (Line) behind the move, in order."""
-        try:
-            return self._notes
-        except AttributeError:
-            # most plies have none, so the list is made when it is asked for
+        # most plies have none, so the list is made when it is asked for
+        if not hasattr(self, "_notes"):
             self._notes = []
-            return self._notes
+        return self._notes
 
     @notes.setter
     def notes(self, notes: List[Note]) -> None:
@@ -154,6 +150,23 @@ class Ply:
     def squares(self) -> List[MarkedSquare]:
         """The marked squares of the board after the move, by `[%csl Gd4]`: colour and square."""
         return squares_of(self.comments)
+
+
+def _ply(at: int, san: str, played: _Played) -> Ply:
+    """A move of a line, before which so many were played."""
+    ply = Ply()
+    ply._at, ply.san, ply._played = at, san, played
+    return ply
+
+
+def _plies(sans: List[str], played: _Played) -> List[Ply]:
+    """All moves of a line. They are made without a Python call for each, which takes longer."""
+    plies = list(starmap(Ply, repeat((), len(sans))))
+    for at, ply in enumerate(plies):
+        ply._at = at
+        ply.san = sans[at]
+        ply._played = played
+    return plies
 
 
 class Line:
@@ -223,7 +236,7 @@ def _packed_notes(notes: List[Note], before: "Union[Ply, str, None]") -> List[ob
 
 
 def _unpacked_ply(fen: str, number: int, sans: List[str], san: str, notes: List[object]) -> Ply:
-    ply = Ply(0, san, _Played(fen, number, sans))
+    ply = _ply(0, san, _Played(fen, number, sans))
     ply.notes = _unpacked_notes(notes, fen)
     return ply
 
@@ -235,7 +248,7 @@ def _unpacked_line(fen: Optional[str], notes: List[object], groups: List[_Group]
     for start, first, sans, packed in groups:
         played = _Played(line.start if start is None else start, first, sans)
         for at, san, its_notes in packed:
-            ply = Ply(at, san, played)
+            ply = _ply(at, san, played)
             ply.notes = _unpacked_notes(its_notes, before)
             line.plies.append(ply)
             before = ply
@@ -261,7 +274,7 @@ def read_moves(movetext: str, fen: str) -> Line:
     else:
         del sans[::3]
     line = Line(fen)
-    line.plies = list(map(Ply, count(), sans, repeat(_Played(fen, 1, sans))))
+    line.plies = _plies(sans, _Played(fen, 1, sans))
     return line
 
 
@@ -277,7 +290,7 @@ def _read_noted_moves(movetext: str, fen: str) -> Line:
         at += 1
         first = word[0]
         if first in "abcdefghKQRBNO":
-            noted = Ply(len(played.sans), word, played)
+            noted = _ply(len(played.sans), word, played)
             played.sans.append(word)
             line.plies.append(noted)
         elif word[-1] == ".":

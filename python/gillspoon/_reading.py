@@ -18,5 +18,5 @@ class GameReader:
             found = _library.next_game(text, len(text), begin, _library.FULL_FORMAT, missing,
                                        self._buffer, len(self._buffer))
             if found.status != _library.FULL:
-                return found, ctypes.string_at(self._buffer, found.written)
+                return found, _library.front_of(self._buffer, found.written)
             self._buffer = ctypes.create_string_buffer(2 * len(self._buffer))

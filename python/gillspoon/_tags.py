@@ -31,15 +31,18 @@ class Tags(Dict[str, str]):
         return Tags, (dict(self),)
 
 
-def read_tags(section: str) -> Dict[str, str]:
-    """The names and values of the tag pairs of a game in export format, in order."""
-    tags = {}
-    for line in section.split("\n"):
-        name, _, value = line[1:-2].partition(' "')
-        if "\\" in value:
-            value = re.sub(r"\\(.)", r"\1", value)
-        tags[name] = value
-    return tags
+def read_tags(section: str) -> Tags:
+    """The names and values of the tag pairs of a game in export format, in order.
+
+    >>> read_tags('[White "Ada "]\\n[Black "\\\\"Bo\\\\" \\\\\\\\"]')
+    {'White': 'Ada ', 'Black': '"Bo" \\\\'}
+    """
+    # a quote in a value has a backslash before it, so those alone are cut that are around a value
+    words = section[1:-2].replace('"]\n[', ' "').split(' "')
+    if "\\" in section:
+        words = [re.sub(r"\\(.)", r"\1", it) for it in words]
+    each = iter(words)
+    return Tags(zip(each, each))
 
 
 def write_tags(tags: Mapping[str, str]) -> str:
