@@ -1,13 +1,13 @@
 -- The last word outside comments lies between two places of the line.
 use Rattle.std.proofs.lemmas.Grind.{common_steps}
-use Rattle.std.proofs.Common.{◌≡◌, ℕ, ◌+◌, ◌-◌, ◌<◌, ◌≤◌, Bool, true, false, List, [], ◌∷◌, ◌++◌, Option, None, Some, if◌then◌else◌, length, drop, take, get_or, refl, sym, subst, ◌∙◌, ap, ap₂, arith, add-one, drop-cons, length-drop}
+use Rattle.std.proofs.Common.{◌≡◌, ℕ, ◌+◌, ◌-◌, ◌<◌, ◌≤◌, Bool, true, false, List, [], ◌∷◌, ◌++◌, Option, None, Some, if◌then◌else◌, length, drop, take, get_or, refl, sym, ◌∙◌, ap, arith, add-one, drop-cons, length-drop}
 use Rattle.std.proofs.lemmas.Bool.{true≢false}
 use Rattle.std.proofs.lemmas.List.{get_or-drop, take_more}
 use Rattle.std.specs.List.{cons_option}
 use Rattle.pgn_sections.specs.Bytes.{is_space}
 use Rattle.pgn_sections.specs.Outside.{comment_after, last_word, outside_byte, without_comments}
 use Rattle.pgn_sections.specs.declared.outside.Comment.{Comment}
-use Rattle.pgn_sections.specs.declared.outside.Comment.TheVariants.{Closed, Braces, RestOfLine}
+use Rattle.pgn_sections.specs.declared.outside.Comment.TheVariants.{Closed}
 
 -- The last word of the bytes before an index. If no white space is behind it, it ends there,
 -- outside comments.
@@ -21,9 +21,7 @@ pub record LastWord (first : Comment) (line : List ℕ) (begin end index : ℕ) 
 
 -- a byte of a word is that of the line, and no comment begins with it
 byte_of_word : (c : Comment) (b seen : ℕ) → outside_byte c b ≡ Some seen → is_space seen ≡ false → (seen ≡ b) × (comment_after c b ≡ Closed)
-byte_of_word Closed b seen e h = grind (arith, common_steps)
-byte_of_word Braces b seen e h = grind (arith, common_steps)
-byte_of_word RestOfLine b seen e h = grind (arith, common_steps)
+byte_of_word x0 b seen e h = grind (arith, common_steps)
 
 at_index : (line : List ℕ) (i : ℕ) → i < length line → drop i line ≡ get_or line i 0 ∷ drop (i + 1) line
 at_index line i h = rw add-one (drop-cons line i 0 h)
@@ -31,9 +29,7 @@ at_index line i h = rw add-one (drop-cons line i 0 h)
 -- The line outside comments from an index on: its byte, if it is one outside them, and the rest.
 from_index : (c : Comment) (line : List ℕ) (i : ℕ) (o : Option ℕ) → i < length line → outside_byte c (get_or line i 0) ≡ o
     → without_comments c (drop i line) ≡ cons_option o (without_comments (comment_after c (get_or line i 0)) (drop (i + 1) line))
-from_index c line i o h e =
-    ap (λ (s : List ℕ). without_comments c s) (at_index line i h)
-    ∙ ap (λ (p : Option ℕ). cons_option p (without_comments (comment_after c (get_or line i 0)) (drop (i + 1) line))) e
+from_index c line i o h e = grind (arith, common_steps, at_index)
 
 -- one byte more between two places
 one_more : (line : List ℕ) (begin i : ℕ) → begin ≤ i → i < length line
@@ -46,8 +42,7 @@ one_more line begin i h k =
 
 -- no byte of a comment is outside
 closed_is_outside : (c : Comment) (b : ℕ) → c ≡ Closed → outside_byte c b ≡ None → ⊥
-closed_is_outside c b k e =
-    let f : outside_byte Closed b ≡ None = subst (λ (d : Comment). outside_byte d b ≡ None) k e in cc
+closed_is_outside c b k e = grind (arith, common_steps)
 
 module _ (first c : Comment) (line : List ℕ) (begin end i : ℕ) (within : i < length line) where
   -- the byte, what follows it, and the word so far
@@ -111,9 +106,7 @@ module _ (first c : Comment) (line : List ℕ) (begin end i : ℕ) (within : i <
   -- the first byte of a word
   pub begins : (seen : ℕ) → LastWord first line begin end i true c → outside_byte c byte ≡ Some seen → is_space seen ≡ false
       → LastWord first line i (i + 1) (i + 1) false after
-  begins seen w e text =
-      let none : i - i ≡ 0 = omega arith in
-      word_byte true i seen (omega arith) w e text (rw none refl)
+  begins seen w e text = grind (arith, common_steps, text, word_byte)
 
   -- a further byte of it
   pub grows : (seen : ℕ) → LastWord first line begin end i false c → outside_byte c byte ≡ Some seen → is_space seen ≡ false
