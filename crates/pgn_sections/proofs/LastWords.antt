@@ -21,7 +21,7 @@ pub record LastWord (first : Comment) (line : List ℕ) (begin end index : ℕ) 
 
 -- a byte of a word is that of the line, and no comment begins with it
 byte_of_word : (c : Comment) (b seen : ℕ) → outside_byte c b ≡ Some seen → is_space seen ≡ false → (seen ≡ b) × (comment_after c b ≡ Closed)
-byte_of_word x0 b seen e h = grind (arith, common_steps)
+byte_of_word c b seen e h = grind (arith, common_steps)
 
 at_index : (line : List ℕ) (i : ℕ) → i < length line → drop i line ≡ get_or line i 0 ∷ drop (i + 1) line
 at_index line i h = rw add-one (drop-cons line i 0 h)
@@ -106,7 +106,7 @@ module _ (first c : Comment) (line : List ℕ) (begin end i : ℕ) (within : i <
   -- the first byte of a word
   pub begins : (seen : ℕ) → LastWord first line begin end i true c → outside_byte c byte ≡ Some seen → is_space seen ≡ false
       → LastWord first line i (i + 1) (i + 1) false after
-  begins seen w e text = grind (arith, common_steps, text, word_byte)
+  begins seen w e text = grind (arith, common_steps, word_byte)
 
   -- a further byte of it
   pub grows : (seen : ℕ) → LastWord first line begin end i false c → outside_byte c byte ≡ Some seen → is_space seen ≡ false

@@ -41,7 +41,7 @@ alone b before end k =
 -- a CR at the end of the first line
 at_return : (is_last : Bool) (before b : ℕ) (u s : List ℕ) (end : ℕ) → CanFollow is_last s → (b == 10) ≡ false → (b == 13) ≡ true
     → line_to_return is_last before u ≡ Some end → FirstLine before end (b ∷ u) s
-at_return x0 before b x3 s end follow n r e = grind (arith, common_steps, alone, longer, one)
+at_return is_last before b u s end follow n r e = grind (arith, common_steps, alone, longer, one)
 
 -- the first byte of a line, if it is known that the line goes on behind a byte that ends none
 first_byte : (is_last : Bool) (before b : ℕ) (u s : List ℕ) (end : ℕ) → CanFollow is_last s → line_from is_last before (b ∷ u) ≡ Some end
@@ -52,7 +52,7 @@ first_byte is_last before b u s end follow e on = grind (arith, common_steps, at
 -- the last byte of a piece
 last_byte : (is_last : Bool) (before b : ℕ) (s : List ℕ) (end : ℕ) → CanFollow is_last s → line_from is_last (before + 1) [] ≡ Some end
     → FirstLine before end (b ∷ []) s
-last_byte x0 before b s end follow e = grind (arith, common_steps, alone)
+last_byte is_last before b s end follow e = grind (arith, common_steps, alone)
 
 first_line : (is_last : Bool) (before b : ℕ) (u s : List ℕ) (end : ℕ) → CanFollow is_last s → line_from is_last before (b ∷ u) ≡ Some end
     → FirstLine before end (b ∷ u) s

@@ -25,7 +25,7 @@ other_first b s h1 = grind arith
 
 pub start_gives : (at b : ℕ) (text : List ℕ) → length text ≤ 255 → (c : Bool) → (b == 239) ≡ c
     → GivesIn Mode.Start 0 at b text (λ h. if c then into h Mode.AfterEf Used else begin_line 0 h b (class b))
-start_gives at b text fits x4 e = grind (arith, begin_line_gives, eqb-true, fits, other_first, same_front, text, unmarked)
+start_gives at b text fits c e = grind (arith, begin_line_gives, eqb-true, other_first, same_front, unmarked)
 
 pub escape_line_gives : (place at b : ℕ) (text : List ℕ) → length text ≤ 255 → (c : Bool) → is_line_end b ≡ c
     → GivesIn Mode.EscapeLine place at b text (λ h. if c then into h Mode.LineStart Used else into h Mode.EscapeLine Used)

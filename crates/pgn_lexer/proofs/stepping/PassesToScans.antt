@@ -13,7 +13,7 @@ passes_count (over_space l new m passes within is_white scans waits) = let befor
 passes_count (over_token l new m n t passes within some scans skipped passed) = let before = passes_count passes in omega (arith, before, scans.count)
 
 front_follows : (b : Option ℕ) (x : ℕ) (rest : List ℕ) → Follows b (x ∷ rest) → Follows b (x ∷ [])
-front_follows x0 x rest h = grind (arith, rest)
+front_follows b x rest h = grind arith
 
 none_follows : (s rest : List ℕ) → Follows (still None rest) s
 none_follows s [] = tt
@@ -31,7 +31,7 @@ module _ (l mid new : Standing) (x : ℕ) (rest : List ℕ) (n : ℕ) (space : S
   advances (fault f) scans = tt
 
   reads : (seen : Scanned) → Scans mid rest new n seen → Reads l (x ∷ rest) new (suc n) seen
-  reads x0 scans = grind (arith, more, rest, space)
+  reads seen scans = grind (arith, space)
 
   module _ (u : List ℕ) (b : Option ℕ) (given : List Token) (stands : StandsAfter l u b given) (starts : Follows b (x ∷ rest)) where
     over : AfterScan u b given (x ∷ []) mid 1 more
@@ -60,7 +60,7 @@ module _ (l mid new : Standing) (x : ℕ) (rest : List ℕ) (n : ℕ) (space : S
     decided_more h = rw (joined (take n rest)) at h
 
     all_decided : (r : List ℕ) → (0 < length r → given ≡ decided ((u ++ x ∷ []) ++ r)) → given ≡ decided (u ++ x ∷ r)
-    all_decided x0 h = grind (arith, decides, joined)
+    all_decided r h = grind (arith, decides, joined)
 
     after : (seen : Scanned) → Scans mid rest new n seen → AfterScan u b given (x ∷ rest) new (suc n) seen
     after more scans =

@@ -215,7 +215,7 @@ between false place h b c = brace place h b c
 takes_between : (l : Bool) (place b : ℕ) (h new : PartialToken) (answer : Step) → h.mode ≡ comment_mode l
     → IsAfterByte (between l place h b (comment_class b)) new answer → IsAfterByte (after_byte place h b) new answer
 unfolding after_byte
-takes_between x0 place b h new answer e t = grind (arith, place)
+takes_between l place b h new answer e t = grind arith
 
 pub takes_gap : (l : Bool) (place b : ℕ) (h new : PartialToken) → h.mode ≡ comment_mode l
     → (comment_class b ≡ CommentClass.Space) ⊎ ((comment_class b ≡ CommentClass.LineEnd) × (l ≡ false))

@@ -164,7 +164,7 @@ module _ (count : ℕ) (old new : PartialToken) (piece : List ℕ) (used : ℕ) 
 
       no_sooner_closed : (k : Bool) → k ≡ false → (last : ℕ) → used ≡ last + 1 → StoodAt count old piece last
           → EndsNoSooner k u piece used given
-      no_sooner_closed x0 e last is_last stood = grind (arith, last, stood_decides)
+      no_sooner_closed k e last is_last stood = grind (arith, stood_decides)
 
       no_sooner_run : (k : Bool) → k ≡ true → StoodAt count old piece used → EndsNoSooner k u piece used given
       no_sooner_run k h1 h2 = grind (arith, stood_decides)

@@ -330,7 +330,7 @@ white_in_comment : (b : ℕ) → (comment_class b ≡ comment_classes.Space) ⊎
 white_in_comment b is = grind arith
 
 gap_is_white : (l : Bool) (b : ℕ) → (comment_class b ≡ comment_classes.Space) ⊎ ((comment_class b ≡ comment_classes.LineEnd) × (l ≡ false)) → is_space b ≡ true
-gap_is_white l b x2 = grind (arith, white_in_comment)
+gap_is_white l b is = grind (arith, white_in_comment)
 
 -- no token waits outside comments
 none_waits : (m : Mode) → IsOutside m → pending_in m ≡ 0
