@@ -31,8 +31,8 @@ next_places =
     let no_movetext_3 : next_place (codes "[White \"Ada\"x]\n[Event \"a\"]\n") 0 11 ≡ None = refl in
     let no_movetext_4 : next_place (codes "[White \"Ada\"x]\n\n[Event a]\n") 0 11 ≡ None = refl in
     let no_movetext_5 : next_place (codes "[White \"Ada\"x]\n\n[Events \"a\"]\n") 0 11 ≡ None = refl in
-    -- an open comment hides a line, unless this begins a tag pair with a quoted value, after movetext
-    -- or an empty line
+    -- an open comment hides a line, unless this begins a tag pair with a quoted value, after
+    -- movetext or an empty line
     let an_open_comment : next_place (codes "1. e4 {a\n[White Ada]\n} *\n[White \"Bo\"]\n") 0 6 ≡ Some 25 = refl in
     let an_open_comment_2 : next_place (codes "1. e4 {a \n[White \"Ada\"]\n") 0 9 ≡ Some 10 = refl in
     let an_open_comment_3 : next_place (codes "{a\n[White \"Ada\"]\n\n[Black \"Bo\"]\n") 0 0 ≡ Some 18 = refl in

@@ -83,7 +83,8 @@ comments =
     let long_word : Lexes (123 ∷ (letters 80 ++ 125 ∷ [])) (t 0 comment_open ∷ t 1 (refused WordTooLong) ∷ []) = by_law refl in
     let word_of_80 : Lexes (123 ∷ (letters 80 ++ 125 ∷ []))
     (t 0 comment_open ∷ t 1 (word (letters 80)) ∷ t 81 comment_close ∷ ending 82) → ⊥ = λ h. omega (arith, ap length (one_way long_word h)) in
-    -- A comment from a semicolon closes at the end of its line, before the first column of the next.
+    -- A comment from a semicolon closes at the end of its line, before the first column of the
+    -- next.
     let line_comment : Lexes (codes ";a\n%\n*")
     (t 0 comment_open ∷ t 1 (word (codes "a")) ∷ t 2 comment_close ∷ t 5 asterisk ∷ ending 6) = by_law refl in
     let percent_after_line_comment : Lexes (codes ";a\n%\n*")
