@@ -1,8 +1,7 @@
 use Rattle.std.proofs.lemmas.Grind.{common_steps}
-use Rattle.std.proofs.Common.{arith, rules, ◌≡◌, ◌∙◌, ap, ap₂, false, codes, Some}
+use Rattle.std.proofs.Common.{arith, rules, ◌≡◌, ◌∙◌, ap₂, false}
 use Rattle.std.proofs.lemmas.Result.{IfOk-weaker}
-use Rattle.clap.specs.Words.{Rule, rule_of, with_rule}
-use Rattle.clap.specs.declared.builder.action.ArgAction.TheVariants.{SetTrue}
+use Rattle.clap.specs.Words.{rule_of, with_rule}
 use Rattle.pgn_arguments.specs.CommandLine.{checked_rule, export_command, reduced_rule}
 use Rattle.pgn_arguments.proofs.commands.BuilderSteps.{app_about, rule_action, rule_help, rule_long}
 use Rattle.pgn_arguments.proofs.arguments.export_command.Goals as goal
