@@ -1,6 +1,6 @@
 -- Escapes of a value, byte after byte.
 use Rattle.std.proofs.lemmas.Grind.{common_steps}
-use Rattle.std.proofs.Common.{◌≡◌, ℕ, ◌+◌, ◌<◌, ◌≤◌, Bool, true, false, if◌then◌else◌, List, [], ◌∷◌, ◌++◌, length, take, drop, get_or, ap, sym}
+use Rattle.std.proofs.Common.{◌≡◌, ℕ, ◌+◌, ◌<◌, ◌≤◌, Bool, if◌then◌else◌, List, [], ◌∷◌, ◌++◌, length, take, drop, get_or, ap, sym}
 use Rattle.std.proofs.Common.{◌∙◌, add-one, append_assoc, append-nil, length-append, arith, refl}
 use Rattle.std.proofs.Math.Seq.{take-suc}
 use Rattle.std.proofs.lemmas.List.{take-append-drop}
@@ -33,13 +33,11 @@ length_escaped-front value i =
 -- that byte's text is part of all
 pub line_fits : (front value line : List ℕ) (i : ℕ) → i < length value → line ≡ front ++ escaped (take i value)
     → length line + length (escape_of (get_or value i 0)) ≤ length front + length (escaped value)
-line_fits front value line i h e =
-    omega (arith, ap length e, length-append {A = ℕ}, length_escaped-take value i h, length_escaped-front value (i + 1))
+line_fits front value line i h e = grind (arith, common_steps, length-append, length_escaped-front, length_escaped-take)
 
 -- no byte has a text of more than two
 two_at_most : (e : Bool) (b : ℕ) → length (if e then 92 ∷ b ∷ [] else b ∷ []) ≤ 2
-two_at_most true b = omega arith
-two_at_most false b = omega arith
+two_at_most e b = grind (arith, common_steps)
 
 -- so escapes make a value at most twice as long
 pub length_escaped-le : (value : List ℕ) → length (escaped value) ≤ length value + length value

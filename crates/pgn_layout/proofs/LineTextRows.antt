@@ -48,26 +48,21 @@ third_is_gap : (a b c : ℕ) (s : List ℕ) (x y : ℕ) (ts : List (List ℕ)) �
     → (a ≡ x) × (b ≡ y) × IsTrue (is_gap c) × IsTextOf ts s
 third_is_gap a b c s x y ts h = grind (arith, common_steps, opened)
 
-two_spaces : IsTextOf few (codes "e4  e5\n") → ⊥
-two_spaces h = grind (arith, common_steps, third_is_gap)
+abbrev IsNoText : List ℕ → Type 0
+IsNoText s = IsTextOf few s → ⊥
 
-no_gap : IsTextOf few (codes "e4e5\n") → ⊥
-no_gap h = false≢true (third_is_gap _ _ _ _ _ _ _ h).2
-
-tabulator : IsTextOf few (codes "e4\te5\n") → ⊥
-tabulator h = false≢true (third_is_gap _ _ _ _ _ _ _ h).2
-
-other_order : IsTextOf few (codes "e5 e4\n") → ⊥
-other_order h = omega (arith, (third_is_gap _ _ _ _ _ _ _ h).1)
-
-lost_token : IsTextOf few (codes "e4\n") → ⊥
+lost_token : IsNoText (codes "e4\n")
 lost_token h = grind (arith, common_steps, opened, third_is_gap)
 
-no_last_lf : IsTextOf few (codes "e4 e5") → ⊥
-no_last_lf h = grind (arith, common_steps, opened, third_is_gap)
-
-token_too_many : IsTextOf few (codes "e4 e5 *\n") → ⊥
-token_too_many h = grind (arith, common_steps, third_is_gap, opened)
+other_texts : Unit {0}
+other_texts =
+    let two_spaces : IsNoText (codes "e4  e5\n") = λ h. grind (arith, common_steps, third_is_gap) in
+    let no_gap : IsNoText (codes "e4e5\n") = λ h. false≢true (third_is_gap _ _ _ _ _ _ _ h).2 in
+    let tabulator : IsNoText (codes "e4\te5\n") = λ h. false≢true (third_is_gap _ _ _ _ _ _ _ h).2 in
+    let other_order : IsNoText (codes "e5 e4\n") = λ h. omega (arith, (third_is_gap _ _ _ _ _ _ _ h).1) in
+    let no_last_lf : IsNoText (codes "e4 e5") = λ h. grind (arith, common_steps, opened, third_is_gap) in
+    let token_too_many : IsNoText (codes "e4 e5 *\n") = λ h. grind (arith, common_steps, third_is_gap, opened) in
+    tt
 
 -- ---- The law is false without its premise, that the lines are those of the tokens.
 fails_at_other_lines : ((tokens lines : List (List ℕ)) → IsTextOf tokens (text_of lines)) → ⊥

@@ -1,9 +1,9 @@
 -- The lines of a text are the first whole line of a piece, and those behind it.
 use Rattle.std.proofs.lemmas.Grind.{common_steps}
-use Rattle.std.proofs.Common.{◌≡◌, ℕ, ◌+◌, ◌-◌, ◌<◌, Bool, true, false, List, [], ◌∷◌, ◌++◌, Option, None, Some, length, drop, take, refl, sym, subst, ◌∙◌, ap, arith, append-nil, ⊎_elim}
-use Rattle.std.proofs.lemmas.Bool.{cases_Bool, false≢true, lt-ltb}
+use Rattle.std.proofs.Common.{◌≡◌, ℕ, ◌+◌, ◌-◌, ◌<◌, Bool, true, false, List, [], ◌∷◌, ◌++◌, Option, None, Some, length, drop, take, refl, sym, ◌∙◌, ap, arith, append-nil}
+use Rattle.std.proofs.lemmas.Bool.{false≢true, lt-ltb}
 use Rattle.std.proofs.lemmas.List.{drop_all}
-use Rattle.std.specs.Prelude.{IsTrue, is_some, suc, not, ◌&&◌, ◌==◌, nat_lt, if◌then◌else◌}
+use Rattle.std.specs.Prelude.{IsTrue, is_some, suc, not, ◌&&◌, ◌==◌, if◌then◌else◌}
 use Rattle.std.specs.List.{list_all}
 use Rattle.pgn_sections.specs.BadGame.{behind_line, place_on, with_line}
 use Rattle.pgn_sections.specs.Bytes.{begins_with, is_space}
@@ -41,46 +41,18 @@ alone b before end k =
 -- a CR at the end of the first line
 at_return : (is_last : Bool) (before b : ℕ) (u s : List ℕ) (end : ℕ) → CanFollow is_last s → (b == 10) ≡ false → (b == 13) ≡ true
     → line_to_return is_last before u ≡ Some end → FirstLine before end (b ∷ u) s
-at_return true before b [] s end follow n r e =
-    subst (λ (t : List ℕ). FirstLine before end (b ∷ []) t) (sym (follow refl)) (alone b before end cc)
-at_return false before b [] s end follow n r e = absurd cc
-at_return is_last before b (c ∷ u) s end follow n r e =
-    ⊎_elim
-    (λ (lf : (c == 10) ≡ true).
-    let k : Some (before + 1 + 1) ≡ Some end = rw lf at e in
-    let m : end ≡ before + 1 + 1 = cc in
-    longer b before end (c ∷ u) s (rw (n, r, lf) refl) (one c (before + 1) end u s (rw lf refl) m))
-    (λ (other : (c == 10) ≡ false).
-    let k : Some (before + 1) ≡ Some end = rw other at e in
-    let m : end ≡ before + 1 = cc in
-    one b before end (c ∷ u) s (rw (n, r, other) refl) m)
-    (cases_Bool (c == 10))
+at_return is_last before b u s end follow n r e = grind (arith, common_steps, alone, longer, one)
 
 -- the first byte of a line, if it is known that the line goes on behind a byte that ends none
 first_byte : (is_last : Bool) (before b : ℕ) (u s : List ℕ) (end : ℕ) → CanFollow is_last s → line_from is_last before (b ∷ u) ≡ Some end
     → ((b == 10) ≡ false → (b == 13) ≡ false → line_from is_last (before + 1) u ≡ Some end → FirstLine before end (b ∷ u) s)
     → FirstLine before end (b ∷ u) s
-first_byte is_last before b u s end follow e on =
-    ⊎_elim
-    (λ (lf : (b == 10) ≡ true).
-    let k : Some (before + 1) ≡ Some end = rw lf at e in
-    let m : end ≡ before + 1 = cc in
-    one b before end u s (rw lf refl) m)
-    (λ (n : (b == 10) ≡ false).
-    ⊎_elim
-    (λ (r : (b == 13) ≡ true). at_return is_last before b u s end follow n r (rw (n, r) at e))
-    (λ (r : (b == 13) ≡ false). on n r (rw (n, r) at e))
-    (cases_Bool (b == 13)))
-    (cases_Bool (b == 10))
+first_byte is_last before b u s end follow e on = grind (arith, common_steps, at_return, one)
 
 -- the last byte of a piece
 last_byte : (is_last : Bool) (before b : ℕ) (s : List ℕ) (end : ℕ) → CanFollow is_last s → line_from is_last (before + 1) [] ≡ Some end
     → FirstLine before end (b ∷ []) s
-last_byte true before b s end follow e =
-    let some : nat_lt 0 (before + 1) ≡ true = lt-ltb 0 (before + 1) (omega arith) in
-    let k : Some (before + 1) ≡ Some end = rw some at e in
-    subst (λ (t : List ℕ). FirstLine before end (b ∷ []) t) (sym (follow refl)) (alone b before end cc)
-last_byte false before b s end follow e = absurd cc
+last_byte is_last before b s end follow e = grind (arith, common_steps, alone)
 
 first_line : (is_last : Bool) (before b : ℕ) (u s : List ℕ) (end : ℕ) → CanFollow is_last s → line_from is_last before (b ∷ u) ≡ Some end
     → FirstLine before end (b ∷ u) s

@@ -32,10 +32,4 @@ number_behind_is a [] = refl
 number_behind_is a (c ∷ s) = number_behind_is (shape_with a c) s
 
 pub text_is : (s : List ℕ) → text_of_shape (shape_over begun s) (ends_with_marker (last_word [] true s)) ≡ outside_text s
-text_is s =
-    let first = first_is begun s refl in
-    let last = last_is begun s in
-    let bracket = bracket_is begun s in
-    let number = number_is begun s in
-    let behind = number_behind_is begun s in
-    rw (first, last, bracket, number, behind) refl
+text_is s = grind (arith, common_steps, bracket_is, first_is, last_is, number_behind_is, number_is)

@@ -101,9 +101,9 @@ request_of_pair : (o : Option (Text × List Row)) (name : Text) (rows : List Row
 unfolding request_from
 request_of_pair o name rows h1 h2 = grind (arith, common_steps, true≢false, ap₂)
 
-pub request_met : (m : ArgMatches) (name : Text) (rows : List Row) → Some name ≡ subcommand_name_of m
-    → Some rows ≡ option_map (λ p. p.1) (subcommand_rows_of m) → request_from (subcommand_rows_of m) ≡ request_named name rows
-request_met m name rows is_name is_rows = grind (arith, common_steps, request_of_pair, names_met)
+pub request_met : (m : ArgMatches) (name other : Text) (rows : List Row) → Some name ≡ subcommand_name_of m
+    → Some rows ≡ option_map (λ p. p.1) (subcommand_rows_of m) → name ≡ other → request_from (subcommand_rows_of m) ≡ request_named other rows
+request_met m name other rows is_name is_rows same = grind (arith, common_steps, request_of_pair, names_met)
 
 none_asks : (o : Option (Text × List Row)) → None ≡ option_map (λ p. p.0) o → IsSome (request_from o) → ⊥
 unfolding request_from

@@ -8,8 +8,7 @@ start_continues b e = grind arith
 
 -- a byte that stands for itself, or after a backslash, is no control byte
 plain_passes : (x y : Bool) → not (x || y) ≡ true → not x ≡ true
-plain_passes true y e = e
-plain_passes false y e = refl
+plain_passes x y e = grind arith
 
 escaped_passes : (b : ℕ) → is_escaped b ≡ true → not (is_barred b) ≡ true
 escaped_passes b e = grind arith

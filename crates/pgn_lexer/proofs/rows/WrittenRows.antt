@@ -98,82 +98,17 @@ sound_tokens_by_law : KindsAreReadBack → (ks : List Kind) → AllByRecursion (
     → map (λ i. i.kind) (tokens_of (text_of_pieces (spaced ks))) ≡ ks ++ end ∷ []
 sound_tokens_by_law law ks all close = grind (arith, spaced_pieces, spaced_ended, spaced_kinds)
 
--- ---- What is not ended goes on into the next token.
+-- ---- Pieces that are not read back, each left out by a premise.
+
+abbrev IsLeftOut : List Piece → Type 0
+IsLeftOut ps = (IsReadBack ps → ⊥) × (IsReadable ps → ⊥)
 
 abbrev joined_symbols : List Piece
 joined_symbols = token (symbol (codes "1")) ∷ token (symbol (codes "e4")) ∷ []
 
-symbols_join : IsReadBack joined_symbols → ⊥
-symbols_join e = false≢true (as_long _ _ e)
-
-symbols_not_ended : IsReadable joined_symbols → ⊥
-symbols_not_ended h = false≢true (sym h.ended.0)
-
-abbrev joined_digits : List Piece
-joined_digits = token (glyph 1) ∷ token (symbol (codes "0")) ∷ []
-
-digits_join : IsReadBack joined_digits → ⊥
-unfolding digits
-digits_join e = false≢true (as_long _ _ e)
-
-digits_not_ended : IsReadable joined_digits → ⊥
-digits_not_ended h = false≢true (sym h.ended.0)
-
-abbrev joined_words : List Piece
-joined_words =
-    token comment_open ∷ token (word (codes "a")) ∷ token (word (codes "b"))
-    ∷ token comment_close ∷ []
-
-words_join : IsReadBack joined_words → ⊥
-words_join e = false≢true (as_long _ _ e)
-
-words_not_ended : IsReadable joined_words → ⊥
-words_not_ended h = false≢true (sym h.ended.1.0)
-
--- ---- What is no piece.
-
 -- a percent sign as white space: an escape line takes what is behind it
 abbrev percent_space : List Piece
 percent_space = space 37 ∷ token asterisk ∷ []
-
-percent_escapes : IsReadBack percent_space → ⊥
-percent_escapes e = false≢true (as_long _ _ e)
-
-percent_is_no_space : IsReadable percent_space → ⊥
-percent_is_no_space h = false≢true h.pieces.0
-
--- a symbol with a space in it is two
-abbrev spaced_symbol : List Piece
-spaced_symbol = token (symbol (codes "e4 e5")) ∷ []
-
-symbol_splits : IsReadBack spaced_symbol → ⊥
-symbol_splits e = false≢true (as_long _ _ e)
-
-symbol_is_unsound : IsReadable spaced_symbol → ⊥
-symbol_is_unsound h = false≢true h.pieces.0.bytes
-
--- a glyph above 255 is rejected
-abbrev large_glyph : List Piece
-large_glyph = token (glyph 256) ∷ []
-
-glyph_is_rejected : IsReadBack large_glyph → ⊥
-unfolding digits
-glyph_is_rejected e = false≢true (as_long _ _ e)
-
-glyph_is_unsound : IsReadable large_glyph → ⊥
-glyph_is_unsound h = let small : 256 ≤ 255 = h.pieces.0 in omega arith
-
--- the end of the text is written with no byte, and there is one end
-abbrev two_ends : List Piece
-two_ends = token end ∷ []
-
-one_end : IsReadBack two_ends → ⊥
-one_end e = false≢true (as_long _ _ e)
-
-end_is_no_piece : IsReadable two_ends → ⊥
-end_is_no_piece h = h.pieces.0
-
--- ---- Comments that do not close, and words outside them.
 
 abbrev open_comment : List Piece
 open_comment = token comment_open ∷ []
@@ -190,26 +125,33 @@ last_is_end (i ∷ j ∷ is) = last_is_end (j ∷ is)
 open_is_rejected : IsReadBack open_comment → ⊥
 open_is_rejected e = false≢true (ap last_is_end e)
 
-open_does_not_close : IsReadable open_comment → ⊥
-open_does_not_close h = h.comments
-
--- a word that begins with a percent sign begins an escape line outside a comment
-abbrev lone_word : List Piece
-lone_word = token (word (codes "%a")) ∷ []
-
-word_escapes : IsReadBack lone_word → ⊥
-word_escapes e = false≢true (as_long _ _ e)
-
-word_is_outside : IsReadable lone_word → ⊥
-word_is_outside h = h.comments
+left_out : Unit {0}
+unfolding digits
+left_out =
+    -- what is not ended goes on into the next token
+    let symbols : IsLeftOut joined_symbols = (λ e. false≢true (as_long _ _ e), λ h. false≢true (sym h.ended.0)) in
+    let digits : IsLeftOut (token (glyph 1) ∷ token (symbol (codes "0")) ∷ []) = (λ e. false≢true (as_long _ _ e), λ h. false≢true (sym h.ended.0)) in
+    let words : IsLeftOut (token comment_open ∷ token (word (codes "a")) ∷ token (word (codes "b")) ∷ token comment_close ∷ [])
+    = (λ e. false≢true (as_long _ _ e), λ h. false≢true (sym h.ended.1.0)) in
+    let percent : IsLeftOut percent_space = (λ e. false≢true (as_long _ _ e), λ h. false≢true h.pieces.0) in
+    -- a symbol with a space in it is two
+    let spaced_symbol : IsLeftOut (token (symbol (codes "e4 e5")) ∷ []) = (λ e. false≢true (as_long _ _ e), λ h. false≢true h.pieces.0.bytes) in
+    -- a glyph above 255 is rejected
+    let large_glyph : IsLeftOut (token (glyph 256) ∷ []) = (λ e. false≢true (as_long _ _ e), λ h. let small : 256 ≤ 255 = h.pieces.0 in omega arith) in
+    -- the end of the text is written with no byte, and there is one end
+    let two_ends : IsLeftOut (token end ∷ []) = (λ e. false≢true (as_long _ _ e), λ h. h.pieces.0) in
+    let open_brace : IsLeftOut open_comment = (open_is_rejected, λ h. h.comments) in
+    -- a word that begins with a percent sign begins an escape line outside a comment
+    let lone_word : IsLeftOut (token (word (codes "%a")) ∷ []) = (λ e. false≢true (as_long _ _ e), λ h. h.comments) in
+    tt
 
 -- ---- So the law is false without each of its premises.
 
 fails_unless_ended : ((ps : List Piece) → AllByRecursion IsPiece ps → CommentsClose false (kinds_in ps) → IsReadBack ps) → ⊥
-fails_unless_ended law = symbols_join (law joined_symbols (a_symbol.0, (a_symbol.1, tt)) tt)
+fails_unless_ended law = false≢true (as_long _ _ (law joined_symbols (a_symbol.0, (a_symbol.1, tt)) tt))
 
 fails_unless_pieces : ((ps : List Piece) → AreEnded ps → CommentsClose false (kinds_in ps) → IsReadBack ps) → ⊥
-fails_unless_pieces law = percent_escapes (law percent_space (tt, tt) tt)
+fails_unless_pieces law = false≢true (as_long _ _ (law percent_space (tt, tt) tt))
 
 fails_unless_closed : ((ps : List Piece) → AllByRecursion IsPiece ps → AreEnded ps → IsReadBack ps) → ⊥
 fails_unless_closed law = open_is_rejected (law open_comment (tt, tt) (tt, tt))

@@ -1,6 +1,6 @@
 -- A byte outside strings and comments, also as the first of a text, and in an escape line.
-use Rattle.pgn_lexer.proofs.Words.{◌≡◌, ℕ, ◌≤◌, Bool, true, false, List, [], ◌∷◌, length, ◌==◌, if◌then◌else◌, eqb-true, Step, Used, is_line_end, Token, class, column, tokens_from, tokens_of, has_mark, PartialToken, into, begin_line, arith, Mode, ◌+◌, Class, begins_class, begins_first, after_class, after_first, onto, begin}
-use Rattle.pgn_lexer.proofs.stepping.StepGives.{Front, StepGives, GivesIn, Gives, front_by, holds}
+use Rattle.pgn_lexer.proofs.Words.{◌≡◌, ℕ, ◌≤◌, Bool, false, List, ◌∷◌, length, ◌==◌, if◌then◌else◌, eqb-true, Step, Used, is_line_end, Token, class, column, tokens_from, tokens_of, has_mark, PartialToken, into, begin_line, arith, Mode, ◌+◌, Class, begins_class, begins_first, after_class, after_first, onto, begin}
+use Rattle.pgn_lexer.proofs.stepping.StepGives.{Front, StepGives, GivesIn, Gives, front_by}
 
 pub begin_gives : (c : Class) (place b : ℕ) (h : PartialToken) (ended : List Token) (waits : ℕ) → length h.text ≤ 255
     → Gives (front_by place b ended waits (λ s. onto place (begins_class place c b s) (tokens_from (place + 1) (after_class c) s)))
@@ -25,9 +25,7 @@ other_first b s h1 = grind arith
 
 pub start_gives : (at b : ℕ) (text : List ℕ) → length text ≤ 255 → (c : Bool) → (b == 239) ≡ c
     → GivesIn Mode.Start 0 at b text (λ h. if c then into h Mode.AfterEf Used else begin_line 0 h b (class b))
-start_gives at b text fits true e = grind (arith, eqb-true)
-start_gives at b text fits false e =
-    same_front _ _ (λ s. unmarked (b ∷ s) (other_first b s e)) _ _ (begin_line_gives _ 0 b (holds Mode.Start at text) (tokens_of []) 0 fits)
+start_gives at b text fits c e = grind (arith, begin_line_gives, eqb-true, other_first, same_front, unmarked)
 
 pub escape_line_gives : (place at b : ℕ) (text : List ℕ) → length text ≤ 255 → (c : Bool) → is_line_end b ≡ c
     → GivesIn Mode.EscapeLine place at b text (λ h. if c then into h Mode.LineStart Used else into h Mode.EscapeLine Used)

@@ -1,5 +1,5 @@
 -- White space that is passed, and what is read behind it, are read in one call.
-use Rattle.pgn_lexer.proofs.Words.{◌≡◌, Bool, true, false, ℕ, zero, suc, ◌+◌, ◌-◌, ◌<◌, ◌≤◌, inl, inr, List, [], ◌∷◌, ◌++◌, length, take, drop, refl, sym, ap, subst, ◌∙◌, append_assoc, arith, drop-cons, get_or, Option, None, Some, LexFault, Token, tokens_of, decided, refusal, Scanned, more, fault, Standing, fault_in_mode, Mode, Follows, still, StandsAfter, EndsNoSooner, Scans, AfterScan, is_run, Passes, ReadsBehind, none, over_space, over_token, false≢true}
+use Rattle.pgn_lexer.proofs.Words.{◌≡◌, Bool, true, false, ℕ, zero, suc, ◌+◌, ◌-◌, ◌<◌, ◌≤◌, inl, inr, List, [], ◌∷◌, ◌++◌, length, take, drop, refl, sym, ap, subst, ◌∙◌, append_assoc, arith, drop-cons, get_or, Option, None, LexFault, Token, tokens_of, decided, refusal, Scanned, more, fault, Standing, fault_in_mode, Mode, Follows, still, StandsAfter, EndsNoSooner, Scans, AfterScan, is_run, Passes, ReadsBehind, none, over_space, over_token, false≢true}
 use Rattle.pgn_lexer.specs.Scanned.{token}
 use Rattle.pgn_lexer.proofs.deciding.GivenAreDecided.{known_decides}
 use Rattle.pgn_lexer.specs.Standing.{waiting, coming}
@@ -13,8 +13,7 @@ passes_count (over_space l new m passes within is_white scans waits) = let befor
 passes_count (over_token l new m n t passes within some scans skipped passed) = let before = passes_count passes in omega (arith, before, scans.count)
 
 front_follows : (b : Option ℕ) (x : ℕ) (rest : List ℕ) → Follows b (x ∷ rest) → Follows b (x ∷ [])
-front_follows None x rest h = tt
-front_follows (Some b) x rest h = h
+front_follows b x rest h = grind arith
 
 none_follows : (s rest : List ℕ) → Follows (still None rest) s
 none_follows s [] = tt
@@ -32,9 +31,7 @@ module _ (l mid new : Standing) (x : ℕ) (rest : List ℕ) (n : ℕ) (space : S
   advances (fault f) scans = tt
 
   reads : (seen : Scanned) → Scans mid rest new n seen → Reads l (x ∷ rest) new (suc n) seen
-  reads more scans = (ap suc scans.reads.0, λ s. space.reads.1 (rest ++ s) ∙ scans.reads.1 s)
-  reads (token t) scans = λ s. space.reads.1 (rest ++ s) ∙ scans.reads s
-  reads (fault f) scans = λ s. space.reads.1 (rest ++ s) ∙ scans.reads s
+  reads seen scans = grind (arith, space)
 
   module _ (u : List ℕ) (b : Option ℕ) (given : List Token) (stands : StandsAfter l u b given) (starts : Follows b (x ∷ rest)) where
     over : AfterScan u b given (x ∷ []) mid 1 more
@@ -63,8 +60,7 @@ module _ (l mid new : Standing) (x : ℕ) (rest : List ℕ) (n : ℕ) (space : S
     decided_more h = rw (joined (take n rest)) at h
 
     all_decided : (r : List ℕ) → (0 < length r → given ≡ decided ((u ++ x ∷ []) ++ r)) → given ≡ decided (u ++ x ∷ r)
-    all_decided [] h = decides
-    all_decided (c ∷ r) h = h (omega arith) ∙ ap decided (joined (c ∷ r))
+    all_decided r h = grind (arith, decides, joined)
 
     after : (seen : Scanned) → Scans mid rest new n seen → AfterScan u b given (x ∷ rest) new (suc n) seen
     after more scans =

@@ -1,5 +1,5 @@
 -- A run over a piece, byte by byte.
-use Rattle.std.proofs.lemmas.Bool.{le-leb, true≢false}
+use Rattle.std.proofs.lemmas.Bool.{true≢false}
 use Rattle.pgn_lexer.specs.ByteResult.{AfterByte, brace, glyph_of, line, second_suffix, symbol, word}
 use Rattle.pgn_lexer.specs.Runs.{comment_mode}
 use Rattle.pgn_lexer.specs.declared.partial_token.SuffixRun.{SuffixRun}
@@ -182,7 +182,7 @@ takes_dollar place b h new e digit is = grind arith
 pub takes_digit : (place b : ℕ) (h new : PartialToken) (n : ℕ) → h.mode ≡ Glyph n → is_digit b ≡ true → 10 * n + (b - 48) ≤ 255
     → new ≡ record { mode = Glyph (10 * n + (b - 48)); at = h.at; text = h.text } → IsAfterByte (after_byte place h b) new Used
 unfolding after_byte
-takes_digit place b h new n e digit small is = rw (e, digit, le-leb _ _ small) (record { held = is; step = refl })
+takes_digit place b h new n e digit small is = grind (arith, place, small)
 
 pub takes_glyph_end : (place b : ℕ) (h new : PartialToken) (n : ℕ) → h.mode ≡ Glyph n → is_digit b ≡ false
     → new ≡ record { mode = Outside; at = h.at; text = h.text } → IsAfterByte (after_byte place h b) new (EndsBefore (TokenForm.Glyph n))
@@ -194,7 +194,7 @@ pub takes_second : (place b : ℕ) (h new : PartialToken) (first run : SuffixRun
     → ((g : PartialToken) → second_suffix g first b ≡ record { held = record { mode = Suffix run; at = g.at; text = g.text }; step = Used })
     → new ≡ record { mode = Suffix run; at = h.at; text = h.text } → IsAfterByte (after_byte place h b) new Used
 unfolding after_byte
-takes_second place b h new first run e more second is = rw (e, more, second h) (record { held = is; step = refl })
+takes_second place b h new first run e more second is = grind (arith, more, place, run)
 
 pub takes_suffix_end : (place b : ℕ) (h new : PartialToken) (run : SuffixRun) → h.mode ≡ Suffix run → is_suffix b ≡ false
     → new ≡ record { mode = Outside; at = h.at; text = h.text } → IsAfterByte (after_byte place h b) new (EndsBefore (TokenForm.Glyph (glyph_of run)))
@@ -215,8 +215,7 @@ between false place h b c = brace place h b c
 takes_between : (l : Bool) (place b : ℕ) (h new : PartialToken) (answer : Step) → h.mode ≡ comment_mode l
     → IsAfterByte (between l place h b (comment_class b)) new answer → IsAfterByte (after_byte place h b) new answer
 unfolding after_byte
-takes_between true place b h new answer e t = rw e t
-takes_between false place b h new answer e t = rw e t
+takes_between l place b h new answer e t = grind arith
 
 pub takes_gap : (l : Bool) (place b : ℕ) (h new : PartialToken) → h.mode ≡ comment_mode l
     → (comment_class b ≡ CommentClass.Space) ⊎ ((comment_class b ≡ CommentClass.LineEnd) × (l ≡ false))

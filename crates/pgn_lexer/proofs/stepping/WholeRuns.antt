@@ -15,7 +15,7 @@ use Rattle.pgn_lexer.specs.Tokens.{end}
 use Rattle.pgn_lexer.specs.Scanned.{token as token_scanned}
 use Rattle.pgn_lexer.specs.Runs.{IsBetween, IsWhole, IsStringIn, comment_mode}
 use Rattle.pgn_lexer.specs.WholeTokens.{Passes, ReadsBehind, is_passed, none, over_space, over_token}
-use Rattle.pgn_lexer.proofs.Words.{◌≡◌, Bool, ℕ, zero, suc, ◌+◌, ◌-◌, ◌*◌, ◌<◌, ◌≤◌, ◌⊎◌, inl, inr, List, [], ◌∷◌, ◌++◌, length, get_or, take, drop, refl, sym, ap, subst, ◌∙◌, add-one, arith, true, false, take_all, length-take-le, Mode, Class, LineEnd, Space, SymbolStart, Alone, LineStart, Outside, Symbol, is_digit, is_suffix, is_space, class, comment_class, symbol, str, glyph, comment_close, word, Token, TokenForm, Step, Ends, Kind, PartialToken, tokens_to_come, token_of, IsSound, HasNotFailed, begin, begin_line, IsOutside, Ran, RunsOut, RunsToToken, Standing, standing_at, Scans, IsSymbolIn, IsNumberIn, IsWordIn}
+use Rattle.pgn_lexer.proofs.Words.{◌≡◌, Bool, ℕ, zero, suc, ◌+◌, ◌-◌, ◌*◌, ◌<◌, ◌≤◌, ◌⊎◌, inl, inr, List, [], ◌∷◌, ◌++◌, length, get_or, take, drop, refl, sym, ap, subst, ◌∙◌, add-one, arith, true, false, take_all, length-take-le, Mode, Class, LineEnd, Space, SymbolStart, Alone, LineStart, Outside, Symbol, is_digit, is_suffix, is_space, class, comment_class, symbol, str, glyph, comment_close, word, Token, TokenForm, Step, Ends, Kind, PartialToken, tokens_to_come, token_of, IsSound, HasNotFailed, begin, begin_line, IsOutside, IsAfterByte, after_byte, Ran, RunsOut, RunsToToken, Standing, standing_at, Scans, IsSymbolIn, IsNumberIn, IsWordIn}
 use Rattle.pgn_lexer.proofs.bytes.ClassToTest.{ClassSays, class_says}
 use Rattle.pgn_lexer.proofs.stepping.PieceByByte.{ran_none, ran_uses, ran_ends, ran_ends_before, takes_outside, takes_symbol_byte, takes_symbol_end, takes_plain, takes_quote, takes_dollar, takes_digit, takes_glyph_end, takes_second, takes_suffix_end, takes_gap, takes_word_start, takes_close, takes_word_byte, takes_word_end, inside}
 use Rattle.pgn_lexer.proofs.stepping.StandsAfterCalls.{scans_nothing, scans_token}
@@ -98,171 +98,126 @@ module _ (place : ℕ) (old : PartialToken) (piece : List ℕ) (used : ℕ) (m :
 
 -- ---- tokens at the front of a piece
 
-last_of : (n : ℕ) → 0 < n → (k : ℕ) × (n ≡ suc k)
-last_of zero h = absurd (omega arith)
-last_of (suc k) h = (k, refl)
+module _ (place : ℕ) (old : PartialToken) (piece : List ℕ) where
+  -- what is held of a token that begins with the piece
+  abbrev holding : Mode → List ℕ → PartialToken
+  holding mode text = record { mode = mode; at = place + 0; text = text }
 
-module _ (place : ℕ) (old : PartialToken) (piece : List ℕ) (sound : IsSound place old) where
-  begun : place + 0 ≡ place
-  begun = omega arith
+  -- the first n bytes are a token, and its text is still held
+  abbrev RunsTo : Kind → Mode → List ℕ → ℕ → Type 0
+  RunsTo k mode text n = RunsToToken place old piece (record { at = place + 0; kind = k }) (holding mode text) n
 
-  module _ (outside : IsOutside old.mode) where
-    standing : HasNotFailed old.mode
-    standing = not_failed_between old.mode (outside_between old.mode outside)
+  -- behind it, anything may be held
+  held_as : (k : Kind) (mode : Mode) (text : List ℕ) (n : ℕ) → IsBetween mode → RunsTo k mode text n → (b : ℕ) (y : List ℕ) → length y ≤ 255
+      → RunsToToken place old piece (record { at = place; kind = k }) (record { mode = mode; at = b; text = y }) n
+  held_as k mode text n between runs b y room = grind (arith, place, room, runs, text, token_alike)
 
+  -- bytes that each go on with the token, behind its first one
+  ran_on : (mode : Mode) (text : ℕ → List ℕ) (n : ℕ) → 0 < n → n ≤ length piece → Ran place old piece (holding mode (text 1)) 1
+      → ((k : ℕ) → 0 < k → k < n → IsAfterByte (after_byte (place + k) (holding mode (text k)) (get_or piece k 0)) (holding mode (text (suc k))) Step.Used)
+      → Ran place old piece (holding mode (text n)) n
+  ran_on mode text zero some within first more = absurd (omega arith)
+  ran_on mode text (suc zero) some within first more = first
+  ran_on mode text (suc (suc k)) some within first more =
+      subst (Ran place old piece (holding mode (text (suc (suc k))))) (add-one (suc k))
+      (ran_uses place old piece _ (suc k) (get_or piece (suc k) 0) (omega arith) refl
+      (ran_on mode text (suc k) (omega arith) (omega arith) first (λ j later less. more j later (omega arith))) _
+      (more (suc k) (omega arith) (omega arith)))
+
+  module _ (sound : IsSound place old) (outside : IsOutside old.mode) where
     at_start : Ran place old piece old 0
-    at_start = ran_none place old piece sound standing
+    at_start = grind (arith, not_failed_between, outside, outside_between, place, ran_none, sound)
 
-    -- white space
-    ran_space : (c : Class) (m : Mode) → 0 < length piece → class (get_or piece 0 0) ≡ c → (c ≡ LineEnd) × (m ≡ LineStart) ⊎ (c ≡ Space) × (m ≡ Outside)
-        → Ran place old piece (record { mode = m; at = place + 0; text = old.text }) 1
-    ran_space c m some is (inl (e, f)) =
-        ran_uses place old piece old 0 (get_or piece 0 0) some refl at_start _
-        (takes_outside _ _ _ _ _ LineEnd outside (is ∙ e) refl (record { held = rw f refl; step = refl }))
-    ran_space c m some is (inr (e, f)) =
-        ran_uses place old piece old 0 (get_or piece 0 0) some refl at_start _
-        (takes_outside _ _ _ _ _ Space outside (is ∙ e) refl (record { held = rw f refl; step = refl }))
+    -- a first byte that ends no token
+    first_byte : (c : Class) (new : PartialToken) → 0 < length piece → class (get_or piece 0 0) ≡ c
+        → begin_line (place + 0) old (get_or piece 0 0) c ≡ begin (place + 0) old (get_or piece 0 0) c
+        → begin (place + 0) old (get_or piece 0 0) c ≡ record { held = new; step = Step.Used } → Ran place old piece new 1
+    first_byte c new some is same begins =
+        ran_uses place old piece old 0 (get_or piece 0 0) some refl at_start new
+        (takes_outside _ _ _ _ _ c outside is same (rw begins (record { held = refl; step = refl })))
 
-    -- a symbol
-    in_symbol : (n : ℕ) → IsSymbolIn piece n → (k : ℕ) → k < n
-        → Ran place old piece (record { mode = Symbol; at = place + 0; text = take (suc k) piece }) (suc k)
-    in_symbol n is zero h =
-        let within = is.within in
-        let one : take 1 piece ≡ get_or piece 0 0 ∷ [] = take-suc piece 0 0 (omega arith) in
-        let starts : class (get_or piece 0 0) ≡ SymbolStart = rw is.first refl in
-        ran_uses place old piece old 0 (get_or piece 0 0) (omega arith) refl at_start _
-        (takes_outside _ _ _ _ _ SymbolStart outside starts refl (record { held = rw one refl; step = refl }))
-    in_symbol n is (suc k) h =
+    symbol_runs : (n : ℕ) → IsSymbolIn piece n → RunsTo (symbol (take n piece)) Outside (take n piece) n
+    symbol_runs n is =
         let within = is.within in
         let few = is.few in
-        let more : take (suc (suc k)) piece ≡ take (suc k) piece ++ get_or piece (suc k) 0 ∷ [] = take-suc piece (suc k) 0 (omega arith) in
-        let long : length (take (suc k) piece) ≡ suc k = length-take-le (suc k) piece (omega arith) in
-        let grown : PartialToken = record { mode = Symbol; at = place + 0; text = take (suc (suc k)) piece } in
-        subst (Ran place old piece grown) (add-one (suc k))
-        (ran_uses place old piece _ (suc k) (get_or piece (suc k) 0) (omega arith) refl (in_symbol n is k (omega arith)) grown
-        (takes_symbol_byte _ _ _ _ refl (is.all (suc k) h) (omega (arith, long)) (rw more refl)))
-
-    symbol_runs : (n : ℕ) → IsSymbolIn piece n → (b : ℕ) (y : List ℕ) → length y ≤ 255
-        → RunsToToken place old piece (record { at = place; kind = symbol (take n piece) }) (record { mode = Outside; at = b; text = y }) n
-    symbol_runs n is b y room =
-        let last = last_of n is.some in
-        let ran : Ran place old piece (record { mode = Symbol; at = place + 0; text = take n piece }) n =
-        subst (λ j. Ran place old piece (record { mode = Symbol; at = place + 0; text = take j piece }) j) (sym last.1) (in_symbol n is last.0 (omega (arith, last.1))) in
-        rw begun at (token_alike place old piece n Outside tt (place + 0) b (take n piece) y room _
-        (ran_ends_before place old piece _ n (get_or piece n 0) is.within refl ran TokenForm.Symbol _ (takes_symbol_end _ _ _ _ refl is.ends refl)))
+        let starts : class (get_or piece 0 0) ≡ SymbolStart = rw is.first refl in
+        let one : take 1 piece ≡ get_or piece 0 0 ∷ [] = take-suc piece 0 0 (omega arith) in
+        let first = first_byte SymbolStart (holding Symbol (take 1 piece)) (omega arith) starts refl (rw one refl) in
+        let ran = ran_on Symbol (λ k. take k piece) n is.some (omega arith) first (λ k some less.
+        let long : length (take k piece) ≡ k = length-take-le k piece (omega arith) in
+        takes_symbol_byte _ _ _ _ refl (is.all k less) (omega (arith, long)) (rw (take-suc piece k 0 (omega arith)) refl)) in
+        ran_ends_before place old piece _ n (get_or piece n 0) within refl ran TokenForm.Symbol _ (takes_symbol_end _ _ _ _ refl is.ends refl)
 
     -- a token of one byte
-    single_runs : (c : Class) (m : Mode) (form : TokenForm) → 0 < length piece → class (get_or piece 0 0) ≡ c → (between : IsBetween m)
-        → begin (place + 0) old (get_or piece 0 0) c ≡ record { held = record { mode = m; at = place + 0; text = old.text }; step = Ends form }
+    single_runs : (c : Class) (m : Mode) (form : TokenForm) → 0 < length piece → class (get_or piece 0 0) ≡ c
+        → begin (place + 0) old (get_or piece 0 0) c ≡ record { held = holding m old.text; step = Ends form }
         → begin_line (place + 0) old (get_or piece 0 0) c ≡ begin (place + 0) old (get_or piece 0 0) c
-        → (b : ℕ) (y : List ℕ) → length y ≤ 255
-        → RunsToToken place old piece (token_of form (record { mode = m; at = place; text = old.text })) (record { mode = m; at = b; text = y }) 1
-    single_runs c m form some is between begins same b y room =
-        rw begun at (token_alike place old piece 1 m between (place + 0) b old.text y room _
-        (ran_ends place old piece old 0 (get_or piece 0 0) some refl at_start form _
-        (takes_outside _ _ _ _ _ c outside is same (rw begins (record { held = refl; step = refl })))))
+        → RunsToToken place old piece (token_of form (holding m old.text)) (holding m old.text) 1
+    single_runs c m form some is begins same = grind (arith, at_start, outside, place, ran_ends, same, some, takes_outside)
 
     -- a string without an escape
-    in_string : (n : ℕ) → IsStringIn piece n → class (get_or piece 0 0) ≡ classes.Quote → (k : ℕ) → k < n
-        → Ran place old piece (record { mode = modes.Str; at = place + 0; text = take k (drop 1 piece) }) (suc k)
-    in_string n is quote zero h =
-        let within = is.within in
-        ran_uses place old piece old 0 (get_or piece 0 0) (omega arith) refl at_start _
-        (takes_outside _ _ _ _ _ classes.Quote outside quote refl (record { held = refl; step = refl }))
-    in_string n is quote (suc k) h =
+    string_runs : (n : ℕ) → IsStringIn piece n → class (get_or piece 0 0) ≡ classes.Quote
+        → RunsTo (str (take (n - 1) (drop 1 piece))) Outside (take (n - 1) (drop 1 piece)) (n + 1)
+    string_runs n is quote =
         let within = is.within in
         let few = is.few in
-        let more : take (suc k) (drop 1 piece) ≡ take k (drop 1 piece) ++ get_or (drop 1 piece) k 0 ∷ [] =
-        take-suc (drop 1 piece) k 0 (omega (arith, length-drop 1 piece)) in
-        let next : get_or (drop 1 piece) k 0 ≡ get_or piece (suc k) 0 = get_or-drop 1 piece k 0 ∙ ap (λ i. get_or piece i 0) (omega arith) in
-        let long : length (take k (drop 1 piece)) ≡ k = length-take-le k (drop 1 piece) (omega (arith, length-drop 1 piece)) in
-        let grown : PartialToken = record { mode = modes.Str; at = place + 0; text = take (suc k) (drop 1 piece) } in
-        subst (Ran place old piece grown) (add-one (suc k))
-        (ran_uses place old piece _ (suc k) (get_or piece (suc k) 0) (omega arith) refl (in_string n is quote k (omega arith)) grown
-        (takes_plain _ _ _ _ refl (is.all (suc k) (omega arith) h) (omega (arith, long)) (rw (more, next) refl)))
-
-    string_runs : (k : ℕ) → IsStringIn piece (suc k) → class (get_or piece 0 0) ≡ classes.Quote → (b : ℕ) (y : List ℕ) → length y ≤ 255
-        → RunsToToken place old piece (record { at = place; kind = str (take k (drop 1 piece)) }) (record { mode = Outside; at = b; text = y }) (suc k + 1)
-    string_runs k is quote b y room =
-        rw begun at (token_alike place old piece (suc k + 1) Outside tt (place + 0) b (take k (drop 1 piece)) y room _
-        (ran_ends place old piece _ (suc k) (get_or piece (suc k) 0) is.within refl (in_string (suc k) is quote k (omega arith)) TokenForm.Str _
-        (takes_quote _ _ _ _ refl is.ends refl)))
+        let first = first_byte classes.Quote (holding modes.Str []) (omega arith) quote refl refl in
+        let ran = ran_on modes.Str (λ k. take (k - 1) (drop 1 piece)) n is.some (omega arith) first (λ k some less.
+        let long : length (take (k - 1) (drop 1 piece)) ≡ k - 1 = length-take-le (k - 1) (drop 1 piece) (omega (arith, length-drop 1 piece)) in
+        let next : get_or (drop 1 piece) (k - 1) 0 ≡ get_or piece k 0 = get_or-drop 1 piece (k - 1) 0 ∙ ap (λ i. get_or piece i 0) (omega arith) in
+        let same : suc (k - 1) ≡ suc k - 1 = omega arith in
+        let more : take (suc k - 1) (drop 1 piece) ≡ take (k - 1) (drop 1 piece) ++ get_or (drop 1 piece) (k - 1) 0 ∷ [] =
+        rw same at (take-suc (drop 1 piece) (k - 1) 0 (omega (arith, length-drop 1 piece))) in
+        takes_plain _ _ _ _ refl (is.all k some less) (omega (arith, long)) (rw (more, next) refl)) in
+        ran_ends place old piece _ n (get_or piece n 0) within refl ran TokenForm.Str _ (takes_quote _ _ _ _ refl is.ends refl)
 
     -- a NAG
     ran_dollar : 1 < length piece → class (get_or piece 0 0) ≡ classes.Dollar → is_digit (get_or piece 1 0) ≡ true
-        → Ran place old piece (record { mode = modes.Glyph (get_or piece 1 0 - 48); at = place + 0; text = old.text }) 2
+        → Ran place old piece (holding (modes.Glyph (get_or piece 1 0 - 48)) old.text) 2
     ran_dollar long dollar digit =
         ran_uses place old piece _ 1 (get_or piece 1 0) long refl
-        (ran_uses place old piece old 0 (get_or piece 0 0) (omega arith) refl at_start (record { mode = modes.Dollar; at = place + 0; text = old.text })
-        (takes_outside _ _ _ _ _ classes.Dollar outside dollar refl (record { held = refl; step = refl }))) _
-        (takes_dollar _ _ _ _ refl digit refl)
+        (first_byte classes.Dollar (holding modes.Dollar old.text) (omega arith) dollar refl refl) _ (takes_dollar _ _ _ _ refl digit refl)
 
     glyph_runs : (n number : ℕ) → n < length piece → is_digit (get_or piece n 0) ≡ false
-        → Ran place old piece (record { mode = modes.Glyph number; at = place + 0; text = old.text }) n → (b : ℕ) (y : List ℕ) → length y ≤ 255
-        → RunsToToken place old piece (record { at = place; kind = glyph number }) (record { mode = Outside; at = b; text = y }) n
-    glyph_runs n number within ends ran b y room =
-        rw begun at (token_alike place old piece n Outside tt (place + 0) b old.text y room _
-        (ran_ends_before place old piece _ n (get_or piece n 0) within refl ran (TokenForm.Glyph number) _ (takes_glyph_end _ _ _ _ number refl ends refl)))
+        → Ran place old piece (holding (modes.Glyph number) old.text) n → RunsTo (glyph number) Outside old.text n
+    glyph_runs n number within ends ran =
+        ran_ends_before place old piece _ n (get_or piece n 0) within refl ran (TokenForm.Glyph number) _ (takes_glyph_end _ _ _ _ number refl ends refl)
 
     -- a suffix
     ran_suffix : 0 < length piece → class (get_or piece 0 0) ≡ classes.Suffix
-        → Ran place old piece (record { mode = modes.Suffix (if get_or piece 0 0 == 33 then suffix_runs.Good else suffix_runs.Poor); at = place + 0; text = old.text }) 1
-    ran_suffix some is =
-        ran_uses place old piece old 0 (get_or piece 0 0) some refl at_start _
-        (takes_outside _ _ _ _ _ classes.Suffix outside is refl (record { held = refl; step = refl }))
+        → Ran place old piece (holding (modes.Suffix (if get_or piece 0 0 == 33 then suffix_runs.Good else suffix_runs.Poor)) old.text) 1
+    ran_suffix some is = first_byte classes.Suffix _ some is refl refl
 
     suffix_runs_to : (n : ℕ) (run : SuffixRun) → n < length piece → is_suffix (get_or piece n 0) ≡ false
-        → Ran place old piece (record { mode = modes.Suffix run; at = place + 0; text = old.text }) n → (b : ℕ) (y : List ℕ) → length y ≤ 255
-        → RunsToToken place old piece (record { at = place; kind = glyph (glyph_of run) }) (record { mode = Outside; at = b; text = y }) n
-    suffix_runs_to n run within ends ran b y room =
-        rw begun at (token_alike place old piece n Outside tt (place + 0) b old.text y room _
-        (ran_ends_before place old piece _ n (get_or piece n 0) within refl ran (TokenForm.Glyph (glyph_of run)) _ (takes_suffix_end _ _ _ _ run refl ends refl)))
+        → Ran place old piece (holding (modes.Suffix run) old.text) n → RunsTo (glyph (glyph_of run)) Outside old.text n
+    suffix_runs_to n run within ends ran =
+        ran_ends_before place old piece _ n (get_or piece n 0) within refl ran (TokenForm.Glyph (glyph_of run)) _
+        (takes_suffix_end _ _ _ _ run refl ends refl)
 
-  module _ (l : Bool) (in_comment : old.mode ≡ comment_mode l) where
-    standing_comment : HasNotFailed old.mode
-    standing_comment = rw in_comment (not_failed_between (comment_mode l) (comment_between l))
-
+  module _ (sound : IsSound place old) (l : Bool) (in_comment : old.mode ≡ comment_mode l) where
     at_start_comment : Ran place old piece old 0
-    at_start_comment = ran_none place old piece sound standing_comment
+    at_start_comment = grind (arith, comment_between, not_failed_between, place, ran_none, sound)
 
     ran_gap : 0 < length piece → (comment_class (get_or piece 0 0) ≡ comment_classes.Space) ⊎ ((comment_class (get_or piece 0 0) ≡ comment_classes.LineEnd) × (l ≡ false))
-        → Ran place old piece (record { mode = comment_mode l; at = place + 0; text = old.text }) 1
-    ran_gap some is = ran_uses place old piece old 0 (get_or piece 0 0) some refl at_start_comment _ (takes_gap l _ _ _ _ in_comment is refl)
+        → Ran place old piece (holding (comment_mode l) old.text) 1
+    ran_gap some is = grind (arith, at_start_comment, place, ran_uses, some, takes_gap)
 
-    in_word : (n : ℕ) → IsWordIn piece n → (k : ℕ) → k < n
-        → Ran place old piece (record { mode = inside l; at = place + 0; text = take (suc k) piece }) (suc k)
-    in_word n is zero h =
-        let within = is.within in
-        let one : take 1 piece ≡ get_or piece 0 0 ∷ [] = take-suc piece 0 0 (omega arith) in
-        ran_uses place old piece old 0 (get_or piece 0 0) (omega arith) refl at_start_comment _
-        (takes_word_start l _ _ _ _ in_comment (is.all 0 h) (rw one refl))
-    in_word n is (suc k) h =
+    word_runs : (n : ℕ) → IsWordIn piece n → RunsTo (word (take n piece)) (comment_mode l) (take n piece) n
+    word_runs n is =
         let within = is.within in
         let few = is.few in
-        let more : take (suc (suc k)) piece ≡ take (suc k) piece ++ get_or piece (suc k) 0 ∷ [] = take-suc piece (suc k) 0 (omega arith) in
-        let long : length (take (suc k) piece) ≡ suc k = length-take-le (suc k) piece (omega arith) in
-        let grown : PartialToken = record { mode = inside l; at = place + 0; text = take (suc (suc k)) piece } in
-        subst (Ran place old piece grown) (add-one (suc k))
-        (ran_uses place old piece _ (suc k) (get_or piece (suc k) 0) (omega arith) refl (in_word n is k (omega arith)) grown
-        (takes_word_byte l _ _ _ _ refl (is.all (suc k) h) (omega (arith, long)) (rw more refl)))
-
-    word_runs : (n : ℕ) → IsWordIn piece n → (b : ℕ) (y : List ℕ) → length y ≤ 255
-        → RunsToToken place old piece (record { at = place; kind = word (take n piece) }) (record { mode = comment_mode l; at = b; text = y }) n
-    word_runs n is b y room =
-        let last = last_of n is.some in
-        let ran : Ran place old piece (record { mode = inside l; at = place + 0; text = take n piece }) n =
-        subst (λ j. Ran place old piece (record { mode = inside l; at = place + 0; text = take j piece }) j) (sym last.1) (in_word n is last.0 (omega (arith, last.1))) in
-        rw begun at (token_alike place old piece n (comment_mode l) (comment_between l) (place + 0) b (take n piece) y room _
-        (ran_ends_before place old piece _ n (get_or piece n 0) is.within refl ran TokenForm.Word _ (takes_word_end l _ _ _ _ refl is.ends refl)))
+        let one : take 1 piece ≡ get_or piece 0 0 ∷ [] = take-suc piece 0 0 (omega arith) in
+        let first = ran_uses place old piece old 0 (get_or piece 0 0) (omega arith) refl at_start_comment (holding (inside l) (take 1 piece))
+        (takes_word_start l _ _ _ _ in_comment (is.all 0 is.some) (rw one refl)) in
+        let ran = ran_on (inside l) (λ k. take k piece) n is.some (omega arith) first (λ k some less.
+        let long : length (take k piece) ≡ k = length-take-le k piece (omega arith) in
+        takes_word_byte l _ _ _ _ refl (is.all k less) (omega (arith, long)) (rw (take-suc piece k 0 (omega arith)) refl)) in
+        ran_ends_before place old piece _ n (get_or piece n 0) within refl ran TokenForm.Word _ (takes_word_end l _ _ _ _ refl is.ends refl)
 
     close_runs : (m : Mode) → 0 < length piece
         → ((comment_class (get_or piece 0 0) ≡ comment_classes.CloseBrace) × (l ≡ false) × (m ≡ Outside)) ⊎ ((comment_class (get_or piece 0 0) ≡ comment_classes.LineEnd) × (l ≡ true) × (m ≡ LineStart))
-        → (between : IsBetween m) (b : ℕ) (y : List ℕ) → length y ≤ 255
-        → RunsToToken place old piece (record { at = place; kind = comment_close }) (record { mode = m; at = b; text = y }) 1
-    close_runs m some is between b y room =
-        rw begun at (token_alike place old piece 1 m between (place + 0) b old.text y room _
-        (ran_ends place old piece old 0 (get_or piece 0 0) some refl at_start_comment TokenForm.CommentClose _
-        (takes_close l _ _ _ _ m in_comment is refl)))
+        → RunsTo comment_close m old.text 1
+    close_runs m some is = grind (arith, at_start_comment, place, ran_ends, some, takes_close)
 
 pub one_more : (p : ℕ → Bool) (xs : List ℕ) (n : ℕ) → ((i : ℕ) → i < n → p (get_or xs i 0) ≡ true) → p (get_or xs n 0) ≡ true
     → (i : ℕ) → i < n + 1 → p (get_or xs i 0) ≡ true
@@ -274,46 +229,38 @@ no_end_form : (form : TokenForm) (text : List ℕ) → kind_in form text ≡ end
 no_end_form form text e = grind arith
 
 module _ (piece : List ℕ) where
+  -- a token that the piece begins with, wherever it is read
+  whole_of : (n : ℕ) (mode : Mode) (k : Kind) (text : PartialToken → List ℕ) → 0 < n → n ≤ length piece → IsBetween mode → (k ≡ end → ⊥)
+      → ((place : ℕ) (old : PartialToken) → IsSound place old → IsOutside old.mode → RunsTo place old piece k mode (text old) n) → IsWhole piece n mode k
+  whole_of n mode k text some within between no_end runs =
+      record {
+        some = some;
+        within = within;
+        inside = record { between = between; no_end = no_end };
+        runs = λ place old sound outside at y room. held_as place old piece k mode (text old) n between (runs place old sound outside) at y room;
+      }
+
   pub whole_symbol : (n : ℕ) → IsSymbolIn piece n → IsWhole piece n Outside (symbol (take n piece))
   whole_symbol n is =
       let within = is.within in
-      record {
-        some = is.some;
-        within = omega arith;
-        inside = record { between = tt; no_end = λ e. cc };
-        runs = λ place old sound outside at text room. symbol_runs place old piece sound outside n is at text room;
-      }
-
-  string_of : (n k : ℕ) → n ≡ suc k → IsStringIn piece n → class (get_or piece 0 0) ≡ classes.Quote
-      → IsWhole piece (n + 1) Outside (str (take (n - 1) (drop 1 piece)))
-  string_of n k e is quote =
-      let within = is.within in
-      let one_less : n - 1 ≡ k = omega arith in
-      record {
-        some = omega arith;
-        within = omega arith;
-        inside = record { between = tt; no_end = λ e. cc };
-        runs = λ place old sound outside at text room. rw one_less (subst
-            (λ j. RunsToToken place old piece (record { at = place; kind = str (take k (drop 1 piece)) }) (record { mode = Outside; at = at; text = text }) (j + 1)) (sym e)
-            (string_runs place old piece sound outside k (subst (IsStringIn piece) e is) quote at text room));
-      }
+      whole_of n _ _ (λ old. take n piece) is.some (omega arith) tt (λ e. cc)
+      (λ place old sound outside. symbol_runs place old piece sound outside n is)
 
   pub whole_string : (n : ℕ) → IsStringIn piece n → class (get_or piece 0 0) ≡ classes.Quote
       → IsWhole piece (n + 1) Outside (str (take (n - 1) (drop 1 piece)))
-  whole_string n is quote = let last = last_of n is.some in string_of n last.0 last.1 is quote
+  whole_string n is quote =
+      let within = is.within in
+      whole_of (n + 1) _ _ (λ old. take (n - 1) (drop 1 piece)) (omega arith) (omega arith) tt (λ e. cc)
+      (λ place old sound outside. string_runs place old piece sound outside n is quote)
 
   pub whole_single : (c : Class) (m : Mode) (form : TokenForm) → 0 < length piece → class (get_or piece 0 0) ≡ c → IsBetween m
       → ((place : ℕ) (old : PartialToken) → begin place old (get_or piece 0 0) c ≡ record { held = record { mode = m; at = place; text = old.text }; step = Ends form })
       → ((place : ℕ) (old : PartialToken) → begin_line place old (get_or piece 0 0) c ≡ begin place old (get_or piece 0 0) c)
       → (k : Kind) → ((at : ℕ) (text : List ℕ) → token_of form (record { mode = m; at = at; text = text }) ≡ record { at = at; kind = k }) → IsWhole piece 1 m k
   whole_single c m form some is between begins same k kind =
-      record {
-        some = omega arith;
-        within = omega arith;
-        inside = record { between = between; no_end = λ e. no_end_form form [] (ap (λ (t : Token). t.kind) (kind 0 []) ∙ e) };
-        runs = λ place old sound outside at text room. rw (kind place old.text) at
-            (single_runs place old piece sound outside c m form some is between (begins (place + 0) old) (same (place + 0) old) at text room);
-      }
+      whole_of 1 m k (λ old. old.text) (omega arith) (omega arith) between (λ e. no_end_form form [] (ap (λ (t : Token). t.kind) (kind 0 []) ∙ e))
+      (λ place old sound outside. rw (kind (place + 0) old.text) at
+      (single_runs place old piece sound outside c m form some is (begins (place + 0) old) (same (place + 0) old)))
 
   -- the digits of a NAG so far
   pub record GlyphSoFar (n number : ℕ) : Type 0 where
@@ -335,12 +282,8 @@ module _ (piece : List ℕ) where
   pub whole_glyph : (n number : ℕ) → 0 < n → n < length piece → is_digit (get_or piece n 0) ≡ false → GlyphSoFar n number
       → IsWhole piece n Outside (glyph number)
   whole_glyph n number some within ends so =
-      record {
-        some = some;
-        within = omega arith;
-        inside = record { between = tt; no_end = λ e. cc };
-        runs = λ place old sound outside at text room. glyph_runs place old piece sound outside n number within ends (so.ran place old sound outside) at text room;
-      }
+      whole_of n _ _ (λ old. old.text) some (omega arith) tt (λ e. cc)
+      (λ place old sound outside. glyph_runs place old piece sound outside n number within ends (so.ran place old sound outside))
 
   abbrev pub first_run : SuffixRun
   first_run = if get_or piece 0 0 == 33 then suffix_runs.Good else suffix_runs.Poor
@@ -348,27 +291,19 @@ module _ (piece : List ℕ) where
   pub whole_suffix : 1 < length piece → class (get_or piece 0 0) ≡ classes.Suffix → is_suffix (get_or piece 1 0) ≡ false
       → (run : SuffixRun) → first_run ≡ run → IsWhole piece 1 Outside (glyph (glyph_of run))
   whole_suffix long is ends run same =
-      record {
-        some = omega arith;
-        within = omega arith;
-        inside = record { between = tt; no_end = λ e. cc };
-        runs = λ place old sound outside at text room. suffix_runs_to place old piece sound outside 1 run long ends
-            (rw same at (ran_suffix place old piece sound outside (omega arith) is)) at text room;
-      }
+      whole_of 1 _ _ (λ old. old.text) (omega arith) (omega arith) tt (λ e. cc)
+      (λ place old sound outside. suffix_runs_to place old piece sound outside 1 run long ends
+      (rw same at (ran_suffix place old piece sound outside (omega arith) is)))
 
   pub whole_suffix_of_two : 2 < length piece → class (get_or piece 0 0) ≡ classes.Suffix → is_suffix (get_or piece 1 0) ≡ true → is_suffix (get_or piece 2 0) ≡ false
       → (run : SuffixRun)
       → ((h : PartialToken) → second_suffix h first_run (get_or piece 1 0) ≡ into h (modes.Suffix run) Step.Used)
       → IsWhole piece 2 Outside (glyph (glyph_of run))
   whole_suffix_of_two long is more ends run second =
-      record {
-        some = omega arith;
-        within = omega arith;
-        inside = record { between = tt; no_end = λ e. cc };
-        runs = λ place old sound outside at text room. suffix_runs_to place old piece sound outside 2 run long ends
-            (ran_uses place old piece _ 1 (get_or piece 1 0) (omega arith) refl (ran_suffix place old piece sound outside (omega arith) is) _
-            (takes_second _ _ _ _ first_run run refl more second refl)) at text room;
-      }
+      whole_of 2 _ _ (λ old. old.text) (omega arith) (omega arith) tt (λ e. cc)
+      (λ place old sound outside. suffix_runs_to place old piece sound outside 2 run long ends
+      (ran_uses place old piece _ 1 (get_or piece 1 0) (omega arith) refl (ran_suffix place old piece sound outside (omega arith) is) _
+      (takes_second _ _ _ _ first_run run refl more second refl)))
 
 -- ---- what the bytes of a number say of its text
 
@@ -395,8 +330,7 @@ white_in_comment : (b : ℕ) → (comment_class b ≡ comment_classes.Space) ⊎
 white_in_comment b is = grind arith
 
 gap_is_white : (l : Bool) (b : ℕ) → (comment_class b ≡ comment_classes.Space) ⊎ ((comment_class b ≡ comment_classes.LineEnd) × (l ≡ false)) → is_space b ≡ true
-gap_is_white l b (inl is) = white_in_comment b (inl is)
-gap_is_white l b (inr is) = white_in_comment b (inr is.0)
+gap_is_white l b is = grind (arith, white_in_comment)
 
 -- no token waits outside comments
 none_waits : (m : Mode) → IsOutside m → pending_in m ≡ 0
@@ -474,29 +408,31 @@ module _ (skips : Bool) (before : Standing) (place : ℕ) (h : PartialToken) (pi
       sound : IsSound (place + m) h
       sound = sound_outside (place + m) h outside room
 
-      passes_into : (c : Class) (mode : Mode) → class (get_or piece m 0) ≡ c → (c ≡ LineEnd) × (mode ≡ LineStart) ⊎ (c ≡ Space) × (mode ≡ Outside)
+      passes_into : (c : Class) (mode : Mode) → class (get_or piece m 0) ≡ c → begin_line (place + m + 0) h (get_or one 0 0) c ≡ begin (place + m + 0) h (get_or one 0 0) c
+          → begin (place + m + 0) h (get_or one 0 0) c ≡ record { held = holding (place + m) h one mode h.text; step = Step.Used }
           → IsOutside mode → is_space (get_or piece m 0) ≡ true → Passes skips before piece (standing_at (place + (m + 1)) (into_mode h mode)) (m + 1)
-      passes_into c mode is to into is_white =
+      passes_into c mode is same begins into is_white =
           let new_waits = none_waits mode into in
           let old_waits = none_waits h.mode outside in
           space mode (omega arith) is_white
           (out_alike (place + m) h one 1 mode (outside_between mode into) _ h.at _ h.text room (sym one_long) (omega arith)
-          (ran_space (place + m) h one sound outside c mode (omega (arith, one_long)) (ap class one_here ∙ is) to))
+          (first_byte (place + m) h one sound outside c _ (omega (arith, one_long)) (ap class one_here ∙ is) same begins))
 
       pub passes_line_end : class (get_or piece m 0) ≡ LineEnd → Passes skips before piece (standing_at (place + (m + 1)) (into_mode h LineStart)) (m + 1)
-      passes_line_end is = passes_into LineEnd LineStart is (inl (refl, refl)) tt (white_line_end (get_or piece m 0) is)
+      passes_line_end is = grind (arith, passes_into, white_line_end)
 
       pub passes_space : class (get_or piece m 0) ≡ Space → Passes skips before piece (standing_at (place + (m + 1)) (into_mode h Outside)) (m + 1)
-      passes_space is = passes_into Space Outside is (inr (refl, refl)) tt (white_blank (get_or piece m 0) is)
+      passes_space is = passes_into Space Outside is refl refl tt (white_blank (get_or piece m 0) is)
 
       pub passes_period : IsTrue skips → get_or piece m 0 ≡ 46 → Passes skips before piece (standing_at (place + (m + 1)) (into_mode h Outside)) (m + 1)
       passes_period skipped is =
-          over 1 _ Outside (omega arith) (single_runs (place + m) h rest sound outside (Alone Period) Outside (TokenForm.Single Period) some
-          (rw (here ∙ is) refl) tt refl refl h.at h.text room) skipped refl
+          over 1 _ Outside (omega arith) (held_as (place + m) h rest _ Outside _ 1 tt (single_runs (place + m) h rest sound outside (Alone Period) Outside
+          (TokenForm.Single Period) some (rw (here ∙ is) refl) refl refl) h.at h.text room) skipped refl
 
       pub passes_number : IsTrue skips → (n : ℕ) → IsNumberIn rest n → Passes skips before piece (standing_at (place + (m + n)) (into_mode h Outside)) (m + n)
       passes_number skipped n is =
-          over n _ Outside is.is_symbol.some (symbol_runs (place + m) h rest sound outside n is.is_symbol h.at h.text room) skipped (all_digits n rest is.digits)
+          over n _ Outside is.is_symbol.some (held_as (place + m) h rest _ Outside _ n tt (symbol_runs (place + m) h rest sound outside n is.is_symbol) h.at h.text room)
+          skipped (all_digits n rest is.digits)
 
     module _ (l : Bool) (in_comment : h.mode ≡ comment_mode l) where
       sound_there : IsSound (place + m) h
@@ -511,10 +447,13 @@ module _ (skips : Bool) (before : Standing) (place : ℕ) (h : PartialToken) (pi
 
       pub reads_word : (n : ℕ) → IsWordIn rest n
           → ReadsBehind skips before piece (standing_at (place + (m + n)) (into_mode h (comment_mode l))) (m + n) (record { at = place + m; kind = word (take n rest) })
-      reads_word n is = behind within n _ (comment_mode l) is.some (word_runs (place + m) h rest sound_there l in_comment n is h.at h.text room)
+      reads_word n is =
+          behind within n _ (comment_mode l) is.some
+          (held_as (place + m) h rest _ (comment_mode l) _ n (comment_between l) (word_runs (place + m) h rest sound_there l in_comment n is) h.at h.text room)
 
       pub reads_close : (mode : Mode)
           → ((comment_class (get_or piece m 0) ≡ comment_classes.CloseBrace) × (l ≡ false) × (mode ≡ Outside)) ⊎ ((comment_class (get_or piece m 0) ≡ comment_classes.LineEnd) × (l ≡ true) × (mode ≡ LineStart))
           → IsBetween mode → ReadsBehind skips before piece (standing_at (place + (m + 1)) (into_mode h mode)) (m + 1) (record { at = place + m; kind = comment_close })
       reads_close mode is between =
-          behind within 1 _ mode (omega arith) (close_runs (place + m) h rest sound_there l in_comment mode some (rw (sym here) at is) between h.at h.text room)
+          behind within 1 _ mode (omega arith)
+          (held_as (place + m) h rest _ mode _ 1 between (close_runs (place + m) h rest sound_there l in_comment mode some (rw (sym here) at is)) h.at h.text room)

@@ -1,7 +1,7 @@
-use Rattle.std.proofs.Common.{◌≡◌, ◌∙◌, refl, ap, ap₂, true}
+use Rattle.std.proofs.lemmas.Grind.{common_steps}
+use Rattle.std.proofs.Common.{arith, ◌≡◌, ◌∙◌, refl, ap, ap₂, true}
 use Rattle.std.proofs.lemmas.Result.{IfOk-weaker}
 use Rattle.clap.specs.Words.{App, app_of, with_subcommand}
-use Rattle.clap.specs.Simple.{Shape, on_top}
 use Rattle.pgn_arguments.specs.CommandLine.{bare_program, check_command, command_line, export_command, list_command, split_command}
 use Rattle.pgn_arguments.proofs.commands.BuilderSteps.{app_about, app_after_help, app_help_subcommand, app_required, app_version, is_local}
 use Rattle.pgn_arguments.proofs.arguments.command_line.Goals as goal
@@ -25,12 +25,8 @@ split_is_plain = refl
 pub returns : goal.returns
 unfolding command_line bare_program
 returns c =
-    let versioned = app_version _ _ _ c.version.ensures ∙ ap (on_top (λ (s : Shape). record s { has_version = true })) c.new.ensures.app in
-    let told = app_after_help _ _ _ c.after_help.ensures ∙ app_about _ _ _ c.about.ensures ∙ versioned in
-    let plain =
-    app_help_subcommand _ _ _ c.disable_help_subcommand.ensures ∙ ap (on_top (λ (s : Shape). record s { disable_help_subcommand = true })) told in
-    let bare : app_of c.subcommand_required.result ≡ bare_program = app_required _ _ _ c.subcommand_required.ensures
-    ∙ ap (on_top (λ (s : Shape). record s { subcommand_required = true })) plain in
+    let bare : app_of c.subcommand_required.result ≡ bare_program =
+    grind (arith, common_steps, app_version, app_after_help, app_about, app_help_subcommand, app_required) in
     let export_is = c.in_ok-export_command.ensures in
     let check_is = c.in_ok-check_command.ensures in
     let list_is = c.in_ok-list_command.ensures in

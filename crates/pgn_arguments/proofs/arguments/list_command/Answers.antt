@@ -1,5 +1,5 @@
-use Rattle.std.proofs.Common.{◌∙◌, ap₂}
-use Rattle.std.proofs.lemmas.Result.{IfOk-weaker}
+use Rattle.std.proofs.lemmas.Grind.{common_steps}
+use Rattle.std.proofs.Common.{arith, ap₂}
 use Rattle.clap.specs.Words.{with_rule}
 use Rattle.pgn_arguments.specs.CommandLine.{list_command}
 use Rattle.pgn_arguments.proofs.commands.BuilderSteps.{app_about}
@@ -7,7 +7,4 @@ use Rattle.pgn_arguments.proofs.arguments.list_command.Goals as goal
 
 pub returns : goal.returns
 unfolding list_command
-returns c =
-    let named = app_about _ _ _ c.about.ensures ∙ c.new.ensures.app in
-    IfOk-weaker c.arg.result _ _
-    (λ made h. h.shape c.file_argument.ensures.local ∙ ap₂ with_rule named c.file_argument.ensures.rule) c.arg.ensures
+returns c = grind (arith, common_steps, app_about, ap₂ with_rule)
