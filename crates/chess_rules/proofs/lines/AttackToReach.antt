@@ -137,20 +137,16 @@ pub attacked_is : (b : Board) (c : Colour) (t : Square) → is_attacked b c t �
 attacked_is b c t =
     any_same (λ s. has_colour c (at b s) && attacks b s t) (λ s. may_attack b c t s && is_clear b s t) squares (λ s. attacker_is b c s t)
 
--- of the pieces that may attack, those in view do, and those a jump away
+-- of the pieces that may attack, those that see the square do, and those a jump away
 pub seen_attacker : (b : Board) (c : Colour) (t s : Square)
-    → (may_attack b c t s && (is_in_view b t s || is_jump s t)) ≡ (may_attack b c t s && is_clear b s t)
+    → (may_attack b c t s && ((is_aligned s t && is_clear b s t) || is_jump s t)) ≡ (may_attack b c t s && is_clear b s t)
 seen_attacker b c t s =
-    by_tests (has_colour c (at b s)) (reaches_from (at b s) s t) (is_aligned s t) (is_jump s t) (is_some (at b s)) (is_clear b s t)
-    (some_of c (at b s)) (reached (at b s) s t) (jump_clear b s t)
+    by_tests (has_colour c (at b s)) (reaches_from (at b s) s t) (is_aligned s t) (is_jump s t) (is_clear b s t)
+    (reached (at b s) s t) (jump_clear b s t)
   where
-    some_of : (d : Colour) (cell : Option Piece) → has_colour d cell ≡ true → is_some cell ≡ true
-    some_of d cell h = grind arith
-
-    by_tests : (own reaches aligned jump some clear : Bool) → (own ≡ true → some ≡ true)
-        → ((aligned || jump) ≡ false → reaches ≡ false) → (jump ≡ true → clear ≡ true)
-        → ((own && reaches) && ((aligned && (some && clear)) || jump)) ≡ ((own && reaches) && clear)
-    by_tests own reaches aligned jump some clear h g f = grind (arith, h, g, f)
+    by_tests : (own reaches aligned jump clear : Bool) → ((aligned || jump) ≡ false → reaches ≡ false)
+        → (jump ≡ true → clear ≡ true) → ((own && reaches) && ((aligned && clear) || jump)) ≡ ((own && reaches) && clear)
+    by_tests own reaches aligned jump clear h g = grind (arith, h, g)
 
 -- The sets of the code, piece by piece.
 

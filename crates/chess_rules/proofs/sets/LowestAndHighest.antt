@@ -1,7 +1,5 @@
 -- The lowest and the highest place of a set that is not empty.
-use Rattle.chess_rules.proofs.Words.{has, HasNone, IsHighest, IsLowest, IsOnly, ◌≡◌, ℕ, zero, suc, ◌+◌, ◌-◌, ◌*◌, ◌^◌, ◌<◌, ◌≤◌, pow-suc, true, w64, sym, ◌∙◌, ap, subst, arith, ◌==◌, false≢true, bit_at, leading_zeros, trailing_zeros, leading_length, bit_at_above, bit_at-trailing_zeros}
-use Rattle.chess_rules.proofs.sets.AllSquares.{equal_from, equal_tests}
-use Rattle.chess_rules.proofs.sets.WordsToCells.{has_single, has_zero}
+use Rattle.chess_rules.proofs.Words.{has, IsHighest, IsLowest, ◌≡◌, ℕ, zero, suc, ◌+◌, ◌-◌, ◌*◌, ◌^◌, ◌<◌, ◌≤◌, pow-suc, w64, sym, ◌∙◌, ap, arith, ◌==◌, bit_at, leading_zeros, trailing_zeros, leading_length, bit_at_above, bit_at-trailing_zeros}
 
 pub lowest_place : (n : ℕ) → 0 < n → n < 2 ^ 64 → IsLowest n (trailing_zeros w64 n)
 unfolding has
@@ -27,37 +25,3 @@ highest_place n some fits = by_length (leading_length 64 n fits)
           here = ap (λ d. d == 1) (ap (bit_at n) (sym place) ∙ top);
           none = λ i above _. ap (λ d. d == 1) (bit_at_above n (suc j) i high (omega arith));
         }
-
--- The lowest and the highest place alone.
-
-nothing_in : (w i : ℕ) → w ≡ 0 → has w i ≡ true → ⊥
-nothing_in w i none h = false≢true (sym (has_zero i) ∙ (ap (λ n. has n i) (sym none) ∙ h))
-
-pub no_lowest : (w : ℕ) → HasNone w → IsOnly IsLowest w w
-no_lowest w none = record { here = λ i low h. absurd (false≢true (sym (none.of i low) ∙ h)); there = λ i l. l.here }
-
-pub no_highest : (w : ℕ) → w ≡ 0 → IsOnly IsHighest w w
-no_highest w none = record { here = λ i _ h. absurd (nothing_in w i none h); there = λ i l. absurd (nothing_in w i none l.here) }
-
-at_single : (r n i : ℕ) → r ≡ 2 ^ n → has r i ≡ (i == n)
-at_single r n i is = ap (λ m. has m i) is ∙ has_single n i
-
--- two places of which none is before the other
-one_of_order : (i n : ℕ) → (i < n → ⊥) → (n < i → ⊥) → i ≡ n
-one_of_order i n h g = grind arith
-
-pub lowest_alone : (w n r : ℕ) → IsLowest w n → r ≡ 2 ^ n → IsOnly IsLowest w r
-lowest_alone w n r lowest is =
-    record {
-      here = λ i _ h. subst (IsLowest w) (sym (equal_from i n (sym (at_single r n i is) ∙ h))) lowest;
-      there = λ i l. at_single r n i is ∙ equal_tests i n (one_of_order i n
-          (λ less. false≢true (sym (lowest.none i less) ∙ l.here)) (λ less. false≢true (sym (l.none n less) ∙ lowest.here)));
-    }
-
-pub highest_alone : (w n r : ℕ) → IsHighest w n → r ≡ 2 ^ n → IsOnly IsHighest w r
-highest_alone w n r highest is =
-    record {
-      here = λ i _ h. subst (IsHighest w) (sym (equal_from i n (sym (at_single r n i is) ∙ h))) highest;
-      there = λ i l. at_single r n i is ∙ equal_tests i n (one_of_order i n (λ less. false≢true
-          (sym (l.none n less highest.inside) ∙ highest.here)) (λ less. false≢true (sym (highest.none i less l.inside) ∙ l.here)));
-    }
