@@ -1,8 +1,8 @@
 -- On a line through a square, the nearest piece on either side is the one in view. So at most eight
 -- pieces are in view of a square.
 use Rattle.chess_rules.proofs.Words.{Square, squares, inside, in_line, on_diagonal, strictly_between, Board, at, cell_of, is_empty, is_clear, IsLine, is_steep, square_at, has, Places, ◌≡◌, ◌≢◌, ℕ, ◌<◌, ◌≤◌, Bool, true, not, ◌&&◌, ◌||◌, length, sym, ◌∙◌, ap, ap₂, arith, filter, is_some, nat_lt, false≢true, and_from}
-use Rattle.chess_rules.proofs.positions.OneKing.{cell_of-square_at}
-use Rattle.chess_rules.proofs.sets.AllSquares.{first_true, second_true, each_square, not_true}
+use Rattle.std.proofs.lemmas.Bool.{ltb-true, ltb-false, not-true}
+use Rattle.chess_rules.proofs.sets.AllSquares.{first_true, second_true, each_square, not_true, cell_of-square_at}
 use Rattle.chess_rules.proofs.sets.SetsToSquares.{at_square, one_kept}
 use Rattle.chess_rules.proofs.trying.FoundLists.{kept_either, kept_more}
 use Rattle.chess_rules.proofs.lines.AttackToReach.{clear_if, is_in_view, is_open, not_empty}
@@ -12,7 +12,7 @@ pub strict : (m n : ℕ) → m ≤ n → (m ≡ n → ⊥) → m < n
 strict m n a g = grind (arith, g)
 
 -- One line through t.
-module _ (b : Board) (t : Square) (line : Square → Bool) (on : IsLine line t) where
+module _ (b : Board) {t : Square} {line : Square → Bool} (on : IsLine line t) where
   -- a piece between blocks the way
   pub blocked : (i j : ℕ) → i < 64 → j < 64 → line (square_at i) ≡ true → line (square_at j) ≡ true
       → is_some (at b (square_at i)) ≡ true → is_clear b (square_at j) t ≡ true → inside j i (cell_of t) ≡ true → ⊥
@@ -49,7 +49,7 @@ module _ (b : Board) (t : Square) (line : Square → Bool) (tf : t.file < 8) (on
   apart : (i j : ℕ) → i < 64 → j < 64 → (line (square_at i) && is_open b t (square_at i)) ≡ true
       → (line (square_at j) && is_open b t (square_at j)) ≡ true → inside j i (cell_of t) ≡ true → ⊥
   apart i j low high h g =
-      blocked b t line on i j low high (first_true (line (square_at i)) _ h) (first_true (line (square_at j)) _ g)
+      blocked b on i j low high (first_true (line (square_at i)) _ h) (first_true (line (square_at j)) _ g)
       (first_true (is_some (at b (square_at i))) _ (second_true (line (square_at i)) _ h))
       (second_true (is_some (at b (square_at j))) _ (second_true (line (square_at j)) _ g))
 
@@ -57,22 +57,16 @@ module _ (b : Board) (t : Square) (line : Square → Bool) (tf : t.file < 8) (on
   one_before =
       one_kept (one_side b t line (λ s. nat_lt (cell_of s) (cell_of t))) (λ i j less high h g.
       let there : nat_lt (cell_of (square_at j)) (cell_of t) ≡ true = second_true (line (square_at j) && is_open b t (square_at j)) _ g in
-      let last : j < cell_of t = less_from j there in
+      let last : j < cell_of t = omega (arith, ltb-true (cell_of (square_at j)) (cell_of t) there) in
       apart j i high (omega arith) (first_true _ _ g) (first_true _ _ h) (inside_up i j (cell_of t) less last))
-    where
-      less_from : (k : ℕ) → nat_lt (cell_of (square_at k)) (cell_of t) ≡ true → k < cell_of t
-      less_from k e = grind arith
 
   one_after : length (filter (one_side b t line (λ s. not (nat_lt (cell_of s) (cell_of t)))) squares) ≤ 1
   one_after =
       one_kept (one_side b t line (λ s. not (nat_lt (cell_of s) (cell_of t)))) (λ i j less high h g.
       let low : i < 64 = omega arith in
-      let past : cell_of t ≤ i = not_less i (second_true (line (square_at i) && is_open b t (square_at i)) _ h) in
-      let other : i ≢ cell_of t = not_there b t line on i low (first_true (line (square_at i)) _ (first_true _ _ h)) tf in
+      let past : cell_of t ≤ i = omega (arith, ltb-false (cell_of (square_at i)) (cell_of t) (not-true _ (second_true (line (square_at i) && is_open b t (square_at i)) _ h))) in
+      let other : i ≢ cell_of t = not_there b on i low (first_true (line (square_at i)) _ (first_true _ _ h)) tf in
       apart i j low high (first_true _ _ h) (first_true _ _ g) (inside_down j i (cell_of t) (strict (cell_of t) i past (λ e. other (sym e))) less))
-    where
-      not_less : (k : ℕ) → not (nat_lt (cell_of (square_at k)) (cell_of t)) ≡ true → cell_of t ≤ k
-      not_less k e = grind arith
 
   pub two_on_line : length (filter (λ s. line s && is_open b t s) squares) ≤ 2
   two_on_line =
@@ -130,9 +124,9 @@ few_in_view b t tf =
 
 -- a line as a set of the board's squares
 
-pub line_of_set : (line : Square → Bool) (t : Square) (w : ℕ) → t.file < 8
+pub line_of_set : {line : Square → Bool} {t : Square} {w : ℕ} → t.file < 8
     → t.rank < 8 → IsLine line t → Places w line → IsLine (λ s. has w (cell_of s)) t
-line_of_set line t w tf tr on h =
+line_of_set {line} {t} {w} tf tr on h =
     record {
       apart = at_square w line t h tf tr ∙ on.apart;
       between = λ s u sf sr uf ur here.
