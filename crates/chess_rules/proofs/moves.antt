@@ -8,8 +8,8 @@ pub mod KindsOfSteps
 pub mod LegalToPosition
 pub mod OneWayToStep
 pub mod PlainStepAttacks
-pub mod RightsStay
 pub mod StepsKeepBoard
+pub mod WaysToStep
 
 -- whether a king moves, and how far
 pub ruleset kings = (own_king, nat_tests)

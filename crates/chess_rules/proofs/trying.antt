@@ -2,10 +2,8 @@
 pub mod CandidatesAreFew
 pub mod FoundLists
 pub mod LegalIsTried
-pub mod OriginsAreCandidates
 pub mod PairCounts
 pub mod PairsFromOrigin
 pub mod PromotionsAlike
 pub mod SearchThatCounts
-pub mod SetsToCandidates
 pub mod SetsToPairs

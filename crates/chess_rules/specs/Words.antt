@@ -111,11 +111,6 @@ pub record IsHighest (word place : ℕ) : Type 0 where
   pub here : has word place ≡ true
   pub none : (i : ℕ) → place < i → i < 64 → has word i ≡ false
 
--- `only` has that place of `word` alone, the first or the last, and none if `word` has none
-pub record IsOnly (Is : ℕ → ℕ → Type 0) (word only : ℕ) : Type 0 where
-  pub here : (i : ℕ) → i < 64 → has only i ≡ true → Is word i
-  pub there : (i : ℕ) → Is word i → has only i ≡ true
-
 -- `result` has the places up to the first that `word` has, with this one, or all if `word` has none
 pub record IsUpTo (word result : ℕ) : Type 0 where
   pub none : (i : ℕ) → i < 64 → has result i ≡ true → (j : ℕ) → j < i → has word j ≡ false

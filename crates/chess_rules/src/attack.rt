@@ -1,8 +1,8 @@
 //! Which squares are attacked on a board.
 
-ghost use Rattle.std.specs.Prelude.{◌≡◌, ◌&&◌, is_some};
+ghost use Rattle.std.specs.Prelude.{◌≡◌, ◌&&◌};
 ghost use Rattle.std.specs.List.{list_any};
-ghost use Rattle.chess_rules.specs.Board.{at, cell_of};
+ghost use Rattle.chess_rules.specs.Board.{cell_of};
 ghost use Rattle.chess_rules.specs.Attacks as spec;
 ghost use Rattle.chess_rules.specs.Pairs as pairs;
 ghost use Rattle.chess_rules.specs.Reach as reach;
@@ -33,33 +33,6 @@ pub(crate) fn clear_among(board: &Board, set: Squares, target: Square) -> Square
         }
     }
     clear
-}
-
-// The pieces nearest to the target on this line through it: at most one on either side.
-fn nearest(board: &Board, line: Squares, target: Square) -> Squares
-    requires { reach.IsLine (λ s. has line (cell_of s)) target }
-    ensures { Places result (λ s. has line (cell_of s)
-        && (is_some (at board.now s) && spec.is_clear board.now s target)) }
-{
-    target.recall_invariant();
-    let pieces = line & board.occupied();
-    let before = Squares::before(target);
-    (pieces & !before).only_lowest() | (pieces & before).only_highest()
-}
-
-// The pieces nearest to the target, on either side, on its rank, its file and its two diagonals.
-fn pieces_in_view(board: &Board, target: Square) -> Squares
-    ensures { Places result (λ s. reach.is_aligned s target
-        && (is_some (at board.now s) && spec.is_clear board.now s target)) }
-{
-    target.recall_invariant();
-    let rank_and_file = rank_and_file(target);
-    let diagonals = diagonals(target);
-    let steep = steep(target);
-    nearest(board, rank_and_file & steep, target)
-        | nearest(board, rank_and_file & !steep, target)
-        | nearest(board, diagonals & steep, target)
-        | nearest(board, diagonals & !steep, target)
 }
 
 // The squares of this line through the origin that are seen from it: those up to the nearest piece
@@ -140,7 +113,7 @@ fn is_any_in_view(board: &Board, possible: Squares, target: Square) -> bool
     requires { ArePossible board.now target possible }
     ensures { result ≡ list_any (λ s. spec.is_clear board.now s target) (members possible) }
 {
-    !(possible & (pieces_in_view(board, target) | knights_to(target))).is_empty()
+    !(possible & (seen_from(board, target) | knights_to(target))).is_empty()
 }
 
 // The squares of the pieces of the colour that attack the target, and those between the target and

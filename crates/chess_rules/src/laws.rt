@@ -6,6 +6,7 @@ ghost use Rattle.chess_rules.specs.Laws.{CandidatesComplete, CasesApart, FewCand
 /// No move is a step in two of the five ways.
 ///
 /// The ways are a piece's step, a pawn's step, en passant, and castling on either wing.
+#[tactic(auto, using(crate::proofs::moves::OneWayToStep::cases_apart))]
 pub fn cases_are_apart()
     ensures { CasesApart }
 {}
@@ -18,6 +19,7 @@ pub fn one_position_after()
 /// A legal move in a position leads to a position.
 ///
 /// No king is captured, each side keeps one, and no pawn is left on rank 1 or 8.
+#[tactic(auto, using(crate::proofs::moves::LegalToPosition::leaves_position))]
 pub fn a_legal_move_leaves_a_position()
     ensures { LeavesPosition }
 {}
@@ -38,11 +40,13 @@ pub fn steps_are_from_candidates()
 {}
 
 /// No square has more than eight candidates of one kind.
+#[tactic(auto, using(crate::proofs::trying::CandidatesAreFew::few_candidates))]
 pub fn candidates_are_few()
     ensures { FewCandidates }
 {}
 
 /// In a position, an origin and a target are legal with all four promotions or with none.
+#[tactic(auto, using(crate::proofs::trying::PromotionsAlike::promotions_alike))]
 pub fn promotions_are_alike()
     ensures { PromotionsAlike }
 {}

@@ -1,7 +1,7 @@
 //! Moves and positions.
 
 ghost use Rattle.std.specs.Prelude.{◌≡◌, ◌<◌, ◌≤◌, IfSome, IsTrue, Some, is_some, length};
-ghost use Rattle.chess_rules.specs.Board.{at, is_empty, other};
+ghost use Rattle.chess_rules.specs.Board.{at, other};
 ghost use Rattle.chess_rules.specs.Attacks.{king_attacked};
 ghost use Rattle.chess_rules.specs.Position as spec;
 ghost use Rattle.chess_rules.specs.RankNumbers.{rank_numbers};
@@ -380,13 +380,6 @@ impl Position {
         ensures { result ≡ rank_numbers self.now.board rank }
     {
         self.board.rank_numbers(rank)
-    }
-
-    /// Returns whether no piece is on the square. In a loop over squares it is quicker than `at`.
-    pub fn is_empty(&self, square: Square) -> bool
-        ensures { result ≡ is_empty self.now.board square }
-    {
-        !self.board.occupied().has_on_rank(square)
     }
 
     /// Returns the side to move.

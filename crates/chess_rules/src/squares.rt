@@ -5,7 +5,7 @@ ghost use Rattle.chess_rules.specs.Board.{cell_of};
 ghost use Rattle.chess_rules.specs.Candidate.{lone};
 ghost use Rattle.chess_rules.specs.Reach.{square_at};
 ghost use Rattle.chess_rules.specs.Words as spec;
-ghost use Rattle.chess_rules.specs.Words.{Bits, FirstOf, IsFrom, IsHighest, IsLowest, IsOnly, IsUpTo, Places, Sets, Takes};
+ghost use Rattle.chess_rules.specs.Words.{Bits, FirstOf, IsFrom, IsUpTo, Places, Sets, Takes};
 
 use crate::square::Square;
 use std::marker::Model;
@@ -92,13 +92,6 @@ impl Squares {
         self.bits >> square.index() & 1 == 1
     }
 
-    // The same as `has`, but quicker in a loop over the files of a rank: each is a constant bit.
-    pub(crate) fn has_on_rank(self, square: Square) -> bool
-        ensures { result ≡ spec.has self (cell_of square) }
-    {
-        self.bits >> (8 * square.rank()) >> square.file() & 1 == 1
-    }
-
     // The squares of a rank that the set has: bit 0 for file a, to bit 7 for file h.
     pub(crate) fn bits_on_rank(self, rank: u8) -> usize
         requires { rank < 8 }
@@ -158,27 +151,6 @@ impl Squares {
     {
         let first = self.lowest()?;
         self.with(first, false).is_empty().then_some(first)
-    }
-
-    // The set of the first square alone, or the empty set if the set is empty.
-    pub(crate) fn only_lowest(self) -> Squares
-        ensures { IsOnly IsLowest self result }
-    {
-        match self.lowest() {
-            None => self,
-            Some(first) => Squares::of_bits(bit_of(first)),
-        }
-    }
-
-    // The set of the last square alone, or the empty set if the set is empty.
-    pub(crate) fn only_highest(self) -> Squares
-        ensures { IsOnly IsHighest self result }
-    {
-        if self.bits == 0 {
-            return self;
-        }
-        let last = Square::nth(63 - self.bits.leading_zeros() as usize);
-        Squares::of_bits(bit_of(last))
     }
 
     // The squares up to the first of the set, with this one; all squares if the set is empty.

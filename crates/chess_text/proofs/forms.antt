@@ -1,14 +1,10 @@
 -- The text of a move as a form, and the moves that a form names.
 pub mod AgreeingAreFound
-pub mod BeforeMarks
-pub mod CastlingForms
 pub mod CastlingMoves
 pub mod CommonForms
 pub mod FormOriginKinds
 pub mod FormToSpelling
-pub mod MoveKept
 pub mod MoverOfMove
 pub mod OnlyElement
-pub mod PawnWays
 pub mod PieceForms
 pub mod SpellingToForm

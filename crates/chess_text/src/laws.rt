@@ -21,6 +21,7 @@ pub fn one_position_a_text()
 {}
 
 /// Each of the six parts of a FEN is read from exactly the texts that spell it.
+#[tactic(auto, using(crate::proofs::positions::FenLaws::fields))]
 pub fn fields_are_spellings()
     ensures { FieldsAreSpellings }
 {}
@@ -31,11 +32,13 @@ pub fn fault_is_lowest()
 {}
 
 /// The canonical text of each position spells it.
+#[tactic(auto, using(crate::proofs::positions::CanonicalText::canonical_spells))]
 pub fn canonical_text_spells_its_position()
     ensures { CanonicalSpells }
 {}
 
 /// The canonical text of each position has at most 93 bytes.
+#[tactic(auto, using(crate::proofs::positions::FenLaws::fits))]
 pub fn canonical_text_is_short()
     ensures { CanonicalFits }
 {}
@@ -63,11 +66,13 @@ pub fn the_one_move_is_read()
 {}
 
 /// The error is `NoMove` exactly if no legal move agrees with the form.
+#[tactic(auto, using(crate::proofs::forms::AgreeingAreFound::no_move_is_read))]
 pub fn no_move_is_read()
     ensures { NoMoveIsRead }
 {}
 
 /// The error is `Ambiguous` exactly if two different legal moves agree with the form.
+#[tactic(auto, using(crate::proofs::forms::AgreeingAreFound::two_moves_are_ambiguous))]
 pub fn two_moves_are_ambiguous()
     ensures { TwoMovesAreAmbiguous }
 {}
@@ -76,6 +81,7 @@ pub fn two_moves_are_ambiguous()
 ///
 /// If it says so of none, the error of `resolve` is `NoMove`. If it says so of several, the error
 /// is `Ambiguous`.
+#[tactic(auto, using(crate::proofs::forms::FormOriginKinds::legal_origins_decide))]
 pub fn legal_origins_decide()
     ensures { LegalOriginsDecide }
 {}
@@ -113,11 +119,13 @@ pub fn a_written_move_is_read_as_itself()
 ///
 /// The error is `IllegalMove` exactly if it is the text of a move that is not legal, and `NotAMove`
 /// exactly if it is that of no move.
+#[tactic(auto, using(crate::proofs::names::UciToMove::uci_is_exact))]
 pub fn uci_is_exact()
     ensures { UciIsExact }
 {}
 
 /// Two different legal moves of a position have different texts in UCI.
+#[tactic(auto, using(crate::proofs::names::UciToMove::uci_texts_differ))]
 pub fn uci_texts_differ()
     ensures { UciTextsDiffer }
 {}

@@ -1,5 +1,5 @@
 -- What a piece attacks it reaches over empty squares, whatever its kind.
-use Rattle.chess_rules.proofs.Words.{Colour, Kind, King, Queen, Rook, Bishop, Knight, Pawn, Piece, Square, squares, gap, same_square, is_adjacent, is_jump, in_line, on_diagonal, strictly_between, between_on_rank, between_on_file, between_on_diagonal, Board, at, is_empty, has_colour, same_colour, same_kind, is_clear, is_ahead, kind_attacks, cell_attacks, attacks, is_attacked, has_kind, is_aligned, is_near, may_attack, reaches, reaches_from, ◌≡◌, ℕ, ◌<◌, ◌≤◌, Bool, true, false, not, ◌&&◌, ◌||◌, ◌⊎◌, inl, inr, refl, sym, ◌∙◌, ap, arith, Option, None, Some, is_none, is_some, nat_le, list_any, nat_tests, leb-true, or_cases, and_from}
+use Rattle.chess_rules.proofs.Words.{Colour, Kind, King, Queen, Rook, Bishop, Knight, Pawn, Piece, Square, squares, gap, same_square, is_adjacent, is_jump, in_line, on_diagonal, strictly_between, between_on_rank, between_on_file, between_on_diagonal, Board, at, is_empty, has_colour, same_colour, same_kind, is_clear, is_ahead, kind_attacks, cell_attacks, attacks, is_attacked, has_kind, is_aligned, is_near, may_attack, reaches, reaches_from, ◌≡◌, ℕ, ◌<◌, ◌≤◌, Bool, true, false, not, ◌&&◌, ◌||◌, ◌⊎◌, inl, inr, refl, sym, ◌∙◌, ap, arith, Option, None, Some, is_none, is_some, nat_le, list_any, nat_tests, leb-true, or_cases, and_from, other}
 use Rattle.chess_rules.proofs.sets.AllSquares.{first_true, second_true, all_squares, any_same, implied}
 
 -- a piece is on s, and all squares between s and t are empty
@@ -20,6 +20,12 @@ colours_same c d h = grind arith
 
 pub squares_same : (s t : Square) → same_square s t ≡ true → s ≡ t
 squares_same s t h = grind arith
+
+pub other-other : (c : Colour) → other (other c) ≡ c
+other-other c = grind arith
+
+pub adjacent_back : (s t : Square) → is_adjacent s t ≡ is_adjacent t s
+adjacent_back s t = grind arith
 
 pub none_or_all : (c : Colour) (cell : Option Piece) → has_colour c cell ≡ true → is_none cell ≡ false
 none_or_all c cell h = grind arith
@@ -137,20 +143,16 @@ pub attacked_is : (b : Board) (c : Colour) (t : Square) → is_attacked b c t �
 attacked_is b c t =
     any_same (λ s. has_colour c (at b s) && attacks b s t) (λ s. may_attack b c t s && is_clear b s t) squares (λ s. attacker_is b c s t)
 
--- of the pieces that may attack, those in view do, and those a jump away
+-- of the pieces that may attack, those that see the square do, and those a jump away
 pub seen_attacker : (b : Board) (c : Colour) (t s : Square)
-    → (may_attack b c t s && (is_in_view b t s || is_jump s t)) ≡ (may_attack b c t s && is_clear b s t)
+    → (may_attack b c t s && ((is_aligned s t && is_clear b s t) || is_jump s t)) ≡ (may_attack b c t s && is_clear b s t)
 seen_attacker b c t s =
-    by_tests (has_colour c (at b s)) (reaches_from (at b s) s t) (is_aligned s t) (is_jump s t) (is_some (at b s)) (is_clear b s t)
-    (some_of c (at b s)) (reached (at b s) s t) (jump_clear b s t)
+    by_tests (has_colour c (at b s)) (reaches_from (at b s) s t) (is_aligned s t) (is_jump s t) (is_clear b s t)
+    (reached (at b s) s t) (jump_clear b s t)
   where
-    some_of : (d : Colour) (cell : Option Piece) → has_colour d cell ≡ true → is_some cell ≡ true
-    some_of d cell h = grind arith
-
-    by_tests : (own reaches aligned jump some clear : Bool) → (own ≡ true → some ≡ true)
-        → ((aligned || jump) ≡ false → reaches ≡ false) → (jump ≡ true → clear ≡ true)
-        → ((own && reaches) && ((aligned && (some && clear)) || jump)) ≡ ((own && reaches) && clear)
-    by_tests own reaches aligned jump some clear h g f = grind (arith, h, g, f)
+    by_tests : (own reaches aligned jump clear : Bool) → ((aligned || jump) ≡ false → reaches ≡ false)
+        → (jump ≡ true → clear ≡ true) → ((own && reaches) && ((aligned && clear) || jump)) ≡ ((own && reaches) && clear)
+    by_tests own reaches aligned jump clear h g = grind (arith, h, g)
 
 -- The sets of the code, piece by piece.
 

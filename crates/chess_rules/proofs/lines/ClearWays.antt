@@ -1,7 +1,7 @@
 -- All squares between two are empty exactly if the set of them has no piece; and the squares of a
 -- set from which the way is so clear.
 use Rattle.chess_rules.proofs.Words.{Piece, Square, squares, strictly_between, Board, at, cell_of, is_empty, is_clear, square_at, Bits, has, has_any, HasNone, Places, ◌≡◌, ℕ, ◌<◌, Bool, not, ◌&&◌, ◌||◌, List, [], ◌∷◌, refl, sym, ◌∙◌, ap, ap₂, arith, Option, is_none, is_some, list_all, list_any}
-use Rattle.chess_rules.proofs.positions.OneKing.{cell_of-square_at}
+use Rattle.chess_rules.proofs.sets.AllSquares.{cell_of-square_at}
 use Rattle.chess_rules.proofs.sets.SetsToSquares.{any_of_set, places_and}
 
 all_unless : {X : Type 0} (p q r : X → Bool) (xs : List X) → ((x : X) → q x ≡ not (r x))

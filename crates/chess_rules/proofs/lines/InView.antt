@@ -1,18 +1,18 @@
 -- On a line through a square, the nearest piece on either side is the one in view. So at most eight
 -- pieces are in view of a square.
-use Rattle.chess_rules.proofs.Words.{Square, squares, inside, in_line, on_diagonal, strictly_between, Board, at, cell_of, is_empty, is_clear, IsLine, is_steep, square_at, Bits, has, IsHighest, IsLowest, IsOnly, Places, ◌≡◌, ◌≢◌, ℕ, ◌<◌, ◌≤◌, Bool, true, false, not, ◌&&◌, ◌||◌, ◌⊎◌, length, refl, sym, ◌∙◌, ap, ap₂, arith, filter, is_some, nat_lt, false≢true, or_left, or_right, not-true, and_from}
-use Rattle.chess_rules.proofs.positions.OneKing.{cell_of-square_at}
-use Rattle.chess_rules.proofs.sets.AllSquares.{first_true, second_true, same_tests, each_square, not_true}
+use Rattle.chess_rules.proofs.Words.{Square, squares, inside, in_line, on_diagonal, strictly_between, Board, at, cell_of, is_empty, is_clear, IsLine, is_steep, square_at, has, Places, ◌≡◌, ◌≢◌, ℕ, ◌<◌, ◌≤◌, Bool, true, not, ◌&&◌, ◌||◌, length, sym, ◌∙◌, ap, ap₂, arith, filter, is_some, nat_lt, false≢true, and_from}
+use Rattle.std.proofs.lemmas.Bool.{ltb-true, ltb-false, not-true}
+use Rattle.chess_rules.proofs.sets.AllSquares.{first_true, second_true, each_square, not_true, cell_of-square_at}
 use Rattle.chess_rules.proofs.sets.SetsToSquares.{at_square, one_kept}
 use Rattle.chess_rules.proofs.trying.FoundLists.{kept_either, kept_more}
 use Rattle.chess_rules.proofs.lines.AttackToReach.{clear_if, is_in_view, is_open, not_empty}
-use Rattle.chess_rules.proofs.lines.LinesThrough.{file_line, rank_line, rising_line, falling_line, inside_means, inside_up, inside_down}
+use Rattle.chess_rules.proofs.lines.LinesThrough.{file_line, rank_line, rising_line, falling_line, inside_up, inside_down}
 
 pub strict : (m n : ℕ) → m ≤ n → (m ≡ n → ⊥) → m < n
 strict m n a g = grind (arith, g)
 
 -- One line through t.
-module _ (b : Board) (t : Square) (line : Square → Bool) (on : IsLine line t) where
+module _ (b : Board) {t : Square} {line : Square → Bool} (on : IsLine line t) where
   -- a piece between blocks the way
   pub blocked : (i j : ℕ) → i < 64 → j < 64 → line (square_at i) ≡ true → line (square_at j) ≡ true
       → is_some (at b (square_at i)) ≡ true → is_clear b (square_at j) t ≡ true → inside j i (cell_of t) ≡ true → ⊥
@@ -39,146 +39,6 @@ module _ (b : Board) (t : Square) (line : Square → Bool) (on : IsLine line t) 
   pub not_there : (i : ℕ) → i < 64 → line (square_at i) ≡ true → t.file < 8 → i ≢ cell_of t
   not_there i low here file e = grind arith
 
--- The nearest pieces on a line, as sets: of those from t on the lowest, of those below the highest.
-module _ (b : Board) (t : Square) (line occupied up down low high : ℕ) (tf : t.file < 8) (tr : t.rank < 8)
-    (on : IsLine (λ s. has line (cell_of s)) t) (pieces : Places occupied (λ s. is_some (at b s)))
-    (after : (i : ℕ) → i < 64 → has up i ≡ ((has line i && has occupied i) && not (nat_lt i (cell_of t))))
-    (before : (i : ℕ) → i < 64 → has down i ≡ ((has line i && has occupied i) && nat_lt i (cell_of t)))
-    (lowest : IsOnly IsLowest up low) (highest : IsOnly IsHighest down high) where
-  on_line : (i : ℕ) → i < 64 → has line i ≡ true → has line (cell_of (square_at i)) ≡ true
-  on_line i h e = grind arith
-
-  -- a square of the line with no piece that counts is empty
-  empty_there : (u : Square) (side : Bool) → u.file < 8 → u.rank < 8 → has line (cell_of u) ≡ true
-      → side ≡ true → ((has line (cell_of u) && has occupied (cell_of u)) && side) ≡ false → is_empty b u ≡ true
-  empty_there u side f r here is none = grind arith
-
-  test_below : (i n : ℕ) → nat_lt i n ≡ true → i < n
-  test_below i n h = grind arith
-
-  test_above : (i n : ℕ) → nat_lt i n ≡ false → n ≤ i
-  test_above i n h = grind arith
-
-  below_test : (i n : ℕ) → i < n → nat_lt i n ≡ true
-  below_test i n h = grind arith
-
-  above_test : (i n : ℕ) → n ≤ i → not (nat_lt i n) ≡ true
-  above_test i n h = grind arith
-
-  open_there : (i : ℕ) → i < 64 → has line i ≡ true → has occupied i ≡ true
-      → is_clear b (square_at i) t ≡ true → (has line (cell_of (square_at i)) && is_open b t (square_at i)) ≡ true
-  open_there i h here full clear = grind arith
-
-  from_low : (i : ℕ) → i < 64 → has low i ≡ true → (has line (cell_of (square_at i)) && is_open b t (square_at i)) ≡ true
-  from_low i h e =
-      let is : IsLowest up i = lowest.here i h e in
-      let all : ((has line i && has occupied i) && not (nat_lt i (cell_of t))) ≡ true = sym (after i h) ∙ is.here in
-      let both : (has line i && has occupied i) ≡ true = first_true _ (not (nat_lt i (cell_of t))) all in
-      let above : cell_of t ≤ i = test_above i (cell_of t) (not-true _ (second_true (has line i && has occupied i) _ all)) in
-      open_there i h (first_true (has line i) _ both) (second_true (has line i) _ both)
-      (clear_when b t (λ s. has line (cell_of s)) on i h (on_line i h (first_true (has line i) _ both)) (λ u f r here between.
-      empty_between u f r here (in_order i u above (inside_means _ _ _ between)) is.none))
-    where
-      in_order : (j : ℕ) (u : Square) → cell_of t ≤ j → ((j < cell_of u) × (cell_of u < cell_of t))
-          ⊎ ((cell_of t < cell_of u) × (cell_of u < j)) → (cell_of t < cell_of u) × (cell_of u < j)
-      in_order j u h g = grind arith
-
-      empty_between : (u : Square) → u.file < 8 → u.rank < 8 → has line (cell_of u) ≡ true → (cell_of t < cell_of u) × (cell_of u < i)
-          → ((k : ℕ) → k < i → has up k ≡ false) → is_empty b u ≡ true
-      empty_between u f r here x none =
-          empty_there u (not (nat_lt (cell_of u) (cell_of t))) f r here (above_test (cell_of u) (cell_of t) (omega (arith, x.0)))
-          (sym (after (cell_of u) (omega arith)) ∙ none (cell_of u) x.1)
-
-  from_high : (i : ℕ) → i < 64 → has high i ≡ true → (has line (cell_of (square_at i)) && is_open b t (square_at i)) ≡ true
-  from_high i h e =
-      let is : IsHighest down i = highest.here i h e in
-      let all : ((has line i && has occupied i) && nat_lt i (cell_of t)) ≡ true = sym (before i h) ∙ is.here in
-      let both : (has line i && has occupied i) ≡ true = first_true _ (nat_lt i (cell_of t)) all in
-      let less : i < cell_of t = test_below i (cell_of t) (second_true (has line i && has occupied i) _ all) in
-      open_there i h (first_true (has line i) _ both) (second_true (has line i) _ both)
-      (clear_when b t (λ s. has line (cell_of s)) on i h (on_line i h (first_true (has line i) _ both)) (λ u f r here between.
-      empty_between u f r here (in_order i u less (inside_means _ _ _ between)) is.none))
-    where
-      in_order : (j : ℕ) (u : Square) → j < cell_of t → ((j < cell_of u) × (cell_of u < cell_of t))
-          ⊎ ((cell_of t < cell_of u) × (cell_of u < j)) → (j < cell_of u) × (cell_of u < cell_of t)
-      in_order j u h g = grind arith
-
-      empty_between : (u : Square) → u.file < 8 → u.rank < 8 → has line (cell_of u) ≡ true → (i < cell_of u) × (cell_of u < cell_of t)
-          → ((k : ℕ) → i < k → k < 64 → has down k ≡ false) → is_empty b u ≡ true
-      empty_between u f r here x none =
-          empty_there u (nat_lt (cell_of u) (cell_of t)) f r here (below_test (cell_of u) (cell_of t) x.1)
-          (sym (before (cell_of u) (omega arith)) ∙ none (cell_of u) x.0 (omega arith))
-
-  -- a piece of the line that is open and on one side is the nearest there
-  found : (i : ℕ) → i < 64 → (has line (cell_of (square_at i)) && is_open b t (square_at i)) ≡ true → (has low i || has high i) ≡ true
-  found i h e = by_side (nat_lt i (cell_of t)) refl
-    where
-      here : has line (cell_of (square_at i)) ≡ true
-      here = grind arith
-
-      opened : is_open b t (square_at i) ≡ true
-      opened = grind arith
-
-      at_i : (has line i && has occupied i) ≡ true
-      at_i = grind arith
-
-      clear : is_clear b (square_at i) t ≡ true
-      clear = grind arith
-
-      -- no other piece of the line is between
-      none_between : (k : ℕ) → k < 64 → inside i k (cell_of t) ≡ true → (has line k && has occupied k) ≡ true → ⊥
-      none_between k low between both =
-          blocked b t (λ s. has line (cell_of s)) on k i low h (on_line k low (first_true (has line k) _ both)) here
-          (sym (pieces.of k low) ∙ second_true (has line k) _ both) clear between
-
-      by_side : (x : Bool) → nat_lt i (cell_of t) ≡ x → (has low i || has high i) ≡ true
-      by_side false above =
-          or_left _ _ (lowest.there i (record {
-            inside = h;
-            here = after i h ∙ and_from _ _ at_i (ap not above);
-            none = λ k less. out_after k less;
-          }))
-        where
-          out_after : (k : ℕ) → k < i → has up k ≡ false
-          out_after k less = by_bit (has up k) refl
-            where
-              by_bit : (x : Bool) → has up k ≡ x → has up k ≡ false
-              by_bit false g = g
-              by_bit true g =
-                  let low_k : k < 64 = omega arith in
-                  let all : ((has line k && has occupied k) && not (nat_lt k (cell_of t))) ≡ true = sym (after k low_k) ∙ g in
-                  let both : (has line k && has occupied k) ≡ true = first_true _ (not (nat_lt k (cell_of t))) all in
-                  let past : cell_of t ≤ k = test_above k (cell_of t) (not-true _ (second_true (has line k && has occupied k) _ all)) in
-                  let other : k ≢ cell_of t =
-                  not_there b t (λ s. has line (cell_of s)) on k low_k (on_line k low_k (first_true (has line k) _ both)) tf in
-                  absurd (none_between k low_k (inside_down i k (cell_of t) (strict (cell_of t) k past (λ s. other (sym s))) less) both)
-      by_side true less =
-          or_right _ _ (highest.there i (record {
-            inside = h;
-            here = before i h ∙ and_from _ _ at_i less;
-            none = λ k more low. out_before k more low;
-          }))
-        where
-          out_before : (k : ℕ) → i < k → k < 64 → has down k ≡ false
-          out_before k more low_k = by_bit (has down k) refl
-            where
-              by_bit : (x : Bool) → has down k ≡ x → has down k ≡ false
-              by_bit false g = g
-              by_bit true g =
-                  let all : ((has line k && has occupied k) && nat_lt k (cell_of t)) ≡ true = sym (before k low_k) ∙ g in
-                  let both : (has line k && has occupied k) ≡ true = first_true _ (nat_lt k (cell_of t)) all in
-                  absurd (none_between k low_k
-                  (inside_up i k (cell_of t) more (test_below k (cell_of t) (second_true (has line k && has occupied k) _ all))) both)
-
-  pub nearest_places : (near : ℕ) → Bits near (λ i. has low i || has high i) → Places near (λ s. has line (cell_of s) && is_open b t s)
-  nearest_places near either = record {
-    of = λ i h. either.of i h
-        ∙ same_tests (has low i || has high i) _ (one_of (has low i) (has high i) _ (from_low i h) (from_high i h)) (found i h);
-  }
-    where
-      one_of : (x y z : Bool) → (x ≡ true → z ≡ true) → (y ≡ true → z ≡ true) → (x || y) ≡ true → z ≡ true
-      one_of x y z f g e = grind (arith, f, g)
-
 -- How many are in view.
 
 -- of the pieces on one line, those on one side of t
@@ -189,7 +49,7 @@ module _ (b : Board) (t : Square) (line : Square → Bool) (tf : t.file < 8) (on
   apart : (i j : ℕ) → i < 64 → j < 64 → (line (square_at i) && is_open b t (square_at i)) ≡ true
       → (line (square_at j) && is_open b t (square_at j)) ≡ true → inside j i (cell_of t) ≡ true → ⊥
   apart i j low high h g =
-      blocked b t line on i j low high (first_true (line (square_at i)) _ h) (first_true (line (square_at j)) _ g)
+      blocked b on i j low high (first_true (line (square_at i)) _ h) (first_true (line (square_at j)) _ g)
       (first_true (is_some (at b (square_at i))) _ (second_true (line (square_at i)) _ h))
       (second_true (is_some (at b (square_at j))) _ (second_true (line (square_at j)) _ g))
 
@@ -197,22 +57,16 @@ module _ (b : Board) (t : Square) (line : Square → Bool) (tf : t.file < 8) (on
   one_before =
       one_kept (one_side b t line (λ s. nat_lt (cell_of s) (cell_of t))) (λ i j less high h g.
       let there : nat_lt (cell_of (square_at j)) (cell_of t) ≡ true = second_true (line (square_at j) && is_open b t (square_at j)) _ g in
-      let last : j < cell_of t = less_from j there in
+      let last : j < cell_of t = omega (arith, ltb-true (cell_of (square_at j)) (cell_of t) there) in
       apart j i high (omega arith) (first_true _ _ g) (first_true _ _ h) (inside_up i j (cell_of t) less last))
-    where
-      less_from : (k : ℕ) → nat_lt (cell_of (square_at k)) (cell_of t) ≡ true → k < cell_of t
-      less_from k e = grind arith
 
   one_after : length (filter (one_side b t line (λ s. not (nat_lt (cell_of s) (cell_of t)))) squares) ≤ 1
   one_after =
       one_kept (one_side b t line (λ s. not (nat_lt (cell_of s) (cell_of t)))) (λ i j less high h g.
       let low : i < 64 = omega arith in
-      let past : cell_of t ≤ i = not_less i (second_true (line (square_at i) && is_open b t (square_at i)) _ h) in
-      let other : i ≢ cell_of t = not_there b t line on i low (first_true (line (square_at i)) _ (first_true _ _ h)) tf in
+      let past : cell_of t ≤ i = omega (arith, ltb-false (cell_of (square_at i)) (cell_of t) (not-true _ (second_true (line (square_at i) && is_open b t (square_at i)) _ h))) in
+      let other : i ≢ cell_of t = not_there b on i low (first_true (line (square_at i)) _ (first_true _ _ h)) tf in
       apart i j low high (first_true _ _ h) (first_true _ _ g) (inside_down j i (cell_of t) (strict (cell_of t) i past (λ e. other (sym e))) less))
-    where
-      not_less : (k : ℕ) → not (nat_lt (cell_of (square_at k)) (cell_of t)) ≡ true → cell_of t ≤ k
-      not_less k e = grind arith
 
   pub two_on_line : length (filter (λ s. line s && is_open b t s) squares) ≤ 2
   two_on_line =
@@ -270,19 +124,12 @@ few_in_view b t tf =
 
 -- a line as a set of the board's squares
 
-pub line_of_set : (line : Square → Bool) (t : Square) (w : ℕ) → t.file < 8
+pub line_of_set : {line : Square → Bool} {t : Square} {w : ℕ} → t.file < 8
     → t.rank < 8 → IsLine line t → Places w line → IsLine (λ s. has w (cell_of s)) t
-line_of_set line t w tf tr on h =
+line_of_set {line} {t} {w} tf tr on h =
     record {
       apart = at_square w line t h tf tr ∙ on.apart;
       between = λ s u sf sr uf ur here.
           on.between s u sf sr uf ur (sym (at_square w line s h sf sr) ∙ here)
           ∙ ap (λ x. x && inside (cell_of s) (cell_of u) (cell_of t)) (sym (at_square w line u h uf ur));
     }
-
-pub view_places : (b : Board) (t : Square) (v w x y k l m n two three four : ℕ) → Bits two (λ i. has k i || has l i)
-    → Bits three (λ i. has two i || has m i) → Bits four (λ i. has three i || has n i) → t.file < 8 → t.rank < 8
-    → Places v (on_file t) → Places w (on_rank t) → Places x (on_rising t) → Places y (on_falling t)
-    → Places k (λ s. has v (cell_of s) && is_open b t s) → Places l (λ s. has w (cell_of s) && is_open b t s)
-    → Places m (λ s. has x (cell_of s) && is_open b t s) → Places n (λ s. has y (cell_of s) && is_open b t s) → Places four (is_in_view b t)
-view_places b t v w x y k l m n two three four joins more all tf tr pv pw px py pk pl pm pn = grind (arith, four_lines)

@@ -1,5 +1,6 @@
 -- Four lines go through a square. Of two squares on one, those between are between in order too.
-use Rattle.chess_rules.proofs.Words.{Square, gap, inside, in_line, on_diagonal, strictly_between, between_on_rank, between_on_file, between_on_diagonal, cell_of, IsLine, is_steep, ◌≡◌, ℕ, ◌+◌, ◌<◌, ◌≢◌, Bool, true, false, not, ◌&&◌, ◌||◌, ◌⊎◌, inl, inr, arith, nat_tests, or_cases, or_left, or_right}
+use Rattle.chess_rules.proofs.Words.{Square, gap, inside, in_line, on_diagonal, strictly_between, between_on_rank, between_on_file, between_on_diagonal, cell_of, IsLine, is_steep, ◌≡◌, ℕ, ◌+◌, ◌<◌, ◌≢◌, Bool, true, false, not, ◌&&◌, ◌⊎◌, arith, nat_tests, or_left, or_right}
+use Rattle.chess_rules.proofs.lines.AttackToReach.{between_cases}
 use Rattle.chess_rules.proofs.sets.AllSquares.{first_true, second_true, same_tests}
 
 pub inside_means : (a x b : ℕ) → inside a x b ≡ true → ((a < x) × (x < b)) ⊎ ((b < x) × (x < a))
@@ -60,44 +61,34 @@ falling_off_file : (s u t : Square) → s.file + s.rank ≡ t.file + t.rank → 
 falling_off_file s u t h apart g = grind arith
 
 pub rising_line : (t : Square) → t.file < 8 → IsLine (λ s. on_diagonal s t && is_steep s t) t
-rising_line t tf =
-    record { apart = cross_leaves (is_steep t t) t; between = λ s u sf _ uf _ l. same_tests _ _ (forth s u sf uf l) (back s u sf uf l) }
+rising_line t tf = record {
+  apart = cross_leaves (is_steep t t) t;
+  between = λ s u sf _ uf _ l. same_tests _ _ (λ h. between_cases s u t h
+      (λ r. absurd (not_on_rank s u t (rising_apart s t l) r))
+      (λ f. absurd (rising_off_file s u t (rising_means s t l) (rising_apart s t l) f))
+      (λ d. forth s u sf uf l (between_means s u t d))) (back s u sf uf l);
+}
   where
-    forth : (s u : Square) → s.file < 8 → u.file < 8 → (on_diagonal s t && is_steep s t) ≡ true
-        → strictly_between s u t ≡ true → ((on_diagonal u t && is_steep u t) && inside (cell_of s) (cell_of u) (cell_of t)) ≡ true
-    forth s u sf uf l h =
-        elim (or_cases (between_on_rank s u t) (between_on_file s u t || between_on_diagonal s u t) h) [
-          | inl r ↦ absurd (not_on_rank s u t (rising_apart s t l) r)
-          | inr more ↦ elim (or_cases (between_on_file s u t) (between_on_diagonal s u t) more) [
-            | inl f ↦ absurd (rising_off_file s u t (rising_means s t l) (rising_apart s t l) f)
-            | inr d ↦ here (between_means s u t d)
-          ]
-        ]
-      where
-        here : Between s u t → ((on_diagonal u t && is_steep u t) && inside (cell_of s) (cell_of u) (cell_of t)) ≡ true
-        here w = grind (arith, nat_tests)
+    forth : (s u : Square) → s.file < 8 → u.file < 8 → (on_diagonal s t && is_steep s t) ≡ true → Between s u t
+        → ((on_diagonal u t && is_steep u t) && inside (cell_of s) (cell_of u) (cell_of t)) ≡ true
+    forth s u sf uf l w = grind (arith, nat_tests)
 
     back : (s u : Square) → s.file < 8 → u.file < 8 → (on_diagonal s t && is_steep s t) ≡ true
         → ((on_diagonal u t && is_steep u t) && inside (cell_of s) (cell_of u) (cell_of t)) ≡ true → strictly_between s u t ≡ true
     back s u sf uf l h = grind (arith, nat_tests, or_right, inside_means, second_true, rising_means, first_true)
 
 pub falling_line : (t : Square) → t.file < 8 → IsLine (λ s. on_diagonal s t && not (is_steep s t)) t
-falling_line t tf =
-    record { apart = cross_leaves (not (is_steep t t)) t; between = λ s u sf _ uf _ l. same_tests _ _ (forth s u sf uf l) (back s u sf uf l) }
+falling_line t tf = record {
+  apart = cross_leaves (not (is_steep t t)) t;
+  between = λ s u sf _ uf _ l. same_tests _ _ (λ h. between_cases s u t h
+      (λ r. absurd (not_on_rank s u t (falling_apart s t l) r))
+      (λ f. absurd (falling_off_file s u t (falling_means s t l) (falling_apart s t l) f))
+      (λ d. forth s u sf uf l (between_means s u t d))) (back s u sf uf l);
+}
   where
-    forth : (s u : Square) → s.file < 8 → u.file < 8 → (on_diagonal s t && not (is_steep s t)) ≡ true
-        → strictly_between s u t ≡ true → ((on_diagonal u t && not (is_steep u t)) && inside (cell_of s) (cell_of u) (cell_of t)) ≡ true
-    forth s u sf uf l h =
-        elim (or_cases (between_on_rank s u t) (between_on_file s u t || between_on_diagonal s u t) h) [
-          | inl r ↦ absurd (not_on_rank s u t (falling_apart s t l) r)
-          | inr more ↦ elim (or_cases (between_on_file s u t) (between_on_diagonal s u t) more) [
-            | inl f ↦ absurd (falling_off_file s u t (falling_means s t l) (falling_apart s t l) f)
-            | inr d ↦ here (between_means s u t d)
-          ]
-        ]
-      where
-        here : Between s u t → ((on_diagonal u t && not (is_steep u t)) && inside (cell_of s) (cell_of u) (cell_of t)) ≡ true
-        here w = grind (arith, nat_tests)
+    forth : (s u : Square) → s.file < 8 → u.file < 8 → (on_diagonal s t && not (is_steep s t)) ≡ true → Between s u t
+        → ((on_diagonal u t && not (is_steep u t)) && inside (cell_of s) (cell_of u) (cell_of t)) ≡ true
+    forth s u sf uf l w = grind (arith, nat_tests)
 
     back : (s u : Square) → s.file < 8 → u.file < 8 → (on_diagonal s t && not (is_steep s t)) ≡ true
         → ((on_diagonal u t && not (is_steep u t)) && inside (cell_of s) (cell_of u) (cell_of t)) ≡ true → strictly_between s u t ≡ true
@@ -125,19 +116,12 @@ cross_there s u t h = grind arith
 pub file_line : (t : Square) → t.file < 8 → IsLine (λ s. in_line s t && is_steep s t) t
 file_line t tf = record {
   apart = line_leaves (is_steep t t) t;
-  between = λ s u sf _ uf _ l. same_tests _ _ (forth s u sf uf l) (λ h. or_right _ _ (or_left _ _ (file_back s u t uf sf tf l h)));
+  between = λ s u sf _ uf _ l. same_tests _ _ (λ h. between_cases s u t h
+      (λ r. absurd (file_off_rank s u t l r))
+      (λ f. file_forth s u t uf sf tf l f)
+      (λ d. absurd (line_off_cross s t (first_true (in_line s t) _ l) (cross_there s u t d))))
+      (λ h. or_right _ _ (or_left _ _ (file_back s u t uf sf tf l h)));
 }
-  where
-    forth : (s u : Square) → s.file < 8 → u.file < 8 → (in_line s t && is_steep s t) ≡ true
-        → strictly_between s u t ≡ true → ((in_line u t && is_steep u t) && inside (cell_of s) (cell_of u) (cell_of t)) ≡ true
-    forth s u sf uf l h =
-        elim (or_cases (between_on_rank s u t) (between_on_file s u t || between_on_diagonal s u t) h) [
-          | inl r ↦ absurd (file_off_rank s u t l r)
-          | inr more ↦ elim (or_cases (between_on_file s u t) (between_on_diagonal s u t) more) [
-            | inl f ↦ file_forth s u t uf sf tf l f
-            | inr d ↦ absurd (line_off_cross s t (first_true (in_line s t) _ l) (cross_there s u t d))
-          ]
-        ]
 
 rank_forth : (s u t : Square) → u.file < 8 → s.file < 8 → t.file < 8 → (in_line s t && not (is_steep s t)) ≡ true
     → between_on_rank s u t ≡ true → ((in_line u t && not (is_steep u t)) && inside (cell_of s) (cell_of u) (cell_of t)) ≡ true
@@ -156,16 +140,9 @@ rank_off_file s u t h g = grind arith
 pub rank_line : (t : Square) → t.file < 8 → IsLine (λ s. in_line s t && not (is_steep s t)) t
 rank_line t tf = record {
   apart = line_leaves (not (is_steep t t)) t;
-  between = λ s u sf _ uf _ l. same_tests _ _ (forth s u sf uf l) (λ h. or_left _ _ (rank_back s u t uf sf tf l h));
+  between = λ s u sf _ uf _ l. same_tests _ _ (λ h. between_cases s u t h
+      (λ r. rank_forth s u t uf sf tf l r)
+      (λ f. absurd (rank_off_file s u t l f))
+      (λ d. absurd (line_off_cross s t (first_true (in_line s t) _ l) (cross_there s u t d))))
+      (λ h. or_left _ _ (rank_back s u t uf sf tf l h));
 }
-  where
-    forth : (s u : Square) → s.file < 8 → u.file < 8 → (in_line s t && not (is_steep s t)) ≡ true
-        → strictly_between s u t ≡ true → ((in_line u t && not (is_steep u t)) && inside (cell_of s) (cell_of u) (cell_of t)) ≡ true
-    forth s u sf uf l h =
-        elim (or_cases (between_on_rank s u t) (between_on_file s u t || between_on_diagonal s u t) h) [
-          | inl r ↦ rank_forth s u t uf sf tf l r
-          | inr more ↦ elim (or_cases (between_on_file s u t) (between_on_diagonal s u t) more) [
-            | inl f ↦ absurd (rank_off_file s u t l f)
-            | inr d ↦ absurd (line_off_cross s t (first_true (in_line s t) _ l) (cross_there s u t d))
-          ]
-        ]

@@ -1,7 +1,7 @@
 -- The squares that are seen from a square: on each line through it, those up to the nearest pieces.
-use Rattle.chess_rules.proofs.Words.{Square, squares, gap, same_square, inside, on_diagonal, between_on_rank, between_on_file, between_on_diagonal, strictly_between, Board, at, cell_of, is_empty, is_clear, is_aligned, IsLine, square_at, Bits, has, IsFrom, IsUpTo, Places, ◌≡◌, ◌≢◌, ℕ, ◌+◌, ◌<◌, ◌≤◌, Bool, true, false, not, ◌&&◌, ◌||◌, ◌⊎◌, inl, inr, List, refl, sym, ◌∙◌, ap, ap₂, arith, is_some, nat_lt, list_all, not-true, and_from, nat_tests}
-use Rattle.chess_rules.proofs.sets.AllSquares.{first_true, second_true, same_tests, equal_from, equal_tests}
-use Rattle.chess_rules.proofs.positions.OneKing.{cell_of-square_at}
+use Rattle.chess_rules.proofs.Words.{Square, squares, gap, same_square, inside, on_diagonal, between_on_rank, between_on_file, between_on_diagonal, strictly_between, Board, at, cell_of, is_empty, is_clear, is_aligned, IsLine, square_at, Bits, has, IsFrom, IsUpTo, Places, ◌≡◌, ◌≢◌, ℕ, ◌+◌, ◌<◌, ◌≤◌, Bool, true, false, not, ◌&&◌, ◌||◌, ◌⊎◌, inl, inr, List, sym, ◌∙◌, ap, ap₂, arith, is_some, nat_lt, list_all, not-true, and_from, nat_tests, false_from_ne_true}
+use Rattle.std.proofs.lemmas.Bool.{ltb-true, lt-ltb, ltb-false, le-ltb}
+use Rattle.chess_rules.proofs.sets.AllSquares.{first_true, second_true, same_tests, equal_from, equal_tests, cell_of-square_at}
 use Rattle.chess_rules.proofs.lines.InView.{strict, blocked, clear_when, not_there, on_falling, on_file, on_rank, on_rising, four_lines}
 use Rattle.chess_rules.proofs.lines.LinesThrough.{inside_means, inside_up, inside_down}
 
@@ -19,62 +19,44 @@ module _ (b : Board) (t : Square) (line occupied up down high low : ℕ) (tf : t
       → side ≡ true → ((has line (cell_of u) && has occupied (cell_of u)) && side) ≡ false → is_empty b u ≡ true
   empty_there u side f r here is none = grind arith
 
-  test_below : (i n : ℕ) → nat_lt i n ≡ true → i < n
-  test_below i n h = grind arith
-
-  test_above : (i n : ℕ) → nat_lt i n ≡ false → n ≤ i
-  test_above i n h = grind arith
-
-  below_test : (i n : ℕ) → i < n → nat_lt i n ≡ true
-  below_test i n h = grind arith
-
-  above_test : (i n : ℕ) → n ≤ i → not (nat_lt i n) ≡ true
-  above_test i n h = grind arith
-
   seen_clear : (i : ℕ) → i < 64 → has line i ≡ true → has high i ≡ true → has low i ≡ true → is_clear b (square_at i) t ≡ true
   seen_clear i h here up_to_i from_i =
-      clear_when b t (λ s. has line (cell_of s)) on i h (on_line i h here) (λ u f r on_u between. empty_between u f r on_u (inside_means _ _ _ between))
+      clear_when b on i h (on_line i h here) (λ u f r on_u between. empty_between u f r on_u (inside_means _ _ _ between))
     where
       empty_between : (u : Square) → u.file < 8 → u.rank < 8 → has line (cell_of u) ≡ true
           → ((i < cell_of u) × (cell_of u < cell_of t)) ⊎ ((cell_of t < cell_of u) × (cell_of u < i)) → is_empty b u ≡ true
       empty_between u f r on_u (inl x) =
-          empty_there u (nat_lt (cell_of u) (cell_of t)) f r on_u (below_test (cell_of u) (cell_of t) x.1)
+          empty_there u (nat_lt (cell_of u) (cell_of t)) f r on_u (lt-ltb (cell_of u) (cell_of t) x.1)
           (sym (before (cell_of u) (omega arith)) ∙ from.none i h from_i (cell_of u) x.0 (omega arith))
       empty_between u f r on_u (inr x) =
-          empty_there u (not (nat_lt (cell_of u) (cell_of t))) f r on_u (above_test (cell_of u) (cell_of t) (omega (arith, x.0)))
+          empty_there u (not (nat_lt (cell_of u) (cell_of t))) f r on_u (ap not (le-ltb (cell_of u) (cell_of t) (omega (arith, x.0))))
           (sym (after (cell_of u) (omega arith)) ∙ up_to.none i h up_to_i (cell_of u) x.1)
 
   module _ (i : ℕ) (h : i < 64) (here : has line i ≡ true) (clear : is_clear b (square_at i) t ≡ true) where
     -- no other piece of the line is between
     none_between : (k : ℕ) → k < 64 → inside i k (cell_of t) ≡ true → (has line k && has occupied k) ≡ true → ⊥
     none_between k low_k between both =
-        blocked b t (λ s. has line (cell_of s)) on k i low_k h (on_line k low_k (first_true (has line k) _ both)) (on_line i h here)
+        blocked b on k i low_k h (on_line k low_k (first_true (has line k) _ both)) (on_line i h here)
         (sym (pieces.of k low_k) ∙ second_true (has line k) _ both) clear between
 
     clear_up : has high i ≡ true
-    clear_up = up_to.here i h (λ k less. by_bit k less (has up k) refl)
-      where
-        by_bit : (k : ℕ) → k < i → (x : Bool) → has up k ≡ x → has up k ≡ false
-        by_bit k less false g = g
-        by_bit k less true g =
-            let low_k : k < 64 = omega arith in
-            let all : ((has line k && has occupied k) && not (nat_lt k (cell_of t))) ≡ true = sym (after k low_k) ∙ g in
-            let both : (has line k && has occupied k) ≡ true = first_true _ (not (nat_lt k (cell_of t))) all in
-            let past : cell_of t ≤ k = test_above k (cell_of t) (not-true _ (second_true (has line k && has occupied k) _ all)) in
-            let other : k ≢ cell_of t =
-            not_there b t (λ s. has line (cell_of s)) on k low_k (on_line k low_k (first_true (has line k) _ both)) tf in
-            absurd (none_between k low_k (inside_down i k (cell_of t) (strict (cell_of t) k past (λ s. other (sym s))) less) both)
+    clear_up =
+        up_to.here i h (λ k less. false_from_ne_true (has up k) (λ g.
+        let low_k : k < 64 = omega arith in
+        let all : ((has line k && has occupied k) && not (nat_lt k (cell_of t))) ≡ true = sym (after k low_k) ∙ g in
+        let both : (has line k && has occupied k) ≡ true = first_true _ (not (nat_lt k (cell_of t))) all in
+        let past : cell_of t ≤ k = ltb-false k (cell_of t) (not-true _ (second_true (has line k && has occupied k) _ all)) in
+        let other : k ≢ cell_of t =
+        not_there b on k low_k (on_line k low_k (first_true (has line k) _ both)) tf in
+        none_between k low_k (inside_down i k (cell_of t) (strict (cell_of t) k past (λ s. other (sym s))) less) both))
 
     clear_down : has low i ≡ true
-    clear_down = from.here i h (λ k more low_k. by_bit k more low_k (has down k) refl)
-      where
-        by_bit : (k : ℕ) → i < k → k < 64 → (x : Bool) → has down k ≡ x → has down k ≡ false
-        by_bit k more low_k false g = g
-        by_bit k more low_k true g =
-            let all : ((has line k && has occupied k) && nat_lt k (cell_of t)) ≡ true = sym (before k low_k) ∙ g in
-            let both : (has line k && has occupied k) ≡ true = first_true _ (nat_lt k (cell_of t)) all in
-            absurd (none_between k low_k
-            (inside_up i k (cell_of t) more (test_below k (cell_of t) (second_true (has line k && has occupied k) _ all))) both)
+    clear_down =
+        from.here i h (λ k more low_k. false_from_ne_true (has down k) (λ g.
+        let all : ((has line k && has occupied k) && nat_lt k (cell_of t)) ≡ true = sym (before k low_k) ∙ g in
+        let both : (has line k && has occupied k) ≡ true = first_true _ (nat_lt k (cell_of t)) all in
+        none_between k low_k
+        (inside_up i k (cell_of t) more (ltb-true k (cell_of t) (second_true (has line k && has occupied k) _ all))) both))
 
   pub seen_places : (seen : ℕ) → ((i : ℕ) → i < 64 → has seen i ≡ (has line i && (has high i && has low i)))
       → Places seen (λ s. has line (cell_of s) && is_clear b s t)

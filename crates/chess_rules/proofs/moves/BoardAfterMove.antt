@@ -3,7 +3,7 @@
 use Rattle.chess_rules.proofs.Words.{Colour, King, Piece, Move, Parts, Square, same_square, Board, at, put, kings, has_colour, has_piece, is_pawn, promoted, carried, ◌≡◌, ◌≢◌, ℕ, ◌+◌, Bool, true, false, inl, inr, refl, sym, ◌∙◌, ap, subst, arith, length, cond, Option, None, if◌then◌else◌}
 use Rattle.chess_rules.proofs.lines.AttackToReach.{squares_same}
 use Rattle.chess_rules.proofs.positions.OneKing.{StandsAt}
-use Rattle.chess_rules.proofs.moves.CellsAfterPut.{OnBoard, at_put, at_put_here, length-put, king_count, kings-put, kings-put_alike}
+use Rattle.chess_rules.proofs.moves.CellsAfterPut.{OnBoard, at_put, at_put_here, length-put, king_count, kings-put, kings-put_alike, at_moved, on_target, on_origin, on_other}
 use Rattle.chess_rules.proofs.positions.RulesOfPosition.{Sound, is_edge, no_pawn_there, itself}
 
 abbrev pub arriving : Parts → Move → Option Piece
@@ -67,12 +67,10 @@ carried_stays p m sound lands =
 
     no_pawns : (u : Square) → OnBoard u → is_edge u.rank ≡ true → is_pawn (at (carried p m) u) ≡ false
     no_pawns u on edge =
-        elim (at_put (put p.board m.from None) m.to u (arriving p m) left_long lands.on_to on) [
-          | inl here ↦ ap is_pawn here.1 ∙ lands.no_pawn (subst (λ (s : Square). is_edge s.rank ≡ true) here.0 edge)
-          | inr there ↦ ap is_pawn there.1 ∙ elim (at_put p.board m.from u None sound.long lands.on_from on) [
-            | inl gone ↦ ap is_pawn gone.1
-            | inr stayed ↦ ap is_pawn stayed.1 ∙ no_pawn_there p.board sound.edge u on edge
-          ]
+        elim (at_moved p.board m.from m.to u (arriving p m) sound.long lands.on_from lands.on_to on) [
+          | on_target is here ↦ ap is_pawn here ∙ lands.no_pawn (subst (λ (s : Square). is_edge s.rank ≡ true) is edge)
+          | on_origin _ none ↦ ap is_pawn none
+          | on_other _ _ same ↦ ap is_pawn same ∙ no_pawn_there p.board sound.edge u on edge
         ]
 
     by_own : (c : Colour) (k : Square) → StandsAt c p.board k → (x : Bool)
@@ -89,17 +87,13 @@ carried_stays p m sound lands =
         record {
           file = stands.file;
           rank = stands.rank;
-          king = elim (at_put (put p.board m.from None) m.to k (arriving p m) left_long lands.on_to on_k) [
-            | inl here ↦ cc (lands.free c, subst (λ (s : Square). has_piece c King (at p.board s) ≡ true) here.0 stands.king)
-            | inr there ↦ ap (has_piece c King) there.1 ∙ elim (at_put p.board m.from k None sound.long lands.on_from on_k) [
-              | inl gone ↦ cc (differ, subst (λ (s : Square). same_square s k ≡ true) gone.0 (itself k))
-              | inr stayed ↦ ap (has_piece c King) stayed.1 ∙ stands.king
-            ]
-          ];
+          king = elim (at_moved p.board m.from m.to k (arriving p m) sound.long lands.on_from lands.on_to
+              (record { file = stands.file; rank = stands.rank })) [
+                | on_target is _ ↦ cc (lands.free c, subst (λ (s : Square). has_piece c King (at p.board s) ≡ true) is stands.king)
+                | on_origin is _ ↦ cc (differ, subst (λ (s : Square). same_square s k ≡ true) is (itself k))
+                | on_other _ _ same ↦ ap (has_piece c King) same ∙ stands.king
+              ];
         }
-      where
-        on_k : OnBoard k
-        on_k = record { file = stands.file; rank = stands.rank }
 
 -- neither a king nor a pawn
 pub record IsPlain (cell : Option Piece) : Type 0 where
@@ -138,10 +132,8 @@ put_stays p m b s x stays on free plain =
 pub carried_free : (p : Parts) (m : Move) → Sound p → Lands p m → (u : Square) → OnBoard u → u ≢ m.to
     → ((c : Colour) → has_piece c King (at p.board u) ≡ false) → (c : Colour) → has_piece c King (at (carried p m) u) ≡ false
 carried_free p m sound lands u on apart free c =
-    elim (at_put (put p.board m.from None) m.to u (arriving p m) (length-put p.board m.from None ∙ sound.long) lands.on_to on) [
-      | inl here ↦ absurd (apart here.0)
-      | inr there ↦ ap (has_piece c King) there.1 ∙ elim (at_put p.board m.from u None sound.long lands.on_from on) [
-        | inl gone ↦ ap (has_piece c King) gone.1
-        | inr stayed ↦ ap (has_piece c King) stayed.1 ∙ free c
-      ]
+    elim (at_moved p.board m.from m.to u (arriving p m) sound.long lands.on_from lands.on_to on) [
+      | on_target is _ ↦ absurd (apart is)
+      | on_origin _ none ↦ ap (has_piece c King) none
+      | on_other _ _ same ↦ ap (has_piece c King) same ∙ free c
     ]

@@ -1,5 +1,5 @@
 -- What stands where after a piece is put on a square, and how many kings there are then.
-use Rattle.chess_rules.proofs.Words.{Colour, King, Piece, Square, Board, at, put, cell_of, kings, has_piece, ◌≡◌, ◌≢◌, ℕ, ◌+◌, ◌<◌, ◌⊎◌, inl, inr, sym, ap, subst, arith, length, length-set, set, get_or, cond, Option, None, get_or-set_same, get_or-set_other, sum_by-set}
+use Rattle.chess_rules.proofs.Words.{Colour, King, Piece, Square, Board, at, put, cell_of, kings, has_piece, ◌≡◌, ◌≢◌, ℕ, ◌+◌, ◌<◌, ◌⊎◌, inl, inr, sym, ◌∙◌, ap, subst, arith, length, length-set, set, get_or, cond, Option, None, get_or-set_same, get_or-set_other, sum_by-set}
 
 pub record OnBoard (s : Square) : Type 0 where
   pub file : s.file < 8
@@ -31,6 +31,26 @@ at_put_here b s x long on_s =
 
 pub length-put : (b : Board) (s : Square) (x : Option Piece) → length (put b s x) ≡ length b
 length-put b s x = length-set b (cell_of s) x
+
+-- the board when a piece has gone from one square to another, where it is `cell`
+abbrev pub moved : Board → Square → Square → Option Piece → Board
+moved b from to cell = put (put b from None) to cell
+
+pub data Moved (b : Board) (from to : Square) (cell : Option Piece) (u : Square) : Type 0 where
+  on_target : u ≡ to → at (moved b from to cell) u ≡ cell → Moved b from to cell u
+  on_origin : u ≡ from → at (moved b from to cell) u ≡ None → Moved b from to cell u
+  on_other : u ≢ to → u ≢ from → at (moved b from to cell) u ≡ at b u → Moved b from to cell u
+
+pub at_moved : (b : Board) (from to u : Square) (cell : Option Piece) → length b ≡ 64 → OnBoard from
+    → OnBoard to → OnBoard u → Moved b from to cell u
+at_moved b from to u cell long on_from on_to on =
+    elim (at_put (put b from None) to u cell (length-put b from None ∙ long) on_to on) [
+      | inl here ↦ on_target here.0 here.1
+      | inr there ↦ elim (at_put b from u None long on_from on) [
+        | inl gone ↦ on_origin gone.0 (there.1 ∙ gone.1)
+        | inr stayed ↦ on_other there.0 stayed.0 (there.1 ∙ stayed.1)
+      ]
+    ]
 
 -- 1 for the colour's king, else 0
 abbrev pub king_count : Colour → Option Piece → ℕ

@@ -1,18 +1,17 @@
 -- In check, a move to no square that meets the attack is not legal.
-use Rattle.chess_rules.proofs.Words.{Colour, King, Knight, Pawn, Piece, Move, Parts, Square, same_square, strictly_between, is_adjacent, squares, Board, at, cell_of, put, is_empty, other, has_colour, attacks, cell_attacks, is_attacked, is_clear, king_attacked, is_position, is_piece_step, is_target, promotion_fits, own, on_board, short_right, short_wing, long_right, long_wing, Wing, castles, carried, is_legal, is_check, king_square, has, members, is_king_step, is_untried, one_move, is_legal_pair, has_untried_move, Bits, ◌≡◌, ◌≢◌, ℕ, Bool, true, false, not, ◌&&◌, ◌||◌, inl, inr, refl, sym, ◌∙◌, ap, ap₂, subst, arith, length, Option, None, is_none, list_any, false≢true, and_from, false_from_ne_true, not-true}
+use Rattle.chess_rules.proofs.Words.{Colour, King, Knight, Pawn, Piece, Move, Parts, Square, same_square, strictly_between, is_adjacent, squares, Board, at, cell_of, is_empty, other, has_colour, attacks, cell_attacks, is_attacked, is_clear, king_attacked, is_position, is_target, own, on_board, short_right, short_wing, long_right, long_wing, Wing, castles, carried, is_legal, is_check, king_square, has, members, is_king_step, is_untried, one_move, is_legal_pair, has_untried_move, Bits, ◌≡◌, ◌≢◌, ℕ, Bool, true, false, not, ◌&&◌, ◌||◌, refl, sym, ◌∙◌, ap, ap₂, subst, arith, length, Option, None, is_none, list_any, false≢true, and_from, false_from_ne_true, not-true}
+use Rattle.chess_rules.proofs.moves.WaysToStep.{PieceStep, Castles, piece_step_means, pawn_step_means, passing_means, castles_means, way_of, by_piece, by_pawn, by_passing, by_short, by_long}
 use Rattle.chess_rules.specs.Pairs.{HasAttacker, MeetsAttack}
 use Rattle.chess_rules.specs.Step.{is_king_move, is_unattacked, stand_ready}
-use Rattle.chess_rules.proofs.sets.AllSquares.{first_true, second_true, each_square, Passes, some_square, any_square, not_true}
-use Rattle.chess_rules.proofs.lines.AttackToReach.{clear_if, squares_same}
-use Rattle.chess_rules.proofs.positions.OneKing.{StandsAt, king_stands, king_only_there, king_attacked_there}
-use Rattle.chess_rules.proofs.moves.CellsAfterPut.{OnBoard, at_put, length-put}
-use Rattle.chess_rules.proofs.positions.RulesOfPosition.{Sound, sound_from_position}
+use Rattle.chess_rules.proofs.sets.AllSquares.{first_true, second_true, each_square, Passes, some_square, any_square, not_true, cell_of-square_at}
+use Rattle.chess_rules.proofs.lines.AttackToReach.{clear_if, squares_same, other-other, adjacent_back}
+use Rattle.chess_rules.proofs.positions.OneKing.{StandsAt, king_only_there}
+use Rattle.chess_rules.proofs.moves.CellsAfterPut.{OnBoard, moved, at_moved, on_target, on_origin, on_other}
+use Rattle.chess_rules.proofs.positions.RulesOfPosition.{Sound, sound_from_position, king_of, attack_on_king}
 use Rattle.chess_rules.proofs.moves.BoardAfterMove.{arriving}
-use Rattle.chess_rules.proofs.moves.StepsKeepBoard.{other-other, attacks_as, one_kind, pawn_is_no_king, Castles, castles_means}
-use Rattle.chess_rules.proofs.moves.OneWayToStep.{en_passant_stands, pawn_of_step}
-use Rattle.chess_rules.proofs.moves.LegalToPosition.{Legal, on_board_means, board_stays, king_moves, king_waits, king_seen, way_of}
+use Rattle.chess_rules.proofs.moves.StepsKeepBoard.{attacks_as, one_kind}
+use Rattle.chess_rules.proofs.moves.LegalToPosition.{Legal, board_stays, king_moves, king_waits, king_seen, from_on, to_on}
 use Rattle.chess_rules.proofs.moves.PlainStepAttacks.{cell_still, not_other}
-use Rattle.chess_rules.proofs.positions.OneKing.{cell_of-square_at}
 use Rattle.chess_rules.proofs.sets.SetsToSquares.{any_member}
 use Rattle.chess_rules.proofs.trying.FoundLists.{list_any-filter}
 use Rattle.chess_rules.proofs.trying.PromotionsAlike.{legal_after}
@@ -20,50 +19,37 @@ use Rattle.chess_rules.proofs.trying.PromotionsAlike.{legal_after}
 -- An attacker that is not taken, on a way that stays clear, attacks still.
 module _ (b : Board) (from to k : Square) (cell : Option Piece) (c : Colour)
     (long : length b ≡ 64) (on_from : OnBoard from) (on_to : OnBoard to) (mine : has_colour c (at b from) ≡ false) where
-  left_long : length (put b from None) ≡ 64
-  left_long = length-put b from None ∙ long
-
   pub still_attacked : (s : Square) → OnBoard s → (has_colour c (at b s) && attacks b s k) ≡ true
-      → s ≢ to → (strictly_between s to k ≡ true → ⊥) → is_attacked (put (put b from None) to cell) c k ≡ true
+      → s ≢ to → (strictly_between s to k ≡ true → ⊥) → is_attacked (moved b from to cell) c k ≡ true
   still_attacked s on h apart aside =
-      any_square (λ u. has_colour c (at (put (put b from None) to cell) u) && attacks (put (put b from None) to cell) u k) s on.file on.rank
-      (subst (λ (o : Option Piece). (has_colour c o && cell_attacks o (put (put b from None) to cell) s k) ≡ true) (sym stays)
-      (and_from _ _ theirs (cell_still (at b s) b (put (put b from None) to cell) s k clear_then (second_true (has_colour c (at b s)) _ h))))
+      any_square (λ u. has_colour c (at (moved b from to cell) u) && attacks (moved b from to cell) u k) s on.file on.rank
+      (subst (λ (o : Option Piece). (has_colour c o && cell_attacks o (moved b from to cell) s k) ≡ true) (sym stays)
+      (and_from _ _ theirs (cell_still (at b s) b (moved b from to cell) s k clear_then (second_true (has_colour c (at b s)) _ h))))
     where
       theirs : has_colour c (at b s) ≡ true
       theirs = first_true (has_colour c (at b s)) _ h
 
-      stays : at (put (put b from None) to cell) s ≡ at b s
-      stays = elim (at_put (put b from None) to s cell left_long on_to on) [
-        | inl here ↦ absurd (apart here.0)
-        | inr there ↦ elim (at_put b from s None long on_from on) [
-          | inl gone ↦ absurd (false≢true (sym mine ∙ subst (λ (u : Square). has_colour c (at b u) ≡ true) gone.0 theirs))
-          | inr stayed ↦ there.1 ∙ stayed.1
-        ]
+      stays : at (moved b from to cell) s ≡ at b s
+      stays = elim (at_moved b from to s cell long on_from on_to on) [
+        | on_target is _ ↦ absurd (apart is)
+        | on_origin is _ ↦ absurd (false≢true (sym mine ∙ subst (λ (u : Square). has_colour c (at b u) ≡ true) is theirs))
+        | on_other _ _ same ↦ same
       ]
 
       empty_then : (u : Square) → OnBoard u → strictly_between s u k ≡ true → is_empty b u ≡ true
-          → is_empty (put (put b from None) to cell) u ≡ true
-      empty_then u on_u between empty = elim (at_put (put b from None) to u cell left_long on_to on_u) [
-        | inl here ↦ absurd (aside (subst (λ (v : Square). strictly_between s v k ≡ true) here.0 between))
-        | inr there ↦ elim (at_put b from u None long on_from on_u) [
-          | inl gone ↦ ap is_none (there.1 ∙ gone.1)
-          | inr stayed ↦ ap is_none (there.1 ∙ stayed.1) ∙ empty
-        ]
+          → is_empty (moved b from to cell) u ≡ true
+      empty_then u on_u between empty = elim (at_moved b from to u cell long on_from on_to on_u) [
+        | on_target is _ ↦ absurd (aside (subst (λ (v : Square). strictly_between s v k ≡ true) is between))
+        | on_origin _ none ↦ ap is_none none
+        | on_other _ _ same ↦ ap is_none same ∙ empty
       ]
 
-      clear_then : is_clear b s k ≡ true → is_clear (put (put b from None) to cell) s k ≡ true
+      clear_then : is_clear b s k ≡ true → is_clear (moved b from to cell) s k ≡ true
       clear_then clear =
-          clear_if (put (put b from None) to cell) s k (λ u file rank between.
+          clear_if (moved b from to cell) s k (λ u file rank between.
           empty_then u (record { file = file; rank = rank }) between
           (not_true (strictly_between s u k) _ between
           (each_square (λ v. not (strictly_between s v k) || is_empty b v) u clear file rank)))
-
-adjacent_back : (s t : Square) → is_adjacent s t ≡ is_adjacent t s
-adjacent_back s t = grind arith
-
-king_is_no_knight : King ≡ Knight → ⊥
-king_is_no_knight e = cc
 
 -- the attack on the king is met by the set
 pub check_met : (p : Parts) (b : Board) (c : Colour) (k : Square) (set : ℕ) → is_position p ≡ true → is_check p ≡ true → b ≡ p.board
@@ -74,7 +60,7 @@ check_met p b c k set position check same_board same_colour same_king h =
     let on_board : MeetsAttack p.board c k set = subst (λ (a : Board). MeetsAttack a c k set) same_board h in
     let by_colour : MeetsAttack p.board (other p.side) k set = subst (λ (d : Colour). MeetsAttack p.board d k set) same_colour on_board in
     subst (λ (s : Square). MeetsAttack p.board (other p.side) s set) same_king by_colour
-    (sym (king_attacked_there p.side p.board sound.long (sound.kings_of p.side)) ∙ check)
+    (sym (attack_on_king sound p.side) ∙ check)
 
 -- A position in check, with no en passant target, and the targets that may meet the check.
 module _ (p : Parts) (set : ℕ) (position : is_position p ≡ true) (check : is_check p ≡ true) (no_target : p.target ≡ None)
@@ -86,17 +72,17 @@ module _ (p : Parts) (set : ℕ) (position : is_position p ≡ true) (check : is
   sound = sound_from_position p position
 
   stands : StandsAt p.side p.board king
-  stands = king_stands p.side p.board sound.long (sound.kings_of p.side)
+  stands = king_of sound p.side
 
   attacked : is_attacked p.board (other p.side) king ≡ true
-  attacked = sym (king_attacked_there p.side p.board sound.long (sound.kings_of p.side)) ∙ check
+  attacked = sym (attack_on_king sound p.side) ∙ check
 
   module _ (m : Move) (q : Parts) (l : Legal p m q) where
     on_from : OnBoard m.from
-    on_from = on_board_means m.from (first_true (on_board m.from) _ l.on)
+    on_from = from_on m l.on
 
     on_to : OnBoard m.to
-    on_to = on_board_means m.to (second_true (on_board m.from) _ l.on)
+    on_to = to_on m l.on
 
     mine : has_colour p.side (at p.board m.from) ≡ true
     mine = (board_stays p m l.board sound l.on l.stepped).own
@@ -121,23 +107,19 @@ module _ (p : Parts) (set : ℕ) (position : is_position p ≡ true) (check : is
     king_there same = subst (λ (s : Square). own p King s ≡ true) (sym (squares_same m.from king same)) stands.king
 
     -- the king's step was tried
-    king_goes : same_square m.from king ≡ true → is_piece_step p m ≡ true → is_untried p m.to m.from ≡ true → ⊥
+    king_goes : same_square m.from king ≡ true → PieceStep p m → is_untried p m.to m.from ≡ true → ⊥
     king_goes same h left = left_out (own p Knight m.from) _ _ (is_king_step p m.to) (own p King m.from) _ no_knight step (king_there same) left
       where
-        goes : (attacks p.board m.from m.to && not (has_colour p.side (at p.board m.to))) ≡ true
-        goes = second_true ((has_colour p.side (at p.board m.from) && not (own p Pawn m.from)) && is_none m.promotion) _ h
-
         beside : is_adjacent m.from m.to ≡ true
-        beside = attacks_as p.side King (at p.board m.from) p.board m.from m.to (king_there same) (first_true (attacks p.board m.from m.to) _ goes)
+        beside = attacks_as p.side King (at p.board m.from) p.board m.from m.to (king_there same) h.hits
 
         step : is_king_step p m.to ≡ true
         step = and_from _ _ (adjacent_back m.to king
-            ∙ subst (λ (s : Square). is_adjacent s m.to ≡ true) (squares_same m.from king same) beside)
-            (second_true (attacks p.board m.from m.to) _ goes)
+            ∙ subst (λ (s : Square). is_adjacent s m.to ≡ true) (squares_same m.from king same) beside) (ap not h.free)
 
         no_knight : own p Knight m.from ≡ false
         no_knight = false_from_ne_true (own p Knight m.from)
-            (λ knight. king_is_no_knight (one_kind p.side p.side King Knight (at p.board m.from) (king_there same) knight))
+            (λ knight. cc (one_kind p.side p.side King Knight (at p.board m.from) (king_there same) knight))
 
         left_out : (v w x y z clear : Bool) → v ≡ false → y ≡ true → z ≡ true → ((v && w) || ((x && not (y && z)) && clear)) ≡ true → ⊥
         left_out v w x y z clear n s k h = grind arith
@@ -158,24 +140,14 @@ module _ (p : Parts) (set : ℕ) (position : is_position p ≡ true) (check : is
     elsewhere : has set (cell_of m.to) ≡ false → is_untried p m.to m.from ≡ true → ⊥
     elsewhere out left =
         elim (way_of p m l.board l.stepped) [
-          | inl piece ↦ by_king (same_square m.from king) refl piece.1 (λ same. king_goes same piece.0 left)
-          | inr more ↦ elim more [
-            | inl pawn ↦ by_king (same_square m.from king) refl pawn.1 (λ same. pawn_is_no_king
-                (one_kind p.side p.side King Pawn (at p.board m.from) (king_there same) (pawn_of_step p m pawn.0)))
-            | inr more ↦ elim more [
-              | inl passing ↦ no_passing (first_true (is_target p.target m.to) _ (second_true (own p Pawn m.from && promotion_fits p m) _
-                  (en_passant_stands p m passing.0)))
-              | inr more ↦ elim more [
-                | inl short ↦ no_castling (short_right p.side p.rights) short_wing short.0
-                | inr long ↦ no_castling (long_right p.side p.rights) long_wing long.0
-              ]
-            ]
-          ]
+          | by_piece h is ↦ by_king (same_square m.from king) refl is (λ same. king_goes same (piece_step_means p m h) left)
+          | by_pawn h is ↦ by_king (same_square m.from king) refl is (λ same. cc
+              (one_kind p.side p.side King Pawn (at p.board m.from) (king_there same) (pawn_step_means p m h).pawn))
+          | by_passing h _ ↦ false≢true (sym (ap (λ o. is_target o m.to) no_target) ∙ (passing_means p m h).target)
+          | by_short h _ ↦ no_castling (short_right p.side p.rights) short_wing h
+          | by_long h _ ↦ no_castling (long_right p.side p.rights) long_wing h
         ]
       where
-        no_passing : is_target p.target m.to ≡ true → ⊥
-        no_passing h = false≢true (sym (ap (λ o. is_target o m.to) no_target) ∙ h)
-
         by_king : (x : Bool) → same_square m.from king ≡ x → carried p m ≡ l.board → (same_square m.from king ≡ true → ⊥) → ⊥
         by_king true same is tried = tried same
         by_king false apart is tried = other_goes out is apart

@@ -1,10 +1,9 @@
 -- A step is of one kind, obeys the rules of that kind, and has its board.
-use Rattle.chess_rules.proofs.Words.{King, Rook, Pawn, Kind, Colour, Piece, Move, Parts, StepKind, Plain, EnPassant, ShortCastling, LongCastling, Square, gap, is_adjacent, attacks, Board, at, cell_of, put, some_piece, is_empty, other, has_colour, has_piece, Wing, own, home, captured_pawn, castles, is_piece_step, is_pawn_way, is_pawn_step, promotion_fits, is_target, is_en_passant, castles_short, castles_long, short_right, long_right, short_wing, long_wing, carried, en_passant_board, castled, board_after, reaches, step_kind, ◌≡◌, ◌≢◌, ℕ, Bool, true, false, not, ◌&&◌, ◌||◌, ◌⊎◌, inl, inr, refl, sym, ◌∙◌, ap, ap₂, arith, nat_lt, ◌==◌, Option, None, Some, is_some, if◌then◌else◌, false≢true, false_from_ne_true, and_from, nat_tests, get_or-set_other}
+use Rattle.chess_rules.proofs.Words.{King, Rook, Pawn, Kind, Colour, Piece, Move, Parts, StepKind, Plain, EnPassant, ShortCastling, LongCastling, Square, gap, is_adjacent, attacks, Board, at, cell_of, put, some_piece, is_empty, other, has_colour, has_piece, Wing, own, home, captured_pawn, castles, is_piece_step, is_pawn_way, is_pawn_step, promotion_fits, is_target, is_en_passant, castles_short, castles_long, short_right, long_right, short_wing, long_wing, carried, en_passant_board, castled, board_after, reaches, step_kind, ◌≡◌, ◌≢◌, ℕ, Bool, true, false, not, ◌&&◌, ◌||◌, ◌⊎◌, inl, inr, sym, ◌∙◌, ap, ap₂, arith, nat_lt, ◌==◌, Option, None, Some, is_some, if◌then◌else◌, false≢true, false_from_ne_true, and_from, nat_tests, get_or-set_other, or_right}
+use Rattle.chess_rules.proofs.moves.WaysToStep.{PieceStep, PawnStep, Passing, Castles, piece_step_means, pawn_step_means, passing_means, castles_means, way_of, by_piece, by_pawn, by_passing, by_short, by_long, some_of}
 use Rattle.chess_rules.proofs.sets.AllSquares.{first_true, second_true, same_tests, equal_tests}
 use Rattle.chess_rules.proofs.lines.AttackToReach.{kinds_same, colours_same}
-use Rattle.chess_rules.proofs.moves.StepsKeepBoard.{one_kind, not_both, attacks_as, pawn_is_no_king, pawn_attack, Castles, castles_means}
-use Rattle.chess_rules.proofs.moves.OneWayToStep.{no_pawn_moves, pawn_of_step, pawn_of_en_passant, en_passant_stands}
-use Rattle.chess_rules.proofs.moves.LegalToPosition.{way_of}
+use Rattle.chess_rules.proofs.moves.StepsKeepBoard.{one_kind, not_both, attacks_as, pawn_attack}
 
 -- a king goes further than to the next file
 abbrev king_goes_far : Parts → Move → Bool
@@ -25,8 +24,8 @@ module _ (p : Parts) (m : Move) (mine : has_colour p.side (at p.board m.to) ≡ 
 
   pub none_there : false ≡ (is_piece_step p m || is_pawn_step p m)
   none_there =
-      neither (false_from_ne_true (is_piece_step p m) (λ h. false≢true (sym (ap not mine) ∙ second_true _ _ (second_true _ _ h))))
-      (false_from_ne_true (is_pawn_step p m) (λ h. no_pawn_there (first_true (is_pawn_way p m) _ (second_true (own p Pawn m.from) _ h))))
+      neither (false_from_ne_true (is_piece_step p m) (λ h. false≢true (sym (piece_step_means p m h).free ∙ mine)))
+      (false_from_ne_true (is_pawn_step p m) (λ h. no_pawn_there (pawn_step_means p m h).way))
     where
       neither : is_piece_step p m ≡ false → is_pawn_step p m ≡ false → false ≡ (is_piece_step p m || is_pawn_step p m)
       neither g h = grind arith
@@ -55,15 +54,15 @@ module _ (p : Parts) (m : Move) where
   no_far_pawn : own p Pawn m.from ≡ true → king_goes_far p m ≡ false
   no_far_pawn pawn =
       false_from_ne_true (king_goes_far p m)
-      (λ far. pawn_is_no_king (one_kind p.side p.side King Pawn (at p.board m.from) (second_true (nat_lt 1 (gap m.from.file m.to.file)) _ far) pawn))
+      (λ far. cc (one_kind p.side p.side King Pawn (at p.board m.from) (second_true (nat_lt 1 (gap m.from.file m.to.file)) _ far) pawn))
 
-  piece_is_plain : is_piece_step p m ≡ true → step_kind p m ≡ Plain
+  piece_is_plain : PieceStep p m → step_kind p m ≡ Plain
   unfolding step_kind
   piece_is_plain h =
       ap₂ (λ far passes. kind_by far (m.to.file == 6) passes)
       (false_from_ne_true (king_goes_far p m) (λ far. near far (attacks_as p.side King (at p.board m.from) p.board m.from m.to
-      (second_true (nat_lt 1 (gap m.from.file m.to.file)) _ far) (first_true _ _ (second_true _ _ h)))))
-      (false_from_ne_true (pawn_passes p m) (λ passes. no_pawn_moves p m h (second_true _ (own p Pawn m.from) (first_true _ _ passes))))
+      (second_true (nat_lt 1 (gap m.from.file m.to.file)) _ far) h.hits)))
+      (false_from_ne_true (pawn_passes p m) (λ passes. false≢true (sym h.no_pawn ∙ second_true _ (own p Pawn m.from) (first_true _ _ passes))))
     where
       near : king_goes_far p m ≡ true → is_adjacent m.from m.to ≡ true → ⊥
       near far beside = grind (arith, nat_tests)
@@ -72,17 +71,13 @@ module _ (p : Parts) (m : Move) where
   file_or_full : is_pawn_way p m ≡ true → (m.from.file ≡ m.to.file) ⊎ (is_empty p.board m.to ≡ false)
   file_or_full h = grind (arith, nat_tests)
 
-  pawn_is_plain : is_pawn_step p m ≡ true → step_kind p m ≡ Plain
+  pawn_is_plain : PawnStep p m → step_kind p m ≡ Plain
   unfolding step_kind
   pawn_is_plain h =
-      ap₂ (λ far passes. kind_by far (m.to.file == 6) passes)
-      (no_far_pawn (pawn_of_step p m h)) (false_from_ne_true (pawn_passes p m) no_passing)
+      ap₂ (λ far passes. kind_by far (m.to.file == 6) passes) (no_far_pawn h.pawn) (false_from_ne_true (pawn_passes p m) no_passing)
     where
-      way : is_pawn_way p m ≡ true
-      way = first_true (is_pawn_way p m) _ (second_true (own p Pawn m.from) _ h)
-
       apart : (not (m.from.file == m.to.file) && is_empty p.board m.to) ≡ true → ⊥
-      apart leaves = elim (file_or_full way) [
+      apart leaves = elim (file_or_full h.way) [
         | inl same ↦ false≢true (sym (ap not (equal_tests m.from.file m.to.file same)) ∙ first_true _ _ leaves)
         | inr full ↦ false≢true (sym full ∙ second_true _ _ leaves)
       ]
@@ -90,38 +85,25 @@ module _ (p : Parts) (m : Move) where
       no_passing : pawn_passes p m ≡ true → ⊥
       no_passing passes = apart (second_true (is_target p.target m.to && own p Pawn m.from) _ passes)
 
-  passing_is_en_passant : is_en_passant p m ≡ true → step_kind p m ≡ EnPassant
+  passing_is_en_passant : Passing p m → step_kind p m ≡ EnPassant
   unfolding step_kind
-  passing_is_en_passant h = ap₂ (λ far passes. kind_by far (m.to.file == 6) passes) (no_far_pawn (pawn_of_en_passant p m h)) passes
+  passing_is_en_passant h = ap₂ (λ far passes. kind_by far (m.to.file == 6) passes) (no_far_pawn h.pawn) passes
     where
-      goes : ((own p Pawn m.from && promotion_fits p m) && (is_target p.target m.to && is_empty p.board m.to)) ≡ true
-      goes = en_passant_stands p m h
-
-      hits : attacks p.board m.from m.to ≡ true
-      hits = first_true _ _ (second_true ((own p Pawn m.from && promotion_fits p m) && (is_target p.target m.to && is_empty p.board m.to)) _ h)
-
       leaves : (a b : ℕ) → (gap a b == 1) ≡ true → not (a == b) ≡ true
       leaves a b h = grind arith
 
       passes : pawn_passes p m ≡ true
       passes =
-          and_from _ _ (and_from _ _ (first_true _ _ (second_true (own p Pawn m.from && promotion_fits p m) _ goes)) (pawn_of_en_passant p m h))
-          (and_from _ _ (leaves m.from.file m.to.file (first_true _ _ (pawn_attack p m (pawn_of_en_passant p m h) hits)))
-          (second_true (is_target p.target m.to) _ (second_true (own p Pawn m.from && promotion_fits p m) _ goes)))
+          and_from _ _ (and_from _ _ h.target h.pawn)
+          (and_from _ _ (leaves m.from.file m.to.file (first_true _ _ (pawn_attack p m h.pawn h.hits))) h.empty)
 
-  castling_is_short : castles_short p m ≡ true → step_kind p m ≡ ShortCastling
+  castling_is_short : Castles p m short_wing → step_kind p m ≡ ShortCastling
   unfolding step_kind
-  castling_is_short h = by_wing (castles_means p m (short_right p.side p.rights) short_wing h)
-    where
-      by_wing : Castles p m short_wing → step_kind p m ≡ ShortCastling
-      by_wing w = grind arith
+  castling_is_short w = grind arith
 
-  castling_is_long : castles_long p m ≡ true → step_kind p m ≡ LongCastling
+  castling_is_long : Castles p m long_wing → step_kind p m ≡ LongCastling
   unfolding step_kind
-  castling_is_long h = by_wing (castles_means p m (long_right p.side p.rights) long_wing h)
-    where
-      by_wing : Castles p m long_wing → step_kind p m ≡ LongCastling
-      by_wing w = grind arith
+  castling_is_long w = grind arith
 
   -- a step obeys the rules of its kind, and has its board
   pub record OfKind (b : Board) : Type 0 where
@@ -134,28 +116,16 @@ module _ (p : Parts) (m : Move) where
   pub step_of_kind : (b : Board) → board_after p m ≡ Some b → OfKind b
   step_of_kind b h =
       elim (way_of p m b h) [
-        | inl piece ↦ of_kind Plain b (piece_is_plain piece.0) (ap (λ x. x || is_pawn_step p m) piece.0) piece.1
-        | inr more ↦ elim more [
-          | inl pawn ↦ of_kind Plain b (pawn_is_plain pawn.0) (either (is_piece_step p m) (is_pawn_step p m) pawn.0) pawn.1
-          | inr more ↦ elim more [
-            | inl passing ↦ of_kind EnPassant b (passing_is_en_passant passing.0) passing.0 passing.1
-            | inr more ↦ elim more [
-              | inl short ↦ of_kind ShortCastling b (castling_is_short short.0) short.0 short.1
-              | inr long ↦ of_kind LongCastling b (castling_is_long long.0) long.0 long.1
-            ]
-          ]
-        ]
+        | by_piece w is ↦ of_kind Plain b (piece_is_plain (piece_step_means p m w)) (ap (λ x. x || is_pawn_step p m) w) is
+        | by_pawn w is ↦ of_kind Plain b (pawn_is_plain (pawn_step_means p m w)) (or_right _ _ w) is
+        | by_passing w is ↦ of_kind EnPassant b (passing_is_en_passant (passing_means p m w)) w is
+        | by_short w is ↦ of_kind ShortCastling b (castling_is_short (castles_means p m (short_right p.side p.rights) short_wing w)) w is
+        | by_long w is ↦ of_kind LongCastling b (castling_is_long (castles_means p m (long_right p.side p.rights) long_wing w)) w is
       ]
-    where
-      either : (x y : Bool) → y ≡ true → (x || y) ≡ true
-      either x y h = grind arith
 
   -- the board of a step
   pub stepped_board : is_some (board_after p m) ≡ true → (b : Board) × (board_after p m ≡ Some b)
-  stepped_board h = by_board (board_after p m) refl h
-    where
-      by_board : (o : Option Board) → board_after p m ≡ o → is_some o ≡ true → (b : Board) × (board_after p m ≡ Some b)
-      by_board o e g = grind (arith, nat_tests)
+  stepped_board h = some_of (board_after p m) h
 
   -- a move is a step exactly if it obeys the rules of its kind
   pub obeys_if_step : (k : StepKind) → k ≡ step_kind p m → obeys k p m ≡ is_some (board_after p m)
@@ -163,18 +133,13 @@ module _ (p : Parts) (m : Move) where
       same_tests (obeys k p m) (is_some (board_after p m)) (there k)
       (λ h. let (b, stepped) = stepped_board h in ap (λ l. obeys l p m) is ∙ (step_of_kind b stepped).obeys)
     where
-      some_way : (v w x y z : Bool) (i j k l : Board) → (((v || w) || x) || (y || z)) ≡ true
+      some_way : (v w x y z : Bool) (i j k l : Board) → ((v || w) ≡ true) ⊎ ((x ≡ true) ⊎ ((y ≡ true) ⊎ (z ≡ true)))
           → is_some (if v || w then Some i else if x then Some j else if y then Some k else if z then Some l else None) ≡ true
       some_way v w x y z i j k l h = grind arith
 
-      one_of : (x y z w : Bool) → (x ≡ true) ⊎ ((y ≡ true) ⊎ ((z ≡ true) ⊎ (w ≡ true))) → ((x || y) || (z || w)) ≡ true
-      one_of x y z w h = grind arith
-
       made : (((is_piece_step p m || is_pawn_step p m) ≡ true) ⊎ ((is_en_passant p m ≡ true)
           ⊎ ((castles_short p m ≡ true) ⊎ (castles_long p m ≡ true)))) → is_some (board_after p m) ≡ true
-      made h =
-          some_way (is_piece_step p m) (is_pawn_step p m) (is_en_passant p m) (castles_short p m) (castles_long p m) _ _ _ _
-          (one_of (is_piece_step p m || is_pawn_step p m) (is_en_passant p m) (castles_short p m) (castles_long p m) h)
+      made h = some_way (is_piece_step p m) (is_pawn_step p m) (is_en_passant p m) (castles_short p m) (castles_long p m) _ _ _ _ h
 
       there : (l : StepKind) → obeys l p m ≡ true → is_some (board_after p m) ≡ true
       there Plain h = made (inl h)

@@ -1,64 +1,38 @@
 -- A legal move leaves a position, and the kings where they are said to be.
-use Rattle.chess_rules.proofs.Words.{Colour, King, Move, Parts, Square, on_board, same_square, Board, at, other, has_colour, is_attacked, king_attacked, is_position, target_fits, is_on_board, is_piece_step, is_pawn_step, is_en_passant, castles_short, castles_long, short_right, long_right, short_wing, long_wing, carried, en_passant_board, castled, board_after, after, target_after, half_after, full_after, legal, if_safe, is_legal, king_square, LeavesPosition, ◌≡◌, ℕ, ◌<◌, ◌≤◌, Bool, true, false, not, ◌||◌, ◌⊎◌, inl, inr, refl, sym, ◌∙◌, ap, subst, arith, nat_lt, Option, None, Some, option_map, if◌then◌else◌, false_from_ne_true, nat_tests}
+use Rattle.chess_rules.proofs.Words.{Colour, King, Move, Parts, Square, on_board, same_square, Board, at, other, has_colour, is_attacked, king_attacked, is_position, target_fits, is_on_board, short_right, long_right, short_wing, long_wing, board_after, after, target_after, half_after, full_after, legal, if_safe, is_legal, king_square, LeavesPosition, ◌≡◌, ℕ, ◌≤◌, Bool, true, false, not, refl, sym, ◌∙◌, ap, subst, arith, nat_lt, Option, None, Some, option_map, if◌then◌else◌, false_from_ne_true, Rights, square, cell_of, keeps, rights_after, has, ◌&&◌}
+use Rattle.std.proofs.lemmas.Bool.{ltb-true}
+use Rattle.chess_rules.proofs.moves.WaysToStep.{piece_step_means, pawn_step_means, passing_means, castles_means, way_of, by_piece, by_pawn, by_passing, by_short, by_long}
 use Rattle.chess_rules.proofs.sets.AllSquares.{first_true, second_true}
-use Rattle.chess_rules.proofs.lines.AttackToReach.{squares_same}
+use Rattle.chess_rules.proofs.lines.AttackToReach.{squares_same, other-other}
 use Rattle.chess_rules.proofs.positions.OneKing.{king_stands, king_only_there, king_attacked_there}
 use Rattle.chess_rules.proofs.moves.CellsAfterPut.{OnBoard}
-use Rattle.chess_rules.proofs.positions.RulesOfPosition.{Sound, sound_from_position, position_from_sound, no_pawn_on_edge}
+use Rattle.chess_rules.proofs.positions.RulesOfPosition.{Sound, sound_from_position, position_from_sound, no_pawn_on_edge, king_of}
 use Rattle.chess_rules.proofs.moves.BoardAfterMove.{Stays, carried_stays, king_after}
-use Rattle.chess_rules.proofs.moves.StepsKeepBoard.{other-other, not_both, colour_of_piece, piece_lands, pawn_lands, passing_stays, castling_stays}
-use Rattle.chess_rules.proofs.moves.StepsKeepBoard.{castles_means, short_is_wing, long_is_wing}
-
-at_most : (m n : ℕ) → nat_lt m n ≡ true → m < n
-at_most m n h = grind arith
+use Rattle.chess_rules.proofs.moves.StepsKeepBoard.{not_both, colour_of_piece, piece_lands, pawn_lands, passing_stays, castling_stays, short_is_wing, long_is_wing}
 
 pub on_board_means : (s : Square) → on_board s ≡ true → OnBoard s
 on_board_means s h =
-    record { file = at_most s.file 8 (first_true (nat_lt s.file 8) _ h); rank = at_most s.rank 8 (second_true (nat_lt s.file 8) _ h) }
+    record { file = ltb-true s.file 8 (first_true (nat_lt s.file 8) _ h); rank = ltb-true s.rank 8 (second_true (nat_lt s.file 8) _ h) }
 
--- Which way it was.
+pub from_on : (m : Move) → is_on_board m ≡ true → OnBoard m.from
+from_on m on = on_board_means m.from (first_true (on_board m.from) _ on)
 
-abbrev pub Ways : Parts → Move → Board → Type 0
-Ways p m b =
-    ((is_piece_step p m ≡ true) × (carried p m ≡ b))
-    ⊎ (((is_pawn_step p m ≡ true) × (carried p m ≡ b))
-    ⊎ (((is_en_passant p m ≡ true) × (en_passant_board p m ≡ b))
-    ⊎ (((castles_short p m ≡ true) × (castled p m 7 5 ≡ b))
-    ⊎ ((castles_long p m ≡ true) × (castled p m 0 3 ≡ b)))))
-
-five : (v w x y z : Bool) (i j k l b : Board)
-    → (if v || w then Some i else if x then Some j else if y then Some k else if z then Some l else None) ≡ Some b → ((v ≡ true) × (i ≡ b))
-    ⊎ (((w ≡ true) × (i ≡ b)) ⊎ (((x ≡ true) × (j ≡ b)) ⊎ (((y ≡ true) × (k ≡ b)) ⊎ ((z ≡ true) × (l ≡ b)))))
-five v w x y z i j k l b h = grind arith
-
-pub way_of : (p : Parts) (m : Move) (b : Board) → board_after p m ≡ Some b → Ways p m b
-way_of p m b h =
-    five (is_piece_step p m) (is_pawn_step p m) (is_en_passant p m) (castles_short p m) (castles_long p m)
-    (carried p m) (en_passant_board p m) (castled p m 7 5) (castled p m 0 3) b h
+pub to_on : (m : Move) → is_on_board m ≡ true → OnBoard m.to
+to_on m on = on_board_means m.to (second_true (on_board m.from) _ on)
 
 pub board_stays : (p : Parts) (m : Move) (b : Board) → Sound p → is_on_board m ≡ true → board_after p m ≡ Some b → Stays p m b
 board_stays p m b sound on h =
+    let from = from_on m on in
+    let to = to_on m on in
     elim (way_of p m b h) [
-      | inl piece ↦ subst (λ (c : Board). Stays p m c) piece.1 (carried_stays p m sound (piece_lands p m sound from to piece.0))
-      | inr more ↦ elim more [
-        | inl pawn ↦ subst (λ (c : Board). Stays p m c) pawn.1 (carried_stays p m sound (pawn_lands p m sound from to pawn.0))
-        | inr more ↦ elim more [
-          | inl passing ↦ subst (λ (c : Board). Stays p m c) passing.1 (passing_stays p m sound from to passing.0)
-          | inr more ↦ elim more [
-            | inl short ↦ subst (λ (c : Board). Stays p m c) short.1
-                (castling_stays p m short_wing sound short_is_wing from to (castles_means p m (short_right p.side p.rights) short_wing short.0))
-            | inr long ↦ subst (λ (c : Board). Stays p m c) long.1
-                (castling_stays p m long_wing sound long_is_wing from to (castles_means p m (long_right p.side p.rights) long_wing long.0))
-          ]
-        ]
-      ]
+      | by_piece w is ↦ subst (Stays p m) is (carried_stays p m sound (piece_lands p m sound from to (piece_step_means p m w)))
+      | by_pawn w is ↦ subst (Stays p m) is (carried_stays p m sound (pawn_lands p m sound from to (pawn_step_means p m w)))
+      | by_passing w is ↦ subst (Stays p m) is (passing_stays p m sound from to (passing_means p m w))
+      | by_short w is ↦ subst (Stays p m) is
+          (castling_stays p m short_wing sound short_is_wing from to (castles_means p m (short_right p.side p.rights) short_wing w))
+      | by_long w is ↦ subst (Stays p m) is
+          (castling_stays p m long_wing sound long_is_wing from to (castles_means p m (long_right p.side p.rights) long_wing w))
     ]
-  where
-    from : OnBoard m.from
-    from = grind (arith, nat_tests)
-
-    to : OnBoard m.to
-    to = grind (arith, nat_tests)
 
 -- The target.
 
@@ -96,7 +70,7 @@ king_moves p m b c position on h =
     let sound : Sound p = sound_from_position p position in
     let stays : Stays p m b = board_stays p m b sound on h in
     king_only_there c b (king_after (king_square c p.board) m) (king_square c b) stays.long (stays.kings_of c)
-    (stays.placed c (king_square c p.board) (king_stands c p.board sound.long (sound.kings_of c)))
+    (stays.placed c (king_square c p.board) (king_of sound c))
     (king_stands c b stays.long (stays.kings_of c))
 
 pub king_waits : (m : Move) (k : Square) → same_square m.from k ≡ false → king_after k m ≡ k
@@ -118,7 +92,7 @@ other_king_stays p m b position on h = sym (king_waits m king apart) ∙ king_mo
         false_from_ne_true (same_square m.from king) (λ same.
         not_both p.side (at p.board king)
         (subst (λ (s : Square). has_colour p.side (at p.board s) ≡ true) (squares_same m.from king same) (board_stays p m b sound on h).own)
-        (colour_of_piece (other p.side) King (at p.board king) (king_stands (other p.side) p.board sound.long (sound.kings_of (other p.side))).king))
+        (colour_of_piece (other p.side) King (at p.board king) (king_of sound (other p.side)).king))
 
 -- whether a king is attacked is seen from its square
 pub king_seen : (p : Parts) (m : Move) (b : Board) (c : Colour) → is_position p ≡ true → is_on_board m ≡ true
@@ -176,3 +150,20 @@ legal_unless_attacked p m b attacked position on h e =
   where
     by_test : (x : Bool) → king_attacked b (other (other p.side)) ≡ x → not x ≡ is_legal p m
     by_test x is = grind arith
+
+-- A move that begins and ends on no square of a king or a rook at the start keeps every right.
+
+-- a1, e1, h1, a8, e8, h8
+abbrev pub homes : ℕ
+homes = 10448351135499550865
+
+kept : (x y : Bool) → y ≡ true → x ≡ (x && y)
+kept x y e = grind arith
+
+keeps_rank : (m : Move) (file rank : ℕ) → has homes (cell_of (square 4 rank)) ≡ true → has homes (cell_of (square file rank)) ≡ true
+    → has homes (cell_of m.from) ≡ false → has homes (cell_of m.to) ≡ false → keeps m file rank ≡ true
+keeps_rank m file rank king rook from to = grind arith
+
+pub rights_stay : (m : Move) (r : Rights) → has homes (cell_of m.from) ≡ false → has homes (cell_of m.to) ≡ false → r ≡ rights_after m r
+unfolding has
+rights_stay m r from to = grind (arith, kept, keeps_rank)

@@ -1,7 +1,8 @@
 -- No move is a step in two ways.
-use Rattle.chess_rules.proofs.Words.{Pawn, Move, Parts, gap, at, is_empty, other, has_piece, attacks, own, is_piece_step, is_pawn_way, is_pawn_step, promotion_fits, is_target, captured_pawn, is_en_passant, castles_short, castles_long, short_wing, long_wing, Wing, CasesApart, ◌≡◌, ◌≤◌, Bool, true, ◌&&◌, arith, [], ◌∷◌, count_by, nat_tests, or_cases}
+use Rattle.chess_rules.proofs.Words.{Pawn, Move, Parts, gap, at, is_empty, other, has_piece, attacks, own, is_piece_step, is_pawn_way, is_pawn_step, promotion_fits, is_target, captured_pawn, is_en_passant, castles_short, castles_long, short_wing, long_wing, Wing, CasesApart, ◌≡◌, ◌≤◌, Bool, true, ◌&&◌, arith, [], ◌∷◌, count_by, or_cases, short_right, long_right}
+use Rattle.chess_rules.proofs.moves.WaysToStep.{Castles, castles_means}
 use Rattle.chess_rules.proofs.sets.AllSquares.{first_true, second_true, equal_from}
-use Rattle.chess_rules.proofs.moves.StepsKeepBoard.{pawn_attack, Castles}
+use Rattle.chess_rules.proofs.moves.StepsKeepBoard.{pawn_attack}
 
 pub no_pawn_moves : (p : Parts) (m : Move) → is_piece_step p m ≡ true → own p Pawn m.from ≡ true → ⊥
 no_pawn_moves p m h pawn = grind arith
@@ -53,7 +54,7 @@ cases_apart p m =
     (λ a b. wings_apart p m (short a) (long b))
   where
     short : castles_short p m ≡ true → Castles p m short_wing
-    short h = grind (arith, nat_tests)
+    short h = castles_means p m (short_right p.side p.rights) short_wing h
 
     long : castles_long p m ≡ true → Castles p m long_wing
-    long h = grind (arith, nat_tests)
+    long h = castles_means p m (long_right p.side p.rights) long_wing h

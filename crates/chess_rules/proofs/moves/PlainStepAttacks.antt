@@ -1,15 +1,13 @@
 -- A plain step gives an attack only by the piece that moves, or along the line that it leaves.
-use Rattle.chess_rules.proofs.Words.{Colour, Piece, Promotion, Move, Parts, Square, on_board, same_square, between_on_rank, between_on_file, between_on_diagonal, strictly_between, squares, Board, at, put, is_empty, other, has_colour, attacks, cell_attacks, is_attacked, is_clear, king_attacked, is_position, is_on_board, promoted, carried, board_after, after, legal, if_safe, is_legal, is_check, is_aligned, is_near, king_square, may_attack, reaches_from, slides, Plain, step_kind, ◌≡◌, ◌≢◌, Bool, true, false, not, ◌&&◌, ◌||◌, ◌⊎◌, inl, inr, refl, sym, ◌∙◌, ap, ap₂, subst, arith, length, Option, None, Some, is_none, is_some, option_map, if◌then◌else◌, list_any, false≢true, or_cases, and_from, false_from_ne_true, nat_tests}
+use Rattle.chess_rules.proofs.Words.{Colour, Piece, Promotion, Move, Parts, Square, same_square, between_on_rank, between_on_file, between_on_diagonal, strictly_between, squares, Board, at, put, is_empty, other, has_colour, attacks, cell_attacks, is_attacked, is_clear, king_attacked, is_position, is_on_board, promoted, carried, board_after, after, legal, if_safe, is_legal, is_check, is_aligned, is_near, king_square, may_attack, reaches_from, slides, Plain, step_kind, ◌≡◌, Bool, true, false, not, ◌&&◌, ◌||◌, ◌⊎◌, inl, inr, refl, sym, ◌∙◌, ap, ap₂, subst, arith, length, Option, None, Some, is_none, is_some, option_map, if◌then◌else◌, list_any, false≢true, and_from, false_from_ne_true, nat_tests}
 use Rattle.chess_rules.proofs.sets.AllSquares.{first_true, second_true, each_square, all_squares, Passes, some_square, any_square, not_true, implied}
-use Rattle.chess_rules.proofs.lines.AttackToReach.{attacker_is, none_or_all}
-use Rattle.chess_rules.proofs.positions.OneKing.{StandsAt, king_stands, king_attacked_there}
-use Rattle.chess_rules.proofs.moves.CellsAfterPut.{OnBoard, at_put, at_put_here, length-put}
-use Rattle.chess_rules.proofs.positions.RulesOfPosition.{Sound, sound_from_position}
+use Rattle.chess_rules.proofs.lines.AttackToReach.{attacker_is, none_or_all, between_cases, other-other}
+use Rattle.chess_rules.proofs.positions.OneKing.{StandsAt}
+use Rattle.chess_rules.proofs.moves.CellsAfterPut.{OnBoard, at_put_here, length-put, moved, at_moved, on_target, on_origin, on_other}
+use Rattle.chess_rules.proofs.positions.RulesOfPosition.{Sound, sound_from_position, king_of, attack_on_king}
 use Rattle.chess_rules.proofs.moves.BoardAfterMove.{arriving, king_after}
-use Rattle.chess_rules.proofs.moves.StepsKeepBoard.{other-other}
 use Rattle.chess_rules.proofs.moves.KindsOfSteps.{board_of, step_of_kind}
-use Rattle.chess_rules.proofs.moves.LegalToPosition.{on_board_means, board_stays, king_moves, king_waits, other_king_stays, king_seen}
-use Rattle.chess_rules.proofs.moves.LegalToPosition.{legal_unless_attacked}
+use Rattle.chess_rules.proofs.moves.LegalToPosition.{board_stays, king_moves, king_waits, other_king_stays, king_seen, from_on, to_on, legal_unless_attacked}
 
 -- A square between two lies on a line with the second.
 
@@ -24,13 +22,7 @@ between_on_diagonal_aligned s u t h = grind (arith, nat_tests)
 
 between_aligned : (s u t : Square) → strictly_between s u t ≡ true → is_aligned u t ≡ true
 between_aligned s u t h =
-    elim (or_cases (between_on_rank s u t) (between_on_file s u t || between_on_diagonal s u t) h) [
-      | inl rank ↦ between_on_rank_aligned s u t rank
-      | inr more ↦ elim (or_cases (between_on_file s u t) (between_on_diagonal s u t) more) [
-        | inl file ↦ between_on_file_aligned s u t file
-        | inr diagonal ↦ between_on_diagonal_aligned s u t diagonal
-      ]
-    ]
+    between_cases s u t h (between_on_rank_aligned s u t) (between_on_file_aligned s u t) (between_on_diagonal_aligned s u t)
 
 -- A piece that attacks on one board attacks on another where the way is clear too.
 
@@ -47,72 +39,52 @@ no_slide c cell a b s t none = grind arith
 -- more than before.
 module _ (b : Board) (from to k : Square) (cell : Option Piece) (c : Colour)
     (long : length b ≡ 64) (on_from : OnBoard from) (on_to : OnBoard to) (on_k : OnBoard k) where
-  left_long : length (put b from None) ≡ 64
-  left_long = length-put b from None ∙ long
+  arrived : at (moved b from to cell) to ≡ cell
+  arrived = at_put_here (put b from None) to cell (length-put b from None ∙ long) on_to
 
-  arrived : at (put (put b from None) to cell) to ≡ cell
-  arrived = at_put_here (put b from None) to cell left_long on_to
-
-  clear_before : (s : Square) → is_none cell ≡ false → is_aligned from k ≡ false
-      → is_clear (put (put b from None) to cell) s k ≡ true → is_clear b s k ≡ true
+  clear_before : (s : Square) → is_none cell ≡ false → is_aligned from k ≡ false → is_clear (moved b from to cell) s k ≡ true → is_clear b s k ≡ true
   clear_before s full apart h =
       all_squares (λ u. not (strictly_between s u k) || is_empty b u) (λ u file rank.
       implied (strictly_between s u k) (is_empty b u) (λ between.
       empty_before u (record { file = file; rank = rank }) between
       (not_true (strictly_between s u k) _ between
-      (each_square (λ u. not (strictly_between s u k) || is_empty (put (put b from None) to cell) u) u h file rank))))
+      (each_square (λ u. not (strictly_between s u k) || is_empty (moved b from to cell) u) u h file rank))))
     where
-      empty_before : (u : Square) → OnBoard u → strictly_between s u k ≡ true
-          → is_empty (put (put b from None) to cell) u ≡ true → is_empty b u ≡ true
-      empty_before u on between empty =
-          elim (at_put (put b from None) to u cell left_long on_to on) [
-            | inl here ↦ absurd (false≢true (sym full ∙ (sym (ap is_none here.1) ∙ empty)))
-            | inr there ↦ elim (at_put b from u None long on_from on) [
-              | inl gone ↦
-                  absurd (false≢true (sym apart ∙ subst (λ (v : Square). is_aligned v k ≡ true) gone.0 (between_aligned s u k between)))
-              | inr stayed ↦ ap is_none (sym (there.1 ∙ stayed.1)) ∙ empty
-            ]
-          ]
+      empty_before : (u : Square) → OnBoard u → strictly_between s u k ≡ true → is_empty (moved b from to cell) u ≡ true → is_empty b u ≡ true
+      empty_before u on between empty = elim (at_moved b from to u cell long on_from on_to on) [
+        | on_target _ here ↦ absurd (false≢true (sym full ∙ (sym (ap is_none here) ∙ empty)))
+        | on_origin is _ ↦ absurd (false≢true (sym apart ∙ subst (λ (v : Square). is_aligned v k ≡ true) is (between_aligned s u k between)))
+        | on_other _ _ same ↦ ap is_none (sym same) ∙ empty
+      ]
 
   abbrev pub Opens : Type 0
   Opens = (is_aligned from k ≡ false) ⊎ (list_any (slides b c k) squares ≡ false)
 
-  attacked_before : (s : Square) → OnBoard s → s ≢ to → is_none cell ≡ false → Opens
-      → (has_colour c (at (put (put b from None) to cell) s) && attacks (put (put b from None) to cell) s k) ≡ true
-      → (has_colour c (at b s) && attacks b s k) ≡ true
-  attacked_before s on differ full opens h =
-      elim (at_put (put b from None) to s cell left_long on_to on) [
-        | inl here ↦ absurd (differ here.0)
-        | inr there ↦ elim (at_put b from s None long on_from on) [
-          | inl gone ↦ absurd (false≢true (sym (ap (has_colour c) (there.1 ∙ gone.1)) ∙ first_true _ _ h))
-          | inr stayed ↦
-              as_before (ap (λ o. has_colour c o && cell_attacks o (put (put b from None) to cell) s k) (sym (there.1 ∙ stayed.1)) ∙ h) opens
-        ]
-      ]
-    where
-      as_before : (has_colour c (at b s) && cell_attacks (at b s) (put (put b from None) to cell) s k) ≡ true
-          → Opens → (has_colour c (at b s) && attacks b s k) ≡ true
-      as_before g (inl apart) =
-          and_from _ _ (first_true _ _ g)
-          (cell_still (at b s) (put (put b from None) to cell) b s k (clear_before s full apart) (second_true (has_colour c (at b s)) _ g))
-      as_before g (inr none) =
-          sym (no_slide c (at b s) (put (put b from None) to cell) b s k
-          (false_from_ne_true (slides b c k s)
-          (λ slides_there. false≢true (sym none ∙ any_square (slides b c k) s on.file on.rank slides_there)))) ∙ g
+  attacked_before : (s : Square) → OnBoard s → is_none cell ≡ false → Opens
+      → (has_colour c (at b s) && cell_attacks (at b s) (moved b from to cell) s k) ≡ true → (has_colour c (at b s) && attacks b s k) ≡ true
+  attacked_before s on full (inl apart) h =
+      and_from _ _ (first_true _ _ h)
+      (cell_still (at b s) (moved b from to cell) b s k (clear_before s full apart) (second_true (has_colour c (at b s)) _ h))
+  attacked_before s on full (inr none) h =
+      sym (no_slide c (at b s) (moved b from to cell) b s k
+      (false_from_ne_true (slides b c k s)
+      (λ slides_there. false≢true (sym none ∙ any_square (slides b c k) s on.file on.rank slides_there)))) ∙ h
 
-  pub calm : is_none cell ≡ false → Opens → (has_colour c cell && attacks (put (put b from None) to cell) to k) ≡ false
-      → is_attacked b c k ≡ false → is_attacked (put (put b from None) to cell) c k ≡ false
-  calm full opens quiet before = false_from_ne_true (is_attacked (put (put b from None) to cell) c k)
-      (λ h. by_square (some_square (λ s. has_colour c (at (put (put b from None) to cell) s) && attacks (put (put b from None) to cell) s k) h))
+  pub calm : is_none cell ≡ false → Opens → (has_colour c cell && attacks (moved b from to cell) to k) ≡ false
+      → is_attacked b c k ≡ false → is_attacked (moved b from to cell) c k ≡ false
+  calm full opens quiet before = false_from_ne_true (is_attacked (moved b from to cell) c k)
+      (λ h. by_square (some_square (λ s. has_colour c (at (moved b from to cell) s) && attacks (moved b from to cell) s k) h))
     where
-      by_square : Passes (λ s. has_colour c (at (put (put b from None) to cell) s) && attacks (put (put b from None) to cell) s k) → ⊥
+      by_square : Passes (λ s. has_colour c (at (moved b from to cell) s) && attacks (moved b from to cell) s k) → ⊥
       by_square w =
-          elim (at_put (put b from None) to w.on cell left_long on_to (record { file = w.file; rank = w.rank })) [
-            | inl here ↦ false≢true (sym quiet ∙ (ap (λ o. has_colour c o && attacks (put (put b from None) to cell) to k) (sym arrived)
-                ∙ subst (λ (s : Square).
-                (has_colour c (at (put (put b from None) to cell) s) && attacks (put (put b from None) to cell) s k) ≡ true) here.0 w.holds))
-            | inr there ↦ false≢true (sym before ∙ any_square (λ s. has_colour c (at b s) && attacks b s k) w.on w.file w.rank
-                (attacked_before w.on (record { file = w.file; rank = w.rank }) there.0 full opens w.holds))
+          let on : OnBoard w.on = record { file = w.file; rank = w.rank } in
+          elim (at_moved b from to w.on cell long on_from on_to on) [
+            | on_target is _ ↦ false≢true (sym quiet ∙ (ap (λ o. has_colour c o && attacks (moved b from to cell) to k) (sym arrived)
+                ∙ subst (λ (s : Square). (has_colour c (at (moved b from to cell) s) && attacks (moved b from to cell) s k) ≡ true) is w.holds))
+            | on_origin _ none ↦ false≢true (sym (ap (has_colour c) none) ∙ first_true _ _ w.holds)
+            | on_other _ _ same ↦ false≢true (sym before ∙ any_square (λ s. has_colour c (at b s) && attacks b s k) w.on w.file w.rank
+                (attacked_before w.on on full opens
+                (ap (λ o. has_colour c o && cell_attacks o (moved b from to cell) w.on k) (sym same) ∙ w.holds)))
           ]
 
 -- A plain step.
@@ -143,14 +115,14 @@ safe_when_plain p m b k position on h plain is calm_before apart unseen =
     still = sym (king_waits m k apart) ∙ (ap (λ s. king_after s m) is ∙ king_moves p m b p.side position on h)
 
     stands : StandsAt p.side p.board (king_square p.side p.board)
-    stands = king_stands p.side p.board sound.long (sound.kings_of p.side)
+    stands = king_of sound p.side
 
     on_k : OnBoard k
     on_k = subst (λ (s : Square). OnBoard s) (sym is) (record { file = stands.file; rank = stands.rank })
 
     before : is_attacked p.board (other p.side) k ≡ false
     before = ap (is_attacked p.board (other p.side)) is
-        ∙ (sym (king_attacked_there p.side p.board sound.long (sound.kings_of p.side)) ∙ calm_before)
+        ∙ (sym (attack_on_king sound p.side) ∙ calm_before)
 
     arrives : has_colour p.side (arriving p m) ≡ true
     arrives = arriving_own p.side m.promotion (at p.board m.from) (board_stays p m b sound on h).own
@@ -158,7 +130,7 @@ safe_when_plain p m b k position on h plain is calm_before apart unseen =
     quiet : is_attacked (carried p m) (other p.side) k ≡ false
     quiet =
         calm p.board m.from m.to k (arriving p m) (other p.side) sound.long
-        (on_board_means m.from (first_true (on_board m.from) _ on)) (on_board_means m.to (second_true (on_board m.from) _ on)) on_k
+        (from_on m on) (to_on m on) on_k
         (none_or_all p.side (arriving p m) arrives) unseen
         (ap (λ x. x && attacks (carried p m) m.to k) (not_other p.side (arriving p m) arrives)) before
 
@@ -183,23 +155,17 @@ no_check_when_plain p m b k position on h plain is unseen harmless =
     sound = sound_from_position p position
 
     stands : StandsAt (other p.side) p.board (king_square (other p.side) p.board)
-    stands = king_stands (other p.side) p.board sound.long (sound.kings_of (other p.side))
+    stands = king_of sound (other p.side)
 
     stands_k : StandsAt (other p.side) p.board k
     stands_k = subst (λ (s : Square). StandsAt (other p.side) p.board s) (sym is) stands
 
     before : is_attacked p.board p.side k ≡ false
     before = ap₂ (λ c s. is_attacked p.board c s) (sym (other-other p.side)) is
-        ∙ (sym (king_attacked_there (other p.side) p.board sound.long (sound.kings_of (other p.side))) ∙ sound.safe)
+        ∙ (sym (attack_on_king sound (other p.side)) ∙ sound.safe)
 
     arrives : has_colour p.side (arriving p m) ≡ true
     arrives = arriving_own p.side m.promotion (at p.board m.from) (board_stays p m b sound on h).own
-
-    on_from : OnBoard m.from
-    on_from = on_board_means m.from (first_true (on_board m.from) _ on)
-
-    on_to : OnBoard m.to
-    on_to = on_board_means m.to (second_true (on_board m.from) _ on)
 
     on_k : OnBoard k
     on_k = record { file = stands_k.file; rank = stands_k.rank }
@@ -208,13 +174,13 @@ no_check_when_plain p m b k position on h plain is unseen harmless =
     no_attacker : (has_colour p.side (arriving p m) && attacks (carried p m) m.to k) ≡ false
     no_attacker =
         ap (λ o. has_colour p.side o && attacks (carried p m) m.to k)
-        (sym (arrived p.board m.from m.to k (arriving p m) p.side sound.long on_from on_to on_k))
+        (sym (arrived p.board m.from m.to k (arriving p m) p.side sound.long (from_on m on) (to_on m on) on_k))
         ∙ (ap (λ a. has_colour p.side (at a m.to) && attacks a m.to k) (plain_board p m b plain h)
         ∙ (attacker_is b p.side m.to k ∙ ap (λ x. x && is_clear b m.to k) harmless))
 
     quiet : is_attacked (carried p m) p.side k ≡ false
     quiet =
-        calm p.board m.from m.to k (arriving p m) p.side sound.long on_from on_to on_k
+        calm p.board m.from m.to k (arriving p m) p.side sound.long (from_on m on) (to_on m on) on_k
         (none_or_all p.side (arriving p m) arrives) (inl unseen) no_attacker before
 
 -- a move that is no step is not legal, and a legal one is a step
@@ -232,5 +198,5 @@ step_when_legal p m h = by_test (is_some (board_after p m)) refl
     by_test true e = e
     by_test false e = absurd (false≢true (sym (none_unless_step p m e) ∙ h))
 
-pub none_when_not : (o : Option Parts) → is_some o ≡ false → o ≡ None
+pub none_when_not : {X : Type 0} (o : Option X) → is_some o ≡ false → o ≡ None
 none_when_not o h = grind arith

@@ -1,15 +1,13 @@
 -- Each of the ways to step leaves the board in order.
-use Rattle.chess_rules.proofs.Words.{Colour, Kind, King, Rook, Pawn, Piece, Promotion, Move, Parts, Square, square, gap, strictly_between, Board, some_piece, at, put, is_empty, other, has_colour, has_piece, is_pawn, is_clear, is_ahead, kind_attacks, cell_attacks, attacks, is_attacked, king_attacked, target_fits, target_rank, own, home, home_rank, pawn_rank, double_rank, last_rank, is_piece_step, is_advance, is_double_step, is_pawn_capture, is_pawn_way, is_pawn_step, promotion_fits, is_en_passant, is_target, captured_pawn, crossed, castles, Wing, short_wing, long_wing, kind_of, promoted, carried, en_passant_board, castled, ◌≡◌, ◌≢◌, ℕ, ◌<◌, Bool, true, false, not, ◌&&◌, ◌||◌, ◌⊎◌, inl, inr, refl, sym, ◌∙◌, ap, subst, arith, ◌==◌, Option, None, Some, is_none, is_some, if◌then◌else◌, nat_tests, or_cases, not-true, and_from, false_from_ne_true}
+use Rattle.chess_rules.proofs.Words.{Colour, Kind, King, Rook, Pawn, Piece, Promotion, Move, Parts, Square, square, gap, strictly_between, Board, some_piece, at, put, is_empty, other, has_colour, has_piece, is_pawn, is_clear, is_ahead, kind_attacks, cell_attacks, attacks, is_attacked, king_attacked, target_fits, target_rank, own, home, home_rank, pawn_rank, double_rank, last_rank, is_advance, is_double_step, is_pawn_capture, is_pawn_way, is_target, captured_pawn, crossed, Wing, short_wing, long_wing, kind_of, promoted, carried, en_passant_board, castled, ◌≡◌, ◌≢◌, ℕ, ◌<◌, Bool, true, false, not, ◌&&◌, ◌||◌, ◌⊎◌, inl, inr, refl, sym, ◌∙◌, ap, subst, arith, ◌==◌, Option, None, Some, is_none, is_some, if◌then◌else◌, nat_tests, or_cases, and_from, false_from_ne_true}
+use Rattle.chess_rules.proofs.moves.WaysToStep.{PieceStep, PawnStep, Passing, Castles}
 use Rattle.chess_rules.proofs.sets.AllSquares.{first_true, second_true, each_square, any_square, equal_tests, not_true}
-use Rattle.chess_rules.proofs.lines.AttackToReach.{kinds_same, colours_same, ahead_gap}
+use Rattle.chess_rules.proofs.lines.AttackToReach.{kinds_same, colours_same, ahead_gap, other-other}
 use Rattle.chess_rules.proofs.moves.CellsAfterPut.{OnBoard, at_put}
 use Rattle.chess_rules.proofs.positions.RulesOfPosition.{Sound, is_edge}
 use Rattle.chess_rules.proofs.moves.BoardAfterMove.{arriving, Lands, Stays, IsPlain, carried_stays, put_stays, carried_free}
 
 -- Cells.
-
-pub other-other : (c : Colour) → other (other c) ≡ c
-other-other c = grind arith
 
 pub colour_of_piece : (c : Colour) (k : Kind) (cell : Option Piece) → has_piece c k cell ≡ true → has_colour c cell ≡ true
 colour_of_piece c k cell h = grind arith
@@ -24,12 +22,6 @@ one_kind c d k l cell h g = grind (arith, kinds_same, second_true)
 no_king_with : (c d : Colour) (k : Kind) (cell : Option Piece) → (King ≡ k → ⊥)
     → has_piece d k cell ≡ true → has_piece c King cell ≡ false
 no_king_with c d k cell differ h = grind arith
-
-pub pawn_is_no_king : King ≡ Pawn → ⊥
-pawn_is_no_king e = cc
-
-rook_is_no_king : King ≡ Rook → ⊥
-rook_is_no_king e = cc
 
 empty_free : (c : Colour) (k : Kind) (cell : Option Piece) → is_none cell ≡ true → has_piece c k cell ≡ false
 empty_free c k cell h = grind arith
@@ -72,33 +64,16 @@ arrives_as p m h = grind arith
 
 -- A king, queen, rook, bishop or knight.
 
-pub piece_lands : (p : Parts) (m : Move) → Sound p → OnBoard m.from → OnBoard m.to → is_piece_step p m ≡ true → Lands p m
+pub piece_lands : (p : Parts) (m : Move) → Sound p → OnBoard m.from → OnBoard m.to → PieceStep p m → Lands p m
 piece_lands p m sound on_from on_to h =
     record {
       on_from = on_from;
       on_to = on_to;
-      own = own_piece;
-      free = free_of p m.to (not-true (has_colour p.side (at p.board m.to)) (second_true (attacks p.board m.from m.to) _ goes))
-          (king_not_taken p m.from m.to sound on_from on_to own_piece (first_true (attacks p.board m.from m.to) _ goes));
-      alike = λ c. ap (has_piece c King) (arrives_as p m plain);
-      no_pawn = λ edge. ap is_pawn (arrives_as p m plain) ∙ no_pawn_but_own p.side (at p.board m.from) own_piece
-          (not-true (own p Pawn m.from) (second_true (has_colour p.side (at p.board m.from)) _ whose));
+      own = h.mine;
+      free = free_of p m.to h.free (king_not_taken p m.from m.to sound on_from on_to h.mine h.hits);
+      alike = λ c. ap (has_piece c King) (arrives_as p m h.plain);
+      no_pawn = λ edge. ap is_pawn (arrives_as p m h.plain) ∙ no_pawn_but_own p.side (at p.board m.from) h.mine h.no_pawn;
     }
-  where
-    stands : ((has_colour p.side (at p.board m.from) && not (own p Pawn m.from)) && is_none m.promotion) ≡ true
-    stands = grind arith
-
-    goes : (attacks p.board m.from m.to && not (has_colour p.side (at p.board m.to))) ≡ true
-    goes = grind arith
-
-    whose : (has_colour p.side (at p.board m.from) && not (own p Pawn m.from)) ≡ true
-    whose = grind arith
-
-    plain : is_none m.promotion ≡ true
-    plain = grind arith
-
-    own_piece : has_colour p.side (at p.board m.from) ≡ true
-    own_piece = grind arith
 
 -- A pawn.
 
@@ -139,31 +114,22 @@ last_of : (c : Colour) (a b : ℕ) → a < 8 → (is_ahead c a b ≡ true) ⊎ (
     → is_edge b ≡ true → b ≡ last_rank c
 last_of c a b low h edge = grind arith
 
-pub pawn_lands : (p : Parts) (m : Move) → Sound p → OnBoard m.from → OnBoard m.to → is_pawn_step p m ≡ true → Lands p m
+pub pawn_lands : (p : Parts) (m : Move) → Sound p → OnBoard m.from → OnBoard m.to → PawnStep p m → Lands p m
 pawn_lands p m sound on_from on_to h =
     record {
       on_from = on_from;
       on_to = on_to;
-      own = colour_of_piece p.side Pawn (at p.board m.from) pawn;
-      free = way_free p m sound on_from on_to pawn way;
+      own = colour_of_piece p.side Pawn (at p.board m.from) h.pawn;
+      free = way_free p m sound on_from on_to h.pawn h.way;
       alike = λ c. alike_for c m.promotion;
-      no_pawn = λ edge. last_for m.promotion
-          (equal_tests m.to.rank (last_rank p.side) (last_of p.side m.from.rank m.to.rank on_from.rank (way_goes p m pawn way) edge)) fits;
+      no_pawn = λ edge. last_for m.promotion (equal_tests m.to.rank (last_rank p.side)
+          (last_of p.side m.from.rank m.to.rank on_from.rank (way_goes p m h.pawn h.way) edge)) h.fits;
     }
   where
-    pawn : own p Pawn m.from ≡ true
-    pawn = first_true (own p Pawn m.from) (is_pawn_way p m && promotion_fits p m) h
-
-    way : is_pawn_way p m ≡ true
-    way = first_true (is_pawn_way p m) (promotion_fits p m) (second_true (own p Pawn m.from) (is_pawn_way p m && promotion_fits p m) h)
-
-    fits : (if m.to.rank == last_rank p.side then is_some m.promotion else is_none m.promotion) ≡ true
-    fits = second_true (is_pawn_way p m) (promotion_fits p m) (second_true (own p Pawn m.from) (is_pawn_way p m && promotion_fits p m) h)
-
     alike_for : (c : Colour) (q : Option Promotion)
         → has_piece c King (promoted p.side q (at p.board m.from)) ≡ has_piece c King (at p.board m.from)
     alike_for c None = refl
-    alike_for c (Some q) = promoted_is_no_king c p.side q ∙ sym (no_king_with c p.side Pawn (at p.board m.from) pawn_is_no_king pawn)
+    alike_for c (Some q) = promoted_is_no_king c p.side q ∙ sym (no_king_with c p.side Pawn (at p.board m.from) (λ e. cc) h.pawn)
 
     last_for : (q : Option Promotion) → (m.to.rank == last_rank p.side) ≡ true
         → (if m.to.rank == last_rank p.side then is_some q else is_none q) ≡ true → is_pawn (promoted p.side q (at p.board m.from)) ≡ false
@@ -175,33 +141,22 @@ target_line c o t fits hits = grind arith
 inner_line : (c : Colour) (rank : ℕ) → rank ≡ target_rank c → ((rank == last_rank c) ≡ false) × (is_edge rank ≡ false)
 inner_line c rank h = grind arith
 
-pub passing_lands : (p : Parts) (m : Move) → Sound p → OnBoard m.from → OnBoard m.to → is_en_passant p m ≡ true → Lands p m
+pub passing_lands : (p : Parts) (m : Move) → Sound p → OnBoard m.from → OnBoard m.to → Passing p m → Lands p m
 passing_lands p m sound on_from on_to h =
     record {
       on_from = on_from;
       on_to = on_to;
-      own = colour_of_piece p.side Pawn (at p.board m.from)
-          (first_true (own p Pawn m.from) _ (first_true _ (is_target p.target m.to && is_empty p.board m.to) stands));
-      free = λ c. empty_free c King (at p.board m.to)
-          (second_true (is_target p.target m.to) _ (second_true (own p Pawn m.from && promotion_fits p m) _ stands));
+      own = colour_of_piece p.side Pawn (at p.board m.from) h.pawn;
+      free = λ c. empty_free c King (at p.board m.to) h.empty;
       alike = λ c. ap (has_piece c King) (arrives_as p m plain);
       no_pawn = λ edge. cc (edge, line.1);
     }
   where
-    stands : ((own p Pawn m.from && promotion_fits p m) && (is_target p.target m.to && is_empty p.board m.to)) ≡ true
-    stands = first_true _ (attacks p.board m.from m.to && has_piece (other p.side) Pawn (at p.board (captured_pawn m))) h
-
     line : ((m.to.rank == last_rank p.side) ≡ false) × (is_edge m.to.rank ≡ false)
-    line =
-        inner_line p.side m.to.rank
-        (target_line p.side p.target m.to sound.target
-        (first_true (is_target p.target m.to) _ (second_true (own p Pawn m.from && promotion_fits p m) _ stands)))
-
-    fits : (if m.to.rank == last_rank p.side then is_some m.promotion else is_none m.promotion) ≡ true
-    fits = second_true (own p Pawn m.from) _ (first_true _ (is_target p.target m.to && is_empty p.board m.to) stands)
+    line = inner_line p.side m.to.rank (target_line p.side p.target m.to sound.target h.target)
 
     plain : is_none m.promotion ≡ true
-    plain = named (m.to.rank == last_rank p.side) line.0 fits
+    plain = named (m.to.rank == last_rank p.side) line.0 h.fits
       where
         named : (x : Bool) → x ≡ false → (if x then is_some m.promotion else is_none m.promotion) ≡ true → is_none m.promotion ≡ true
         named x e g = grind arith
@@ -212,12 +167,11 @@ nothing_plain = record { no_king = λ c. refl; no_pawn = refl }
 rook_plain : (d : Colour) → IsPlain (some_piece d Rook)
 rook_plain d = grind arith
 
-pub passing_stays : (p : Parts) (m : Move) → Sound p → OnBoard m.from
-    → OnBoard m.to → is_en_passant p m ≡ true → Stays p m (en_passant_board p m)
+pub passing_stays : (p : Parts) (m : Move) → Sound p → OnBoard m.from → OnBoard m.to → Passing p m → Stays p m (en_passant_board p m)
 passing_stays p m sound on_from on_to h =
     put_stays p m (carried p m) (captured_pawn m) None (carried_stays p m sound lands) on_captured
     (carried_free p m sound lands (captured_pawn m) on_captured apart
-    (λ c. no_king_with c (other p.side) Pawn (at p.board (captured_pawn m)) pawn_is_no_king taken))
+    (λ c. no_king_with c (other p.side) Pawn (at p.board (captured_pawn m)) (λ e. cc) h.taken))
     nothing_plain
   where
     lands : Lands p m
@@ -226,21 +180,8 @@ passing_stays p m sound on_from on_to h =
     on_captured : OnBoard (captured_pawn m)
     on_captured = record { file = on_to.file; rank = on_from.rank }
 
-    stands : ((own p Pawn m.from && promotion_fits p m) && (is_target p.target m.to && is_empty p.board m.to)) ≡ true
-    stands = first_true _ (attacks p.board m.from m.to && has_piece (other p.side) Pawn (at p.board (captured_pawn m))) h
-
-    goes : (attacks p.board m.from m.to && has_piece (other p.side) Pawn (at p.board (captured_pawn m))) ≡ true
-    goes = second_true ((own p Pawn m.from && promotion_fits p m) && (is_target p.target m.to && is_empty p.board m.to)) _ h
-
-    taken : has_piece (other p.side) Pawn (at p.board (captured_pawn m)) ≡ true
-    taken = second_true (attacks p.board m.from m.to) _ goes
-
-    pawn : own p Pawn m.from ≡ true
-    pawn = first_true (own p Pawn m.from) _ (first_true _ (is_target p.target m.to && is_empty p.board m.to) stands)
-
     ahead : gap m.from.rank m.to.rank ≡ 1
-    ahead = ahead_gap p.side m.from.rank m.to.rank
-        (second_true (gap m.from.file m.to.file == 1) _ (pawn_attack p m pawn (first_true (attacks p.board m.from m.to) _ goes)))
+    ahead = ahead_gap p.side m.from.rank m.to.rank (second_true (gap m.from.file m.to.file == 1) _ (pawn_attack p m h.pawn h.hits))
 
     apart : captured_pawn m ≢ m.to
     apart e =
@@ -273,17 +214,6 @@ short_is_wing = grind arith
 
 pub long_is_wing : IsWing long_wing
 long_is_wing = grind arith
-
-pub record Castles (p : Parts) (m : Move) (wing : Wing) : Type 0 where
-  pub plain : is_none m.promotion ≡ true
-  pub from : m.from ≡ home p 4
-  pub to : m.to ≡ home p wing.end
-  pub king : own p King m.from ≡ true
-  pub rook : own p Rook (home p wing.rook) ≡ true
-  pub clear : is_clear p.board (home p 4) (home p wing.rook) ≡ true
-
-pub castles_means : (p : Parts) (m : Move) (right : Bool) (wing : Wing) → castles p m right wing ≡ true → Castles p m wing
-castles_means p m right wing h = grind (arith, nat_tests)
 
 pub castling_ends_empty : (p : Parts) (m : Move) (wing : Wing) → IsWing wing → Castles p m wing → is_empty p.board m.to ≡ true
 castling_ends_empty p m wing is_wing h =
@@ -324,7 +254,7 @@ castling_stays p m wing sound is_wing on_from on_to h =
     cornered =
         put_stays p m (carried p m) (home p wing.rook) None (carried_stays p m sound lands) on_rook
         (carried_free p m sound lands (home p wing.rook) on_rook (apart_from wing.rook is_wing.rook_end)
-        (λ c. no_king_with c p.side Rook (at p.board (home p wing.rook)) rook_is_no_king h.rook))
+        (λ c. no_king_with c p.side Rook (at p.board (home p wing.rook)) (λ e. cc) h.rook))
         nothing_plain
 
     crossing_free : (c : Colour) → has_piece c King (at (put (carried p m) (home p wing.rook) None) (home p wing.crossing)) ≡ false

@@ -1,6 +1,6 @@
 -- Where the one king of a colour stands.
 use Rattle.chess_rules.proofs.Words.{Colour, King, Square, Board, at, cell_of, kings, other, has_piece, is_attacked, king_attacked, square_at, king_square, ◌≡◌, ℕ, zero, suc, ◌+◌, ◌<◌, ◌≤◌, Bool, true, false, not, ◌&&◌, refl, sym, ◌∙◌, ap, subst, arith, List, [], ◌∷◌, length, get_or, cond, None, Some, unwrap_or, position, count_by, position_or_len, position-Some, is_count_by, and_from}
-use Rattle.chess_rules.proofs.sets.AllSquares.{first_true, second_true, same_tests, Passes, some_square, any_square}
+use Rattle.chess_rules.proofs.sets.AllSquares.{first_true, second_true, same_tests, Passes, some_square, any_square, cell_of-square_at, square_at-cell_of}
 
 -- How many elements pass, an element at a time.
 
@@ -55,12 +55,6 @@ pub place_found : {X : Type 0} (p : X → Bool) (xs : List X) → 1 ≤ count_by
 place_found p xs h = grind (arith, length, some_place)
 
 -- The king's square.
-
-pub cell_of-square_at : (i : ℕ) → cell_of (square_at i) ≡ i
-cell_of-square_at i = omega arith
-
-pub square_at-cell_of : (s : Square) → s.file < 8 → square_at (cell_of s) ≡ s
-square_at-cell_of s file = grind arith
 
 pub record StandsAt (c : Colour) (b : Board) (k : Square) : Type 0 where
   pub file : k.file < 8

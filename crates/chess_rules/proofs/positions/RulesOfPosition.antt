@@ -1,8 +1,8 @@
 -- The rules of a position, one by one.
-use Rattle.chess_rules.proofs.Words.{Colour, White, Black, King, Parts, PositionFault, Kings, PawnOnEdge, KingCapturable, TargetRank, NumberRange, Square, same_square, Board, at, other, kings, is_pawn, is_attacked, king_attacked, is_position, one_king, pawn_on_edge, target_fits, own, king_square, is_check, parts_of, FitsPosition, ◌≡◌, ℕ, ◌<◌, ◌≤◌, Bool, true, false, not, ◌&&◌, ◌||◌, refl, sym, ◌∙◌, ap, subst, arith, length, ◌==◌, nat_le, Option, None, Some, is_none, if◌then◌else◌, and_from, false_from_ne_true}
+use Rattle.chess_rules.proofs.Words.{Colour, White, Black, King, Parts, PositionFault, Kings, PawnOnEdge, KingCapturable, TargetRank, NumberRange, Square, same_square, Board, at, other, kings, is_pawn, is_attacked, king_attacked, is_position, one_king, pawn_on_edge, target_fits, own, king_square, is_check, parts_of, FitsPosition, ◌≡◌, ℕ, ◌<◌, ◌≤◌, Bool, true, false, not, ◌&&◌, ◌||◌, refl, sym, ◌∙◌, ap, subst, arith, length, ◌==◌, nat_le, Option, None, Some, is_none, if◌then◌else◌, and_from, false_from_ne_true, leb-true}
 use Rattle.chess_rules.specs.declared.position.Position.TheInside.{Inside}
 use Rattle.chess_rules.proofs.sets.AllSquares.{first_true, second_true, same_tests, Passes, some_square, any_square, equal_from, equal_tests}
-use Rattle.chess_rules.proofs.lines.AttackToReach.{squares_same}
+use Rattle.chess_rules.proofs.lines.AttackToReach.{squares_same, other-other}
 use Rattle.chess_rules.proofs.positions.OneKing.{StandsAt, king_stands, king_only_there, king_attacked_there}
 use Rattle.chess_rules.proofs.moves.CellsAfterPut.{OnBoard}
 
@@ -14,6 +14,15 @@ pub record Sound (p : Parts) : Type 0 where
   pub target : target_fits p.side p.target ≡ true
   pub half : p.half ≤ 99999
   pub full : p.full ≤ 99999
+
+module _ {p : Parts} (sound : Sound p) (c : Colour) where
+  -- where the king of the colour stands
+  pub king_of : StandsAt c p.board (king_square c p.board)
+  king_of = king_stands c p.board sound.long (sound.kings_of c)
+
+  -- whether it is attacked is seen from there
+  pub attack_on_king : king_attacked p.board c ≡ is_attacked p.board (other c) (king_square c p.board)
+  attack_on_king = king_attacked_there c p.board sound.long (sound.kings_of c)
 
 pub record NoFault (kings edge attacked target numbers : Bool) : Type 0 where
   pub kings_ok : kings ≡ true
@@ -37,9 +46,6 @@ no_fault a b c d e h = grind arith
 none_from_facts : (a b c d e : Bool) → NoFault a b c d e → is_none (fault_of a b c d e) ≡ true
 none_from_facts a b c d e h = grind arith
 
-at_most : (m n : ℕ) → nat_le m n ≡ true → m ≤ n
-at_most m n h = grind arith
-
 at_most_holds : (m n : ℕ) → m ≤ n → nat_le m n ≡ true
 at_most_holds m n h = grind arith
 
@@ -54,8 +60,8 @@ sound_from_position p h =
       edge = facts.edge_ok;
       safe = facts.attacked_ok;
       target = facts.target_ok;
-      half = at_most p.half 99999 (first_true (nat_le p.half 99999) _ facts.numbers_ok);
-      full = at_most p.full 99999 (second_true (nat_le p.half 99999) _ facts.numbers_ok);
+      half = leb-true p.half 99999 (first_true (nat_le p.half 99999) _ facts.numbers_ok);
+      full = leb-true p.full 99999 (second_true (nat_le p.half 99999) _ facts.numbers_ok);
     }
   where
     one_of : (one_king p.board White && one_king p.board Black) ≡ true → (c : Colour) → kings c p.board ≡ 1
@@ -100,10 +106,7 @@ own_king_seen b c k long white black is = ap (is_attacked b (other c)) is ∙ sy
 
 pub other_king_seen : (b : Board) (c : Colour) (k : Square) → length b ≡ 64 → kings White b ≡ 1
     → kings Black b ≡ 1 → k ≡ king_square (other c) b → is_attacked b c k ≡ king_attacked b (other c)
-other_king_seen b c k long white black is = ap (λ d. is_attacked b d k) (sym (twice c)) ∙ own_king_seen b (other c) k long white black is
-  where
-    twice : (d : Colour) → other (other d) ≡ d
-    twice d = grind arith
+other_king_seen b c k long white black is = ap (λ d. is_attacked b d k) (sym (other-other c)) ∙ own_king_seen b (other c) k long white black is
 
 -- rank 1 or 8
 abbrev pub is_edge : ℕ → Bool
@@ -134,7 +137,7 @@ own_king p s k position file rank is = same_tests _ _ there back ∙ ap (same_sq
     sound = sound_from_position p position
 
     king : StandsAt p.side p.board (king_square p.side p.board)
-    king = king_stands p.side p.board sound.long (sound.kings_of p.side)
+    king = king_of sound p.side
 
     there : own p King s ≡ true → same_square s (king_square p.side p.board) ≡ true
     there h =

@@ -1,5 +1,7 @@
 -- What a test of all 64 squares says of each square.
-use Rattle.chess_rules.proofs.Words.{Square, square, squares, lines, ◌≡◌, ℕ, zero, suc, ◌+◌, ◌<◌, ◌≤◌, Bool, true, not, ◌&&◌, ◌||◌, ◌⊎◌, inl, inr, List, [], ◌∷◌, map, refl, sym, ◌∙◌, ap, subst, arith, ◌==◌, list_all, range_with_len, list_any, flat_map, list_all-append, list_any-append, or_cases, or_left, or_right, and_from}
+use Rattle.chess_rules.proofs.Words.{Square, squares, square_at, cell_of, ◌≡◌, ℕ, suc, ◌<◌, Bool, true, not, ◌&&◌, ◌||◌, inl, inr, List, [], ◌∷◌, length, get_or, map, sym, refl, ◌∙◌, ap, arith, ◌==◌, list_all, range_with_len, list_any, or_cases, get_or-map-range_with_len}
+use Rattle.std.proofs.lemmas.List.Folds.{list_any_at}
+use Rattle.std.proofs.lemmas.List.Sums.{AllPass-from_list_all, list_all-from_AllPass}
 
 pub not_true : (x y : Bool) → x ≡ true → (not x || y) ≡ true → y ≡ true
 not_true x y h g = grind arith
@@ -23,89 +25,41 @@ first_true x y h = grind arith
 pub second_true : (x y : Bool) → (x && y) ≡ true → y ≡ true
 second_true x y h = grind arith
 
-equal_or_above : (a k : ℕ) → a ≤ k → (k ≡ a) ⊎ (a + 1 ≤ k)
-equal_or_above a k h = grind arith
+-- The squares by their places.
 
-pub each_of_range : (test : ℕ → Bool) (a n k : ℕ) → list_all test (range_with_len a n) ≡ true → a ≤ k → k < a + n → test k ≡ true
-each_of_range test a zero k h low high = absurd (omega arith)
-each_of_range test a (suc n) k h low high =
-    elim (equal_or_above a k low) [
-      | inl e ↦ rw e (first_true _ _ h)
-      | inr above ↦ each_of_range test (a + 1) n k (second_true _ _ h) above (omega arith)
-    ]
+pub cell_of-square_at : (i : ℕ) → cell_of (square_at i) ≡ i
+cell_of-square_at i = omega arith
 
-pub range_of_each : (test : ℕ → Bool) (a n : ℕ)
-    → ((k : ℕ) → a ≤ k → k < a + n → test k ≡ true) → list_all test (range_with_len a n) ≡ true
-range_of_each test a zero h = refl
-range_of_each test a (suc n) h =
-    and_from _ _ (h a (omega arith) (omega arith)) (range_of_each test (a + 1) n (λ k low high. h k (omega arith) (omega arith)))
+pub square_at-cell_of : (s : Square) → s.file < 8 → square_at (cell_of s) ≡ s
+square_at-cell_of s file = grind arith
 
-list_all-flat_map : {X Y : Type 0} (test : Y → Bool) (f : X → List Y) (xs : List X)
-    → list_all test (flat_map f xs) ≡ list_all (λ x. list_all test (f x)) xs
-list_all-flat_map test f [] = refl
-list_all-flat_map test f (x ∷ xs) = list_all-append test (f x) (flat_map f xs) ∙ ap (λ v. list_all test (f x) && v) (list_all-flat_map test f xs)
-
--- rank by rank
-by_ranks : (test : Square → Bool) → list_all test squares ≡ list_all (λ rank. list_all test (map (λ file. square file rank) lines)) lines
+pub by_places : squares ≡ map square_at (range_with_len 0 64)
 unfolding squares
-by_ranks test = list_all-flat_map test (λ rank. map (λ file. square file rank) lines) lines
+by_places = refl
 
-by_files : (test : Square → Bool) (rank : ℕ)
-    → list_all test (map (λ file. square file rank) lines) ≡ list_all (λ file. test (square file rank)) lines
-by_files test rank = grind arith
+pub squares_long : length squares ≡ 64
+unfolding squares
+squares_long = refl
+
+pub square_in_place : (i : ℕ) (d : Square) → i < 64 → get_or squares i d ≡ square_at i
+square_in_place i d low = ap (λ ss. get_or ss i d) by_places ∙ get_or-map-range_with_len square_at 0 64 i i d low (omega arith)
 
 -- what passes on all squares passes on each square of the board
 pub each_square : (test : Square → Bool) (u : Square) → list_all test squares ≡ true → u.file < 8 → u.rank < 8 → test u ≡ true
 each_square test u h file rank =
-    let of_rank : list_all test (map (λ file. square file u.rank) lines) ≡ true =
-    each_of_range (λ rank. list_all test (map (λ file. square file rank) lines)) 0 8 u.rank
-    (sym (by_ranks test) ∙ h) (omega arith) (omega arith) in
-    each_of_range (λ file. test (square file u.rank)) 0 8 u.file (sym (by_files test u.rank) ∙ of_rank) (omega arith) (omega arith)
+    ap test (sym (square_in_place (cell_of u) u (omega arith) ∙ square_at-cell_of u file))
+    ∙ AllPass-from_list_all test squares h (cell_of u) u (omega (arith, squares_long))
 
 pub all_squares : (test : Square → Bool) → ((u : Square) → u.file < 8 → u.rank < 8 → test u ≡ true) → list_all test squares ≡ true
 all_squares test h =
-    by_ranks test ∙ range_of_each (λ rank. list_all test (map (λ file. square file rank) lines)) 0 8
-    (λ rank _ high. by_files test rank
-    ∙ range_of_each (λ file. test (square file rank)) 0 8 (λ file _ wide. h (square file rank) (omega arith) (omega arith)))
+    list_all-from_AllPass test squares (λ i d low.
+    let inside : i < 64 = omega (arith, low, squares_long) in
+    ap test (square_in_place i d inside) ∙ h (square_at i) (omega arith) (omega arith))
 
 -- An element that passes.
 
-pub any_of_range : (test : ℕ → Bool) (a n : ℕ) → list_any test (range_with_len a n) ≡ true
-    → (k : ℕ) × (a ≤ k) × (k < a + n) × (test k ≡ true)
-any_of_range test a zero h = cc
-any_of_range test a (suc n) h =
-    elim (or_cases (test a) (list_any test (range_with_len (a + 1) n)) h) [
-      | inl here ↦ (a, omega arith, omega arith, here)
-      | inr later ↦ later_of n (any_of_range test (a + 1) n later)
-    ]
-  where
-    later_of : (m : ℕ) → ((k : ℕ) × (a + 1 ≤ k) × (k < a + 1 + m) × (test k ≡ true))
-        → (k : ℕ) × (a ≤ k) × (k < a + suc m) × (test k ≡ true)
-    later_of m (k, low, high, passes) = (k, omega arith, omega arith, passes)
-
-pub range_of_any : (test : ℕ → Bool) (a n k : ℕ) → a ≤ k → k < a + n → test k ≡ true → list_any test (range_with_len a n) ≡ true
-range_of_any test a zero k low high h = absurd (omega arith)
-range_of_any test a (suc n) k low high h =
-    elim (equal_or_above a k low) [
-      | inl e ↦ or_left _ _ (subst (λ (j : ℕ). test j ≡ true) e h)
-      | inr above ↦ or_right _ _ (range_of_any test (a + 1) n k above (omega arith) h)
-    ]
-
 pub any_same : {X : Type 0} (f g : X → Bool) (xs : List X) → ((x : X) → f x ≡ g x) → list_any f xs ≡ list_any g xs
 any_same f g xs h = grind arith
-
-list_any-flat_map : {X Y : Type 0} (test : Y → Bool) (f : X → List Y) (xs : List X)
-    → list_any test (flat_map f xs) ≡ list_any (λ x. list_any test (f x)) xs
-list_any-flat_map test f [] = refl
-list_any-flat_map test f (x ∷ xs) = list_any-append test (f x) (flat_map f xs) ∙ ap (λ v. list_any test (f x) || v) (list_any-flat_map test f xs)
-
-any_by_ranks : (test : Square → Bool) → list_any test squares ≡ list_any (λ rank. list_any test (map (λ file. square file rank) lines)) lines
-unfolding squares
-any_by_ranks test = list_any-flat_map test (λ rank. map (λ file. square file rank) lines) lines
-
-any_by_files : (test : Square → Bool) (rank : ℕ)
-    → list_any test (map (λ file. square file rank) lines) ≡ list_any (λ file. test (square file rank)) lines
-any_by_files test rank = grind arith
 
 -- some square of the board passes
 pub record Passes (test : Square → Bool) : Type 0 where
@@ -114,14 +68,26 @@ pub record Passes (test : Square → Bool) : Type 0 where
   pub rank : on.rank < 8
   pub holds : test on ≡ true
 
+passing_place : {X : Type 0} (test : X → Bool) (xs : List X) → list_any test xs ≡ true
+    → (i : ℕ) × (i < length xs) × ((d : X) → test (get_or xs i d) ≡ true)
+passing_place test [] h = cc
+passing_place test (x ∷ xs) h = elim (or_cases (test x) (list_any test xs) h) [
+  | inl here ↦ (0, omega arith, λ d. here)
+  | inr later ↦ (let (i, low, passes) = passing_place test xs later in (suc i, omega arith, passes))
+]
+
 pub some_square : (test : Square → Bool) → list_any test squares ≡ true → Passes test
 some_square test h =
-    let (rank, _, high, of_rank) =
-    any_of_range (λ rank. list_any test (map (λ file. square file rank) lines)) 0 8 (sym (any_by_ranks test) ∙ h) in
-    let (file, _, wide, passes) = any_of_range (λ file. test (square file rank)) 0 8 (sym (any_by_files test rank) ∙ of_rank) in
-    record { on = square file rank; file = omega arith; rank = omega arith; holds = passes }
+    let (i, low, passes) = passing_place test squares h in
+    let inside : i < 64 = omega (arith, squares_long) in
+    record {
+      on = square_at i;
+      file = omega arith;
+      rank = omega arith;
+      holds = ap test (sym (square_in_place i (square_at i) inside)) ∙ passes (square_at i);
+    }
 
 pub any_square : (test : Square → Bool) (u : Square) → u.file < 8 → u.rank < 8 → test u ≡ true → list_any test squares ≡ true
 any_square test u file rank h =
-    any_by_ranks test ∙ range_of_any (λ rank. list_any test (map (λ file. square file rank) lines)) 0 8 u.rank (omega arith) (omega arith)
-    (any_by_files test u.rank ∙ range_of_any (λ file. test (square file u.rank)) 0 8 u.file (omega arith) (omega arith) h)
+    list_any_at test squares (cell_of u) u (omega (arith, squares_long))
+    (ap test (square_in_place (cell_of u) u (omega arith) ∙ square_at-cell_of u file) ∙ h)

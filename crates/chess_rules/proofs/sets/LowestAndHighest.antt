@@ -1,7 +1,7 @@
 -- The lowest and the highest place of a set that is not empty.
-use Rattle.chess_rules.proofs.Words.{has, HasNone, IsHighest, IsLowest, IsOnly, ◌≡◌, ℕ, zero, suc, ◌+◌, ◌-◌, ◌*◌, ◌^◌, ◌<◌, ◌≤◌, pow-suc, true, w64, sym, ◌∙◌, ap, subst, arith, ◌==◌, false≢true, bit_at, leading_zeros, trailing_zeros, leading_length, bit_at_above, bit_at-trailing_zeros}
-use Rattle.chess_rules.proofs.sets.AllSquares.{equal_from, equal_tests}
-use Rattle.chess_rules.proofs.sets.WordsToCells.{has_single, has_zero}
+use Rattle.chess_rules.proofs.Words.{has, IsHighest, IsLowest, ◌≡◌, ℕ, zero, suc, ◌+◌, ◌-◌, ◌*◌, ◌^◌, ◌<◌, ◌≤◌, pow-suc, w64, sym, ◌∙◌, ap, arith, ◌==◌, bit_at, leading_zeros, trailing_zeros, leading_length, bit_at_above, bit_at-trailing_zeros, HasNone, IsFrom, IsUpTo, true, not, ◌||◌, nat_lt, false≢true}
+use Rattle.std.proofs.lemmas.Bool.{lt-ltb}
+use Rattle.chess_rules.proofs.sets.WordsToCells.{has_below, has_zero}
 
 pub lowest_place : (n : ℕ) → 0 < n → n < 2 ^ 64 → IsLowest n (trailing_zeros w64 n)
 unfolding has
@@ -28,36 +28,41 @@ highest_place n some fits = by_length (leading_length 64 n fits)
           none = λ i above _. ap (λ d. d == 1) (bit_at_above n (suc j) i high (omega arith));
         }
 
--- The lowest and the highest place alone.
+-- The places up to the first of a set, and those from the last on.
 
-nothing_in : (w i : ℕ) → w ≡ 0 → has w i ≡ true → ⊥
-nothing_in w i none h = false≢true (sym (has_zero i) ∙ (ap (λ n. has n i) (sym none) ∙ h))
+all_there : (i : ℕ) → i < 64 → has (2 ^ 64 - 1) i ≡ true
+all_there i low = has_below 64 i ∙ lt-ltb i 64 low
 
-pub no_lowest : (w : ℕ) → HasNone w → IsOnly IsLowest w w
-no_lowest w none = record { here = λ i low h. absurd (false≢true (sym (none.of i low) ∙ h)); there = λ i l. l.here }
+pub up_to_all : (w : ℕ) → HasNone w → IsUpTo w (2 ^ 64 - 1)
+up_to_all w none = record { none = λ i low _ j before. none.of j (omega arith); here = λ i low _. all_there i low }
 
-pub no_highest : (w : ℕ) → w ≡ 0 → IsOnly IsHighest w w
-no_highest w none = record { here = λ i _ h. absurd (nothing_in w i none h); there = λ i l. absurd (nothing_in w i none l.here) }
+pub from_all : (w : ℕ) → w ≡ 0 → IsFrom w (2 ^ 64 - 1)
+from_all w none = record { none = λ i low _ j _ _. ap (λ n. has n j) none ∙ has_zero j; here = λ i low _. all_there i low }
 
-at_single : (r n i : ℕ) → r ≡ 2 ^ n → has r i ≡ (i == n)
-at_single r n i is = ap (λ m. has m i) is ∙ has_single n i
+not_after : (i n : ℕ) → ((i == n) || nat_lt i n) ≡ true → (n < i → ⊥)
+not_after i n h less = grind arith
 
--- two places of which none is before the other
-one_of_order : (i n : ℕ) → (i < n → ⊥) → (n < i → ⊥) → i ≡ n
-one_of_order i n h g = grind arith
+at_or_before : (i n : ℕ) → (n < i → ⊥) → ((i == n) || nat_lt i n) ≡ true
+at_or_before i n h = grind arith
 
-pub lowest_alone : (w n r : ℕ) → IsLowest w n → r ≡ 2 ^ n → IsOnly IsLowest w r
-lowest_alone w n r lowest is =
-    record {
-      here = λ i _ h. subst (IsLowest w) (sym (equal_from i n (sym (at_single r n i is) ∙ h))) lowest;
-      there = λ i l. at_single r n i is ∙ equal_tests i n (one_of_order i n
-          (λ less. false≢true (sym (lowest.none i less) ∙ l.here)) (λ less. false≢true (sym (l.none n less) ∙ lowest.here)));
-    }
+pub up_to_lowest : (w n r : ℕ) → IsLowest w n → ((i : ℕ) → i < 64 → has r i ≡ ((i == n) || nat_lt i n)) → IsUpTo w r
+up_to_lowest w n r lowest is = record {
+  none = λ i low h j before.
+      let last : (n < i → ⊥) = not_after i n (sym (is i low) ∙ h) in
+      lowest.none j (grind (arith, last));
+  here = λ i low free. is i low ∙ at_or_before i n (λ less. false≢true (sym (free n less) ∙ lowest.here));
+}
 
-pub highest_alone : (w n r : ℕ) → IsHighest w n → r ≡ 2 ^ n → IsOnly IsHighest w r
-highest_alone w n r highest is =
-    record {
-      here = λ i _ h. subst (IsHighest w) (sym (equal_from i n (sym (at_single r n i is) ∙ h))) highest;
-      there = λ i l. at_single r n i is ∙ equal_tests i n (one_of_order i n (λ less. false≢true
-          (sym (l.none n less highest.inside) ∙ highest.here)) (λ less. false≢true (sym (highest.none i less l.inside) ∙ l.here)));
-    }
+not_before : (i n : ℕ) → not (nat_lt i n) ≡ true → (i < n → ⊥)
+not_before i n h less = grind arith
+
+at_or_after : (i n : ℕ) → (i < n → ⊥) → not (nat_lt i n) ≡ true
+at_or_after i n h = grind arith
+
+pub highest_onward : (w n r : ℕ) → IsHighest w n → ((i : ℕ) → i < 64 → has r i ≡ not (nat_lt i n)) → IsFrom w r
+highest_onward w n r highest is = record {
+  none = λ i low h j after high.
+      let first : (i < n → ⊥) = not_before i n (sym (is i low) ∙ h) in
+      highest.none j (grind (arith, first)) high;
+  here = λ i low free. is i low ∙ at_or_after i n (λ less. false≢true (sym (free n less highest.inside) ∙ highest.here));
+}

@@ -1,10 +1,13 @@
 -- Sets of squares: what is in a meet or a union, whether a set is empty, and its members in turn.
-use Rattle.chess_rules.proofs.Words.{Square, squares, cell_of, lone, square_at, Bits, has, has_any, HasNone, IsFirst, IsLowest, members, Places, Sets, TakesLowest, ◌≡◌, ℕ, zero, suc, ◌+◌, ◌<◌, ◌≤◌, ◌^◌, Bool, true, false, not, ◌&&◌, ◌||◌, inl, inr, List, [], ◌∷◌, length, map, cond, refl, sym, ◌∙◌, ap, ap₂, subst, w64, arith, ◌==◌, None, Some, filter, if◌then◌else◌, list_any, range_with_len, trailing_zeros, false≢true}
-use Rattle.chess_rules.proofs.sets.WordsToCells.{has_zero, same_or_apart}
+use Rattle.chess_rules.proofs.Words.{Square, squares, cell_of, lone, square_at, Bits, has, has_any, HasNone, IsFirst, IsLowest, members, Places, Sets, TakesLowest, ◌≡◌, ℕ, zero, suc, ◌+◌, ◌<◌, ◌≤◌, ◌^◌, Bool, true, false, not, ◌&&◌, ◌||◌, inl, inr, List, [], ◌∷◌, length, map, cond, refl, sym, ◌∙◌, ap, ap₂, subst, w64, arith, ◌==◌, None, Some, filter, if◌then◌else◌, list_any, range_with_len, trailing_zeros, false≢true, word, ◌*◌, same_from_bits_below, get_or-range_with_len, length-range_with_len, false_from_ne_true, not-true}
+use mathlib.Core.Bool.{and-true}
+use Rattle.chess_rules.proofs.sets.WordsToCells.{has_zero, same_or_apart, has_word, word_fits, same_bit}
 use Rattle.chess_rules.proofs.sets.LowestAndHighest.{lowest_place}
-use Rattle.chess_rules.proofs.positions.OneKing.{cell_of-square_at, square_at-cell_of}
-use Rattle.chess_rules.proofs.sets.AllSquares.{Passes, some_square, any_square}
+use Rattle.chess_rules.proofs.sets.AllSquares.{Passes, some_square, any_square, by_places, cell_of-square_at, square_at-cell_of, any_same}
 use Rattle.chess_rules.proofs.trying.FoundLists.{list_any-filter}
+use Rattle.std.specs.Int.Count.{ones}
+use Rattle.std.proofs.lemmas.Nat.{ones_cat}
+use Rattle.std.proofs.Common.{add_comm}
 
 pub places_and : (v w r : ℕ) (p q : Square → Bool) → Bits r (λ i. has v i && has w i)
     → Places v p → Places w q → Places r (λ s. p s && q s)
@@ -30,14 +33,11 @@ at_place w test s h inside again = h.of (cell_of s) inside ∙ ap test again
 -- A set is empty exactly if no square passes.
 
 pub none_passes : (w : ℕ) (test : Square → Bool) → Places w test → w ≡ 0 → list_any test squares ≡ false
-none_passes w test h none = by_any (list_any test squares) refl
-  where
-    by_any : (x : Bool) → list_any test squares ≡ x → list_any test squares ≡ false
-    by_any false e = e
-    by_any true e =
-        let found : Passes test = some_square test e in
-        absurd (false≢true (sym (has_zero (cell_of found.on)) ∙ (ap (λ n. has n (cell_of found.on)) (sym none)
-        ∙ (at_square w test found.on h found.file found.rank ∙ found.holds))))
+none_passes w test h none =
+    false_from_ne_true (list_any test squares) (λ e.
+    let found : Passes test = some_square test e in
+    false≢true (sym (has_zero (cell_of found.on)) ∙ (ap (λ n. has n (cell_of found.on)) (sym none)
+    ∙ (at_square w test found.on h found.file found.rank ∙ found.holds))))
 
 pub one_passes : (w : ℕ) (test : Square → Bool) → Places w test → 0 < w → w < 2 ^ 64 → list_any test squares ≡ true
 one_passes w test h some fits =
@@ -63,10 +63,6 @@ empty_test w fits = not_again (w == 0) _ (set_test w (λ s. has w (cell_of s)) (
 
 -- The members in turn.
 
-pub by_places : squares ≡ map square_at (range_with_len 0 64)
-unfolding squares
-by_places = refl
-
 same_filter : (p q : Square → Bool) (a n : ℕ) → ((i : ℕ) → a ≤ i → i < a + n → p (square_at i) ≡ q (square_at i))
     → filter p (map square_at (range_with_len a n)) ≡ filter q (map square_at (range_with_len a n))
 same_filter p q a zero h = refl
@@ -91,15 +87,8 @@ unfolding has_any
 any_of_set w test h = as_found (λ s. has w (cell_of s)) ∙ (any_member w (λ s. has w (cell_of s)) (λ s. true) (itself w)
     ∙ (sym (any_member w test (λ s. true) h) ∙ sym (as_found test)))
   where
-    with_true : (x : Bool) → x ≡ (x && true)
-    with_true x = grind arith
-
-    found_in : (p : Square → Bool) (xs : List Square) → list_any p xs ≡ list_any (λ s. p s && true) xs
-    found_in p [] = refl
-    found_in p (x ∷ xs) = ap₂ (λ u v. u || v) (with_true (p x)) (found_in p xs)
-
     as_found : (p : Square → Bool) → list_any p squares ≡ list_any (λ s. p s && true) squares
-    as_found p = found_in p squares
+    as_found p = any_same p (λ s. p s && true) squares (λ s. sym (and-true (p s)))
 
 -- a set of which none is said to be empty
 pub full_when : (w : ℕ) (test : Square → Bool) (empty : Bool) → Places w test
@@ -112,15 +101,9 @@ full_when w test empty h e = ap not e ∙ (twice (has_any w) ∙ any_of_set w te
 -- nothing is in a set that is empty
 pub none_of_set : (w : ℕ) → not (has_any w) ≡ true → (i : ℕ) → i < 64 → has w i ≡ false
 unfolding has_any
-none_of_set w none i low = by_bit (has w i) refl
-  where
-    apart : (x : Bool) → not x ≡ true → x ≡ true → ⊥
-    apart x h g = grind arith
-
-    by_bit : (x : Bool) → has w i ≡ x → has w i ≡ false
-    by_bit false e = e
-    by_bit true e = absurd
-        (apart _ none (any_square (λ s. has w (cell_of s)) (square_at i) (omega arith) (omega arith) (ap (has w) (cell_of-square_at i) ∙ e)))
+none_of_set w none i low =
+    false_from_ne_true (has w i) (λ e. false≢true (sym (not-true _ none)
+    ∙ any_square (λ s. has w (cell_of s)) (square_at i) (omega arith) (omega arith) (ap (has w) (cell_of-square_at i) ∙ e)))
 
 first_taken : (p q : Square → Bool) (a k n : ℕ) → a ≤ n → n < a + k
     → p (square_at n) ≡ true → ((i : ℕ) → i < n → p (square_at i) ≡ false)
@@ -130,22 +113,16 @@ first_taken p q a zero n low high here none rest = absurd (omega arith)
 first_taken p q a (suc k) n low high here none rest =
     elim (same_or_apart a n) [
       | inl w ↦
-          ap (λ v. cond v (square_at a ∷ filter p (map square_at (range_with_len (a + 1) k)))
-          (filter p (map square_at (range_with_len (a + 1) k)))) (ap (λ j. p (square_at j)) w.0 ∙ here)
-          ∙ (ap₂ (λ j xs. square_at j ∷ xs) w.0 (same_filter p q (a + 1) k
-          (λ i above below. sym (rest i (omega arith) ∙ ap (λ v. if v then false else p (square_at i)) (later i above w.0))))
-          ∙ ap (λ v. square_at n
-          ∷ cond v (square_at a ∷ filter q (map square_at (range_with_len (a + 1) k))) (filter q (map square_at (range_with_len (a + 1) k))))
-          (sym (rest a (omega arith) ∙ ap (λ v. if v then false else p (square_at a)) w.1)))
+          let yes : p (square_at a) ≡ true = ap (λ j. p (square_at j)) w.0 ∙ here in
+          let no : q (square_at a) ≡ false = rest a (omega arith) ∙ ap (λ v. if v then false else p (square_at a)) w.1 in
+          let tail : filter p (map square_at (range_with_len (a + 1) k)) ≡ filter q (map square_at (range_with_len (a + 1) k)) =
+          same_filter p q (a + 1) k
+          (λ i above below. sym (rest i (omega arith) ∙ ap (λ v. if v then false else p (square_at i)) (later i above w.0))) in
+          rw (yes, no, tail) (ap (λ j. square_at j ∷ filter q (map square_at (range_with_len (a + 1) k))) w.0)
       | inr w ↦
-          let early : a < n = less a n low w.0 in
-          let out : p (square_at a) ≡ false = none a early in
-          ap (λ v. cond v (square_at a ∷ filter p (map square_at (range_with_len (a + 1) k)))
-          (filter p (map square_at (range_with_len (a + 1) k)))) out
-          ∙ (first_taken p q (a + 1) k n (omega arith) (omega arith) here none (λ i below. rest i (omega arith))
-          ∙ ap (λ v. square_at n
-          ∷ cond v (square_at a ∷ filter q (map square_at (range_with_len (a + 1) k))) (filter q (map square_at (range_with_len (a + 1) k))))
-          (sym (rest a (omega arith) ∙ (ap (λ v. if v then false else p (square_at a)) w.1 ∙ out))))
+          let out : p (square_at a) ≡ false = none a (less a n low w.0) in
+          let no : q (square_at a) ≡ false = rest a (omega arith) ∙ (ap (λ v. if v then false else p (square_at a)) w.1 ∙ out) in
+          rw (out, no) (first_taken p q (a + 1) k n (omega arith) (omega arith) here none (λ i below. rest i (omega arith)))
     ]
   where
     less : (i j : ℕ) → i ≤ j → (i ≡ j → ⊥) → i < j
@@ -246,3 +223,43 @@ pub one_kept : (p : Square → Bool) → ((i j : ℕ) → i < j → j < 64 → p
     → length (filter p squares) ≤ 1
 one_kept p h =
     subst (λ (xs : List Square). length (filter p xs) ≤ 1) (sym by_places) (one_of_range p 0 64 (λ i j _ less high. h i j less (omega arith)))
+
+-- How many squares a set has: as many as its word has ones.
+
+one_more : {X : Type 0} (v : Bool) (x : X) (xs : List X) → cond v 1 0 + length xs ≡ length (cond v (x ∷ xs) xs)
+one_more v x xs = grind arith
+
+ones_next : (v : Bool) (n : ℕ) → ones ((if v then 1 else 0) + 2 * n) ≡ cond v 1 0 + ones n
+unfolding ones
+ones_next true n = ap ones (let e : 1 + 2 * n ≡ n * 2 ^ 1 + 1 = omega arith in e) ∙ (ones_cat 1 n 1 (omega arith) ∙ add_comm (ones n) 1)
+ones_next false n = ap ones (let e : 0 + 2 * n ≡ n * 2 ^ 1 + 0 = omega arith in e) ∙ (ones_cat 1 n 0 (omega arith) ∙ add_comm (ones n) 0)
+
+module _ {X : Type 0} (test : X → Bool) where
+  ones_kept : (xs : List X) → ones (word test xs) ≡ length (filter test xs)
+  unfolding word ones
+  ones_kept [] = refl
+  ones_kept (x ∷ xs) = ones_next (test x) (word test xs)
+      ∙ (ap (λ n. cond (test x) 1 0 + n) (ones_kept xs) ∙ one_more (test x) x (filter test xs))
+
+-- a set, as the word of its places
+word_of_set : (w : ℕ) → w < 2 ^ 64 → word (has w) (range_with_len 0 64) ≡ w
+word_of_set w fits =
+    same_from_bits_below 64 (word (has w) (range_with_len 0 64)) w
+    (omega (arith, word_fits (has w) (range_with_len 0 64), ap (λ k. 2 ^ k) (length-range_with_len 0 64))) fits
+    (λ i low. same_bit (word (has w) (range_with_len 0 64)) w i
+    (has_word (has w) (range_with_len 0 64) i 0 (omega (arith, low, length-range_with_len 0 64)) ∙ ap (has w) (get_or-range_with_len 0 64 i 0 low ∙ (let e : 0 + i ≡ i = omega arith in e))))
+
+by_squares : (w a n : ℕ) → length (filter (has w) (range_with_len a n))
+    ≡ length (filter (λ s. has w (cell_of s)) (map square_at (range_with_len a n)))
+by_squares w a zero = refl
+by_squares w a (suc n) =
+    sym (one_more (has w a) a (filter (has w) (range_with_len (a + 1) n)))
+    ∙ (ap₂ (λ v k. cond v 1 0 + k) (ap (has w) (sym (cell_of-square_at a))) (by_squares w (a + 1) n)
+    ∙ one_more (has w (cell_of (square_at a))) (square_at a) (filter (λ s. has w (cell_of s)) (map square_at (range_with_len (a + 1) n))))
+
+pub ones_are_members : (w : ℕ) → w < 2 ^ 64 → ones w ≡ length (members w)
+unfolding members
+ones_are_members w fits =
+    ap ones (sym (word_of_set w fits))
+    ∙ (ones_kept (has w) (range_with_len 0 64)
+    ∙ (by_squares w 0 64 ∙ ap (λ xs. length (filter (λ s. has w (cell_of s)) xs)) (sym by_places)))

@@ -1,8 +1,8 @@
 -- Words as sets of places, and what the four words of a board say of its cells.
 use Rattle.std.specs.Int.Bits.{bit_and, bit_or}
 use Rattle.chess_rules.proofs.Words.{Colour, White, Black, Kind, King, Queen, Rook, Bishop, Knight, Pawn, Piece, AreWords, cell_in, cells, has, Places, Sets, coded, straight_of, diagonal_of, word, has_kind, is_near, square_at, at, has_colour, has_piece, ◌≡◌, ℕ, zero, suc, ◌+◌, ◌-◌, ◌*◌, ◌^◌, ◌<◌, ◌≢◌, min, max, Bool, true, false, not, ◌&&◌, ◌||◌, ◌⊎◌, List, [], ◌∷◌, get_or, set, length, length-set, pow-suc, refl, subst, sym, ◌∙◌, ap, ap₂, w64, arith, Option, None, ◌==◌, is_some, nat_lt, if◌then◌else◌, bit_at, bit_not, get_or-set_at, get_or-map-range_with_len, length-map-range_with_len, ext_get_or, get_or-set_other, and_le_r, or_lt, bit_at_and, bit_at_or, bit_at_not, bit_at_lowest, bit_at-suc, bit_at-lt, same_from_bits_below, bit_at-pow_same, bit_at-pow_other, bit_at_ones, bit_at_ones_above}
+use Rattle.chess_rules.proofs.sets.AllSquares.{cell_of-square_at}
 use Rattle.chess_rules.specs.declared.board.Board.TheInside.{Inside}
-use Rattle.chess_rules.proofs.positions.OneKing.{cell_of-square_at}
 
 -- One bit.
 
@@ -216,23 +216,18 @@ module _ (old new : Inside) (k : ℕ) (x : Option Piece) (one two four black : B
       by_place i low h = grind (arith, bits_put, get_or-set_at, long_there, cell_there, get_or-set_other)
 
   pub words_put : AreWords old → AreWords new
-  words_put h = words_again new straight.fits diagonal.fits near.fits blacks.fits (λ i low. by_place i low (i == k) refl)
+  words_put h =
+      words_again new straight.fits diagonal.fits near.fits blacks.fits (λ i low.
+      let kept : BitsOf old i (cell_in old i) = cell_bits old i low h in
+      subst (BitsOf new i) (sym (bits_put i low (i == k) refl))
+      (record {
+        straight = straight.of i low ∙ placed straight_of (i == k) _ _ _ a kept.straight;
+        diagonal = diagonal.of i low ∙ placed diagonal_of (i == k) _ _ _ b kept.diagonal;
+        near = near.of i low ∙ placed is_near (i == k) _ _ _ c kept.near;
+        black = blacks.of i low ∙ placed (has_colour Black) (i == k) _ _ _ d kept.black;
+      }))
     where
-      by_place : (i : ℕ) → i < 64 → (v : Bool) → (i == k) ≡ v → BitsOf new i (cell_in new i)
-      by_place i low true e =
-          subst (BitsOf new i) (sym (bits_put i low true e))
-          (record {
-            straight = straight.of i low ∙ (ap (λ v. if v then one else has old.straight i) e ∙ a);
-            diagonal = diagonal.of i low ∙ (ap (λ v. if v then two else has old.diagonal i) e ∙ b);
-            near = near.of i low ∙ (ap (λ v. if v then four else has old.near i) e ∙ c);
-            black = blacks.of i low ∙ (ap (λ v. if v then black else has old.black i) e ∙ d);
-          })
-      by_place i low false e =
-          let kept : BitsOf old i (cell_in old i) = cell_bits old i low h in
-          subst (BitsOf new i) (sym (bits_put i low false e))
-          (record {
-            straight = straight.of i low ∙ (ap (λ v. if v then one else has old.straight i) e ∙ kept.straight);
-            diagonal = diagonal.of i low ∙ (ap (λ v. if v then two else has old.diagonal i) e ∙ kept.diagonal);
-            near = near.of i low ∙ (ap (λ v. if v then four else has old.near i) e ∙ kept.near);
-            black = blacks.of i low ∙ (ap (λ v. if v then black else has old.black i) e ∙ kept.black);
-          })
+      placed : (test : Option Piece → Bool) (v put before : Bool) (cell : Option Piece) → put ≡ test x → before ≡ test cell
+          → (if v then put else before) ≡ test (if v then x else cell)
+      placed test true put before cell e f = e
+      placed test false put before cell e f = f

@@ -1,15 +1,141 @@
--- A move is legal exactly if one of the pairs that are tried is.
-use Rattle.chess_rules.proofs.Words.{Colour, Kind, King, Knight, Piece, Promotion, Move, Parts, Square, squares, on_board, is_jump, at, same_kind, has_colour, has_piece, is_position, own, is_legal, every_promotion, has_legal_move, sees, king_square, one_move, is_legal_pair, is_king_step, is_untried, has_untried_move, has_king_step, arith, ◌≡◌, Bool, true, false, ◌&&◌, ◌||◌, inl, inr, List, [], ◌∷◌, refl, sym, ◌∙◌, ap₂, subst, Option, None, Some, filter, list_any, or_cases, or_left, or_right, and_from, false_from_ne_true}
-use Rattle.chess_rules.proofs.sets.AllSquares.{first_true, second_true, same_tests, Passes, some_square, any_square}
-use Rattle.chess_rules.proofs.positions.OneKing.{king_stands, king_only_there}
+-- The origin of each step is a candidate, and so is that of each legal move.
+use Rattle.chess_rules.proofs.Words.{Colour, Kind, Pawn, Move, Parts, Square, square, gap, inside, same_square, strictly_between, between_on_rank, Board, at, is_empty, is_clear, is_ahead, kind_attacks, attacks, own, home, home_rank, pawn_rank, double_rank, is_advance, is_double_step, is_pawn_step, crossed, short_right, long_right, short_wing, long_wing, Wing, sees, is_aligned, step, if_safe, is_on_board, board_after, after, CandidatesComplete, StepsFromCandidates, ◌≡◌, ℕ, ◌+◌, ◌/◌, ◌<◌, Bool, true, false, Option, None, Some, option_map, if◌then◌else◌, not, ◌&&◌, ◌||◌, refl, sym, ap₂, subst, arith, ◌==◌, nat_tests, or_cases, or_left, or_right, and_from, King, Knight, Piece, Promotion, squares, is_jump, same_kind, has_colour, has_piece, is_position, is_legal, every_promotion, has_legal_move, king_square, one_move, is_legal_pair, is_king_step, is_untried, has_untried_move, has_king_step, inl, inr, List, [], ◌∷◌, ◌∙◌, filter, list_any, false_from_ne_true}
+use Rattle.chess_rules.proofs.moves.WaysToStep.{Castles, piece_step_means, passing_means, castles_means, way_of, by_piece, by_pawn, by_passing, by_short, by_long}
+use Rattle.chess_rules.proofs.sets.AllSquares.{first_true, second_true, each_square, equal_from, equal_tests, not_true, same_tests, Passes, some_square, any_square}
+use Rattle.chess_rules.proofs.lines.AttackToReach.{near, ahead_gap, attack_seen, clear_if}
+use Rattle.chess_rules.proofs.moves.StepsKeepBoard.{attacks_as, double_ranks, one_kind, colour_of_piece}
+use Rattle.chess_rules.proofs.positions.OneKing.{king_only_there}
 use Rattle.chess_rules.proofs.moves.CellsAfterPut.{OnBoard}
-use Rattle.chess_rules.proofs.positions.RulesOfPosition.{Sound, sound_from_position}
-use Rattle.chess_rules.proofs.moves.StepsKeepBoard.{one_kind}
-use Rattle.chess_rules.proofs.moves.LegalToPosition.{on_board_means, board_stays, Legal}
-use Rattle.chess_rules.proofs.trying.OriginsAreCandidates.{step_seen}
+use Rattle.chess_rules.proofs.positions.RulesOfPosition.{Sound, sound_from_position, king_of}
+use Rattle.chess_rules.proofs.moves.LegalToPosition.{board_stays, Legal, from_on, to_on}
 use Rattle.chess_rules.proofs.trying.FoundLists.{list_any-filter}
 use Rattle.chess_rules.proofs.trying.CandidatesAreFew.{is_rider, kind_cases, sees_by_way}
 use Rattle.chess_rules.proofs.trying.PromotionsAlike.{legal_after, one_will_do}
+
+-- what a piece attacks it sees
+seen_by : (k : Kind) (c : Colour) (p : Parts) (s t : Square) → kind_attacks k c p.board s t ≡ true → sees k p s t ≡ true
+seen_by k c p s t h = grind (arith, attack_seen)
+
+apart_by_rank : (s t : Square) → 0 < gap s.rank t.rank → not (same_square s t) ≡ true
+apart_by_rank s t h = grind arith
+
+advance_seen : (p : Parts) (m : Move) → is_advance p m ≡ true → sees Pawn p m.from m.to ≡ true
+advance_seen p m h =
+    let way : ((m.from.file == m.to.file) && is_ahead p.side m.from.rank m.to.rank) ≡ true = first_true _ (is_empty p.board m.to) h in
+    let file : m.from.file ≡ m.to.file = equal_from m.from.file m.to.file (first_true (m.from.file == m.to.file) _ way) in
+    let rank : gap m.from.rank m.to.rank ≡ 1 = ahead_gap p.side m.from.rank m.to.rank (second_true (m.from.file == m.to.file) _ way) in
+    near p.board m.from m.to (omega arith) (omega arith) (apart_by_rank m.from m.to (omega arith))
+
+-- what lies between two squares of one file, or of one rank
+
+file_means : (s u t : Square) → s.file ≡ t.file → strictly_between s u t ≡ true
+    → (u.file ≡ s.file) × (inside s.rank u.rank t.rank ≡ true)
+file_means s u t same h = grind (arith, nat_tests)
+
+rank_means : (s u t : Square) → s.rank ≡ t.rank → strictly_between s u t ≡ true → between_on_rank s u t ≡ true
+rank_means s u t same h = grind (arith, nat_tests)
+
+middle : (c : Colour) (a b x : ℕ) → a ≡ pawn_rank c → b ≡ double_rank c → inside a x b ≡ true → x ≡ (a + b) / 2
+middle c a b x low high h = grind arith
+
+-- a pawn's double step is seen: the one square between is empty
+double_seen : (p : Parts) (m : Move) → is_double_step p m ≡ true → sees Pawn p m.from m.to ≡ true
+double_seen p m h =
+    let way : ((m.from.file == m.to.file) && ((m.from.rank == pawn_rank p.side) && (m.to.rank == double_rank p.side))) ≡ true =
+    first_true _ (is_empty p.board (crossed m) && is_empty p.board m.to) h in
+    let free : is_empty p.board (crossed m) ≡ true =
+    first_true (is_empty p.board (crossed m)) (is_empty p.board m.to)
+    (second_true ((m.from.file == m.to.file) && ((m.from.rank == pawn_rank p.side) && (m.to.rank == double_rank p.side))) _ h) in
+    let file : m.from.file ≡ m.to.file = equal_from m.from.file m.to.file (first_true (m.from.file == m.to.file) _ way) in
+    let ranks : (m.from.rank ≡ pawn_rank p.side) × (m.to.rank ≡ double_rank p.side) = double_ranks p m h in
+    let apart : 0 < gap m.from.rank m.to.rank = some_ranks p.side m.from.rank m.to.rank ranks.0 ranks.1 in
+    and_from _ _
+    (or_left _ _ (and_from _ _ (or_right _ _ (equal_tests m.from.file m.to.file file)) (apart_by_rank m.from m.to apart)))
+    (clear_if p.board m.from m.to (λ u _ _ between.
+    let place : (u.file ≡ m.from.file) × (inside m.from.rank u.rank m.to.rank ≡ true) = file_means m.from u m.to file between in
+    subst (λ (v : Square). is_empty p.board v ≡ true)
+    (sym (ap₂ square place.0 (middle p.side m.from.rank m.to.rank u.rank ranks.0 ranks.1 place.1))) free))
+  where
+    some_ranks : (c : Colour) (a b : ℕ) → a ≡ pawn_rank c → b ≡ double_rank c → 0 < gap a b
+    some_ranks c a b low high = grind arith
+
+-- Castling: the king sees its end over the square that it crosses.
+
+-- a part of a clear way on one rank is clear
+clear_part : (b : Board) (r e k : ℕ) → ((x : ℕ) → inside 4 x e ≡ true → inside 4 x k ≡ true)
+    → is_clear b (square 4 r) (square k r) ≡ true → is_clear b (square 4 r) (square e r) ≡ true
+clear_part b r e k wider h =
+    clear_if b (square 4 r) (square e r) (λ u file rank between.
+    let on : between_on_rank (square 4 r) u (square e r) ≡ true = rank_means (square 4 r) u (square e r) refl between in
+    let rest : ((u.rank == r) && inside 4 u.file e) ≡ true = second_true (r == r) _ on in
+    not_true (strictly_between (square 4 r) u (square k r)) _
+    (or_left _ _ (and_from (r == r) _ (first_true (r == r) _ on)
+    (and_from (u.rank == r) _ (first_true (u.rank == r) _ rest) (wider u.file (second_true (u.rank == r) _ rest)))))
+    (each_square (λ v. not (strictly_between (square 4 r) v (square k r)) || is_empty b v) u h file rank))
+
+short_part : (x : ℕ) → inside 4 x 6 ≡ true → inside 4 x 7 ≡ true
+short_part x h = grind arith
+
+long_part : (x : ℕ) → inside 4 x 2 ≡ true → inside 4 x 0 ≡ true
+long_part x h = grind arith
+
+short_way : (b : Board) (c : Colour) → is_clear b (square 4 (home_rank c)) (square 7 (home_rank c)) ≡ true
+    → (is_aligned (square 4 (home_rank c)) (square 6 (home_rank c)) && is_clear b (square 4 (home_rank c)) (square 6 (home_rank c))) ≡ true
+short_way b c h = grind (arith, clear_part, short_part)
+
+long_way : (b : Board) (c : Colour) → is_clear b (square 4 (home_rank c)) (square 0 (home_rank c)) ≡ true
+    → (is_aligned (square 4 (home_rank c)) (square 2 (home_rank c)) && is_clear b (square 4 (home_rank c)) (square 2 (home_rank c))) ≡ true
+long_way b c h = grind (arith, clear_part, long_part)
+
+-- Each way to step.
+
+sees_pawn : (p : Parts) (k : Kind) (s t : Square) → own p k s ≡ true
+    → own p Pawn s ≡ true → sees Pawn p s t ≡ true → sees k p s t ≡ true
+sees_pawn p k s t h g seen = grind arith
+
+by_attack : (p : Parts) (m : Move) (k : Kind) → own p k m.from ≡ true → attacks p.board m.from m.to ≡ true → sees k p m.from m.to ≡ true
+by_attack p m k h g = seen_by k p.side p m.from m.to (attacks_as p.side k (at p.board m.from) p.board m.from m.to h g)
+
+seen_by_pawn : (p : Parts) (m : Move) (k : Kind) → own p k m.from ≡ true → is_pawn_step p m ≡ true → sees k p m.from m.to ≡ true
+seen_by_pawn p m k h g = grind (arith, or_cases, sees_pawn, advance_seen, double_seen, by_attack, first_true, second_true)
+
+by_castling : (p : Parts) (m : Move) (k : Kind) (wing : Wing) → (is_clear p.board (home p 4) (home p wing.rook) ≡ true
+    → (is_aligned (home p 4) (home p wing.end) && is_clear p.board (home p 4) (home p wing.end)) ≡ true)
+    → own p k m.from ≡ true → Castles p m wing → sees k p m.from m.to ≡ true
+by_castling p m k wing way h g = grind arith
+
+pub step_seen : (p : Parts) (m : Move) (k : Kind) (b : Board) → own p k m.from ≡ true
+    → board_after p m ≡ Some b → sees k p m.from m.to ≡ true
+step_seen p m k b h stepped =
+    elim (way_of p m b stepped) [
+      | by_piece w _ ↦ by_attack p m k h (piece_step_means p m w).hits
+      | by_pawn w _ ↦ seen_by_pawn p m k h w
+      | by_passing w _ ↦ by_attack p m k h (passing_means p m w).hits
+      | by_short w _ ↦
+          by_castling p m k short_wing (short_way p.board p.side) h (castles_means p m (short_right p.side p.rights) short_wing w)
+      | by_long w _ ↦ by_castling p m k long_wing (long_way p.board p.side) h (castles_means p m (long_right p.side p.rights) long_wing w)
+    ]
+
+-- what the parts after a step say of it
+board_of : (p : Parts) (m : Move) (q : Parts) (on : Bool) (o : Option Board)
+    → (if on then option_map (after p m) o else None) ≡ Some q → (b : Board) × (o ≡ Some b)
+board_of p m q true None h = cc
+board_of p m q true (Some b) h = (b, refl)
+board_of p m q false o h = cc
+
+-- a legal move is a step
+step_of : (o : Option Parts) (q : Parts) → if_safe o ≡ Some q → o ≡ Some q
+step_of o q h = grind arith
+
+pub steps_from_candidates : StepsFromCandidates
+steps_from_candidates p q m k h own =
+    let (b, stepped) = board_of p m q (is_on_board m) (board_after p m) h in
+    and_from _ _ own (step_seen p m k b own stepped)
+
+pub candidates_complete : CandidatesComplete
+candidates_complete p q m k h own = steps_from_candidates p q m k (step_of (step p m) q h) own
+
+-- A move is legal exactly if one of the pairs that are tried is.
 
 -- What is hit is a legal move.
 
@@ -24,8 +150,8 @@ moves_when p m h = by_squares (legal_after p m h)
   where
     by_squares : ((q : Parts) × Legal p m q) → has_legal_move p ≡ true
     by_squares (q, l) =
-        let from : OnBoard m.from = on_board_means m.from (first_true (on_board m.from) _ l.on) in
-        let to : OnBoard m.to = on_board_means m.to (second_true (on_board m.from) _ l.on) in
+        let from : OnBoard m.from = from_on m l.on in
+        let to : OnBoard m.to = to_on m l.on in
         any_square (λ s. list_any (λ t. some_promotion p s t) squares) m.from from.file from.rank
         (any_square (λ t. some_promotion p m.from t) m.to to.file to.rank
         (any_promotion (λ promotion. is_legal p (record { from = m.from; to = m.to; promotion = promotion })) m.promotion h))
@@ -62,9 +188,6 @@ kind_there c (Some x) h = (x.kind, and_from _ _ h (itself x.kind))
     itself : (k : Kind) → same_kind k k ≡ true
     itself k = grind arith
 
-colour_there : (c : Colour) (k : Kind) (cell : Option Piece) → has_piece c k cell ≡ true → has_colour c cell ≡ true
-colour_there c k cell h = grind arith
-
 king_hit : (p : Parts) (s t : Square) → Sound p → OnBoard s → OnBoard t → own p King s ≡ true
     → is_king_step p t ≡ true → is_legal_pair p s t ≡ true → has_king_step p ≡ true
 unfolding has_king_step
@@ -75,7 +198,7 @@ king_hit p s t sound on_s on_t owns step h =
   where
     one : s ≡ king_square p.side p.board
     one = king_only_there p.side p.board s (king_square p.side p.board) sound.long (sound.kings_of p.side)
-        (record { file = on_s.file; rank = on_s.rank; king = owns }) (king_stands p.side p.board sound.long (sound.kings_of p.side))
+        (record { file = on_s.file; rank = on_s.rank; king = owns }) (king_of sound p.side)
 
 other_hit : (p : Parts) (s t : Square) → OnBoard s → OnBoard t → is_untried p t s ≡ true
     → is_legal_pair p s t ≡ true → list_any (has_untried_move p) squares ≡ true
@@ -91,7 +214,7 @@ jump_untried p s t owns jumps = grind arith
 way_untried : (p : Parts) (k : Kind) (s t : Square) → own p k s ≡ true → is_rider k ≡ true
     → sees k p s t ≡ true → (is_king_step p t && own p King s) ≡ false → is_untried p t s ≡ true
 way_untried p k s t owns rides seen far =
-    grind (arith, or_right, and_from, colour_there, first_true, second_true, sees_by_way, false_from_ne_true, is_rider, one_kind)
+    grind (arith, or_right, and_from, colour_of_piece, first_true, second_true, sees_by_way, false_from_ne_true, is_rider, one_kind)
 
 hit_when : (p : Parts) (m : Move) → is_position p ≡ true → is_legal p m ≡ true
     → (has_king_step p || list_any (has_untried_move p) squares) ≡ true
@@ -124,8 +247,7 @@ hit_when p m position h = by_legal (legal_after p m h)
     by_legal : ((q : Parts) × Legal p m q) → (has_king_step p || list_any (has_untried_move p) squares) ≡ true
     by_legal (q, l) =
         let (k, owns) = kind_there p.side (at p.board m.from) (board_stays p m l.board sound l.on l.stepped).own in
-        by_kind (on_board_means m.from (first_true (on_board m.from) _ l.on))
-        (on_board_means m.to (second_true (on_board m.from) _ l.on)) k owns (step_seen p m k l.board owns l.stepped)
+        by_kind (from_on m l.on) (to_on m l.on) k owns (step_seen p m k l.board owns l.stepped)
 
 promotion_of : (p : Parts) (s t : Square) (os : List (Option Promotion))
     → list_any (λ promotion. is_legal p (record { from = s; to = t; promotion = promotion })) os ≡ true

@@ -1,11 +1,12 @@
 -- How many pairs there are: the king's single steps and the others, target by target, and at most
 -- sixteen for each.
-use Rattle.chess_rules.proofs.Words.{Kind, King, Queen, Rook, Bishop, Knight, Pawn, Piece, Parts, Square, squares, same_square, is_adjacent, is_jump, at, same_kind, has_colour, has_piece, is_clear, own, sees, is_candidate, candidates, kinds, pair_count, is_aligned, king_square, square_at, is_king_step, is_untried, count_untried, count_king_steps, ◌≡◌, ℕ, zero, suc, ◌+◌, ◌*◌, ◌<◌, ◌≤◌, Bool, true, false, not, cond, ◌&&◌, ◌||◌, List, [], ◌∷◌, map, length, inl, inr, refl, sym, ◌∙◌, ap, subst, arith, Option, is_some, filter, list_any, sum_by, range_with_len, IsDistinct, fold-map, sum_by-cons, sum_by-le-sum_by, length-from_same_keys, or_cases, or_left, and_from}
-use Rattle.chess_rules.proofs.sets.AllSquares.{first_true, second_true, same_tests, Passes, some_square, any_square}
-use Rattle.chess_rules.proofs.positions.OneKing.{StandsAt, king_stands, king_only_there}
-use Rattle.chess_rules.proofs.positions.RulesOfPosition.{Sound}
+use Rattle.chess_rules.proofs.Words.{Kind, King, Queen, Rook, Bishop, Knight, Pawn, Piece, Parts, Square, squares, same_square, is_adjacent, is_jump, at, same_kind, has_colour, has_piece, is_clear, own, sees, is_candidate, candidates, kinds, pair_count, is_aligned, king_square, square_at, is_king_step, is_untried, count_untried, count_king_steps, ◌≡◌, ℕ, ◌+◌, ◌<◌, ◌≤◌, Bool, true, false, not, cond, ◌&&◌, ◌||◌, List, [], ◌∷◌, length, inl, inr, refl, sym, ◌∙◌, ap, subst, arith, Option, is_some, filter, list_any, sum_by, IsDistinct, sum_by-cons, sum_by-le-sum_by, length-from_same_keys, or_cases, or_left, and_from}
+use Rattle.std.proofs.lemmas.List.Sums.{sum_by-le}
+use Rattle.chess_rules.proofs.sets.AllSquares.{first_true, second_true, same_tests, Passes, some_square, any_square, squares_long, square_in_place}
+use Rattle.chess_rules.proofs.positions.OneKing.{StandsAt, king_only_there}
+use Rattle.chess_rules.proofs.positions.RulesOfPosition.{Sound, king_of}
 use Rattle.chess_rules.proofs.moves.CellsAfterPut.{OnBoard}
-use Rattle.chess_rules.proofs.lines.AttackToReach.{attack_seen, is_in_view}
+use Rattle.chess_rules.proofs.lines.AttackToReach.{attack_seen, is_in_view, adjacent_back}
 use Rattle.chess_rules.proofs.trying.FoundLists.{list_any-filter}
 use Rattle.chess_rules.proofs.lines.InView.{few_in_view}
 use Rattle.chess_rules.proofs.trying.CandidatesAreFew.{square_laws, candidates_apart, few_jumps}
@@ -24,32 +25,6 @@ sum_both f g (x ∷ xs) =
     let d : sum_by (λ y. f y + g y) xs ≡ sum_by f xs + sum_by g xs = sum_both f g xs in
     omega arith
 
-sum_range_most : (f : ℕ → ℕ) (m a n limit : ℕ) → a + n ≤ limit
-    → ((i : ℕ) → i < limit → f i ≤ m) → sum_by f (range_with_len a n) ≤ n * m
-sum_range_most f m a zero limit low h = omega arith
-sum_range_most f m a (suc n) limit low h =
-    let first : f a ≤ m = h a (omega arith) in
-    let rest : sum_by f (range_with_len (a + 1) n) ≤ n * m = sum_range_most f m (a + 1) n limit (omega arith) h in
-    let e : sum_by f (a ∷ range_with_len (a + 1) n) ≡ f a + sum_by f (range_with_len (a + 1) n) = sum_by-cons f a (range_with_len (a + 1) n) in
-    more (f a) (sum_by f (range_with_len (a + 1) n)) n m first rest e
-  where
-    more : (x y k l : ℕ) → x ≤ l → y ≤ k * l → sum_by f (a ∷ range_with_len (a + 1) n) ≡ x + y
-        → sum_by f (a ∷ range_with_len (a + 1) n) ≤ suc k * l
-    more x y k l u v e = grind arith
-
-sum_five : {X : Type 0} (f g h i j : X → ℕ) (xs : List X)
-    → sum_by (λ x. f x + g x + h x + i x + j x) xs ≡ sum_by f xs + sum_by g xs + sum_by h xs + sum_by i xs + sum_by j xs
-sum_five f g h i j xs =
-    let a : sum_by (λ x. f x + g x + h x + i x + j x) xs ≡ sum_by (λ x. f x + g x + h x + i x) xs + sum_by j xs =
-    sum_both (λ x. f x + g x + h x + i x) j xs in
-    let b : sum_by (λ x. f x + g x + h x + i x) xs ≡ sum_by (λ x. f x + g x + h x) xs + sum_by i xs = sum_both (λ x. f x + g x + h x) i xs in
-    let c : sum_by (λ x. f x + g x + h x) xs ≡ sum_by (λ x. f x + g x) xs + sum_by h xs = sum_both (λ x. f x + g x) h xs in
-    let d : sum_by (λ x. f x + g x) xs ≡ sum_by f xs + sum_by g xs = sum_both f g xs in
-    omega arith
-
-pub adjacent_back : (s t : Square) → is_adjacent s t ≡ is_adjacent t s
-adjacent_back s t = grind arith
-
 -- The king is the one candidate of its kind where it stands side by side with the target.
 
 one_apart : (s : Square) → IsDistinct same_square (s ∷ [])
@@ -66,7 +41,7 @@ one_king_near p t sound near =
     king = king_square p.side p.board
 
     stands : StandsAt p.side p.board (king_square p.side p.board)
-    stands = king_stands p.side p.board sound.long (sound.kings_of p.side)
+    stands = king_of sound p.side
 
     sees_near : is_adjacent (king_square p.side p.board) t ≡ true → sees King p (king_square p.side p.board) t ≡ true
     sees_near h = elim (attack_seen King p.side p.board (king_square p.side p.board) t h) [ inl e ↦ cc | inr seen ↦ seen ]
@@ -111,72 +86,59 @@ pub sum_none : {X : Type 0} (xs : List X) → sum_by (λ x. 0) xs ≡ 0
 sum_none [] = refl
 sum_none (x ∷ xs) = sum_by-cons (λ y. 0) x xs ∙ ap (λ n. 0 + n) (sum_none xs)
 
-abbrev kind_bit : Bool → Kind → Kind → Bool → ℕ
-kind_bit v k l sees = bit ((v && same_kind k l) && sees)
+-- sums over two lists, in either order
+pub sum_swap : {X Y : Type 0} (f : X → Y → ℕ) (xs : List X) (ys : List Y)
+    → sum_by (λ x. sum_by (λ y. f x y) ys) xs ≡ sum_by (λ y. sum_by (λ x. f x y) xs) ys
+sum_swap f [] ys = sym (sum_none ys)
+sum_swap f (x ∷ xs) ys =
+    sum_by-cons (λ u. sum_by (λ y. f u y) ys) x xs
+    ∙ (ap (λ n. sum_by (λ y. f x y) ys + n) (sum_swap f xs ys)
+    ∙ (sym (sum_both (λ y. f x y) (λ y. sum_by (λ u. f u y) xs) ys)
+    ∙ sum_same (λ y. f x y + sum_by (λ u. f u y) xs) (λ y. sum_by (λ u. f u y) (x ∷ xs)) ys (λ y. sym (sum_by-cons (λ u. f u y) x xs))))
+
+-- the sum over the six kinds
+abbrev of_kinds : (Kind → ℕ) → ℕ
+of_kinds f = f King + f Queen + f Rook + f Bishop + f Knight + f Pawn
+
+-- a knight jumps, and what else sees the square does so by a way
+abbrev by_way : Kind → Bool → Bool → Bool
+by_way Knight jumps way = jumps
+by_way _ jumps way = way
 
 one_kind : (v : Bool) (k : Kind) (step jumps aligned clear : Bool)
-    → kind_bit v King k (aligned && clear) + kind_bit v Queen k (aligned && clear) + kind_bit v Rook k (aligned && clear)
-    + kind_bit v Bishop k (aligned && clear) + kind_bit v Knight k jumps + kind_bit v Pawn k (aligned && clear)
+    → of_kinds (λ l. bit ((v && same_kind k l) && by_way l jumps (aligned && clear)))
     ≡ bit (((v && same_kind Knight k) && jumps)
     || ((((v && not (v && same_kind Knight k)) && aligned) && not (step && (v && same_kind King k))) && clear))
     + bit (step && ((v && same_kind King k) && (aligned && clear)))
 one_kind v k step jumps aligned clear = grind arith
 
 abbrev of_six : Parts → Square → Square → ℕ
-of_six p t s =
-    bit (is_candidate p King t s) + bit (is_candidate p Queen t s) + bit (is_candidate p Rook t s)
-    + bit (is_candidate p Bishop t s) + bit (is_candidate p Knight t s) + bit (is_candidate p Pawn t s)
+of_six p t s = of_kinds (λ k. bit (is_candidate p k t s))
 
 one_piece : (p : Parts) (t s : Square) → of_six p t s ≡ bit (is_untried p t s) + bit (is_king_step p t && is_candidate p King t s)
 one_piece p t s = by_cell (at p.board s) (is_king_step p t) (is_jump s t) (is_aligned s t) (is_clear p.board s t)
   where
     by_cell : (cell : Option Piece) (step jumps aligned clear : Bool)
-        → bit (has_piece p.side King cell && (aligned && clear)) + bit (has_piece p.side Queen cell && (aligned && clear))
-        + bit (has_piece p.side Rook cell && (aligned && clear)) + bit (has_piece p.side Bishop cell && (aligned && clear))
-        + bit (has_piece p.side Knight cell && jumps) + bit (has_piece p.side Pawn cell && (aligned && clear))
+        → of_kinds (λ k. bit (has_piece p.side k cell && by_way k jumps (aligned && clear)))
         ≡ bit ((has_piece p.side Knight cell && jumps)
         || ((((has_colour p.side cell && not (has_piece p.side Knight cell)) && aligned) && not (step && has_piece p.side King cell)) && clear))
         + bit (step && (has_piece p.side King cell && (aligned && clear)))
     by_cell cell step jumps aligned clear = grind (arith, one_kind)
 
-sum_six : {X : Type 0} (f g h i j k : X → ℕ) (xs : List X)
-    → sum_by (λ x. f x + g x + h x + i x + j x + k x) xs ≡ sum_by f xs + sum_by g xs + sum_by h xs + sum_by i xs + sum_by j xs + sum_by k xs
-sum_six f g h i j k xs = sum_both (λ x. f x + g x + h x + i x + j x) k xs ∙ ap (λ n. n + sum_by k xs) (sum_five f g h i j xs)
-
 of_target_six : (p : Parts) (t : Square) → of_target p t ≡ sum_by (of_six p t) squares
 of_target_six p t =
-    let a : length (candidates p King t) ≡ sum_by (λ s. bit (is_candidate p King t s)) squares = length_by_bits (is_candidate p King t) squares in
-    let b : length (candidates p Queen t) ≡ sum_by (λ s. bit (is_candidate p Queen t s)) squares =
-    length_by_bits (is_candidate p Queen t) squares in
-    let c : length (candidates p Rook t) ≡ sum_by (λ s. bit (is_candidate p Rook t s)) squares = length_by_bits (is_candidate p Rook t) squares in
-    let d : length (candidates p Bishop t) ≡ sum_by (λ s. bit (is_candidate p Bishop t s)) squares =
-    length_by_bits (is_candidate p Bishop t) squares in
-    let e : length (candidates p Knight t) ≡ sum_by (λ s. bit (is_candidate p Knight t s)) squares =
-    length_by_bits (is_candidate p Knight t) squares in
-    let f : length (candidates p Pawn t) ≡ sum_by (λ s. bit (is_candidate p Pawn t s)) squares = length_by_bits (is_candidate p Pawn t) squares in
-    let all : sum_by (of_six p t) squares
-    ≡ sum_by (λ s. bit (is_candidate p King t s)) squares + sum_by (λ s. bit (is_candidate p Queen t s)) squares
-    + sum_by (λ s. bit (is_candidate p Rook t s)) squares + sum_by (λ s. bit (is_candidate p Bishop t s)) squares
-    + sum_by (λ s. bit (is_candidate p Knight t s)) squares + sum_by (λ s. bit (is_candidate p Pawn t s)) squares =
-    sum_six (λ s. bit (is_candidate p King t s)) (λ s. bit (is_candidate p Queen t s)) (λ s. bit (is_candidate p Rook t s))
-    (λ s. bit (is_candidate p Bishop t s)) (λ s. bit (is_candidate p Knight t s)) (λ s. bit (is_candidate p Pawn t s)) squares in
-    omega arith
+    sum_same (λ k. length (candidates p k t)) _ kinds (λ k. length_by_bits (is_candidate p k t) squares)
+    ∙ (sum_swap (λ k s. bit (is_candidate p k t s)) kinds squares ∙ sum_same _ (of_six p t) squares (λ s. six s))
+  where
+    six : (s : Square) → sum_by (λ k. bit (is_candidate p k t s)) kinds ≡ of_six p t s
+    six s = omega arith
 
 -- of the six kinds one at most is there, and it is in view or a jump away
 six_most : (p : Parts) (t s : Square) → of_six p t s ≤ bit (is_in_view p.board t s) + bit (is_jump s t)
 six_most p t s = by_cell (at p.board s) (is_jump s t) (is_aligned s t) (is_clear p.board s t)
   where
-    one_at_most : (v : Bool) (k : Kind) (jumps aligned clear : Bool)
-        → kind_bit v King k (aligned && clear) + kind_bit v Queen k (aligned && clear) + kind_bit v Rook k (aligned && clear)
-        + kind_bit v Bishop k (aligned && clear) + kind_bit v Knight k jumps + kind_bit v Pawn k (aligned && clear)
-        ≤ bit (aligned && clear) + bit jumps
-    one_at_most v k jumps aligned clear = grind arith
-
     by_cell : (cell : Option Piece) (jumps aligned clear : Bool)
-        → bit (has_piece p.side King cell && (aligned && clear)) + bit (has_piece p.side Queen cell && (aligned && clear))
-        + bit (has_piece p.side Rook cell && (aligned && clear)) + bit (has_piece p.side Bishop cell && (aligned && clear))
-        + bit (has_piece p.side Knight cell && jumps) + bit (has_piece p.side Pawn cell && (aligned && clear))
-        ≤ bit (aligned && (is_some cell && clear)) + bit jumps
+        → of_kinds (λ k. bit (has_piece p.side k cell && by_way k jumps (aligned && clear))) ≤ bit (aligned && (is_some cell && clear)) + bit jumps
     by_cell cell jumps aligned clear = grind arith
 
 target_most : (p : Parts) (t : Square) → OnBoard t → of_target p t ≤ 16
@@ -218,20 +180,6 @@ target_parts p t sound =
 
 -- All targets.
 
-unfoldable indexes : List ℕ
-indexes = range_with_len 0 64
-
-squares_are : squares ≡ map square_at indexes
-unfolding squares indexes
-squares_are = refl
-
-pub on_board_at : (i : ℕ) → i < 64 → OnBoard (square_at i)
-on_board_at i low = record { file = omega arith; rank = omega arith }
-
-pair_count_is : (p : Parts) → pair_count p ≡ sum_by (λ i. of_target p (square_at i)) indexes
-unfolding pair_count
-pair_count_is p = ap (sum_by (of_target p)) squares_are ∙ fold-map (λ n t. n + of_target p t) square_at 0 indexes
-
 pub pair_count_parts : (p : Parts) → Sound p → count_king_steps p + sum_by (count_untried p) squares ≡ pair_count p
 unfolding count_king_steps pair_count
 pair_count_parts p sound =
@@ -240,5 +188,13 @@ pair_count_parts p sound =
     ∙ ap (λ n. n + sum_by (count_untried p) squares) (sym (length_by_bits (is_king_step p) squares))))
 
 pub pair_count_most : (p : Parts) → pair_count p ≤ 1024
-unfolding indexes
-pair_count_most p = grind (arith, pair_count_is, sum_range_most, target_most, on_board_at)
+unfolding pair_count
+pair_count_most p =
+    omega (
+      arith,
+      squares_long,
+      sum_by-le (of_target p) 16 squares (λ i d low.
+          let inside : i < 64 = omega (arith, low, squares_long) in
+          subst (λ t. of_target p t ≤ 16) (sym (square_in_place i d inside))
+          (target_most p (square_at i) (record { file = omega arith; rank = omega arith }))),
+    )

@@ -1,9 +1,9 @@
 -- The pairs that are tried, origin by origin, are those that are tried target by target.
 use Rattle.chess_rules.proofs.Words.{King, Knight, Parts, Square, squares, is_jump, at, cell_of, has_colour, own, is_clear, is_aligned, square_at, has, members, Places, Bits, TakesLowest, is_king_step, is_untried, count_untried, ◌≡◌, ℕ, ◌+◌, ◌<◌, Bool, true, false, not, cond, ◌&&◌, ◌||◌, List, [], ◌∷◌, length, refl, sym, ◌∙◌, ap, ap₂, arith, filter, sum_by, sum_by-cons, if◌then◌else◌, ◌==◌}
-use Rattle.chess_rules.proofs.positions.OneKing.{cell_of-square_at, square_at-cell_of}
+use Rattle.chess_rules.proofs.sets.AllSquares.{cell_of-square_at, square_at-cell_of}
 use Rattle.chess_rules.proofs.lines.SeenAlong.{clear_back, aligned_back}
 use Rattle.chess_rules.proofs.sets.SetsToSquares.{members_are}
-use Rattle.chess_rules.proofs.trying.PairCounts.{bit, length_by_bits, sum_none, sum_same, sum_both}
+use Rattle.chess_rules.proofs.trying.PairCounts.{bit, length_by_bits, sum_none, sum_same, sum_swap}
 use Rattle.chess_rules.proofs.trying.SearchThatCounts.{CountsLeft, next_counts}
 
 -- The targets of one origin.
@@ -47,15 +47,6 @@ module _ (p : Parts) (s t : Square) where
   none_but_own other = grind arith
 
 -- Sums both ways.
-
-sum_swap : {X Y : Type 0} (f : X → Y → ℕ) (xs : List X) (ys : List Y)
-    → sum_by (λ x. sum_by (λ y. f x y) ys) xs ≡ sum_by (λ y. sum_by (λ x. f x y) xs) ys
-sum_swap f [] ys = sym (sum_none ys)
-sum_swap f (x ∷ xs) ys =
-    sum_by-cons (λ u. sum_by (λ y. f u y) ys) x xs
-    ∙ (ap (λ n. sum_by (λ y. f x y) ys + n) (sum_swap f xs ys)
-    ∙ (sym (sum_both (λ y. f x y) (λ y. sum_by (λ u. f u y) xs) ys)
-    ∙ sum_same (λ y. f x y + sum_by (λ u. f u y) xs) (λ y. sum_by (λ u. f u y) (x ∷ xs)) ys (λ y. sym (sum_by-cons (λ u. f u y) x xs))))
 
 sum_kept : {X : Type 0} (cost : X → ℕ) (kept : X → Bool) (xs : List X)
     → sum_by cost (filter kept xs) ≡ sum_by (λ x. cond (kept x) (cost x) 0) xs
@@ -114,21 +105,21 @@ pub record OriginsLeft (p : Parts) (targets left old now : ℕ) : Type 0 where
   pub counts : CountsLeft (count_from p targets) (own_squares p) left old now
   pub mine : (i : ℕ) → i < 64 → has left i ≡ true → has_colour p.side (at p.board (square_at i)) ≡ true
 
-pub targets_counted : (p : Parts) (targets from both : ℕ) (s : Square) → Bits both (λ i. has targets i && has from i)
+pub targets_counted : (p : Parts) (targets : ℕ) (s : Square) {from both : ℕ} → Bits both (λ i. has targets i && has from i)
     → Places from (λ t. is_untried p t s) → length (members both) ≡ count_from p targets s
-targets_counted p targets from both s meets h =
+targets_counted p targets s {from} {both} meets h =
     ap length (members_are both (λ t. has targets (cell_of t) && is_untried p t s) (λ i low.
     meets.of i low ∙ ap₂ (λ x y. x && y) (ap (has targets) (sym (cell_of-square_at i))) (h.of i low)))
 
-pub origins_begin : (p : Parts) (targets own old : ℕ) → Places own (λ s. has_colour p.side (at p.board s)) → OriginsLeft p targets own old old
-origins_begin p targets own old h = record {
+pub origins_begin : {p : Parts} {targets own old : ℕ} → Places own (λ s. has_colour p.side (at p.board s)) → OriginsLeft p targets own old old
+origins_begin {p} {targets} {own} {old} h = record {
   counts = record {
     counted = ap (λ xs. old + sum_by (count_from p targets) xs) (members_are own (λ s. has_colour p.side (at p.board s)) h.of);
   };
   mine = λ i low here. sym (h.of i low) ∙ here;
 }
 
-module _ (p : Parts) (targets left rest old now : ℕ) (s : Square) (taken : TakesLowest left rest s) (w : OriginsLeft p targets left old now) where
+module _ {p : Parts} {targets left rest old now : ℕ} {s : Square} (taken : TakesLowest left rest s) (w : OriginsLeft p targets left old now) where
   pub origin_mine : has_colour p.side (at p.board s) ≡ true
   origin_mine =
       ap (λ (u : Square). has_colour p.side (at p.board u)) (sym (square_at-cell_of s taken.file))
@@ -137,10 +128,10 @@ module _ (p : Parts) (targets left rest old now : ℕ) (s : Square) (taken : Tak
   -- the count after this origin
   pub origin_counts : now + (count_from p targets s + sum_by (count_from p targets) (members rest))
       ≡ old + sum_by (count_from p targets) (own_squares p)
-  origin_counts = next_counts (count_from p targets) (own_squares p) left rest old now s taken.next w.counts
+  origin_counts = next_counts taken w.counts
 
-  pub origins_go_on : (later : ℕ) → later ≡ now + count_from p targets s → OriginsLeft p targets rest old later
-  origins_go_on later more = record {
+  pub origins_go_on : {later : ℕ} → later ≡ now + count_from p targets s → OriginsLeft p targets rest old later
+  origins_go_on more = record {
     counts = record { counted = omega (arith, origin_counts, more) };
     mine = λ i low here. w.mine i low (was_there (has left i) (i == cell_of s) (sym (taken.rest.of i low) ∙ here));
   }

@@ -1,11 +1,13 @@
 -- Whether a pair is legal does not depend on what a pawn becomes: the piece that arrives is no king
 -- and is there, whichever it is.
-use Rattle.chess_rules.proofs.Words.{Colour, King, Rook, Pawn, Piece, Promotion, Move, Parts, Square, squares, on_board, strictly_between, Board, at, put, some_piece, is_empty, other, has_colour, has_piece, is_clear, cell_attacks, attacks, is_attacked, king_attacked, is_position, own, home, last_rank, is_on_board, is_pawn_way, promotion_fits, is_target, short_right, long_right, short_wing, long_wing, captured_pawn, kind_of, carried, en_passant_board, castled, board_after, after, legal, is_legal, if_safe, one_move, is_legal_pair, PromotionsAlike, ◌≡◌, ℕ, ◌<◌, Bool, true, false, not, ◌&&◌, ◌||◌, inl, inr, refl, sym, ◌∙◌, ap, ap₂, subst, arith, length, Option, None, Some, is_none, is_some, option_map, ◌==◌, if◌then◌else◌, list_any, list_all, not-true}
+use Rattle.chess_rules.proofs.Words.{Colour, King, Rook, Pawn, Piece, Promotion, Move, Parts, Square, squares, strictly_between, Board, at, put, some_piece, is_empty, other, has_colour, has_piece, is_clear, cell_attacks, attacks, is_attacked, king_attacked, is_position, own, home, last_rank, is_on_board, promotion_fits, short_right, long_right, short_wing, long_wing, captured_pawn, kind_of, carried, en_passant_board, castled, board_after, after, legal, is_legal, if_safe, one_move, is_legal_pair, PromotionsAlike, ◌≡◌, ℕ, ◌<◌, Bool, true, false, not, ◌&&◌, ◌||◌, inl, inr, refl, sym, ◌∙◌, ap, ap₂, subst, arith, length, Option, None, Some, is_none, is_some, option_map, ◌==◌, if◌then◌else◌, list_any, list_all, Wing}
+use Rattle.chess_rules.proofs.lines.AttackToReach.{other-other}
+use Rattle.chess_rules.proofs.moves.WaysToStep.{Castles, piece_step_means, pawn_step_means, passing_means, castles_means, way_of, by_piece, by_pawn, by_passing, by_short, by_long, some_of}
 use Rattle.chess_rules.specs.declared.piece.Promotion.TheVariants as promotions
-use Rattle.chess_rules.proofs.sets.AllSquares.{first_true, second_true, same_tests, Passes, some_square, any_square, each_square, all_squares}
+use Rattle.chess_rules.proofs.sets.AllSquares.{same_tests, Passes, some_square, any_square, each_square, all_squares}
 use Rattle.chess_rules.proofs.moves.CellsAfterPut.{OnBoard, at_put, length-put}
-use Rattle.chess_rules.proofs.moves.StepsKeepBoard.{other-other, castles_means, home_below}
-use Rattle.chess_rules.proofs.moves.LegalToPosition.{on_board_means, way_of, Legal, legal_means}
+use Rattle.chess_rules.proofs.moves.StepsKeepBoard.{home_below}
+use Rattle.chess_rules.proofs.moves.LegalToPosition.{Legal, legal_means, from_on, to_on}
 use Rattle.chess_rules.proofs.trying.FoundLists.{passes}
 
 -- Two boards that differ in pieces of one colour alone, none of them a king, attack that colour's
@@ -37,14 +39,13 @@ put_alike c b d s x y alike on cells =
       cells = λ u on_u.
           elim (at_put b s u x alike.left on on_u) [
             | inl here ↦ elim (at_put d s u y alike.right on on_u) [
-              | inl too ↦ subst (λ (v : Option Piece). CellsAlike c v (at (put d s y) u))
-                  (sym here.1) (subst (λ (v : Option Piece). CellsAlike c x v) (sym too.1) cells)
+              | inl too ↦ subst (CellsAlike c _) (sym too.1) (subst (λ (v : Option Piece). CellsAlike c v y) (sym here.1) cells)
               | inr not_too ↦ absurd (not_too.0 here.0)
             ]
             | inr there ↦ elim (at_put d s u y alike.right on on_u) [
               | inl not_too ↦ absurd (there.0 not_too.0)
-              | inr too ↦ subst (λ (v : Option Piece). CellsAlike c v (at (put d s y) u)) (sym there.1)
-                  (subst (λ (v : Option Piece). CellsAlike c (at b u) v) (sym too.1) (alike.cells u on_u))
+              | inr too ↦ subst (CellsAlike c _) (sym too.1)
+                  (subst (λ (v : Option Piece). CellsAlike c v (at d u)) (sym there.1) (alike.cells u on_u))
             ]
           ];
     }
@@ -156,7 +157,7 @@ pub promotions_alike : PromotionsAlike
 promotions_alike p s t x y position =
     legal_passes p (promoting s t x)
     ∙ (both_when (is_on_board (promoting s t x)) _ _
-    (λ on. boards (on_board_means s (first_true (on_board s) _ on)) (on_board_means t (second_true (on_board s) _ on)))
+    (λ on. boards (from_on (promoting s t x) on) (to_on (promoting s t x) on))
     ∙ sym (legal_passes p (promoting s t y)))
   where
     long : length p.board ≡ 64
@@ -183,36 +184,18 @@ king_no_pawn p s h = grind arith
 named : (p q : Parts) (m : Move) → Legal p m q → is_some m.promotion ≡ arrives p m
 named p q m l =
     elim (way_of p m l.board l.stepped) [
-      | inl piece ↦
-          (let goes : ((has_colour p.side (at p.board m.from) && not (own p Pawn m.from)) && is_none m.promotion) ≡ true = first_true _ _ piece.0 in
-          named_by_other p m
-          (not-true (own p Pawn m.from) (second_true (has_colour p.side (at p.board m.from)) _ (first_true _ (is_none m.promotion) goes)))
-          (second_true (has_colour p.side (at p.board m.from) && not (own p Pawn m.from)) _ goes))
-      | inr more ↦ elim more [
-        | inl pawn ↦ named_by_pawn p m (first_true (own p Pawn m.from) _ pawn.0)
-            (second_true (is_pawn_way p m) _ (second_true (own p Pawn m.from) _ pawn.0))
-        | inr more ↦ elim more [
-          | inl passing ↦ (let fits : (own p Pawn m.from && promotion_fits p m) ≡ true =
-              first_true _ (is_target p.target m.to && is_empty p.board m.to) (first_true _ _ passing.0) in
-              named_by_pawn p m (first_true (own p Pawn m.from) _ fits) (second_true (own p Pawn m.from) _ fits))
-          | inr more ↦ elim more [
-            | inl short ↦ by_castling (castles_means p m (short_right p.side p.rights) short_wing short.0).king
-                (castles_means p m (short_right p.side p.rights) short_wing short.0).plain
-            | inr long ↦ by_castling (castles_means p m (long_right p.side p.rights) long_wing long.0).king
-                (castles_means p m (long_right p.side p.rights) long_wing long.0).plain
-          ]
-        ]
-      ]
+      | by_piece h _ ↦ (let w = piece_step_means p m h in named_by_other p m w.no_pawn w.plain)
+      | by_pawn h _ ↦ (let w = pawn_step_means p m h in named_by_pawn p m w.pawn w.fits)
+      | by_passing h _ ↦ (let w = passing_means p m h in named_by_pawn p m w.pawn w.fits)
+      | by_short h _ ↦ by_castling short_wing (castles_means p m (short_right p.side p.rights) short_wing h)
+      | by_long h _ ↦ by_castling long_wing (castles_means p m (long_right p.side p.rights) long_wing h)
     ]
   where
-    by_castling : own p King m.from ≡ true → is_none m.promotion ≡ true → is_some m.promotion ≡ arrives p m
-    by_castling king plain = named_by_other p m (king_no_pawn p m.from king) plain
-
-is_some_means : (o : Option Parts) → is_some o ≡ true → (q : Parts) × (o ≡ Some q)
-is_some_means o h = grind arith
+    by_castling : (wing : Wing) → Castles p m wing → is_some m.promotion ≡ arrives p m
+    by_castling wing w = named_by_other p m (king_no_pawn p m.from w.king) w.plain
 
 pub legal_after : (p : Parts) (m : Move) → is_legal p m ≡ true → (q : Parts) × Legal p m q
-legal_after p m h = (let (q, e) = is_some_means (legal p m) h in (q, legal_means p m q e))
+legal_after p m h = (let (q, e) = some_of (legal p m) h in (q, legal_means p m q e))
 
 -- the one promotion that is tried will do
 pub one_will_do : (p : Parts) (m : Move) → is_position p ≡ true → is_legal p m ≡ true → is_legal_pair p m.from m.to ≡ true

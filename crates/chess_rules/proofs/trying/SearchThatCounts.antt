@@ -1,5 +1,5 @@
 -- A search that counts, step by step.
-use Rattle.chess_rules.proofs.Words.{Square, members, HasNone, Counts, ◌≡◌, ℕ, ◌+◌, ◌<◌, ◌≤◌, Bool, true, false, ◌||◌, List}
+use Rattle.chess_rules.proofs.Words.{Square, members, HasNone, Counts, ◌≡◌, ℕ, ◌+◌, ◌<◌, ◌≤◌, Bool, true, false, ◌||◌, List, TakesLowest}
 use Rattle.chess_rules.proofs.Words.{◌∷◌, length, sym, ◌∙◌, ap, arith, list_any, sum_by, sum_by-cons}
 
 pub counts_exactly : (found : Bool) (old new whole : ℕ) → (found ≡ true → 0 < whole) → new ≡ old + whole → Counts found old new whole
@@ -39,26 +39,27 @@ module _ (test : Square → Bool) (cost : Square → ℕ) (whole : List Square) 
     pub counted : now + sum_by cost (members left) ≡ old + sum_by cost whole
     pub same : list_any test (members left) ≡ list_any test whole
 
-  module _ (left rest old now : ℕ) (s : Square) (next : members left ≡ s ∷ members rest) (w : TargetsLeft left old now) where
+module _ {test : Square → Bool} {cost : Square → ℕ} {whole : List Square} {left old now : ℕ} (w : TargetsLeft test cost whole left old now) where
+  module _ {rest : ℕ} {s : Square} (taken : TakesLowest left rest s) where
     next_counted : sum_by cost (members left) ≡ cost s + sum_by cost (members rest)
-    next_counted = ap (sum_by cost) next ∙ sum_by-cons cost s (members rest)
+    next_counted = ap (sum_by cost) taken.next ∙ sum_by-cons cost s (members rest)
 
     pub target_fits : (limit : ℕ) → old + sum_by cost whole < limit → now + cost s < limit
     target_fits limit room = omega (arith, room, w.counted, next_counted)
 
-    pub fewer_targets : (hit : Bool) (later : ℕ) → hit ≡ test s → hit ≡ false
-        → Counts hit now later (cost s) → TargetsLeft rest old later
-    fewer_targets hit later tested misses more =
+    pub fewer_targets : {hit : Bool} {later : ℕ} → hit ≡ test s → hit ≡ false
+        → Counts hit now later (cost s) → TargetsLeft test cost whole rest old later
+    fewer_targets tested misses more =
         record {
           rises = omega (arith, w.rises, more.rises);
           counted = omega (arith, w.counted, next_counted, more.all misses);
-          same = ap (λ v. v || list_any test (members rest)) (sym misses ∙ tested) ∙ (ap (list_any test) (sym next) ∙ w.same);
+          same = ap (λ v. v || list_any test (members rest)) (sym misses ∙ tested) ∙ (ap (list_any test) (sym taken.next) ∙ w.same);
         }
 
-    pub target_hit : (hit : Bool) (later : ℕ) → hit ≡ test s → hit ≡ true → Counts hit now later (cost s)
+    pub target_hit : {hit : Bool} {later : ℕ} → hit ≡ test s → hit ≡ true → Counts hit now later (cost s)
         → (true ≡ list_any test whole) × Counts true old later (sum_by cost whole)
-    target_hit hit later tested passes more = (
-      ap (λ v. v || list_any test (members rest)) (sym passes ∙ tested) ∙ (ap (list_any test) (sym next) ∙ w.same),
+    target_hit tested passes more = (
+      ap (λ v. v || list_any test (members rest)) (sym passes ∙ tested) ∙ (ap (list_any test) (sym taken.next) ∙ w.same),
       record {
         rises = omega (arith, w.rises, more.rises);
         most = omega (arith, w.counted, next_counted, more.most);
@@ -67,9 +68,8 @@ module _ (test : Square → Bool) (cost : Square → ℕ) (whole : List Square) 
       },
     )
 
-  pub no_target : (left old now : ℕ) → TargetsLeft left old now → HasNone left
-      → (false ≡ list_any test whole) × Counts false old now (sum_by cost whole)
-  no_target left old now w none = (
+  pub no_target : HasNone left → (false ≡ list_any test whole) × Counts false old now (sum_by cost whole)
+  no_target none = (
     ap (list_any test) (sym none.none) ∙ w.same,
     counts_exactly false old now (sum_by cost whole) (λ found. cc)
         (let e : sum_by cost (members left) ≡ 0 = ap (sum_by cost) none.none in omega (arith, w.counted, e)),
@@ -77,11 +77,10 @@ module _ (test : Square → Bool) (cost : Square → ℕ) (whole : List Square) 
 
 -- The same, where the members are only counted.
 
-module _ (cost : Square → ℕ) (whole : List Square) where
-  -- each member so far was counted, and these are left
-  pub record CountsLeft (left old now : ℕ) : Type 0 where
-    pub counted : now + sum_by cost (members left) ≡ old + sum_by cost whole
+-- each member so far was counted, and these are left
+pub record CountsLeft (cost : Square → ℕ) (whole : List Square) (left old now : ℕ) : Type 0 where
+  pub counted : now + sum_by cost (members left) ≡ old + sum_by cost whole
 
-  pub next_counts : (left rest old now : ℕ) (s : Square) → members left ≡ s ∷ members rest → CountsLeft left old now
-      → now + (cost s + sum_by cost (members rest)) ≡ old + sum_by cost whole
-  next_counts left rest old now s next w = omega (arith, w.counted, ap (sum_by cost) next, sum_by-cons cost s (members rest))
+pub next_counts : {cost : Square → ℕ} {whole : List Square} {left rest old now : ℕ} {s : Square} → TakesLowest left rest s
+    → CountsLeft cost whole left old now → now + (cost s + sum_by cost (members rest)) ≡ old + sum_by cost whole
+next_counts {cost} {rest = rest} {s = s} taken w = omega (arith, w.counted, ap (sum_by cost) taken.next, sum_by-cons cost s (members rest))

@@ -6,8 +6,7 @@ use Rattle.std.proofs.lemmas.List.{ext_get_or, get_or-map, get_or-replicate, get
 use Rattle.std.proofs.lemmas.Map.Views.{any-filter_same}
 use Rattle.chess_text.proofs.Words.{◌≡◌, ◌≢◌, ℕ, ◌<◌, ◌≤◌, Bool, true, false, cond, ◌&&◌, ◌||◌, List, [], ◌∷◌, map, length, replicate, set, get_or, inl, inr, refl, sym, ◌∙◌, ap, subst, arith, Option, None, Some, Ok, Err, ◌↔◌, is_some, count_by, if◌then◌else◌, range_with_len, filter, filter_map, cons_option, list_any, list_any_at, list_any-IsPermutation, IsPermutation, get_or-map-range_with_len, sum_by-cons, and_parts, or_right, both_ways, false_from_ne_true, Colour, White, Black, Kind, Promotion, Move, Parts, Square, square, squares, same_square, step, home, home_rank, if_safe, is_legal, is_candidate, candidates, StepsFromCandidates, Form, Castle, Man, OriginKind, Played, NoMove, Ambiguous, castling_move, move_from, describes, with_next, played, agreeing, only, form_move, is_step_of_form, kind_of_move, origin_kind, origins_of_form, nth_square, is_legal_kind, count_legal, LegalOriginsDecide}
 use Rattle.chess_text.specs.declared.form_origins.OriginKind.TheVariants.{NoStep, Unsafe, Legal}
-use Rattle.chess_text.proofs.forms.CastlingMoves.{castles_ends, legal_is_step, squares_same}
-use Rattle.chess_text.proofs.forms.CastlingForms.{played_not, legal_next}
+use Rattle.chess_text.proofs.forms.CastlingMoves.{castles_ends, legal_is_step, squares_same, played_not, legal_next}
 use Rattle.chess_text.proofs.forms.OnlyElement.{filter_map-map, filter_map-filter}
 use Rattle.chess_text.proofs.forms.PieceForms.{same_square-refl}
 
@@ -40,25 +39,24 @@ module _ (p : Parts) (f : Form) where
   one_more_kind kinds tried more i s so_far low is grows =
       record { long = length-set kinds i _ ∙ so_far.long; each = each }
     where
-      here : (n : ℕ) → n ≡ i → get_or (set kinds i (origin_kind p f s)) n NoStep ≡ cond (more (nth_square n)) (origin_kind p f (nth_square n)) NoStep
-      here n at =
-          let there : nth_square n ≡ s = ap nth_square at ∙ is in
-          let tested : more (nth_square n) ≡ true = ap more there ∙ (grows s ∙ or_right (tried s) _ (same_square-refl s)) in
-          get_or-set_at kinds i n _ NoStep at (omega (arith, so_far.long)) ∙ sym (ap (λ b. cond b (origin_kind p f (nth_square n)) NoStep) tested ∙ ap (origin_kind p f) there)
-
       apart : (n : ℕ) → n < 64 → n ≢ i → same_square (nth_square n) s ≡ false
       apart n within other =
           false_from_ne_true _ (λ h.
           let same = squares_same (nth_square n) s h ∙ sym is in
           other (omega (arith, ap (λ (t : Square). t.file) same, ap (λ (t : Square). t.rank) same)))
 
-      elsewhere : (n : ℕ) → n < 64 → n ≢ i → get_or (set kinds i (origin_kind p f s)) n NoStep ≡ cond (more (nth_square n)) (origin_kind p f (nth_square n)) NoStep
-      elsewhere n within other =
-          get_or-set_other kinds i n _ NoStep other ∙ so_far.each n within
-          ∙ ap (λ b. cond b (origin_kind p f (nth_square n)) NoStep) (sym (grows (nth_square n) ∙ ap (λ b. tried (nth_square n) || b) (apart n within other) ∙ or-false _))
-
       each : (n : ℕ) → n < 64 → get_or (set kinds i (origin_kind p f s)) n NoStep ≡ cond (more (nth_square n)) (origin_kind p f (nth_square n)) NoStep
-      each n within = elim (cases_eq n i) [ inl at ↦ here n at | inr other ↦ elsewhere n within other ]
+      each n within = elim (cases_eq n i) [
+        | inl at ↦
+            let there : nth_square n ≡ s = ap nth_square at ∙ is in
+            let tested : more (nth_square n) ≡ true = ap more there ∙ (grows s ∙ or_right (tried s) _ (same_square-refl s)) in
+            get_or-set_at kinds i n _ NoStep at (omega (arith, so_far.long))
+            ∙ sym (ap (λ b. cond b (origin_kind p f (nth_square n)) NoStep) tested ∙ ap (origin_kind p f) there)
+        | inr other ↦
+            get_or-set_other kinds i n _ NoStep other ∙ so_far.each n within
+            ∙ ap (λ b. cond b (origin_kind p f (nth_square n)) NoStep)
+            (sym (grows (nth_square n) ∙ ap (λ b. tried (nth_square n) || b) (apart n within other) ∙ or-false _))
+      ]
 
   -- of each other square the kind is that there is no step
   pub all_kinds : (kinds : List OriginKind) (tried : Square → Bool) → KindsSoFar p f kinds tried

@@ -1,6 +1,6 @@
 -- What a form of no castling names: all its moves come from candidates.
-use Rattle.chess_text.proofs.Words.{◌≡◌, ℕ, ◌<◌, Bool, true, false, ◌&&◌, List, get_or, refl, Option, None, ◌==◌, length, filter_map, All, IsPermutation, both_ways, and_parts, and_from, eq-eqb, filter_passes, All-weaker, All-permutation, IsPermutation-sym, Kind, Promotion, Parts, Square, squares, same_square, own, legal, is_candidate, candidates, CandidatesComplete, Form, Man, Played, same_promotion, describes, played, move_from, agreeing, only, move_of_form, piece_move_fits, arith}
-use Rattle.chess_text.proofs.forms.CastlingForms.{played_unless, legal_next}
+use Rattle.chess_text.proofs.Words.{◌≡◌, ℕ, ◌<◌, Bool, true, false, ◌&&◌, List, get_or, refl, Option, None, ◌==◌, length, filter_map, All, IsPermutation, both_ways, and_parts, and_from, eq-eqb, filter_passes, All-weaker, All-permutation, IsPermutation-sym, Kind, Promotion, Parts, Square, squares, same_square, own, legal, is_candidate, candidates, CandidatesComplete, Form, Man, Played, same_promotion, describes, played, move_from, agreeing, only, move_of_form, piece_move_fits, arith, ap, Some, is_some, Move, is_legal, with_next}
+use Rattle.chess_text.proofs.forms.CastlingMoves.{played_unless, legal_next}
 use Rattle.chess_text.proofs.forms.OnlyElement.{filter_map-map, filter_map-filter, only_permuted}
 
 -- what the form names from that square
@@ -63,3 +63,36 @@ pub tried_at : (p : Parts) (k : Kind) (file rank : Option ℕ) (to : Square) (pr
     → o ≡ from_square p (Man k file rank to promotion) to promotion (get_or xs i s)
 tried_at p k file rank to promotion xs perm i s o low is tried =
     cc (tried_own p k file rank to promotion s (rw is (candidates_own p k to xs perm i s low)))
+
+-- The move that a search has kept, with the position after it.
+
+abbrev pub with_position : Parts → Option Move → Option Played
+with_position p None = None
+with_position p (Some m) = with_next m (legal p m)
+
+-- such a move is legal
+abbrev pub IsLegalIfAny : Parts → Option Move → Type 0
+IsLegalIfAny p None = Unit {0}
+IsLegalIfAny p (Some m) = is_legal p m ≡ true
+
+some_next : (m : Move) (o : Option Parts) → is_some o ≡ true → is_some (with_next m o) ≡ true
+some_next m o h = grind arith
+
+pub kept_is_some : (p : Parts) (o : Option Move) → IsLegalIfAny p o → is_some (with_position p o) ≡ is_some o
+kept_is_some p None h = refl
+kept_is_some p (Some m) h = some_next m _ h
+
+-- a legal move has a position after it
+pub kept_next : (p : Parts) (m : Move) → is_legal p m ≡ true → (x : Played) × (with_next m (legal p m) ≡ Some x)
+kept_next p m h = let (q, leads) = legal_next (legal p m) h in (record { mv = m; next = q }, ap (with_next m) leads)
+
+-- what is found from a move is it with that position, if it is legal and fits, and else nothing
+pub fitting_is_played : (p : Parts) (m : Move) (fits : Bool) → (is_legal p m && fits) ≡ true → played fits p m ≡ with_next m (legal p m)
+fitting_is_played p m fits h = ap (λ b. played b p m) (and_parts _ fits h).1
+
+pub other_is_not_played : (p : Parts) (m : Move) (fits : Bool) → (is_legal p m && fits) ≡ false → played fits p m ≡ None
+other_is_not_played p m false h = refl
+other_is_not_played p m true h = by_next _ h
+  where
+    by_next : (o : Option Parts) → (is_some o && true) ≡ false → with_next m o ≡ None
+    by_next o g = grind arith

@@ -1,8 +1,47 @@
--- A text that spells a form is read as that form.
-use Rattle.chess_text.proofs.Words.{◌≡◌, ℕ, ◌+◌, ◌-◌, ◌<◌, ◌⊎◌, inl, inr, true, false, ◌&&◌, nat_lt, ◌==◌, List, [], ◌∷◌, ◌++◌, length, append-nil, append_assoc, or_cases, length-append, refl, sym, ◌∙◌, ap, arith, Option, None, Some, bytes_eq, codes, nat_tests, and_parts, take_more, take_all, bytes_eq-Decides, Kind, King, Pawn, Promotion, Square, on_board, Form, Castle, Man, file_letter, rank_digit, square_text, SpellsPieceMove, SpellsBare, Spells, is_among, letter_texts, hint_text, capture_texts, promotion_letter, promotion_texts, is_mark, below_eight, is_form, last_byte, front, before_marks, file_of, rank_of, promotion_of, promotion_at_end, before_sign, before_promotion, target_at_end, before_capture, before_target, rank_at_end, before_rank, file_at_end, before_file, kind_of_text, piece_move_of, castle_of, bare_form, form_of, false_from_ne_true}
+-- What stands before the marks of a move.
+use mathlib.Core.Bool.{and-true, or-false}
+use Rattle.chess_text.proofs.Words.{◌≡◌, ℕ, ◌+◌, ◌-◌, ◌<◌, ◌≤◌, true, false, List, [], ◌∷◌, ◌++◌, ◌⊎◌, inl, inr, length, get_or, take, drop, refl, sym, ◌∙◌, ap, arith, list_all, take-append-drop, take_more, is_mark, before_marks, and_right, and_left, list_all-append, ◌&&◌, nat_lt, ◌==◌, append-nil, append_assoc, or_cases, length-append, Option, None, Some, bytes_eq, codes, nat_tests, and_parts, take_all, bytes_eq-Decides, Kind, King, Pawn, Promotion, Square, on_board, Form, Castle, Man, file_letter, rank_digit, square_text, SpellsPieceMove, SpellsBare, Spells, is_among, letter_texts, hint_text, capture_texts, promotion_letter, promotion_texts, below_eight, is_form, last_byte, front, file_of, rank_of, promotion_of, promotion_at_end, before_sign, before_promotion, target_at_end, before_capture, before_target, rank_at_end, before_rank, file_at_end, before_file, kind_of_text, piece_move_of, castle_of, bare_form, form_of, false_from_ne_true}
 use Rattle.std.proofs.Math.Seq.{get_or-append_seam, take-append_seam}
-use mathlib.Core.Bool.{or-false}
-use Rattle.chess_text.proofs.forms.BeforeMarks.{before_marks-append, before_marks-last}
+
+pub marks_alone-none : (s : List ℕ) → list_all is_mark s ≡ true → before_marks s ≡ []
+marks_alone-none [] h = refl
+marks_alone-none (c ∷ s) h = rw h refl
+
+all-append : (t m : List ℕ) → list_all is_mark m ≡ true → list_all is_mark (t ++ m) ≡ list_all is_mark t
+all-append t m h = list_all-append is_mark t m ∙ ap (λ b. list_all is_mark t && b) h ∙ and-true _
+
+-- marks at the end change nothing
+pub before_marks-append : (t m : List ℕ) → list_all is_mark m ≡ true → before_marks (t ++ m) ≡ before_marks t
+before_marks-append [] m h = marks_alone-none m h
+before_marks-append (c ∷ t) m h = rw (all-append t m h, before_marks-append t m h) refl
+
+last_fails : (t : List ℕ) (c : ℕ) → is_mark c ≡ false → list_all is_mark (t ++ c ∷ []) ≡ false
+last_fails t c h = list_all-append is_mark t (c ∷ []) ∙ and_right (list_all is_mark t) _ (and_left (is_mark c) true h)
+
+-- a text whose last byte is no mark has none at its end
+pub before_marks-last : (t : List ℕ) (c : ℕ) → is_mark c ≡ false → before_marks (t ++ c ∷ []) ≡ t ++ c ∷ []
+before_marks-last [] c h = rw h refl
+before_marks-last (d ∷ t) c h = rw (last_fails (d ∷ t) c h) (ap (λ s. d ∷ s) (before_marks-last t c h))
+
+-- where the marks begin
+pub cut_at_marks : (s : List ℕ) (n : ℕ) → 0 < n → n ≤ length s → list_all is_mark (drop n s) ≡ true
+    → is_mark (get_or s (n - 1) 0) ≡ false → before_marks s ≡ take n s
+cut_at_marks s n started within marks h =
+    let again : (n - 1) + 1 ≡ n = omega arith in
+    cc (
+      take_more s (n - 1) 0 (omega arith),
+      take-append-drop n s,
+      before_marks-append (take n s) (drop n s) marks,
+      before_marks-last (take (n - 1) s) (get_or s (n - 1) 0) h,
+    )
+
+-- the loop's end: no byte is left, or one that is no mark
+pub cut_where : (s : List ℕ) (n : ℕ) → n ≤ length s → list_all is_mark (drop n s) ≡ true
+    → (n ≡ 0) ⊎ ((0 < n) × (is_mark (get_or s (n - 1) 0) ≡ false)) → take n s ≡ before_marks s
+cut_where s n within marks (inl none) = rw none (sym (marks_alone-none s (rw none at marks)))
+cut_where s n within marks (inr some) = sym (cut_at_marks s n some.0 within marks some.1)
+
+-- A text that spells a form is read as that form.
 
 -- The last byte, and what stands before it.
 

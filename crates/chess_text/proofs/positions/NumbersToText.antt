@@ -13,15 +13,8 @@ pub letter_there : (x : Piece) → get_or table (number_of_piece x) 0 ≡ piece_
 letter_there x = grind arith
 
 pub digit_there : (n : ℕ) → n < 8 → get_or table (16 + n) 0 ≡ 49 + n
-digit_there zero h = refl
-digit_there (suc zero) h = refl
-digit_there (suc (suc zero)) h = refl
-digit_there (suc (suc (suc zero))) h = refl
-digit_there (suc (suc (suc (suc zero)))) h = refl
-digit_there (suc (suc (suc (suc (suc zero))))) h = refl
-digit_there (suc (suc (suc (suc (suc (suc zero)))))) h = refl
-digit_there (suc (suc (suc (suc (suc (suc (suc zero))))))) h = refl
 digit_there (suc (suc (suc (suc (suc (suc (suc (suc n)))))))) h = absurd (omega arith)
+digit_there n h = refl
 
 pub piece_is_small : (x : Piece) → number_of_piece x < 15
 piece_is_small x = grind arith

@@ -5,21 +5,13 @@ unfoldable use Rattle.chess_rules.specs.Words.{lanes}
 use Rattle.chess_text.proofs.positions.LanesOfItems.{lanes_fit, lanes_nil, lanes_with_item, ranks_above}
 use Rattle.chess_text.specs.Letter.{piece_of}
 use Rattle.chess_text.specs.Placement.{one_cell}
-use Rattle.chess_text.proofs.Words.{◌^◌, ◌≡◌, ℕ, zero, suc, ◌+◌, ◌-◌, ◌*◌, ◌<◌, ◌≤◌, ◌==◌, Bool, true, false, ◌&&◌, ◌||◌, List, [], ◌∷◌, ◌++◌, length, take, drop, reverse, reverse-append, inl, inr, refl, sym, ◌∙◌, ap, ap₂, subst, arith, append-nil, append_assoc, length-append, None, Some, flat_map, flat_map-append, if◌then◌else◌, list_all, nat_tests, nat_le, nat_lt, false≢true, false_from_ne_true, Board, Piece, Option, ranks, is_item, is_rank, cells_of, placement_of, get_or, drop-cons, drop_all, cases_lt, onto_first, slice_split-cons_no, length-slice_split, is_slash, is_space, is_some, before_first, position_or_len, replicate, is_run, cells_at, item}
+use Rattle.chess_text.proofs.Words.{◌^◌, ◌≡◌, ℕ, zero, suc, ◌+◌, ◌-◌, ◌*◌, ◌<◌, ◌≤◌, ◌==◌, Bool, true, false, ◌&&◌, ◌||◌, List, [], ◌∷◌, ◌++◌, length, take, drop, reverse, reverse-append, inl, inr, refl, sym, ◌∙◌, ap, ap₂, subst, arith, append-nil, append_assoc, length-append, None, Some, flat_map, flat_map-append, if◌then◌else◌, list_all, nat_tests, nat_le, nat_lt, false≢true, false_from_ne_true, Board, Piece, Option, ranks, is_item, is_rank, cells_of, placement_of, get_or, drop-cons, drop_all, cases_lt, onto_first, slice_split-cons_no, slice_split-cons_yes, length-slice_split, is_slash, is_space, is_some, before_first, position_or_len, replicate, is_run, cells_at, item}
 
 -- The reading, byte by byte: `row` has the squares of the rank so far, `done` those of the ranks
 -- above.
 
 abbrev finish : Board → Board → Option Board
 finish row done = if (length row == 8) && (length done == 56) then Some (row ++ done) else None
-
-pub read_on : Board → Board → List ℕ → Option Board
-read_on row done [] = finish row done
-read_on row done (c ∷ s) =
-    if nat_le (length row + (item c).width) 8 then read_on (row ++ cells_at c) done s
-    else if is_slash c then (if (length row == 8) && nat_lt (length done) 56 then read_on [] (row ++ done) s else None)
-    else if is_space c then finish row done
-    else None
 
 -- What a byte means.
 
@@ -62,8 +54,12 @@ no_width run w o h = grind arith
 no_item : (c : ℕ) → is_item c ≡ false → (item c).width ≡ 9
 no_item c h = no_width (is_run c) (c - 48) (piece_of c) h
 
-too_wide : (c n : ℕ) → is_item c ≡ false → nat_le (n + (item c).width) 8 ≡ false
-too_wide c n h = (let w = no_item c h in grind (arith, nat_tests))
+item_by_width : (c : ℕ) → (item c).width ≤ 8 → is_item c ≡ true
+item_by_width c h = by_item (is_item c) refl
+  where
+    by_item : (x : Bool) → is_item c ≡ x → x ≡ true
+    by_item true e = refl
+    by_item false e = absurd (omega (arith, no_item c e))
 
 space_is : (c : ℕ) → is_space c ≡ true → c ≡ 32
 space_is c h = grind arith
@@ -71,16 +67,15 @@ space_is c h = grind arith
 slash_is : (c : ℕ) → is_slash c ≡ true → c ≡ 47
 slash_is c h = grind arith
 
-no_space : (c : ℕ) → is_space c ≡ true → (is_item c ≡ false) × (is_slash c ≡ false)
-no_space c h = subst (λ (d : ℕ). (is_item d ≡ false) × (is_slash d ≡ false)) (sym (space_is c h)) (refl, refl)
-
 item_no_space : (c : ℕ) → is_item c ≡ true → is_space c ≡ false
-item_no_space c h = false_from_ne_true (is_space c) (λ e. false≢true (sym (no_space c e).0 ∙ h))
+item_no_space c h =
+    false_from_ne_true (is_space c) (λ e. false≢true (sym (subst (λ (d : ℕ). is_item d ≡ false) (sym (space_is c e)) refl) ∙ h))
 
-no_slash : (c : ℕ) → is_slash c ≡ true → is_item c ≡ false
-no_slash c h = subst (λ (d : ℕ). is_item d ≡ false) (sym (slash_is c h)) refl
+item_no_slash : (c : ℕ) → is_item c ≡ true → is_slash c ≡ false
+item_no_slash c h =
+    false_from_ne_true (is_slash c) (λ e. false≢true (sym (subst (λ (d : ℕ). is_item d ≡ false) (sym (slash_is c e)) refl) ∙ h))
 
--- The same by the texts of the ranks.
+-- The texts of the ranks that are left, the first of which belongs to the rank so far.
 
 abbrev fit : Board → Board → List ℕ → List (List ℕ) → Bool
 fit row done rank below =
@@ -170,32 +165,23 @@ with_other row done c (rank ∷ below) some bad = rw bad refl
 some_rank : (s : List ℕ) → 0 < length (ranks s)
 some_rank s = omega (arith, length-slice_split is_slash s)
 
-read_byte : (row done : Board) (c : ℕ) (s : List ℕ) → ((r d : Board) → read_on r d s ≡ joined r d (ranks (before_first is_space s)))
-    → (x y z : Bool) → is_space c ≡ x → is_slash c ≡ y → is_item c ≡ z
-    → read_on row done (c ∷ s) ≡ joined row done (ranks (before_first is_space (c ∷ s)))
-unfolding read_on
-read_byte row done c s later true y z e f g =
-    let (no_item, no_slash) = no_space c e in
-    rw (before-yes c s e, too_wide c (length row) no_item, no_slash, e) (at_end row done)
-read_byte row done c s later false true z e f g =
-    rw (before-no c s e, too_wide c (length row) (no_slash c f), f, later [] (row ++ done))
-    (with_slash row done (ranks (before_first is_space s)) (some_rank (before_first is_space s)))
-read_byte row done c s later false false true e f g =
-    let step : read_on row done (c ∷ s) ≡ (if nat_le (length row + (item c).width) 8 then read_on (row ++ cells_at c) done s else None) = rw (f, e) refl in
-    step ∙ ap (λ o. if nat_le (length row + (item c).width) 8 then o else None) (later (row ++ cells_at c) done)
-    ∙ with_item row done c (ranks (before_first is_space s)) (some_rank (before_first is_space s)) g
-    ∙ sym (ap (λ t. joined row done (ranks t)) (before-no c s e) ∙ ap (joined row done) (slice_split-cons_no is_slash c (before_first is_space s) f))
-read_byte row done c s later false false false e f g =
-    rw (before-no c s e, too_wide c (length row) g, f, e)
-    (with_other row done c (ranks (before_first is_space s)) (some_rank (before_first is_space s)) g)
+-- the texts, by the first byte
+split_slash : (c : ℕ) (s : List ℕ) → is_slash c ≡ true → ranks (before_first is_space (c ∷ s)) ≡ [] ∷ ranks (before_first is_space s)
+split_slash c s h =
+    ap ranks (before-no c s (subst (λ (d : ℕ). is_space d ≡ false) (sym (slash_is c h)) refl))
+    ∙ slice_split-cons_yes is_slash c (before_first is_space s) h
 
-read_is : (row done : Board) (s : List ℕ) → read_on row done s ≡ joined row done (ranks (before_first is_space s))
-unfolding read_on
-read_is row done [] = at_end row done
-read_is row done (c ∷ s) = read_byte row done c s (λ r d. read_is r d s) (is_space c) (is_slash c) (is_item c) refl refl refl
+split_other : (c : ℕ) (s : List ℕ) → is_space c ≡ false → is_slash c ≡ false
+    → ranks (before_first is_space (c ∷ s)) ≡ onto_first c (ranks (before_first is_space s))
+split_other c s e f = ap ranks (before-no c s e) ∙ slice_split-cons_no is_slash c (before_first is_space s) f
+
+-- what the squares so far make with the rest of the text
+unfoldable pub read_on : Board → Board → List ℕ → Option Board
+read_on row done s = joined row done (ranks (before_first is_space s))
 
 pub placement_is : (s : List ℕ) → read_on [] [] s ≡ placement_of (before_first is_space s)
-placement_is s = read_is [] [] s ∙ of_texts (ranks (before_first is_space s)) (some_rank (before_first is_space s))
+unfolding read_on
+placement_is s = of_texts (ranks (before_first is_space s)) (some_rank (before_first is_space s))
   where
     tests : (k l : ℕ) (items good : Bool)
         → ((items && (0 + k == 8)) && (good && (0 + 8 * suc l == 64))) ≡ ((suc l == 8) && ((items && (k == 8)) && good))
@@ -210,33 +196,45 @@ placement_is s = read_is [] [] s ∙ of_texts (ranks (before_first is_space s)) 
 
 -- One byte.
 
-on_item : (row done : Board) (c : ℕ) (s : List ℕ) → length row + (item c).width ≤ 8
-    → read_on row done (c ∷ s) ≡ read_on (row ++ cells_at c) done s
-unfolding read_on
-on_item row done c s h = let fits : nat_le (length row + (item c).width) 8 ≡ true = grind (arith, nat_tests) in rw fits refl
+module _ (row done : Board) (c : ℕ) (s : List ℕ) where
+  abbrev texts : List (List ℕ)
+  texts = ranks (before_first is_space s)
 
-on_slash : (row done : Board) (c : ℕ) (s : List ℕ) → is_slash c ≡ true → length row ≡ 8 → length done < 56
-    → read_on row done (c ∷ s) ≡ read_on [] (row ++ done) s
-unfolding read_on
-on_slash row done c s h full more =
-    let all : (length row == 8) && nat_lt (length done) 56 ≡ true = grind (arith, nat_tests) in
-    rw (too_wide c (length row) (no_slash c h), h, all) refl
+  some_text : 0 < length texts
+  some_text = some_rank (before_first is_space s)
 
-on_space : (row done : Board) (c : ℕ) (s : List ℕ) → is_space c ≡ true → read_on row done (c ∷ s) ≡ finish row done
-unfolding read_on
-on_space row done c s h = let (bad, apart) = no_space c h in rw (too_wide c (length row) bad, apart, h) refl
+  on_item : length row + (item c).width ≤ 8 → read_on row done (c ∷ s) ≡ read_on (row ++ cells_at c) done s
+  unfolding read_on
+  on_item h =
+      let fits : nat_le (length row + (item c).width) 8 ≡ true = grind (arith, nat_tests) in
+      let good = item_by_width c (omega (arith, h)) in
+      ap (joined row done) (split_other c s (item_no_space c good) (item_no_slash c good))
+      ∙ sym (with_item row done c texts some_text good) ∙ rw fits refl
 
-on_other : (row done : Board) (c : ℕ) (s : List ℕ) → 8 < length row + (item c).width
-    → (is_slash c && ((length row == 8) && nat_lt (length done) 56)) ≡ false
-    → (is_space c && ((length row == 8) && (length done == 56))) ≡ false → read_on row done (c ∷ s) ≡ None
-unfolding read_on
-on_other row done c s wide h g =
-    let no : nat_le (length row + (item c).width) 8 ≡ false = grind (arith, nat_tests) in
-    rw no (none (is_slash c) ((length row == 8) && nat_lt (length done) 56) (is_space c) ((length row == 8) && (length done == 56)) _ _ h g)
-  where
-    none : (x a y b : Bool) (v w : Option Board) → (x && a) ≡ false → (y && b) ≡ false
-        → (if x then (if a then v else None) else if y then (if b then w else None) else None) ≡ None
-    none x a y b v w h g = grind arith
+  on_slash : is_slash c ≡ true → length row ≡ 8 → length done < 56 → read_on row done (c ∷ s) ≡ read_on [] (row ++ done) s
+  unfolding read_on
+  on_slash h full more =
+      let all : (length row == 8) && nat_lt (length done) 56 ≡ true = grind (arith, nat_tests) in
+      ap (joined row done) (split_slash c s h) ∙ sym (with_slash row done texts some_text) ∙ rw all refl
+
+  on_space : is_space c ≡ true → read_on row done (c ∷ s) ≡ finish row done
+  unfolding read_on
+  on_space h = ap (λ t. joined row done (ranks t)) (before-yes c s h) ∙ sym (at_end row done)
+
+  by_byte : (x y z : Bool) → is_space c ≡ x → is_slash c ≡ y → is_item c ≡ z → 8 < length row + (item c).width
+      → (y && ((length row == 8) && nat_lt (length done) 56)) ≡ false
+      → (x && ((length row == 8) && (length done == 56))) ≡ false → read_on row done (c ∷ s) ≡ None
+  unfolding read_on
+  by_byte true y z e f i wide h g = on_space e ∙ rw g refl
+  by_byte false true z e f i wide h g = ap (joined row done) (split_slash c s f) ∙ sym (with_slash row done texts some_text) ∙ rw h refl
+  by_byte false false true e f i wide h g =
+      let no : nat_le (length row + (item c).width) 8 ≡ false = grind (arith, nat_tests) in
+      ap (joined row done) (split_other c s e f) ∙ sym (with_item row done c texts some_text i) ∙ rw no refl
+  by_byte false false false e f i wide h g = ap (joined row done) (split_other c s e f) ∙ sym (with_other row done c texts some_text i)
+
+  on_other : 8 < length row + (item c).width → (is_slash c && ((length row == 8) && nat_lt (length done) 56)) ≡ false
+      → (is_space c && ((length row == 8) && (length done == 56))) ≡ false → read_on row done (c ∷ s) ≡ None
+  on_other wide h g = by_byte (is_space c) (is_slash c) (is_item c) refl refl refl wide h g
 
 -- The reading in the code.
 
@@ -267,148 +265,142 @@ nothing_read text board h =
       no_space = λ k low. absurd (omega arith);
     }
 
--- the board with the rank that is read
-pub rank_read : (text : List ℕ) (i : ℕ) (board new : Board) (below file lanes_read : ℕ) (so_far : ReadSoFar text i board below file lanes_read)
-    → new ≡ so_far.row ++ take 56 board → new ≡ so_far.row ++ (so_far.done ++ replicate (8 * below) None)
-rank_read text i board new below file lanes_read so_far h =
-    h ∙ ap (λ b. so_far.row ++ take 56 b) so_far.cells ∙ ap (λ b. so_far.row ++ b) (ranks_above so_far.done (8 * below) so_far.left)
+module _ {text : List ℕ} {i : ℕ} {board : Board} {below file lanes_read : ℕ} (so_far : ReadSoFar text i board below file lanes_read) where
+  -- the board with the rank that is read
+  rank_read : (new : Board) → new ≡ so_far.row ++ take 56 board → new ≡ so_far.row ++ (so_far.done ++ replicate (8 * below) None)
+  rank_read new h =
+      h ∙ ap (λ b. so_far.row ++ take 56 b) so_far.cells ∙ ap (λ b. so_far.row ++ b) (ranks_above so_far.done (8 * below) so_far.left)
 
--- the end of the field
-finished : (text : List ℕ) (i : ℕ) (board new : Board) (below file lanes_read : ℕ) (so_far : ReadSoFar text i board below file lanes_read)
-    → finish so_far.row so_far.done ≡ read_on [] [] text → (file ≡ 8 → new ≡ so_far.row ++ take 56 board)
-    → placement_of (before_first is_space text) ≡ (if (file == 8) && (below == 0) then Some new else None)
-finished text i board new below file lanes_read so_far h pushed =
-    sym (placement_is text) ∙ sym h ∙ by_count ((file == 8) && (below == 0)) refl
-  where
-    tests : (m n : ℕ) → m ≡ file → n + 8 * below ≡ 56 → ((m == 8) && (n == 56)) ≡ ((file == 8) && (below == 0))
-    tests m n e f = grind (arith, nat_tests)
-
-    full : (file == 8) && (below == 0) ≡ true → (file ≡ 8) × (below ≡ 0)
-    full e = grind arith
-
-    all_read : file ≡ 8 → below ≡ 0 → new ≡ so_far.row ++ so_far.done
-    all_read e f =
-        rank_read text i board new below file lanes_read so_far (pushed e)
-        ∙ ap (λ n. so_far.row ++ (so_far.done ++ replicate (8 * n) None)) f
-        ∙ ap (λ b. so_far.row ++ b) (append-nil so_far.done)
-
-    by_count : (x : Bool) → ((file == 8) && (below == 0)) ≡ x
-        → finish so_far.row so_far.done ≡ (if (file == 8) && (below == 0) then Some new else None)
-    by_count true e =
-        let (eight, none_below) = full e in
-        if_same _ _ _ _ (tests _ _ so_far.long so_far.left) (sym (all_read eight none_below))
-    by_count false e =
-        let same = tests _ _ so_far.long so_far.left in
-        rw (same, e) refl
-
--- the next byte
-module _ (text : List ℕ) (i : ℕ) (board : Board) (below file lanes_read : ℕ) (so_far : ReadSoFar text i board below file lanes_read) (low : i < length text) where
-  abbrev pub byte : ℕ
-  byte = get_or text i 0
-
-  -- what is read from this byte on
-  here : read_on so_far.row so_far.done (byte ∷ drop (suc i) text) ≡ read_on [] [] text
-  here = ap (read_on so_far.row so_far.done) (sym (drop-cons text i 0 low)) ∙ so_far.rest
-
-  next : i + 1 ≡ suc i
-  next = omega arith
-
-  no_space_here : is_space byte ≡ false → (k : ℕ) → k < i + 1 → is_space (get_or text k 0) ≡ false
-  no_space_here h k less = elim (cases_lt k i) [ inl before ↦ so_far.no_space k before | inr after ↦ (let same : k ≡ i = omega arith in ap (λ n. is_space (get_or text n 0)) same ∙ h) ]
-
-  is_item_here : file + (item byte).width ≤ 8 → is_item byte ≡ true
-  is_item_here fits = by_item (is_item byte) refl
-    where
-      by_item : (x : Bool) → is_item byte ≡ x → x ≡ true
-      by_item true e = refl
-      by_item false e = absurd (omega (arith, no_item byte e))
-
-  -- the lanes with a digit or a letter
-  lanes_after : file + (item byte).width ≤ 8 → lanes_read + (item byte).lanes * 2 ^ file ≡ lanes (so_far.row ++ cells_at byte)
-  lanes_after fits =
-      ap₂ (λ n k. n + (item byte).lanes * 2 ^ k) so_far.value (sym so_far.long)
-      ∙ sym (ap (λ b. lanes (so_far.row ++ b)) (means byte (is_item_here fits)).cells
-      ∙ lanes_with_item so_far.row (piece_of byte) ((item byte).width - 1))
-
-  long_after : file + (item byte).width ≤ 8 → length (so_far.row ++ cells_at byte) ≡ file + (item byte).width
-  long_after fits = omega (arith, length-append so_far.row (cells_at byte), so_far.long, (means byte (is_item_here fits)).width)
-
-  lanes_fit_after : file + (item byte).width ≤ 8 → lanes_read + (item byte).lanes * 2 ^ file < 2 ^ 32
-  lanes_fit_after fits = omega (arith, lanes_after fits, lanes_fit (so_far.row ++ cells_at byte) (omega (arith, long_after fits)))
-
-  shifted : file + (item byte).width ≤ 8 → ((item byte).lanes * 2 ^ file) % 2 ^ 32 ≡ (item byte).lanes * 2 ^ file
-  shifted fits = omega (arith, lanes_fit_after fits)
-
-  pub item_fits : file + (item byte).width ≤ 8 → lanes_read + ((item byte).lanes * 2 ^ file) % 2 ^ 32 < 2 ^ 32
-  item_fits fits = omega (arith, shifted fits, lanes_fit_after fits)
-
-  -- a digit or a letter
-  pub item_read : file + (item byte).width ≤ 8
-      → ReadSoFar text (i + 1) board below (file + (item byte).width) (lanes_read + ((item byte).lanes * 2 ^ file) % 2 ^ 32)
-  item_read fits =
-      record {
-        row = so_far.row ++ cells_at byte;
-        done = so_far.done;
-        cells = so_far.cells;
-        value = ap (λ n. lanes_read + n) (shifted fits) ∙ lanes_after fits;
-        long = long_after fits;
-        narrow = fits;
-        left = so_far.left;
-        rest =
-            ap (λ k. read_on (so_far.row ++ cells_at byte) so_far.done (drop k text)) next
-            ∙ sym (on_item so_far.row so_far.done byte (drop (suc i) text) (omega (arith, fits, so_far.long))) ∙ here;
-        no_space = no_space_here (item_no_space byte (is_item_here fits));
-      }
-
-  -- a slash after eight squares
-  pub slash_read : (new : Board) → byte ≡ 47 → file ≡ 8 → 0 < below → new ≡ so_far.row ++ take 56 board → ReadSoFar text (i + 1) new (below - 1) 0 0
-  slash_read new h full more pushed =
-      let slash : is_slash byte ≡ true = ap is_slash h in
-      let one_more : 8 * below ≡ 8 * (below - 1) + 8 = omega (arith, more) in
-      record {
-        row = [];
-        done = so_far.row ++ so_far.done;
-        cells =
-            rank_read text i board new below file lanes_read so_far pushed
-            ∙ sym (append_assoc so_far.row so_far.done (replicate (8 * below) None))
-            ∙ ap (λ n. (so_far.row ++ so_far.done) ++ replicate n None) one_more;
-        value = sym lanes_nil;
-        long = refl;
-        narrow = omega arith;
-        left = omega (arith, length-append so_far.row so_far.done, so_far.long, so_far.left, full, one_more);
-        rest =
-            ap (λ k. read_on [] (so_far.row ++ so_far.done) (drop k text)) next
-            ∙ sym (on_slash so_far.row so_far.done byte (drop (suc i) text) slash (so_far.long ∙ full) (omega (arith, so_far.left, more))) ∙ here;
-        no_space = no_space_here (ap is_space h);
-      }
-
-  -- a space
-  pub space_read : (new : Board) → byte ≡ 32 → (file ≡ 8 → new ≡ so_far.row ++ take 56 board)
+  -- the end of the field
+  finished : (new : Board) → finish so_far.row so_far.done ≡ read_on [] [] text → (file ≡ 8 → new ≡ so_far.row ++ take 56 board)
       → placement_of (before_first is_space text) ≡ (if (file == 8) && (below == 0) then Some new else None)
-  space_read new h pushed =
-      finished text i board new below file lanes_read so_far (sym (on_space so_far.row so_far.done byte (drop (suc i) text) (ap is_space h)) ∙ here) pushed
-
-  -- any other byte
-  pub other_read : 8 < file + (item byte).width → ((byte == 47) && ((file == 8) && nat_lt 0 below)) ≡ false
-      → ((byte == 32) && ((file == 8) && (below == 0))) ≡ false → placement_of (before_first is_space text) ≡ None
-  other_read wide no_slash no_space =
-      sym (placement_is text) ∙ sym here
-      ∙ on_other so_far.row so_far.done byte (drop (suc i) text) (omega (arith, wide, so_far.long))
-      (slash_tests byte (length so_far.row) (length so_far.done) so_far.long so_far.left no_slash)
-      (space_tests byte (length so_far.row) (length so_far.done) so_far.long so_far.left no_space)
+  finished new h pushed =
+      sym (placement_is text) ∙ sym h ∙ by_count ((file == 8) && (below == 0)) refl
     where
-      slash_tests : (c m n : ℕ) → m ≡ file → n + 8 * below ≡ 56 → ((c == 47) && ((file == 8) && nat_lt 0 below)) ≡ false
-          → (is_slash c && ((m == 8) && nat_lt n 56)) ≡ false
-      slash_tests c m n e f h = grind (arith, nat_tests)
+      tests : (m n : ℕ) → m ≡ file → n + 8 * below ≡ 56 → ((m == 8) && (n == 56)) ≡ ((file == 8) && (below == 0))
+      tests m n e f = grind (arith, nat_tests)
 
-      space_tests : (c m n : ℕ) → m ≡ file → n + 8 * below ≡ 56 → ((c == 32) && ((file == 8) && (below == 0))) ≡ false
-          → (is_space c && ((m == 8) && (n == 56))) ≡ false
-      space_tests c m n e f h = grind (arith, nat_tests)
+      full : (file == 8) && (below == 0) ≡ true → (file ≡ 8) × (below ≡ 0)
+      full e = grind arith
 
--- the end of the text
-pub end_read : (text : List ℕ) (i : ℕ) (board new : Board) (below file lanes_read : ℕ) (so_far : ReadSoFar text i board below file lanes_read) → length text ≤ i
-    → (file ≡ 8 → new ≡ so_far.row ++ take 56 board)
-    → placement_of (before_first is_space text) ≡ (if (file == 8) && (below == 0) then Some new else None)
-unfolding read_on
-end_read text i board new below file lanes_read so_far end pushed =
-    finished text i board new below file lanes_read so_far (ap (read_on so_far.row so_far.done) (sym (drop_all i text end)) ∙ so_far.rest) pushed
+      all_read : file ≡ 8 → below ≡ 0 → new ≡ so_far.row ++ so_far.done
+      all_read e f =
+          rank_read new (pushed e)
+          ∙ ap (λ n. so_far.row ++ (so_far.done ++ replicate (8 * n) None)) f
+          ∙ ap (λ b. so_far.row ++ b) (append-nil so_far.done)
+
+      by_count : (x : Bool) → ((file == 8) && (below == 0)) ≡ x
+          → finish so_far.row so_far.done ≡ (if (file == 8) && (below == 0) then Some new else None)
+      by_count true e =
+          let (eight, none_below) = full e in
+          if_same _ _ _ _ (tests _ _ so_far.long so_far.left) (sym (all_read eight none_below))
+      by_count false e =
+          let same = tests _ _ so_far.long so_far.left in
+          rw (same, e) refl
+
+  -- the end of the text
+  pub end_read : (new : Board) → length text ≤ i → (file ≡ 8 → new ≡ so_far.row ++ take 56 board)
+      → placement_of (before_first is_space text) ≡ (if (file == 8) && (below == 0) then Some new else None)
+  unfolding read_on
+  end_read new end pushed =
+      finished new (at_end so_far.row so_far.done ∙ ap (read_on so_far.row so_far.done) (sym (drop_all i text end)) ∙ so_far.rest) pushed
+
+  -- the next byte
+  module _ (low : i < length text) where
+    abbrev pub byte : ℕ
+    byte = get_or text i 0
+
+    -- what is read from this byte on
+    here : read_on so_far.row so_far.done (byte ∷ drop (suc i) text) ≡ read_on [] [] text
+    here = ap (read_on so_far.row so_far.done) (sym (drop-cons text i 0 low)) ∙ so_far.rest
+
+    next : i + 1 ≡ suc i
+    next = omega arith
+
+    no_space_here : is_space byte ≡ false → (k : ℕ) → k < i + 1 → is_space (get_or text k 0) ≡ false
+    no_space_here h k less = elim (cases_lt k i) [ inl before ↦ so_far.no_space k before | inr after ↦ (let same : k ≡ i = omega arith in ap (λ n. is_space (get_or text n 0)) same ∙ h) ]
+
+    is_item_here : file + (item byte).width ≤ 8 → is_item byte ≡ true
+    is_item_here fits = item_by_width byte (omega (arith, fits))
+
+    -- the lanes with a digit or a letter
+    lanes_after : file + (item byte).width ≤ 8 → lanes_read + (item byte).lanes * 2 ^ file ≡ lanes (so_far.row ++ cells_at byte)
+    lanes_after fits =
+        ap₂ (λ n k. n + (item byte).lanes * 2 ^ k) so_far.value (sym so_far.long)
+        ∙ sym (ap (λ b. lanes (so_far.row ++ b)) (means byte (is_item_here fits)).cells
+        ∙ lanes_with_item so_far.row (piece_of byte) ((item byte).width - 1))
+
+    long_after : file + (item byte).width ≤ 8 → length (so_far.row ++ cells_at byte) ≡ file + (item byte).width
+    long_after fits = omega (arith, length-append so_far.row (cells_at byte), so_far.long, (means byte (is_item_here fits)).width)
+
+    lanes_fit_after : file + (item byte).width ≤ 8 → lanes_read + (item byte).lanes * 2 ^ file < 2 ^ 32
+    lanes_fit_after fits = omega (arith, lanes_after fits, lanes_fit (so_far.row ++ cells_at byte) (omega (arith, long_after fits)))
+
+    shifted : file + (item byte).width ≤ 8 → ((item byte).lanes * 2 ^ file) % 2 ^ 32 ≡ (item byte).lanes * 2 ^ file
+    shifted fits = omega (arith, lanes_fit_after fits)
+
+    pub item_fits : file + (item byte).width ≤ 8 → lanes_read + ((item byte).lanes * 2 ^ file) % 2 ^ 32 < 2 ^ 32
+    item_fits fits = omega (arith, shifted fits, lanes_fit_after fits)
+
+    -- a digit or a letter
+    pub item_read : file + (item byte).width ≤ 8
+        → ReadSoFar text (i + 1) board below (file + (item byte).width) (lanes_read + ((item byte).lanes * 2 ^ file) % 2 ^ 32)
+    item_read fits =
+        record {
+          row = so_far.row ++ cells_at byte;
+          done = so_far.done;
+          cells = so_far.cells;
+          value = ap (λ n. lanes_read + n) (shifted fits) ∙ lanes_after fits;
+          long = long_after fits;
+          narrow = fits;
+          left = so_far.left;
+          rest =
+              ap (λ k. read_on (so_far.row ++ cells_at byte) so_far.done (drop k text)) next
+              ∙ sym (on_item so_far.row so_far.done byte (drop (suc i) text) (omega (arith, fits, so_far.long))) ∙ here;
+          no_space = no_space_here (item_no_space byte (is_item_here fits));
+        }
+
+    -- a slash after eight squares
+    pub slash_read : (new : Board) → byte ≡ 47 → file ≡ 8 → 0 < below → new ≡ so_far.row ++ take 56 board → ReadSoFar text (i + 1) new (below - 1) 0 0
+    slash_read new h full more pushed =
+        let slash : is_slash byte ≡ true = ap is_slash h in
+        let one_more : 8 * below ≡ 8 * (below - 1) + 8 = omega (arith, more) in
+        record {
+          row = [];
+          done = so_far.row ++ so_far.done;
+          cells =
+              rank_read new pushed
+              ∙ sym (append_assoc so_far.row so_far.done (replicate (8 * below) None))
+              ∙ ap (λ n. (so_far.row ++ so_far.done) ++ replicate n None) one_more;
+          value = sym lanes_nil;
+          long = refl;
+          narrow = omega arith;
+          left = omega (arith, length-append so_far.row so_far.done, so_far.long, so_far.left, full, one_more);
+          rest =
+              ap (λ k. read_on [] (so_far.row ++ so_far.done) (drop k text)) next
+              ∙ sym (on_slash so_far.row so_far.done byte (drop (suc i) text) slash (so_far.long ∙ full) (omega (arith, so_far.left, more))) ∙ here;
+          no_space = no_space_here (ap is_space h);
+        }
+
+    -- a space
+    pub space_read : (new : Board) → byte ≡ 32 → (file ≡ 8 → new ≡ so_far.row ++ take 56 board)
+        → placement_of (before_first is_space text) ≡ (if (file == 8) && (below == 0) then Some new else None)
+    space_read new h pushed =
+        finished new (sym (on_space so_far.row so_far.done byte (drop (suc i) text) (ap is_space h)) ∙ here) pushed
+
+    -- any other byte
+    pub other_read : 8 < file + (item byte).width → ((byte == 47) && ((file == 8) && nat_lt 0 below)) ≡ false
+        → ((byte == 32) && ((file == 8) && (below == 0))) ≡ false → placement_of (before_first is_space text) ≡ None
+    other_read wide no_slash no_space =
+        sym (placement_is text) ∙ sym here
+        ∙ on_other so_far.row so_far.done byte (drop (suc i) text) (omega (arith, wide, so_far.long))
+        (slash_tests byte (length so_far.row) (length so_far.done) so_far.long so_far.left no_slash)
+        (space_tests byte (length so_far.row) (length so_far.done) so_far.long so_far.left no_space)
+      where
+        slash_tests : (c m n : ℕ) → m ≡ file → n + 8 * below ≡ 56 → ((c == 47) && ((file == 8) && nat_lt 0 below)) ≡ false
+            → (is_slash c && ((m == 8) && nat_lt n 56)) ≡ false
+        slash_tests c m n e f h = grind (arith, nat_tests)
+
+        space_tests : (c m n : ℕ) → m ≡ file → n + 8 * below ≡ 56 → ((c == 32) && ((file == 8) && (below == 0))) ≡ false
+            → (is_space c && ((m == 8) && (n == 56))) ≡ false
+        space_tests c m n e f h = grind (arith, nat_tests)

@@ -3,7 +3,7 @@ use Rattle.chess_text.proofs.Words.{◌≡◌, ℕ, ◌≤◌, true, List, [], O
 use Rattle.chess_text.proofs.rows.MovesOfPieces.{san_is_tried}
 use Rattle.chess_text.proofs.rows.TextLawRows.{knights, queens, rooks, promoting, kings, g1e2, c3e2, h4e1, e1c1, a1b1, a7b8}
 use Rattle.chess_text.proofs.rows.SanRows.{named, go}
-use Rattle.chess_text.proofs.forms.CastlingForms.{legal_next}
+use Rattle.chess_text.proofs.forms.CastlingMoves.{legal_next}
 
 -- a symbol, by the law
 symbols : WrittenMoveIsSymbol → Unit {0}

@@ -2,7 +2,7 @@
 -- these pieces alone.
 use Rattle.chess_text.proofs.Words.{◌≡◌, ℕ, Bool, true, ◌&&◌, not, inl, inr, List, [], ◌∷◌, ◌++◌, refl, ap, Option, None, Some, codes, if◌then◌else◌, list_any, or_cases, Move, Parts, Square, squares, at, has_colour, every_promotion, is_check, is_legal, legal, mark, san, unmarked, arith}
 use Rattle.chess_text.proofs.forms.MoverOfMove.{mover_colour}
-use Rattle.chess_text.proofs.names.RivalsAreCandidates.{any-same}
+use Rattle.chess_text.proofs.names.OneMoveAgrees.{any-same}
 
 -- some move from the square is legal, or some one to that target
 abbrev has_move_to : Parts → Square → Square → Bool

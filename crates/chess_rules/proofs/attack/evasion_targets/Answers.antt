@@ -1,13 +1,15 @@
 use Rattle.chess_rules.proofs.Words.{Colour, Board, Square, cell_of, square_at, is_clear, is_attacked, strictly_between, may_attack, has, Places, Bits, HasNone, IsFirst, ◌≡◌, ℕ, ◌<◌, true, ◌&&◌, ◌||◌, sym, ◌∙◌, ap, arith, or_left, or_right, false≢true}
 use Rattle.chess_rules.specs.Pairs.{HasAttacker}
-use Rattle.chess_rules.proofs.positions.OneKing.{cell_of-square_at}
-use Rattle.chess_rules.proofs.sets.AllSquares.{Passes, some_square}
+use Rattle.chess_rules.proofs.sets.AllSquares.{Passes, some_square, cell_of-square_at}
 use Rattle.chess_rules.proofs.sets.SetsToSquares.{at_square}
 use Rattle.chess_rules.proofs.lines.AttackToReach.{attacked_is, attacker_is}
 use Rattle.chess_rules.proofs.attack.evasion_targets.Goals as goal
 
 module _ (b : Board) (c : Colour) (t : Square) (possible attackers : ℕ) (may : Places possible (may_attack b c t))
     (clear : Places attackers (λ s. has possible (cell_of s) && is_clear b s t)) where
+  low : (s : Square) → s.file < 8 → s.rank < 8 → cell_of s < 64
+  low s file rank = omega arith
+
   attackers_are : Places attackers (λ s. may_attack b c t s && is_clear b s t)
   attackers_are = record {
     of = λ i low. clear.of i low ∙ ap (λ x. x && is_clear b (square_at i) t) (ap (has possible) (cell_of-square_at i) ∙ may.of i low);
@@ -16,9 +18,6 @@ module _ (b : Board) (c : Colour) (t : Square) (possible attackers : ℕ) (may :
   none_there : HasNone attackers → is_attacked b c t ≡ true → ⊥
   none_there none h = by_square (some_square (λ s. may_attack b c t s && is_clear b s t) (sym (attacked_is b c t) ∙ h))
     where
-      low : (s : Square) → s.file < 8 → s.rank < 8 → cell_of s < 64
-      low s file rank = omega arith
-
       by_square : Passes (λ s. may_attack b c t s && is_clear b s t) → ⊥
       by_square w =
           false≢true (sym (none.of (cell_of w.on) (low w.on w.file w.rank))
@@ -36,9 +35,6 @@ module _ (b : Board) (c : Colour) (t : Square) (possible attackers : ℕ) (may :
     way = λ u file rank h. both.of (cell_of u) (low u file rank)
         ∙ or_right _ _ (at_square way (λ v. strictly_between first v t) u between file rank ∙ h);
   }
-    where
-      low : (s : Square) → s.file < 8 → s.rank < 8 → cell_of s < 64
-      low s file rank = omega arith
 
 pub returns-in-None : goal.returns-in-None
 returns-in-None c h = absurd

@@ -9,7 +9,7 @@ returns c =
     let t = c.args.target in
     let by = c.requires.by in
     let both =
-    places_and _ _ _ _ _ c.bitand.ensures c.requires.places (places_or _ _ _ _ _ c.bitor.ensures c.pieces_in_view.ensures c.knights_to.ensures) in
+    places_and _ _ _ _ _ c.bitand.ensures c.requires.places (places_or _ _ _ _ _ c.bitor.ensures c.seen_from.ensures c.knights_to.ensures) in
     full_when c.bitand.result (λ s. may_attack b by t s && is_clear b s t) c.is_empty.result
     (record { of = λ i low. both.of i low ∙ seen_attacker b by t (square_at i) }) c.is_empty.ensures
     ∙ any_member c.args.possible (may_attack b by t) (λ s. is_clear b s t) c.requires.places

@@ -1,6 +1,6 @@
 use Rattle.chess_rules.proofs.Words.{cell_of, has, ◌≡◌, ℕ, ◌<◌, not, ◌&&◌, ◌∙◌, ap, ap₂, nat_lt}
+use Rattle.chess_rules.proofs.sets.AllSquares.{cell_of-square_at}
 use Rattle.chess_rules.proofs.lines.SeenAlong.{seen_places}
-use Rattle.chess_rules.proofs.positions.OneKing.{cell_of-square_at}
 use Rattle.chess_rules.proofs.attack.seen_along.Goals as goal
 
 pub returns : goal.returns

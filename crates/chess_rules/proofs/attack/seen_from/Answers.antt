@@ -1,5 +1,5 @@
 use Rattle.chess_rules.proofs.Words.{is_steep}
-use Rattle.chess_rules.proofs.lines.InView.{line_of_set, on_falling, on_file, on_rank, on_rising}
+use Rattle.chess_rules.proofs.lines.InView.{line_of_set}
 use Rattle.chess_rules.proofs.lines.SeenAlong.{seen_by_lines}
 use Rattle.chess_rules.proofs.lines.LinesThrough.{falling_line, file_line, rank_line, rising_line}
 use Rattle.chess_rules.proofs.sets.SetsToSquares.{places_and, places_not}
@@ -7,31 +7,23 @@ use Rattle.chess_rules.proofs.attack.seen_from.Goals as goal
 
 pub seen_along-requires : goal.seen_along-requires
 seen_along-requires c =
-    let t = c.args.origin in
-    let tf = c.recall_invariant.ensures.file in
-    line_of_set (on_file t) t _ tf c.recall_invariant.ensures.rank (file_line t tf)
-    (places_and _ _ _ _ _ c.bitand.ensures c.rank_and_file-rank_and_file.ensures c.steep-steep.ensures)
+    let on = c.recall_invariant.ensures in
+    line_of_set on.file on.rank (file_line c.args.origin on.file) (places_and _ _ _ _ _ c.bitand.ensures c.rank_and_file-rank_and_file.ensures c.steep-steep.ensures)
 
 pub seen_along-requires-2 : goal.seen_along-requires-2
 seen_along-requires-2 c =
-    let t = c.args.origin in
-    let tf = c.recall_invariant.ensures.file in
-    line_of_set (on_rank t) t _ tf c.recall_invariant.ensures.rank (rank_line t tf)
-    (places_and _ _ _ _ _ c.bitand-2.ensures c.rank_and_file-rank_and_file.ensures (places_not _ _ _ c.not.ensures c.steep-steep.ensures))
+    let on = c.recall_invariant.ensures in
+    line_of_set on.file on.rank (rank_line c.args.origin on.file) (places_and _ _ _ _ _ c.bitand-2.ensures c.rank_and_file-rank_and_file.ensures (places_not _ _ _ c.not.ensures c.steep-steep.ensures))
 
 pub seen_along-requires-3 : goal.seen_along-requires-3
 seen_along-requires-3 c =
-    let t = c.args.origin in
-    let tf = c.recall_invariant.ensures.file in
-    line_of_set (on_rising t) t _ tf c.recall_invariant.ensures.rank (rising_line t tf)
-    (places_and _ _ _ _ _ c.bitand-3.ensures c.diagonals-diagonals.ensures c.steep-steep.ensures)
+    let on = c.recall_invariant.ensures in
+    line_of_set on.file on.rank (rising_line c.args.origin on.file) (places_and _ _ _ _ _ c.bitand-3.ensures c.diagonals-diagonals.ensures c.steep-steep.ensures)
 
 pub seen_along-requires-4 : goal.seen_along-requires-4
 seen_along-requires-4 c =
-    let t = c.args.origin in
-    let tf = c.recall_invariant.ensures.file in
-    line_of_set (on_falling t) t _ tf c.recall_invariant.ensures.rank (falling_line t tf)
-    (places_and _ _ _ _ _ c.bitand-4.ensures c.diagonals-diagonals.ensures (places_not _ _ _ c.not-2.ensures c.steep-steep.ensures))
+    let on = c.recall_invariant.ensures in
+    line_of_set on.file on.rank (falling_line c.args.origin on.file) (places_and _ _ _ _ _ c.bitand-4.ensures c.diagonals-diagonals.ensures (places_not _ _ _ c.not-2.ensures c.steep-steep.ensures))
 
 pub returns : goal.returns
 returns c =

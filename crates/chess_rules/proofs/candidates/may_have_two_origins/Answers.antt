@@ -1,5 +1,5 @@
 use Rattle.std.proofs.Common.{◌∙◌, ap, not}
-use Rattle.chess_rules.proofs.trying.SetsToCandidates.{one_may_see}
+use Rattle.chess_rules.proofs.trying.SetsToPairs.{one_may_see}
 use Rattle.chess_rules.proofs.candidates.may_have_two_origins.Goals as goal
 
 pub returns : goal.returns

@@ -1,4 +1,4 @@
-use Rattle.chess_rules.proofs.trying.SetsToCandidates.{clear_are, jumps_are}
+use Rattle.chess_rules.proofs.trying.SetsToPairs.{clear_are, jumps_are}
 use Rattle.chess_rules.proofs.candidates.origin_set.Goals as goal
 
 pub returns-in-Knight : goal.returns-in-Knight

@@ -1,6 +1,6 @@
 use Rattle.chess_rules.proofs.Words.{candidates, members, ◌≡◌, arith, ap, append_assoc, append-nil, length, length-append}
 use Rattle.chess_rules.proofs.trying.CandidatesAreFew.{apart_there, candidates_apart}
-use Rattle.chess_rules.proofs.trying.SetsToCandidates.{few_there}
+use Rattle.chess_rules.proofs.trying.SetsToPairs.{few_there}
 use Rattle.chess_rules.proofs.candidates.origins.Goals as goal
 
 pub loop-origin-preserved : goal.loop-origin-preserved

@@ -1,5 +1,5 @@
 use Rattle.std.proofs.Common.{arith}
-use Rattle.chess_rules.proofs.trying.SetsToCandidates.{own_places}
+use Rattle.chess_rules.proofs.trying.SetsToPairs.{own_places}
 use Rattle.chess_rules.proofs.candidates.possible_origins.Goals as goal
 
 pub returns-in-Knight : goal.returns-in-Knight

@@ -1,4 +1,4 @@
-use Rattle.chess_rules.proofs.trying.OriginsAreCandidates.{candidates_complete}
+use Rattle.chess_rules.proofs.trying.LegalIsTried.{candidates_complete}
 use Rattle.chess_rules.proofs.laws.candidates_are_complete.Goals as goal
 
 pub returns : goal.returns

@@ -1,4 +1,4 @@
-use Rattle.chess_rules.proofs.trying.OriginsAreCandidates.{steps_from_candidates}
+use Rattle.chess_rules.proofs.trying.LegalIsTried.{steps_from_candidates}
 use Rattle.chess_rules.proofs.laws.steps_are_from_candidates.Goals as goal
 
 pub returns : goal.returns

@@ -1,5 +1,6 @@
-use Rattle.chess_rules.proofs.Words.{Square, Parts, Option, None, is_some, is_check, other, pair_count, has_legal_move, count_king_steps, count_untried, has_king_step, has_untried_move, is_position}
-use Rattle.chess_rules.proofs.Words.{Bits, has, members, ◌≡◌, ℕ, ◌+◌, true, false, not, ◌||◌, sym, ◌∙◌, ap, arith, list_any, sum_by}
+use Rattle.chess_rules.proofs.Words.{Parts, None, is_check, other, pair_count, has_legal_move, count_king_steps, count_untried, has_king_step, has_untried_move, is_position}
+use Rattle.chess_rules.proofs.moves.PlainStepAttacks.{none_when_not}
+use Rattle.chess_rules.proofs.Words.{Bits, has, members, ◌≡◌, ℕ, ◌+◌, ◌≤◌, true, false, not, ◌||◌, sym, ◌∙◌, ap, arith, list_any, sum_by}
 use Rattle.chess_rules.proofs.positions.RulesOfPosition.{sound_from_position}
 use Rattle.chess_rules.proofs.moves.CheckStays.{check_met, none_elsewhere}
 use Rattle.chess_rules.proofs.trying.PairCounts.{pair_count_parts, pair_count_most}
@@ -11,6 +12,7 @@ use Rattle.chess_rules.proofs.legal.has_legal_move.Goals as goal
 record Searches (p : Parts) (w r : ℕ) : Type 0 where
   found : has_legal_move p ≡ (has_king_step p || (list_any (has_untried_move p) (members w) || list_any (has_untried_move p) (members r)))
   count : pair_count p ≡ count_king_steps p + (sum_by (count_untried p) (members w) + sum_by (count_untried p) (members r))
+  most : pair_count p ≤ 1024
 
 searches : (p : Parts) (w r : ℕ) → is_position p ≡ true → Bits r (λ i. not (has w i)) → Searches p w r
 searches p w r position rest =
@@ -18,10 +20,8 @@ searches p w r position rest =
       found = legal_move_found p position ∙ ap (λ x. has_king_step p || x) (sym (any_both (has_untried_move p) w r rest));
       count = sym (pair_count_parts p (sound_from_position p position))
           ∙ ap (λ n. count_king_steps p + n) (sym (sum_both_sets (count_untried p) w r rest));
+      most = pair_count_most p;
     }
-
-none_there : (o : Option Square) → is_some o ≡ false → o ≡ None
-none_there o h = grind arith
 
 pub has_king_step-requires : goal.has_king_step-requires
 has_king_step-requires c = grind (arith, pair_count_parts, sound_from_position, pair_count_most)
@@ -35,13 +35,13 @@ returns-then-has_king_step-clause-most c = grind (arith, pair_count_parts, sound
 pub has_other_move_to-requires : goal.has_other_move_to-requires
 has_other_move_to-requires c =
     let s = searches c.args.position.now c.evasion_targets-first.result c.not-others.result c.recall_invariant.ensures c.not-others.ensures in
-    omega (arith, s.count, pair_count_most c.args.position.now, c.requires, c.has_king_step.ensures.count.all c.if-has_king_step.false)
+    omega (arith, c.has_king_step.ensures.count.all c.if-has_king_step.false)
 
 pub rule_out_moves_to-requires-clause-none : goal.rule_out_moves_to-requires-clause-none
 rule_out_moves_to-requires-clause-none c =
     let p = c.args.position.now in
     let check : is_check p ≡ true = sym c.is_checked.ensures ∙ c.if-is_checked.true in
-    let no_target : p.target ≡ None = sym c.target.ensures ∙ none_there c.target.result (c.is_none.ensures ∙ ap not c.if-is_none.true) in
+    let no_target : p.target ≡ None = sym c.target.ensures ∙ none_when_not c.target.result (c.is_none.ensures ∙ ap not c.if-is_none.true) in
     none_elsewhere p c.evasion_targets-first.result c.recall_invariant.ensures check no_target
     (check_met p c.board.result.now c.other.result c.king.result c.evasion_targets-first.result c.recall_invariant.ensures check
     c.board.ensures (c.other.ensures ∙ ap other c.side.ensures) c.king.ensures c.evasion_targets-first.ensures)
@@ -52,9 +52,6 @@ rule_out_moves_to-requires-clause-room c =
     let s = searches c.args.position.now c.evasion_targets-first.result c.not-others.result c.recall_invariant.ensures c.not-others.ensures in
     omega (
       arith,
-      s.count,
-      pair_count_most c.args.position.now,
-      c.requires,
       c.has_king_step.ensures.count.all c.if-has_king_step.false,
       c.has_other_move_to.ensures.count.all c.if-has_other_move_to.false,
     )
@@ -64,9 +61,6 @@ has_other_move_to-requires-2 c =
     let s = searches c.args.position.now c.evasion_targets-first.result c.not-others.result c.recall_invariant.ensures c.not-others.ensures in
     omega (
       arith,
-      s.count,
-      pair_count_most c.args.position.now,
-      c.requires,
       c.has_king_step.ensures.count.all c.if-has_king_step.false,
       c.has_other_move_to.ensures.count.all c.if-has_other_move_to.false,
     )
@@ -80,21 +74,14 @@ returns-then-has_other_move_to-clause-found c =
 pub returns-then-has_other_move_to-clause-most : goal.returns-then-has_other_move_to-clause-most
 returns-then-has_other_move_to-clause-most c =
     let s = searches c.args.position.now c.evasion_targets-first.result c.not-others.result c.recall_invariant.ensures c.not-others.ensures in
-    omega (
-      arith,
-      s.count,
-      pair_count_most c.args.position.now,
-      c.requires,
-      c.has_king_step.ensures.count.all c.if-has_king_step.false,
-      c.has_other_move_to.ensures.count.most,
-    )
+    omega (arith, c.has_king_step.ensures.count.all c.if-has_king_step.false)
 
 pub returns-then-is_none-clause-found : goal.returns-then-is_none-clause-found
 returns-then-is_none-clause-found c =
     let p = c.args.position.now in
     let s = searches p c.evasion_targets-first.result c.not-others.result c.recall_invariant.ensures c.not-others.ensures in
     let check : is_check p ≡ true = sym c.is_checked.ensures ∙ c.if-is_checked.true in
-    let no_target : p.target ≡ None = sym c.target.ensures ∙ none_there c.target.result (c.is_none.ensures ∙ ap not c.if-is_none.true) in
+    let no_target : p.target ≡ None = sym c.target.ensures ∙ none_when_not c.target.result (c.is_none.ensures ∙ ap not c.if-is_none.true) in
     let none = none_elsewhere p c.evasion_targets-first.result c.recall_invariant.ensures check no_target
     (check_met p c.board.result.now c.other.result c.king.result c.evasion_targets-first.result c.recall_invariant.ensures check
     c.board.ensures (c.other.ensures ∙ ap other c.side.ensures) c.king.ensures c.evasion_targets-first.ensures)
@@ -107,12 +94,8 @@ returns-then-is_none-clause-most c =
     let s = searches c.args.position.now c.evasion_targets-first.result c.not-others.result c.recall_invariant.ensures c.not-others.ensures in
     omega (
       arith,
-      s.count,
-      pair_count_most c.args.position.now,
-      c.requires,
       c.has_king_step.ensures.count.all c.if-has_king_step.false,
       c.has_other_move_to.ensures.count.all c.if-has_other_move_to.false,
-      c.rule_out_moves_to.ensures,
     )
 
 pub returns-then-is_none-clause-all : goal.returns-then-is_none-clause-all
@@ -120,10 +103,8 @@ returns-then-is_none-clause-all c none =
     let s = searches c.args.position.now c.evasion_targets-first.result c.not-others.result c.recall_invariant.ensures c.not-others.ensures in
     omega (
       arith,
-      s.count,
       c.has_king_step.ensures.count.all c.if-has_king_step.false,
       c.has_other_move_to.ensures.count.all c.if-has_other_move_to.false,
-      c.rule_out_moves_to.ensures,
     )
 
 pub returns-clause-found : goal.returns-clause-found
@@ -137,12 +118,8 @@ returns-clause-most c =
     let s = searches c.args.position.now c.evasion_targets-first.result c.not-others.result c.recall_invariant.ensures c.not-others.ensures in
     omega (
       arith,
-      s.count,
-      pair_count_most c.args.position.now,
-      c.requires,
       c.has_king_step.ensures.count.all c.if-has_king_step.false,
       c.has_other_move_to.ensures.count.all c.if-has_other_move_to.false,
-      c.has_other_move_to-2.ensures.count.most,
     )
 
 pub returns-clause-all : goal.returns-clause-all
@@ -150,7 +127,6 @@ returns-clause-all c none =
     let s = searches c.args.position.now c.evasion_targets-first.result c.not-others.result c.recall_invariant.ensures c.not-others.ensures in
     omega (
       arith,
-      s.count,
       c.has_king_step.ensures.count.all c.if-has_king_step.false,
       c.has_other_move_to.ensures.count.all c.if-has_other_move_to.false,
       c.has_other_move_to-2.ensures.count.all none,

@@ -6,13 +6,13 @@ use Rattle.chess_rules.proofs.trying.SearchThatCounts.{target_fits, fewer_target
 use Rattle.chess_rules.proofs.pairs.has_other_move_to.Goals as goal
 
 -- the origins of one target
-module _ (p : Parts) (t : Square) (w : ℕ) (origins : Places w (is_untried p t)) where
-  found : (r : Bool) → r ≡ list_any (λ s. is_legal_pair p s t) (members w) → r ≡ has_untried_move p t
+module _ (p : Parts) (t : Square) {w : ℕ} (origins : Places w (is_untried p t)) where
+  found : {r : Bool} → r ≡ list_any (λ s. is_legal_pair p s t) (members w) → r ≡ has_untried_move p t
   unfolding has_untried_move
-  found r h = h ∙ ap (list_any (λ s. is_legal_pair p s t)) (untried_are p t w origins)
+  found h = h ∙ ap (list_any (λ s. is_legal_pair p s t)) (untried_are p t w origins)
 
-  counted : (r : Bool) (old new : ℕ) → Counts r old new (length (members w)) → Counts r old new (count_untried p t)
-  counted r old new h = subst (Counts r old new) (untried_counted p t w origins) h
+  counted : {r : Bool} {old new : ℕ} → Counts r old new (length (members w)) → Counts r old new (count_untried p t)
+  counted {r} {old} {new} h = subst (Counts r old new) (untried_counted p t w origins) h
 
 pub loop-target-init : goal.loop-target-init
 loop-target-init c = grind arith
@@ -20,43 +20,31 @@ loop-target-init c = grind arith
 pub has_move_from-requires : goal.has_move_from-requires
 has_move_from-requires c =
     subst (λ n. c.loop-target.probes + n < 2 ^ 32) (sym (untried_counted c.args.position.now c.in-Some.target c.untried.result c.untried.ensures))
-    (target_fits (has_untried_move c.args.position.now) (count_untried c.args.position.now)
-    (members c.args.targets) c.loop-target.left c.take_lowest.new.self c.args.probes.now c.loop-target.probes c.in-Some.target
-    c.in-Some.ensures.next c.loop-target.invariant (2 ^ 32) c.requires)
+    (target_fits c.loop-target.invariant c.in-Some.ensures (2 ^ 32) c.requires)
 
 pub returns-then-has_move_from-clause-found : goal.returns-then-has_move_from-clause-found
 returns-then-has_move_from-clause-found c =
-    (target_hit (has_untried_move c.args.position.now) (count_untried c.args.position.now)
-    (members c.args.targets) c.loop-target.left c.take_lowest.new.self c.args.probes.now c.loop-target.probes c.in-Some.target
-    c.in-Some.ensures.next c.loop-target.invariant c.has_move_from.result c.has_move_from.new.probes (found c.args.position.now
-    c.in-Some.target c.untried.result c.untried.ensures c.has_move_from.result c.has_move_from.ensures.found) c.if-has_move_from.true
-    (counted c.args.position.now c.in-Some.target c.untried.result c.untried.ensures c.has_move_from.result _ _ c.has_move_from.ensures.count)).0
+    (target_hit c.loop-target.invariant c.in-Some.ensures
+    (found c.args.position.now c.in-Some.target c.untried.ensures c.has_move_from.ensures.found) c.if-has_move_from.true
+    (counted c.args.position.now c.in-Some.target c.untried.ensures c.has_move_from.ensures.count)).0
 
 pub returns-then-has_move_from-clause-count : goal.returns-then-has_move_from-clause-count
 returns-then-has_move_from-clause-count c =
-    (target_hit (has_untried_move c.args.position.now) (count_untried c.args.position.now)
-    (members c.args.targets) c.loop-target.left c.take_lowest.new.self c.args.probes.now c.loop-target.probes c.in-Some.target
-    c.in-Some.ensures.next c.loop-target.invariant c.has_move_from.result c.has_move_from.new.probes (found c.args.position.now
-    c.in-Some.target c.untried.result c.untried.ensures c.has_move_from.result c.has_move_from.ensures.found) c.if-has_move_from.true
-    (counted c.args.position.now c.in-Some.target c.untried.result c.untried.ensures c.has_move_from.result _ _ c.has_move_from.ensures.count)).1
+    (target_hit c.loop-target.invariant c.in-Some.ensures
+    (found c.args.position.now c.in-Some.target c.untried.ensures c.has_move_from.ensures.found) c.if-has_move_from.true
+    (counted c.args.position.now c.in-Some.target c.untried.ensures c.has_move_from.ensures.count)).1
 
 pub loop-target-smaller : goal.loop-target-smaller
 loop-target-smaller c = omega (arith, ap length c.in-Some.ensures.next)
 
 pub loop-target-preserved : goal.loop-target-preserved
 loop-target-preserved c =
-    fewer_targets (spec.has_untried_move c.args.position.now) (spec.count_untried c.args.position.now)
-    (members c.args.targets) c.loop-target.left c.take_lowest.new.self c.args.probes.now c.loop-target.probes c.in-Some.target
-    c.in-Some.ensures.next c.loop-target.invariant c.has_move_from.result c.has_move_from.new.probes (found c.args.position.now
-    c.in-Some.target c.untried.result c.untried.ensures c.has_move_from.result c.has_move_from.ensures.found) c.if-has_move_from.false
-    (counted c.args.position.now c.in-Some.target c.untried.result c.untried.ensures c.has_move_from.result _ _ c.has_move_from.ensures.count)
+    fewer_targets c.loop-target.invariant c.in-Some.ensures
+    (found c.args.position.now c.in-Some.target c.untried.ensures c.has_move_from.ensures.found) c.if-has_move_from.false
+    (counted c.args.position.now c.in-Some.target c.untried.ensures c.has_move_from.ensures.count)
 
 pub returns-clause-found : goal.returns-clause-found
-returns-clause-found c =
-    (no_target (spec.has_untried_move c.args.position.now) (spec.count_untried c.args.position.now)
-    (members c.args.targets) c.loop-target.left c.args.probes.now c.loop-target.probes c.loop-target.invariant c.in_default.ensures).0
+returns-clause-found c = (no_target c.loop-target.invariant c.in_default.ensures).0
 
 pub returns-clause-count : goal.returns-clause-count
-returns-clause-count c =
-    (no_target (spec.has_untried_move c.args.position.now) (spec.count_untried c.args.position.now)
-    (members c.args.targets) c.loop-target.left c.args.probes.now c.loop-target.probes c.loop-target.invariant c.in_default.ensures).1
+returns-clause-count c = (no_target c.loop-target.invariant c.in_default.ensures).1

@@ -5,21 +5,15 @@ use Rattle.chess_rules.proofs.pairs.rule_out_moves_to.Goals as goal
 
 pub loop-origin-init : goal.loop-origin-init
 loop-origin-init c =
-    origins_begin c.args.position.now c.args.targets c.of_colour-left.result c.args.probes.now
-    (colour_places c.args.position.now c.side.result c.board.result.now c.of_colour-left.result c.side.ensures c.board.ensures
-    c.of_colour-left.ensures)
+    origins_begin (colour_places c.args.position.now _ _ _ c.side.ensures c.board.ensures c.of_colour-left.ensures)
 
 pub untried_from-requires : goal.untried_from-requires
-untried_from-requires c =
-    origin_mine c.args.position.now c.args.targets c.loop-origin.left c.take_lowest.new.self c.args.probes.now c.loop-origin.probes
-    c.in-Some.origin c.in-Some.ensures c.loop-origin.invariant
+untried_from-requires c = origin_mine c.in-Some.ensures c.loop-origin.invariant
 
 pub add-requires : goal.add-requires
 add-requires c =
-    let counted = origin_counts c.args.position.now c.args.targets c.loop-origin.left c.take_lowest.new.self c.args.probes.now
-    c.loop-origin.probes c.in-Some.origin c.in-Some.ensures c.loop-origin.invariant in
-    let many = targets_counted c.args.position.now c.args.targets c.untried_from.result c.bitand.result c.in-Some.origin
-    c.bitand.ensures c.untried_from.ensures in
+    let counted = origin_counts c.in-Some.ensures c.loop-origin.invariant in
+    let many = targets_counted c.args.position.now c.args.targets c.in-Some.origin c.bitand.ensures c.untried_from.ensures in
     omega (arith, counted, many, c.count.ensures, c.requires.room, counted_by_origins c.args.position.now c.args.targets)
 
 pub loop-origin-smaller : goal.loop-origin-smaller
@@ -27,10 +21,8 @@ loop-origin-smaller c = omega (arith, ap length c.in-Some.ensures.next)
 
 pub loop-origin-preserved : goal.loop-origin-preserved
 loop-origin-preserved c =
-    let many = targets_counted c.args.position.now c.args.targets c.untried_from.result c.bitand.result c.in-Some.origin
-    c.bitand.ensures c.untried_from.ensures in
-    origins_go_on c.args.position.now c.args.targets c.loop-origin.left c.take_lowest.new.self c.args.probes.now c.loop-origin.probes
-    c.in-Some.origin c.in-Some.ensures c.loop-origin.invariant c.add.new.self (omega (arith, many, c.count.ensures, c.add.ensures))
+    let many = targets_counted c.args.position.now c.args.targets c.in-Some.origin c.bitand.ensures c.untried_from.ensures in
+    origins_go_on c.in-Some.ensures c.loop-origin.invariant (omega (arith, many, c.count.ensures, c.add.ensures))
 
 pub returns : goal.returns
 returns c =

@@ -1,8 +1,7 @@
 use Rattle.chess_rules.proofs.Words.{King, Knight, cell_of, is_king_step, own, Places, has, not, ◌&&◌, arith}
-use Rattle.chess_rules.proofs.positions.OneKing.{cell_of-square_at}
+use Rattle.chess_rules.proofs.sets.AllSquares.{cell_of-square_at}
 use Rattle.chess_rules.proofs.sets.SetsToSquares.{places_and, places_or}
-use Rattle.chess_rules.proofs.trying.SetsToCandidates.{own_places}
-use Rattle.chess_rules.proofs.trying.SetsToPairs.{colour_places, aligned_left, king_left_out, step_tried}
+use Rattle.chess_rules.proofs.trying.SetsToPairs.{own_places, colour_places, aligned_left, king_left_out, step_tried}
 use Rattle.chess_rules.proofs.pairs.untried.Goals as goal
 use Rattle.chess_rules.proofs.pairs.untried.Goals.{then-has, else-has}
 

@@ -1,6 +1,6 @@
 use Rattle.chess_text.proofs.Words.{◌≡◌, List, ℕ, [], ◌∷◌, ◌++◌, append_assoc, sym, ◌∙◌, ap, arith, decimal, side_text}
 use Rattle.chess_text.proofs.Words.{◌+◌, ◌≤◌, length, length-append, rights_text, target_text}
-use Rattle.chess_text.proofs.positions.SixFieldsJoined.{five_written, six_written, length-five, length-number, length-target_text}
+use Rattle.chess_text.proofs.positions.FieldsOfText.{five_written, six_written, length-five, length-number, length-target_text}
 use Rattle.chess_text.proofs.fen.push_all_but_full.Goals as goal
 
 -- a field behind a space

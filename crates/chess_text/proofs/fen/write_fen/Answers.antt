@@ -1,5 +1,5 @@
 use Rattle.chess_text.proofs.Words.{◌≡◌, ◌≤◌, List, ℕ, ◌∷◌, length, ◌∙◌, ap, arith, length-append, decimal}
-use Rattle.chess_text.proofs.positions.SixFieldsJoined.{length-number}
+use Rattle.chess_text.proofs.positions.FieldsOfText.{length-number}
 use Rattle.chess_text.proofs.fen.write_fen.Goals as goal
 
 -- the last field has five bytes at most

@@ -1,5 +1,5 @@
 use Rattle.chess_text.proofs.Words.{sym, ◌∙◌, ap, Move, form_move}
-use Rattle.chess_text.proofs.forms.CastlingForms.{described}
+use Rattle.chess_text.proofs.forms.CastlingMoves.{described}
 use Rattle.chess_text.proofs.form_origins.describes.Goals as goal
 
 pub returns-in-Castle : goal.returns-in-Castle

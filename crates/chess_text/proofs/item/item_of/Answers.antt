@@ -5,4 +5,4 @@ use Rattle.chess_text.proofs.item.item_of.Goals as goal
 
 pub returns : goal.returns
 unfolding lanes word
-returns c = Rattle.chess_text.proofs.positions.TableOfItems.table_at item _ _ _ refl c.ranges.byte.fits
+returns c = Rattle.chess_text.proofs.positions.LanesOfItems.table_at item _ _ _ refl c.ranges.byte.fits

@@ -1,4 +1,4 @@
-use Rattle.chess_text.proofs.names.WrittenMoveIsRead.{written_move_is_read}
+use Rattle.chess_text.proofs.names.TextsToMoves.{written_move_is_read}
 use Rattle.chess_text.proofs.laws.a_written_move_is_read_as_itself.Goals as goal
 
 pub returns : goal.returns

@@ -15,15 +15,15 @@ restated {text} {i} {b} {d} {below} {k} {file} {f} {lanes} {n} e g h j s =
 
 fits : {text : List ℕ} {i : ℕ} {b : Board} {below file lanes : ℕ} (x : Item) → x ≡ item (get_or text i 0) → ReadSoFar text i b below file lanes → i < length text
     → file + x.width ≤ 8 → lanes + (x.lanes * 2 ^ file) % 2 ^ 32 < 2 ^ 32
-fits {text} {i} {b} {below} {file} {lanes} x e s low narrow =
+fits {file = file} {lanes = lanes} x e s low narrow =
     subst (λ y. lanes + (y.lanes * 2 ^ file) % 2 ^ 32 < 2 ^ 32) (sym e)
-    (item_fits text i b below file lanes s low (omega (arith, narrow, ap (λ y. y.width) e)))
+    (item_fits s low (omega (arith, narrow, ap (λ y. y.width) e)))
 
 put : {text : List ℕ} {i : ℕ} {b : Board} {below file lanes : ℕ} (x : Item) → x ≡ item (get_or text i 0) → ReadSoFar text i b below file lanes → i < length text
     → file + x.width ≤ 8 → ReadSoFar text (i + 1) b below (file + x.width) (lanes + (x.lanes * 2 ^ file) % 2 ^ 32)
 put {text} {i} {b} {below} {file} {lanes} x e s low narrow =
     subst (λ y. ReadSoFar text (i + 1) b below (file + y.width) (lanes + (y.lanes * 2 ^ file) % 2 ^ 32)) (sym e)
-    (item_read text i b below file lanes s low (omega (arith, narrow, ap (λ y. y.width) e)))
+    (item_read s low (omega (arith, narrow, ap (λ y. y.width) e)))
 
 whole : (o : Option Board) (b : Board) (below file : ℕ) → o ≡ (if (file == 8) && (below == 0) then Some b else None) → file ≡ 8 → below ≡ 0 → o ≡ Some b
 whole o b below file h e f = grind (arith, nat_tests)
@@ -50,7 +50,7 @@ pub returns-then-below-eq0-clause-board : goal.returns-then-below-eq0-clause-boa
 returns-then-below-eq0-clause-board c =
     let so_far = c.loop-i in
     whole _ c.push_rank-then-below-eq0.new.self so_far.below so_far.file
-    (space_read c.args.text.now so_far.i so_far.board so_far.below so_far.file so_far.lanes so_far.invariant c.loop-i-test.true
+    (space_read so_far.invariant c.loop-i-test.true
     c.push_rank-then-below-eq0.new.self c.if-byte-eq32.true
     (λ full. c.push_rank-then-below-eq0.ensures so_far.invariant.row (so_far.invariant.long ∙ full) so_far.invariant.value))
     c.if-file-eq8-2.true c.if-below-eq0.true
@@ -62,7 +62,7 @@ returns-then-below-eq0-clause-end c =
 pub returns-else-byte-eq32-clause-board : goal.returns-else-byte-eq32-clause-board
 returns-else-byte-eq32-clause-board c =
     let so_far = c.loop-i in
-    other_read c.args.text.now so_far.i so_far.board so_far.below so_far.file so_far.lanes so_far.invariant c.loop-i-test.true
+    other_read so_far.invariant c.loop-i-test.true
     (omega (arith, c.if-file-item-le8.false, ap (λ x. x.width) c.item_of-item.ensures))
     (no_slash _ _ _ c.else-byte-eq47.either) (no_space _ _ _ c.else-byte-eq32.either)
 
@@ -73,7 +73,7 @@ loop-i-preserved c =
       | then-file-item-le8 w ↦ restated w.board-is w.below-is w.file-is w.lanes-is
           (put c.item_of-item.result c.item_of-item.ensures so_far.invariant c.loop-i-test.true w.if-file-item-le8.true)
       | else-file-item-le8+then-byte-eq47+then-file-eq8+then-below-gt0 w ↦ restated w.board-is w.below-is w.file-is w.lanes-is
-          (slash_read c.args.text.now so_far.i so_far.board so_far.below so_far.file so_far.lanes so_far.invariant c.loop-i-test.true
+          (slash_read so_far.invariant c.loop-i-test.true
           w.push_rank.new.self w.if-byte-eq47.true w.if-file-eq8.true w.if-below-gt0.true
           (w.push_rank.ensures so_far.invariant.row (so_far.invariant.long ∙ w.if-file-eq8.true) so_far.invariant.value))
     ]
@@ -82,7 +82,7 @@ pub returns-then-below-eq0-2-clause-board : goal.returns-then-below-eq0-2-clause
 returns-then-below-eq0-2-clause-board c =
     let so_far = c.loop-i in
     whole _ c.push_rank-then-below-eq0-2.new.self so_far.below so_far.file
-    (end_read c.args.text.now so_far.i so_far.board c.push_rank-then-below-eq0-2.new.self so_far.below so_far.file so_far.lanes so_far.invariant (omega arith)
+    (end_read so_far.invariant c.push_rank-then-below-eq0-2.new.self (omega arith)
     (λ full. c.push_rank-then-below-eq0-2.ensures so_far.invariant.row (so_far.invariant.long ∙ full) so_far.invariant.value))
     c.if-file-eq8-3.true c.if-below-eq0-2.true
 
@@ -95,6 +95,5 @@ pub returns-else-file-eq8-3-clause-board : goal.returns-else-file-eq8-3-clause-b
 returns-else-file-eq8-3-clause-board c =
     let so_far = c.loop-i in
     part _ _ so_far.below so_far.file
-    (end_read c.args.text.now so_far.i so_far.board (so_far.invariant.row ++ take 56 so_far.board) so_far.below so_far.file so_far.lanes so_far.invariant
-    (omega arith) (λ _. refl))
+    (end_read so_far.invariant (so_far.invariant.row ++ take 56 so_far.board) (omega arith) (λ _. refl))
     c.else-file-eq8-3.either

@@ -1,6 +1,5 @@
 use Rattle.chess_text.proofs.Words.{sym, ◌∙◌, ap, is_some, not, castling_move}
-use Rattle.chess_text.proofs.forms.CastlingForms.{castling_illegal, castling_found, castling_other}
-use Rattle.chess_text.proofs.forms.CastlingMoves.{legal_is_step}
+use Rattle.chess_text.proofs.forms.CastlingMoves.{castling_illegal, castling_found, castling_other, legal_is_step}
 use Rattle.chess_text.proofs.resolution.resolve_castling.Goals as goal
 
 pub is_castling-requires : goal.is_castling-requires

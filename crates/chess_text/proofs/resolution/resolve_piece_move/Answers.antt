@@ -1,7 +1,6 @@
 use Rattle.chess_text.proofs.Words.{◌≡◌, ℕ, ◌<◌, List, [], ◌∷◌, length, get_or, filter_map, sym, refl, ◌∙◌, ap, subst, arith, Option, Some, is_some, cons_option, ok_or, option_to_list, IsPermutation, and_parts, IsPermutation-refl, length_permutation, Kind, Promotion, Parts, Square, candidates, lone, CandidatesComplete, Man, Played, NoMove, move_from, move_of_form, only, own, piece_move_fits, played, true}
-use Rattle.chess_text.proofs.forms.MoveKept.{with_position, kept_is_some, kept_next, fitting_is_played, other_is_not_played}
+use Rattle.chess_text.proofs.forms.PieceForms.{with_position, kept_is_some, kept_next, fitting_is_played, other_is_not_played, candidates_own, from_square, reads_candidates, tried_at, tried_own}
 use Rattle.chess_text.proofs.forms.OnlyElement.{still_none, first_one, second_one, not_at_once, at_the_end}
-use Rattle.chess_text.proofs.forms.PieceForms.{candidates_own, from_square, reads_candidates, tried_at, tried_own}
 use Rattle.chess_text.proofs.resolution.resolve_piece_move.Goals as goal
 use Rattle.chess_text.proofs.resolution.resolve_piece_move.Goals.{After-as_slice-origin-items, then-agrees-2+else-is_some, else-agrees-2}
 

@@ -1,6 +1,5 @@
 use Rattle.chess_text.proofs.Words.{◌≡◌, ◌+◌, take, filter_map, option_to_list, Man}
-use Rattle.chess_text.proofs.forms.MoveKept.{with_position, IsLegalIfAny}
-use Rattle.chess_text.proofs.forms.PieceForms.{from_square}
+use Rattle.chess_text.proofs.forms.PieceForms.{with_position, IsLegalIfAny, from_square}
 use Rattle.chess_text.proofs.resolution.resolve_piece_move.Given as goal
 
 -- what the origins so far gave, that it is legal, and how many pairs were tried

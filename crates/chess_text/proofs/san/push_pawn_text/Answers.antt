@@ -1,5 +1,5 @@
 use Rattle.chess_text.proofs.Words.{◌++◌, refl, sym, ◌∙◌, ap, ap₂, pawn_capture}
-use Rattle.chess_text.proofs.forms.PawnWays.{pawn_takes}
+use Rattle.chess_text.proofs.forms.MoverOfMove.{pawn_takes}
 use Rattle.chess_text.proofs.san.push_pawn_text.Goals as goal
 
 pub returns-clause-text : goal.returns-clause-text

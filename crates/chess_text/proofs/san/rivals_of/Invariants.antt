@@ -1,5 +1,5 @@
 use Rattle.chess_text.proofs.Words.{◌≡◌, ◌+◌}
-use Rattle.chess_text.proofs.names.RivalsAreCandidates.{Found}
+use Rattle.chess_text.proofs.names.OneMoveAgrees.{Found}
 use Rattle.chess_text.proofs.san.rivals_of.Given as goal
 
 abbrev pub invariant-loop-origin : goal.invariant-loop-origin

@@ -2,8 +2,8 @@ use Rattle.chess_rules.proofs.Words.{Colour, King, Square, squares, same_square,
 use Rattle.chess_rules.proofs.lines.AttackToReach.{squares_same}
 use Rattle.chess_rules.proofs.positions.OneKing.{StandsAt, king_stands, tally, tally-count_by}
 use Rattle.chess_rules.proofs.positions.RulesOfPosition.{itself}
-use Rattle.chess_rules.proofs.sets.AllSquares.{any_square}
-use Rattle.chess_rules.proofs.sets.SetsToSquares.{by_places, members_are}
+use Rattle.chess_rules.proofs.sets.AllSquares.{any_square, by_places}
+use Rattle.chess_rules.proofs.sets.SetsToSquares.{members_are}
 use Rattle.chess_rules.proofs.trying.FoundLists.{list_any-filter}
 use Rattle.chess_rules.proofs.board.Board.king.Goals as goal
 

@@ -1,6 +1,6 @@
 use Rattle.chess_rules.proofs.Words.{Black, has_colour, is_near, diagonal_of, straight_of, is_some, None, get_or, ℕ, ◌<◌, ◌∙◌, ap}
-use Rattle.chess_rules.proofs.positions.OneKing.{cell_of-square_at}
-use Rattle.chess_rules.proofs.sets.RankToNumbers.{cells_of_rank, on_rank, total}
+use Rattle.chess_rules.proofs.sets.AllSquares.{cell_of-square_at}
+use Rattle.chess_rules.proofs.sets.RanksToWords.{cells_of_rank, on_rank, total}
 use Rattle.chess_rules.proofs.sets.WordsToCells.{bits_there}
 use Rattle.chess_rules.proofs.board.Board.rank_numbers.Goals as goal
 

@@ -1,5 +1,5 @@
 use Rattle.chess_rules.proofs.Words.{◌<◌, ◌^◌, length, members, ◌∙◌, ap, arith}
-use Rattle.chess_rules.proofs.sets.HowMany.{ones_are_members}
+use Rattle.chess_rules.proofs.sets.SetsToSquares.{ones_are_members}
 use Rattle.chess_rules.proofs.squares.Squares.count.Goals as goal
 
 pub returns : goal.returns

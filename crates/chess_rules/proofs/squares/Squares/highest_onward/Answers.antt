@@ -1,7 +1,6 @@
 use Rattle.chess_rules.proofs.Words.{cell_of, IsFrom, IsHighest, ◌≡◌, ◌-◌, ◌<◌, ◌^◌, not, sym, ◌∙◌, ap, subst, w64, arith, leading_zeros, nat_lt}
-use Rattle.chess_rules.proofs.positions.OneKing.{cell_of-square_at}
-use Rattle.chess_rules.proofs.sets.LowestAndHighest.{highest_place}
-use Rattle.chess_rules.proofs.sets.UpToPlaces.{from_all, highest_onward}
+use Rattle.chess_rules.proofs.sets.AllSquares.{cell_of-square_at}
+use Rattle.chess_rules.proofs.sets.LowestAndHighest.{highest_place, from_all, highest_onward}
 use Rattle.chess_rules.proofs.squares.Squares.highest_onward.Goals as goal
 
 pub returns-then-self-eq0 : goal.returns-then-self-eq0

@@ -1,5 +1,5 @@
 use Rattle.chess_rules.proofs.Words.{cell_of, has, IsUpTo, ◌-◌, ◌||◌, sym, ◌∙◌, ap, ap₂, subst}
-use Rattle.chess_rules.proofs.sets.UpToPlaces.{up_to_all, up_to_lowest}
+use Rattle.chess_rules.proofs.sets.LowestAndHighest.{up_to_all, up_to_lowest}
 use Rattle.chess_rules.proofs.sets.WordsToCells.{has_below, has_or, has_single}
 use Rattle.chess_rules.proofs.squares.Squares.up_to_lowest.Goals as goal
 

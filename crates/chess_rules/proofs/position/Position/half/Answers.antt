@@ -1,5 +1,0 @@
-use Rattle.chess_rules.proofs.position.Position.half.Goals as goal
-use Rattle.std.proofs.Common.{arith}
-
-pub returns-clause-limit : goal.returns-clause-limit
-returns-clause-limit c = grind arith
