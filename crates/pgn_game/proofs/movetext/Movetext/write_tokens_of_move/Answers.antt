@@ -1,4 +1,4 @@
-use Rattle.pgn_game.proofs.Words.{arith, ◌≡◌, ◌<◌, ◌≤◌, length, ◌∷◌, [], List, ℕ, ap, subst, ◌∙◌, device, IsToken}
+use Rattle.pgn_game.proofs.Words.{arith, rules, ◌≡◌, ◌<◌, ◌≤◌, length, ◌∷◌, [], List, ℕ, ap, subst, ◌∙◌, device, IsToken}
 use Rattle.pgn_game.proofs.Words.{text_of_move, Movetext, PutsTokens, number_due}
 use Rattle.pgn_game.proofs.putting.ItemToMovetext.{puts_after, puts_fail, is_text, is_token, writes_move}
 use Rattle.pgn_game.proofs.putting.NumberToTokens.{puts_token}
@@ -36,12 +36,18 @@ returns-clause-puts g c =
     (device g.W.Sink.taken g.W.Sink.failures c.put_number.new.out c.put.new.out))
     (c.as_slice.ensures.value ∙ text) put)
 
-pub returns-in_err-put_number-clause-tried : goal.returns-in_err-put_number-clause-tried
-returns-in_err-put_number-clause-tried g c =
+pub returns-in_err-put_number-clause-probes : goal.returns-in_err-put_number-clause-probes
+returns-in_err-put_number-clause-probes g c =
     let same = c.present.ensures ∙ ap (λ (t : Movetext). t.levels.present.present) c.self.view_is in
-    writes_move _ c.present.result.now c.args.played.now.mv _ _ _ same c.requires.legal c.write_san-san.ensures.pairs
+    record {
+      tried = writes_move _ c.present.result.now c.args.played.now.mv _ _ _ same c.requires.legal c.write_san-san.ensures.pairs;
+      rises = search rules;
+    }
 
-pub returns-clause-tried : goal.returns-clause-tried
-returns-clause-tried g c =
+pub returns-clause-probes : goal.returns-clause-probes
+returns-clause-probes g c =
     let same = c.present.ensures ∙ ap (λ (t : Movetext). t.levels.present.present) c.self.view_is in
-    writes_move _ c.present.result.now c.args.played.now.mv _ _ _ same c.requires.legal c.write_san-san.ensures.pairs
+    record {
+      tried = writes_move _ c.present.result.now c.args.played.now.mv _ _ _ same c.requires.legal c.write_san-san.ensures.pairs;
+      rises = search rules;
+    }

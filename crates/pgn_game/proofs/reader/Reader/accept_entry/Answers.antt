@@ -12,34 +12,34 @@ taken old new k (Ok done) d none takes = record { no_marker = none; takes = take
 taken old new k (Err reason) d none takes = record { no_marker = none; takes = takes }
 
 pub returns-in-Symbol-clause-meets : goal.returns-in-Symbol-clause-meets
-returns-in-Symbol-clause-meets g c = rw c.in-Symbol.is c.accept_symbol.ensures.meets
+returns-in-Symbol-clause-meets g c = rw c.in-Symbol.is c.accept_symbol.ensures.takes
 
 pub returns-in-Asterisk-clause-meets : goal.returns-in-Asterisk-clause-meets
 returns-in-Asterisk-clause-meets g c = rw c.in-Asterisk.is (record { is = refl; same = refl; unwritten = refl; still = refl })
 
 pub returns-in-Period-clause-meets : goal.returns-in-Period-clause-meets
 returns-in-Period-clause-meets g c =
-    let takes = passes_entry c.args.self.now _ tokens.period _ _ c.pass.ensures.puts (λ part is. (refl, refl)) (λ part. refl) in
+    let takes = passes_entry c.args.self.now _ tokens.period _ _ c.pass.ensures.takes (λ part is. (refl, refl)) (λ part. refl) in
     rw (c.in-Period.is, c.unmarked.ensures) (taken c.args.self.now _ tokens.period c.pass.result _ refl takes)
 
 pub returns-in-Word-clause-meets : goal.returns-in-Word-clause-meets
 returns-in-Word-clause-meets g c =
-    let takes = item_entry c.args.self.now _ (tokens.word c.in-Word.word.now) (Word c.in-Word.word) _ _ c.put.ensures.puts (λ part is. (refl, refl)) (λ part. refl) in
+    let takes = item_entry c.args.self.now _ (tokens.word c.in-Word.word.now) (Word c.in-Word.word) _ _ c.put.ensures.takes (λ part is. (refl, refl)) (λ part. refl) in
     rw (c.in-Word.is, c.unmarked-in-Word.ensures) (taken c.args.self.now _ (tokens.word c.in-Word.word.now) c.put.result _ refl takes)
 
 pub returns-in-CommentOpen-clause-meets : goal.returns-in-CommentOpen-clause-meets
 returns-in-CommentOpen-clause-meets g c =
-    let takes = item_entry c.args.self.now _ tokens.comment_open CommentOpen _ _ c.put-in-CommentOpen.ensures.puts (λ part is. (refl, refl)) (λ part. refl) in
+    let takes = item_entry c.args.self.now _ tokens.comment_open CommentOpen _ _ c.put-in-CommentOpen.ensures.takes (λ part is. (refl, refl)) (λ part. refl) in
     rw (c.in-CommentOpen.is, c.unmarked-in-CommentOpen.ensures) (taken c.args.self.now _ tokens.comment_open c.put-in-CommentOpen.result _ refl takes)
 
 pub returns-in-CommentClose-clause-meets : goal.returns-in-CommentClose-clause-meets
 returns-in-CommentClose-clause-meets g c =
-    let takes = item_entry c.args.self.now _ tokens.comment_close CommentClose _ _ c.put-in-CommentClose.ensures.puts (λ part is. (refl, refl)) (λ part. refl) in
+    let takes = item_entry c.args.self.now _ tokens.comment_close CommentClose _ _ c.put-in-CommentClose.ensures.takes (λ part is. (refl, refl)) (λ part. refl) in
     rw (c.in-CommentClose.is, c.unmarked-in-CommentClose.ensures) (taken c.args.self.now _ tokens.comment_close c.put-in-CommentClose.result _ refl takes)
 
 pub returns-in-Glyph-clause-meets : goal.returns-in-Glyph-clause-meets
 returns-in-Glyph-clause-meets g c =
-    let takes = item_entry c.args.self.now _ (tokens.glyph c.in-Glyph.glyph) (Glyph c.in-Glyph.glyph) _ _ c.put-in-Glyph.ensures.puts (λ part is. (refl, refl)) (λ part. refl) in
+    let takes = item_entry c.args.self.now _ (tokens.glyph c.in-Glyph.glyph) (Glyph c.in-Glyph.glyph) _ _ c.put-in-Glyph.ensures.takes (λ part is. (refl, refl)) (λ part. refl) in
     rw (c.in-Glyph.is, c.unmarked-in-Glyph.ensures) (taken c.args.self.now _ (tokens.glyph c.in-Glyph.glyph) c.put-in-Glyph.result _ refl takes)
 
 pub returns-in-LeftParen-clause-meets : goal.returns-in-LeftParen-clause-meets

@@ -115,7 +115,7 @@ returns-then-ne g c =
     let old = c.args.self.now in
     let t =
     tested old _ c.args.marker _ c.value.result _ c.unwrap_or.result c.text.result true c.self.view_is c.depth.ensures.value c.if-depth-gt0.false
-    c.value.ensures.value c.text_at-missing.ensures.text c.unwrap_or.ensures c.text.ensures.text (sym c.if-ne.true ∙ c.ne.ensures) in
+    c.value.ensures.value c.text_at-missing.ensures c.unwrap_or.ensures c.text.ensures.text (sym c.if-ne.true ∙ c.ne.ensures) in
     refuses old c.args.marker ResultDiffers _ _ _ refl (λ k is part op.
     let h = of_part old c.args.marker true t part op in marker_differs old k _ (marker_text c.args.marker) part is h.0 refl h.1)
 
@@ -130,9 +130,9 @@ returns-in_err-begin_movetext g c =
     let old = c.args.self.now in
     let t =
     tested old _ c.args.marker _ c.value.result _ c.unwrap_or.result c.text.result false c.self.view_is c.depth.ensures.value c.if-depth-gt0.false
-    c.value.ensures.value c.text_at-missing.ensures.text c.unwrap_or.ensures c.text.ensures.text (sym c.if-ne.false ∙ c.ne.ensures) in
+    c.value.ensures.value c.text_at-missing.ensures c.unwrap_or.ensures c.text.ensures.text (sym c.if-ne.false ∙ c.ne.ensures) in
     let p = err_from_is_err_and c.from_residual.result c.from_residual.ensures.1 in
-    let begins = c.in_err-begin_movetext.ensures.begins in
+    let begins = c.in_err-begin_movetext.ensures.takes in
     rw (p.1 ∙ ap Err p.2)
     (fails old c.args.marker _ _ _ _ t begins.probes c.in_err-begin_movetext.ensures.silent.untouched _
     (ends_unbegun old _ c.args.marker c.in_err-begin_movetext.field-0.0 _
@@ -143,11 +143,11 @@ returns-in_err-put g c =
     let old = c.args.self.now in
     let t =
     tested old _ c.args.marker _ c.value.result _ c.unwrap_or.result c.text.result false c.self.view_is c.depth.ensures.value c.if-depth-gt0.false
-    c.value.ensures.value c.text_at-missing.ensures.text c.unwrap_or.ensures c.text.ensures.text (sym c.if-ne.false ∙ c.ne.ensures) in
+    c.value.ensures.value c.text_at-missing.ensures c.unwrap_or.ensures c.text.ensures.text (sym c.if-ne.false ∙ c.ne.ensures) in
     let p = err_from_is_err_and c.from_residual-in_err-put.result c.from_residual-in_err-put.ensures.1 in
-    let writes = sym (ap (λ (w : Writing). w.is_silent) (begins_as old _ _ _ c.self-2.view_is c.in_ok-begin_movetext.ensures.begins).writing)
+    let writes = sym (ap (λ (w : Writing). w.is_silent) (begins_as old _ _ _ c.self-2.view_is c.in_ok-begin_movetext.ensures.takes).writing)
     ∙ writes_some c.self-2.inside.written c.in_default.not-Nothing in
-    let begins = begins_writing old _ _ _ c.self-2.view_is writes c.in_ok-begin_movetext.ensures.begins in
+    let begins = begins_writing old _ _ _ c.self-2.view_is writes c.in_ok-begin_movetext.ensures.takes in
     let front = front_of_more (g.W.Sink.taken c.begin_movetext.new.out) (g.W.Sink.taken c.put.new.out) _
     (text_at (line_at c.self-2.inside.line (Put c.text-2.result.now)) EndGame) c.in_err-put.ensures.text in
     rw (p.1 ∙ ap Err p.2)
@@ -161,11 +161,11 @@ returns-in_err-end_game g c =
     let old = c.args.self.now in
     let t =
     tested old _ c.args.marker _ c.value.result _ c.unwrap_or.result c.text.result false c.self.view_is c.depth.ensures.value c.if-depth-gt0.false
-    c.value.ensures.value c.text_at-missing.ensures.text c.unwrap_or.ensures c.text.ensures.text (sym c.if-ne.false ∙ c.ne.ensures) in
+    c.value.ensures.value c.text_at-missing.ensures c.unwrap_or.ensures c.text.ensures.text (sym c.if-ne.false ∙ c.ne.ensures) in
     let p = err_from_is_err_and c.from_residual-in_err-end_game.result c.from_residual-in_err-end_game.ensures.1 in
-    let writes = sym (ap (λ (w : Writing). w.is_silent) (begins_as old _ _ _ c.self-2.view_is c.in_ok-begin_movetext.ensures.begins).writing)
+    let writes = sym (ap (λ (w : Writing). w.is_silent) (begins_as old _ _ _ c.self-2.view_is c.in_ok-begin_movetext.ensures.takes).writing)
     ∙ writes_some c.self-2.inside.written c.in_default.not-Nothing in
-    let begins = begins_writing old _ _ _ c.self-2.view_is writes c.in_ok-begin_movetext.ensures.begins in
+    let begins = begins_writing old _ _ _ c.self-2.view_is writes c.in_ok-begin_movetext.ensures.takes in
     let held = c.in_ok-put.ensures.line in
     let last = subst (AppendsFront (g.W.Sink.taken c.put.new.out) (g.W.Sink.taken c.end_game.new.out))
     (ap (λ (l : List ℕ). text_at l EndGame) held) c.in_err-end_game.ensures.text in
@@ -182,10 +182,10 @@ returns g c =
     let old = c.args.self.now in
     let t =
     tested old _ c.args.marker _ c.value.result _ c.unwrap_or.result c.text.result false c.self.view_is c.depth.ensures.value c.if-depth-gt0.false
-    c.value.ensures.value c.text_at-missing.ensures.text c.unwrap_or.ensures c.text.ensures.text (sym c.if-ne.false ∙ c.ne.ensures) in
-    let writes = sym (ap (λ (w : Writing). w.is_silent) (begins_as old _ _ _ c.self-2.view_is c.in_ok-begin_movetext.ensures.begins).writing)
+    c.value.ensures.value c.text_at-missing.ensures c.unwrap_or.ensures c.text.ensures.text (sym c.if-ne.false ∙ c.ne.ensures) in
+    let writes = sym (ap (λ (w : Writing). w.is_silent) (begins_as old _ _ _ c.self-2.view_is c.in_ok-begin_movetext.ensures.takes).writing)
     ∙ writes_some c.self-2.inside.written c.in_default.not-Nothing in
-    let begins = begins_writing old _ _ _ c.self-2.view_is writes c.in_ok-begin_movetext.ensures.begins in
+    let begins = begins_writing old _ _ _ c.self-2.view_is writes c.in_ok-begin_movetext.ensures.takes in
     let last = subst (Appends (g.W.Sink.taken c.put.new.out) (g.W.Sink.taken c.end_game.new.out))
     (ap (λ (l : List ℕ). text_at l EndGame) c.in_ok-put.ensures.line) c.in_ok-end_game.ensures.text in
     ends_seen old c.args.marker _ _ _ _ t begins.probes (λ silent. absurd (cc (writes, silent))) writes refl
@@ -205,9 +205,9 @@ returns-in-Nothing g c =
     let old = c.args.self.now in
     let t =
     tested old _ c.args.marker _ c.value.result _ c.unwrap_or.result c.text.result false c.self.view_is c.depth.ensures.value c.if-depth-gt0.false
-    c.value.ensures.value c.text_at-missing.ensures.text c.unwrap_or.ensures c.text.ensures.text (sym c.if-ne.false ∙ c.ne.ensures) in
+    c.value.ensures.value c.text_at-missing.ensures c.unwrap_or.ensures c.text.ensures.text (sym c.if-ne.false ∙ c.ne.ensures) in
     let begun = c.in_ok-begin_movetext.ensures in
-    let begins = begins_as old _ _ _ c.self-2.view_is begun.begins in
+    let begins = begins_as old _ _ _ c.self-2.view_is begun.takes in
     let silent = sym (ap (λ (w : Writing). w.is_silent) begins.writing) ∙ writes_none _ c.in-Nothing.is in
     ends old c.args.marker _ _ _ _ t begins.probes begun.silent.untouched refl
     (ends_silent old _ _ c.args.marker _ _ _ _ silent c.requires (none_around old.text.levels.around t.none) begins refl)
