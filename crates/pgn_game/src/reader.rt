@@ -1,9 +1,9 @@
 //! Reads games token by token, stage by stage.
 ghost use Rattle.std.specs.Prelude.{◌≡◌, ◌+◌, ◌-◌, ◌≤◌, ◌<◌, ◌^◌, ◌&&◌, ◌||◌, ◌∷◌, [], false, not};
-ghost use Rattle.std.specs.Prelude.{None, OnOk, Some, option_map, IsTrue, ◌↔◌, bytes_eq, codes, max};
+ghost use Rattle.std.specs.Prelude.{None, Some, option_map, IsTrue, ◌↔◌, bytes_eq, codes, max};
 ghost use Rattle.std.specs.Option.{option_copied};
 ghost use Rattle.pgn_layout.specs.Device.{WritesText, device};
-ghost use Rattle.pgn_lexer.specs.Tokens.{HasLength, Kind, left_paren, right_paren, symbol};
+ghost use Rattle.pgn_lexer.specs.Tokens.{HasLength, left_paren, right_paren, symbol};
 ghost use Rattle.pgn_lexer.specs.Scanned.{kind_of};
 ghost use Rattle.pgn_game.specs.Pairs.{value_of};
 ghost use Rattle.pgn_game.specs.Chess.{first_position};
@@ -13,17 +13,15 @@ ghost use Rattle.pgn_game.specs.declared.stage.Stage.TheVariants.{AfterValue, Af
 ghost use Rattle.pgn_game.specs.Profile.{counts_as, known_result};
 ghost use Rattle.pgn_game.specs.Markers.{marker_text, missing_of};
 ghost use Rattle.pgn_game.specs.Movetext.{movetext_from};
-ghost use Rattle.pgn_game.specs.ReaderState.{CountsWrites, KeepsSilence, ReaderCall, known_of};
-ghost use Rattle.pgn_game.specs.ReaderState.{sink_of};
-ghost use Rattle.pgn_game.specs.ReaderState.{silenced, telling, whole_plies};
+ghost use Rattle.pgn_game.specs.ReaderState.{ReaderCall, known_of, silenced, telling, whole_plies};
 ghost use Rattle.pgn_game.specs.TokenInMovetext.{ItemFits, MayTakeMove, may_have_movetext};
 ghost use Rattle.pgn_game.specs.TokenInMovetext.{model_item};
 ghost use Rattle.pgn_game.specs.TokenInMovetext.{fen_position as position_in_fen};
-ghost use Rattle.pgn_game.specs.PutResult.{BeginsText, CountsMove, Finds, Keeps, MeetsEntry};
-ghost use Rattle.pgn_game.specs.PutResult.{PutsItems, TakesEntry, TakesOutside, TakesUnlessMarker};
-ghost use Rattle.pgn_game.specs.PutResult.{TakesUnwritten, at_game_start, continued, ended, no_marker};
+ghost use Rattle.pgn_game.specs.PutResult.{BeginsText, CountsMove, Finds, MeetsEntry, PutsItems};
+ghost use Rattle.pgn_game.specs.PutResult.{TakesEntry, TakesMarker, TakesOutside, TakesUnlessMarker};
+ghost use Rattle.pgn_game.specs.PutResult.{TakesUnwritten, at_game_start, continued, no_marker};
 ghost use Rattle.pgn_game.specs.FaultTable as spec;
-ghost use Rattle.pgn_game.specs.FaultTable.{is_reduced, marker_of, result_for};
+ghost use Rattle.pgn_game.specs.FaultTable.{is_reduced, result_for};
 
 use crate::annotation::Annotation;
 use crate::find::named_move;
@@ -264,9 +262,8 @@ impl<const T: usize, const L: usize> Reader<T, L> {
     ) -> Result<Option<Marker>, Reason>
         requires few { self.old.earlier_plies + self.old.text.plies < 2 ^ 64 - 1 }
         requires token { HasLength (kind_of kind) }
-        ensures takes { TakesUnlessMarker self.old (kind_of kind.entry) self.new result
-            (sink_of self.old W.taken W.failures out.old out.new) }
-        ensures silent { KeepsSilence self.old self.new out.old out.new }
+        ensures { ReaderCall W.taken W.failures self.old self.new out.old out.new
+            (TakesUnlessMarker self.old (kind_of kind.entry) self.new result) }
     {
         match self.accept_outside(kind) {
             Some(result) => {
@@ -291,9 +288,8 @@ impl<const T: usize, const L: usize> Reader<T, L> {
     ) -> Result<Option<Marker>, Reason>
         requires few { self.old.earlier_plies + self.old.text.plies < 2 ^ 64 - 1 }
         requires token { HasLength (kind_of kind) }
-        ensures takes { TakesUnlessMarker self.old (kind_of kind.entry) self.new result
-            (sink_of self.old W.taken W.failures out.old out.new) }
-        ensures silent { KeepsSilence self.old self.new out.old out.new }
+        ensures { ReaderCall W.taken W.failures self.old self.new out.old out.new
+            (TakesUnlessMarker self.old (kind_of kind.entry) self.new result) }
     {
         self.accept_unless_marker::<W, COPIED>(kind, out)
     }
@@ -483,12 +479,10 @@ impl<const T: usize, const L: usize> Reader<T, L> {
         kind: TokenKind<'_>,
         out: &mut W,
     ) -> Result<Option<Marker>, Reason>
-        requires few { self.old.text.plies < 2 ^ 64 - 1 }
-        requires stage { IsTrue (may_have_movetext self.old.stage) }
+        requires may { MayTakeMove self.old }
         requires token { HasLength (kind_of kind) }
-        ensures meets { MeetsEntry self.old (kind_of kind.entry) self.new result
-            (sink_of self.old W.taken W.failures out.old out.new) }
-        ensures silent { KeepsSilence self.old self.new out.old out.new }
+        ensures { ReaderCall W.taken W.failures self.old self.new out.old out.new
+            (MeetsEntry self.old (kind_of kind.entry) self.new result) }
     {
         match kind {
             TokenKind::Symbol(text) => self.accept_symbol(text, out),
@@ -627,14 +621,8 @@ impl<const T: usize, const L: usize> Reader<T, L> {
     #[inline(never)]
     pub fn end_game<W: Sink>(&mut self, marker: Marker, out: &mut W) -> Result<(), Reason>
         requires { IsTrue (may_have_movetext self.old.stage) }
-        ensures takes { (k : Kind) → marker_of k ≡ Some (marker_text marker)
-            → TakesEntry self.old k self.new (ended result)
-            (sink_of self.old W.taken W.failures out.old out.new) }
-        ensures keeps { Keeps self.old self.new }
-        ensures between { OnOk result (self.new.stage ≡ Between) }
-        ensures counted { CountsWrites (ended result)
-            (sink_of self.old W.taken W.failures out.old out.new) }
-        ensures silent { KeepsSilence self.old self.new out.old out.new }
+        ensures { ReaderCall W.taken W.failures self.old self.new out.old out.new
+            (TakesMarker self.old marker self.new result) }
     {
         if self.text.depth() > 0 {
             return Err(Reason::MarkerInVariation);
