@@ -80,8 +80,8 @@ pub record WritesItem {A E : Type 0} (mode : Option Mode) (i : Item) (text : Mov
 abbrev pub LeavesSink : {S : Type 0} → (silent : Bool) → S → S → Type 0
 LeavesSink silent sink_old sink_new = IsTrue silent → sink_new ≡ sink_old
 
--- A call puts or writes an item as this says, of the sink that contracts see. If nothing is written,
--- the sink does not change.
+-- A call puts or writes an item as this says, of the sink that contracts see. If nothing is
+-- written, the sink does not change.
 pub record ItemCall {S : Type 0} (written : Written) (taken : S → Option (List ℕ)) (failures : S → ℕ)
     (sink_old sink_new : S) (Does : Option Mode → Device → Type 0) : Type 0 where
   pub writes : Does (mode_of_written written)
@@ -119,7 +119,7 @@ pub record Plays (x : Played) (old new : Movetext) : Type 0 where
   pub is_after_move : new.is_after_move ≡ old.is_after_move
 
 -- Movetext goes on with an annotation, whose text may be written by then.
-pub record GoesOn (i : Annotation) (old new : Movetext) : Type 0 where
+pub record Annotates (i : Annotation) (old new : Movetext) : Type 0 where
   pub levels : LeadsLevels i old.levels new.levels
   pub plies : new.plies ≡ old.plies
   pub is_after_move : new.is_after_move ≡ old.is_after_move

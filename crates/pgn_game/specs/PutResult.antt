@@ -115,7 +115,7 @@ abbrev pub TakesEntry : ReaderState → Kind → ReaderState → Result Accepted
 TakesEntry old k new r d = Takes old (IsEntry old k) k new r d
 
 -- The token is this marker, and was not taken: nothing has changed.
-pub record LeavesMarker (old : ReaderState) (k : Kind) (marker : Marker) (new : ReaderState) (d : Device) : Type 0 where
+pub record ReturnsMarker (old : ReaderState) (k : Kind) (marker : Marker) (new : ReaderState) (d : Device) : Type 0 where
   pub is : marker_of k ≡ Some (marker_text marker)
   pub same : new ≡ old
   pub unwritten : d.after ≡ d.before
@@ -129,7 +129,7 @@ pub record TakesOther (old : ReaderState) (k : Kind) (new : ReaderState) (r : Re
 
 -- A token of movetext is taken, unless it is a marker.
 abbrev pub MeetsEntry : ReaderState → Kind → ReaderState → Result (Option Marker) Reason → Device → Type 0
-MeetsEntry old k new (Ok (Some marker)) d = LeavesMarker old k marker new d
+MeetsEntry old k new (Ok (Some marker)) d = ReturnsMarker old k marker new d
 MeetsEntry old k new (Ok None) d = TakesOther old k new (Ok More) d
 MeetsEntry old k new (Err reason) d = TakesOther old k new (Err reason) d
 

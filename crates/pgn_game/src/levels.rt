@@ -77,7 +77,7 @@ impl<const L: usize> Levels<L> {
 
     /// Returns the position of the current level.
     #[inline(always)]
-    pub fn present(&self) -> &Position
+    pub fn position(&self) -> &Position
         ensures { result.now ≡ self.now.present.present }
     {
         &self.current().present

@@ -9,7 +9,7 @@ ghost use Rattle.pgn_game.specs.Written.{mode_of_written};
 ghost use Rattle.pgn_game.specs.MostTried.{is_written};
 ghost use Rattle.chess_rules.specs.declared.position.Move.{Move as MoveSeen};
 ghost use Rattle.pgn_game.specs.declared.mode.Mode.TheVariants as modes;
-ghost use Rattle.pgn_game.specs.ItemResult.{Adds, GoesOn, ItemCall, MayPutMove, MayWriteMove, Plays};
+ghost use Rattle.pgn_game.specs.ItemResult.{Adds, Annotates, ItemCall, MayPutMove, MayWriteMove, Plays};
 ghost use Rattle.pgn_game.specs.ItemResult.{PutsTokens, TriesToWrite, WritesItem};
 ghost use Rattle.pgn_game.specs.ItemResult.{number_due, tokens_due};
 
@@ -75,10 +75,10 @@ impl<const L: usize> Movetext<L> {
     }
 
     /// Returns the current position.
-    pub fn present(&self) -> &Position
+    pub fn position(&self) -> &Position
         ensures { result.now ≡ self.now.levels.present.present }
     {
-        self.levels.present()
+        self.levels.position()
     }
 
     /// Returns the number of variations that are open.
@@ -119,7 +119,7 @@ impl<const L: usize> Movetext<L> {
         ensures probes { TriesToWrite (mode_of_written written) self.old (games.move mv.now)
             probes.old probes.new }
     {
-        let next = position_after(self.levels.present(), mv);
+        let next = position_after(self.levels.position(), mv);
         let played = Played { mv: *mv, next };
         self.write_move(written, &played, probes, line, out)?;
         self.play(&played);
@@ -218,7 +218,7 @@ impl<const L: usize> Movetext<L> {
         ensures probes { TriesToWrite (Some modes.Full) self.now (games.move played.now.mv)
             probes.old probes.new }
     {
-        let san = write_san(self.levels.present(), played, probes);
+        let san = write_san(self.levels.position(), played, probes);
         self.put_number(line, out)?;
         line.put(san.as_slice(), out)
     }
@@ -252,7 +252,7 @@ impl<const L: usize> Movetext<L> {
         ensures puts { PutsTokens (number_due self.now) line.old line.new result
             (device W.taken W.failures out.old out.new) }
     {
-        let position = self.levels.present();
+        let position = self.levels.position();
         match position.side() {
             Colour::White => put_move_number(position.full(), b".", line, out),
             Colour::Black => {
@@ -280,7 +280,7 @@ impl<const L: usize> Movetext<L> {
     #[inline(always)]
     fn go_on(&mut self, item: &Annotation<'_>)
         requires { ItemFits L self.old item.now }
-        ensures { GoesOn item.now self.old self.new }
+        ensures { Annotates item.now self.old self.new }
     {
         match item {
             Annotation::Open => self.levels.open(),

@@ -203,7 +203,7 @@ impl<const T: usize, const L: usize> Reader<T, L> {
     pub fn position(&self) -> &Position
         ensures { result.now ≡ self.now.text.levels.present.present }
     {
-        self.text.present()
+        self.text.position()
     }
 
     /// Returns the most pairs that were tried for one move so far.
@@ -550,7 +550,7 @@ impl<const T: usize, const L: usize> Reader<T, L> {
         requires none { probes.old ≡ 0 }
         ensures { Finds self.old text.now self.new result probes.new }
     {
-        let named = named_move(self.text.present(), text, probes);
+        let named = named_move(self.text.position(), text, probes);
         self.count_probes(probes);
         named
     }

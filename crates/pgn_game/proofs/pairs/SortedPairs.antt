@@ -1,5 +1,6 @@
 -- The order of names, and places in it.
 use Rattle.pgn_game.proofs.Words.{◌≡◌, ℕ, suc, zero, ◌+◌, ◌<◌, ◌≤◌, Bool, true, false, List, [], ◌∷◌, length, refl, sym, ap, ◌∙◌, arith, None, Some, insert, take, drop, get_or, bytes_eq, false≢true, AllByRecursion, subst, Pair, has_pair, value_of, comes_before, insert_pair, AllAfter, InOrder, index_of, nat_tests}
+use Rattle.std.proofs.ByRecursion.{All-get_or}
 use Rattle.std.specs.Ordering.{nat_cmp, is_lt, is_some_and}
 use Rattle.std.specs.Cmp.Lexicographic.{slice_partial_cmp}
 use Rattle.std.proofs.lemmas.Cmp.{same_from_slice_cmp_tested}
@@ -23,12 +24,7 @@ insert-place p (q ∷ qs) =
           rw next (ap (λ l. q ∷ l) (insert-place p qs))
     ]
 
--- what holds of all elements holds of each, and of the first and the last of them
-all_at : {A : Type 0} (P : A → Type 0) (xs : List A) (k : ℕ) {x : A} → AllByRecursion P xs → k < length xs → x ≡ get_or xs k x → P x
-all_at P [] k h l e = absurd (omega arith)
-all_at P (y ∷ ys) zero h l e = rw e h.0
-all_at P (y ∷ ys) (suc k) h l e = all_at P ys k h.1 (omega arith) e
-
+-- what holds of all elements holds of the first and the last of them
 pub all-take : {A : Type 0} (P : A → Type 0) (xs : List A) (k : ℕ) → AllByRecursion P xs → AllByRecursion P (take k xs)
 all-take P xs zero h = tt
 all-take P [] (suc k) h = tt
@@ -82,8 +78,8 @@ index-behind name (q ∷ qs) (suc k) {p} h l e early =
   where
     by_test : k < index_of name qs → (b : Bool) → comes_before name q.name ≡ b → suc k < index_if b (index_of name qs)
     by_test rest true first =
-        absurd (false≢true (sym early
-        ∙ before-trans name q.name p.name first (all_at (λ r. comes_before q.name r.name ≡ true) qs k h.0 (omega arith) e)))
+        let after = All-get_or (λ r. comes_before q.name r.name ≡ true) qs k p (omega arith) h.0 in
+        absurd (false≢true (sym early ∙ before-trans name q.name p.name first (subst (λ r. comes_before q.name r.name ≡ true) (sym e) after)))
     by_test rest false later = omega arith
 
 -- a name that comes before all has index 0

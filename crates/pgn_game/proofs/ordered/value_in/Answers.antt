@@ -12,6 +12,3 @@ returns-in-Ok c =
       value = rw (found.value, ← there) (ap Some c.value.ensures.value);
       fits = rw (c.value.ensures.value, ← found.named, ← there) c.value.ensures.fits;
     }
-
-pub returns-in-Err : goal.returns-in-Err
-returns-in-Err c = record { value = sym (no_value _ c.in-Err.ensures.new); fits = tt }

@@ -4,6 +4,6 @@ use Rattle.pgn_game.proofs.levels.Levels.depth.Goals as goal
 
 pub returns : goal.returns
 returns g c =
-    let count = depth-held g.row.L c.self.inside.levels.items c.self.invariant c.args.self.now c.self.view_is in
+    let count = depth-held c.self.invariant c.self.view_is in
     let room = c.self.invariant.room in
     record { value = omega (arith, c.len.ensures.value); room = omega (arith, c.len.ensures.value) }

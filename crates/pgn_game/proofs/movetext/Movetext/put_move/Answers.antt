@@ -18,7 +18,7 @@ returns-clause-item g c =
     let next = c.position_after-next.result in
     let item = c.in_ok-write_move.ensures.item in
     let after = item.writes.ends in
-    let same = c.present.ensures ∙ ap (λ (t : Movetext). t.levels.present.present) c.self.view_is
+    let same = c.position.ensures ∙ ap (λ (t : Movetext). t.levels.present.present) c.self.view_is
     ∙ sym (ap (λ (t : Movetext). t.levels.present.present) after) in
     record {
       writes = adds_put (mode_of_written c.args.written) (move m) c.args.self.now c.args.line.now c.write_move.new.line _ c.play.new.self item.writes.puts
@@ -27,6 +27,3 @@ returns-clause-item g c =
           (subst (λ (p : Parts). legal p m ≡ Some next) same c.position_after-next.ensures) c.play.ensures));
       silent = item.silent;
     }
-
-pub play-requires : goal.play-requires
-play-requires g c = omega (arith, ap (λ (t : Movetext). t.plies) c.in_ok-write_move.ensures.item.writes.ends, c.requires.few)

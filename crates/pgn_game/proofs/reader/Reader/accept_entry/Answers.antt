@@ -61,29 +61,22 @@ pub returns-in-RightParen : goal.returns-in-RightParen
 returns-in-RightParen g c =
     rw (c.in-RightParen.is, c.unmarked-in-RightParen.ensures) (met tokens.right_paren c.close_variation.result refl c.close_variation.ensures)
 
--- a token that is no marker is rejected
-refuses : (old : ReaderState) (k : Kind) (reason : Reason) (o : Option (List ℕ)) (m : ℕ) → marker_of k ≡ None → TakesEntry old k old (Err reason) (unused o m)
-    → MeetsEntry old k old (Err reason) (unused o m)
-refuses old k reason o m none takes = record { no_marker = none; takes = takes }
-
 pub returns-in-End : goal.returns-in-End
 returns-in-End g c =
     rw c.in-End.is (unused_call _ _ c.args.self.now _ _ (λ o m.
-    refuses c.args.self.now tokens.end _ o m refl (entry_refused c.args.self.now tokens.end UnexpectedEnd o m refl (λ part is. refl) (λ part. refl))))
+    record { no_marker = refl; takes = entry_refused c.args.self.now tokens.end UnexpectedEnd o m refl (λ part is. refl) (λ part. refl) }))
 
 pub returns-in-LeftBracket : goal.returns-in-LeftBracket
 returns-in-LeftBracket g c =
     rw c.in-LeftBracket.is (unused_call _ _ c.args.self.now _ _ (λ o m.
-    refuses c.args.self.now tokens.left_bracket _ o m refl
-    (entry_refused c.args.self.now tokens.left_bracket TagInMovetext o m refl (λ part is. refl) (λ part. refl))))
+    record { no_marker = refl; takes = entry_refused c.args.self.now tokens.left_bracket TagInMovetext o m refl (λ part is. refl) (λ part. refl) }))
 
 pub returns-in-RightBracket : goal.returns-in-RightBracket
 returns-in-RightBracket g c =
     rw c.in-RightBracket.is (unused_call _ _ c.args.self.now _ _ (λ o m.
-    refuses c.args.self.now tokens.right_bracket _ o m refl
-    (entry_refused c.args.self.now tokens.right_bracket NotAMove o m refl (λ part is. refl) (λ part. refl))))
+    record { no_marker = refl; takes = entry_refused c.args.self.now tokens.right_bracket NotAMove o m refl (λ part is. refl) (λ part. refl) }))
 
 pub returns-in-Str : goal.returns-in-Str
 returns-in-Str g c =
     rw c.in-Str.is (unused_call _ _ c.args.self.now _ _ (λ o m.
-    refuses c.args.self.now (tokens.str _) _ o m refl (entry_refused c.args.self.now _ NotAMove o m refl (λ part is. refl) (λ part. refl))))
+    record { no_marker = refl; takes = entry_refused c.args.self.now _ NotAMove o m refl (λ part is. refl) (λ part. refl) }))

@@ -8,13 +8,6 @@ use Rattle.pgn_game.proofs.ReaderLemmas.{reader_alike, text_fits, begins_as, fai
 use Rattle.pgn_game.proofs.ReaderLemmas.{unbegun_part, adds_move, move_refused, takes_move}
 use Rattle.pgn_game.proofs.reader.Reader.accept_move.Goals as goal
 
-pub find-requires : goal.find-requires
-find-requires g c = (search reader_alike, c.new-probes.ensures)
-
-pub begin_movetext-requires : goal.begin_movetext-requires
-begin_movetext-requires g c =
-    (search reader_alike, subst (λ (r : ReaderState). IsTrue (may_have_movetext r.stage)) (sym c.find.ensures.counted) c.requires.may.stage)
-
 pub put_move-put-requires : goal.put_move-put-requires
 put_move-put-requires g c =
     let finds = c.in-Ok.ensures in
@@ -27,12 +20,6 @@ put_move-put-requires g c =
         room = omega (arith, finds.few);
       },
     )
-
-pub invariant_of-self : goal.invariant_of-self
-invariant_of-self g c = c.self.invariant
-
-pub count_probes-requires : goal.count_probes-requires
-count_probes-requires g c = (search reader_alike, omega (arith, c.put_move-put.ensures.probes.rises, c.in-Ok.ensures.few))
 
 pub returns-in-Err : goal.returns-in-Err
 returns-in-Err g c =

@@ -42,8 +42,3 @@ returns-in-None g c =
           (entry_met old _ _ _ _ _ c.in-None.ensures entry.takes);
       silent = silence_then old c.accept_outside.new.self _ _ _ _ (silence_kept old c.accept_outside.new.self _ same) entry.silent;
     }
-
-pub accept_entry-requires : goal.accept_entry-requires
-accept_entry-requires g c =
-    let enters = c.in-None.ensures in
-    (search reader_alike, (record { few = omega (arith, c.requires.few, enters.plies); stage = enters.stage }, c.requires.token))

@@ -9,15 +9,6 @@ after_tags AfterTags may before = refl
 after_tags InMovetext may before = absurd (before refl)
 after_tags _ may before = absurd (cc)
 
-pub is_in_movetext-requires : goal.is_in_movetext-requires
-is_in_movetext-requires g c = search reader_alike
-
-pub write_tags-requires : goal.write_tags-requires
-write_tags-requires g c = (
-  search reader_alike,
-  after_tags c.args.self.now.stage c.requires.stage (λ e. false≢true (sym c.if-is_in_movetext.false ∙ c.is_in_movetext.ensures.1 e)),
-)
-
 pub returns-then-is_in_movetext : goal.returns-then-is_in_movetext
 returns-then-is_in_movetext g c =
     let old = c.args.self.now in

@@ -14,12 +14,6 @@ returns-then-depth-eq0 g c =
     ∙ sym c.depth.ensures.value ∙ c.if-depth-eq0.true)))
     (λ part. refl))
 
-pub put-requires : goal.put-requires
-put-requires g c =
-    let deep : c.depth.result ≡ length c.args.self.now.text.levels.around =
-    c.depth.ensures.value ∙ ap (λ (r : ReaderState). length r.text.levels.around) c.self.view_is in
-    (search reader_alike, (c.requires, omega (arith, deep, c.if-depth-eq0.false)))
-
 pub returns : goal.returns
 returns g c =
     let old = c.args.self.now in

@@ -108,12 +108,6 @@ returns-then-ne g c =
     unused_call _ _ old _ _ (λ o m. refuses old c.args.marker ResultDiffers o m refl (λ k is part op.
     let h = of_part old c.args.marker true t part op in marker_differs old k _ (marker_text c.args.marker) part is h.0 refl h.1))
 
-pub begin_movetext-requires : goal.begin_movetext-requires
-begin_movetext-requires g c = (search reader_alike, c.requires)
-
-pub put-requires : goal.put-requires
-put-requires g c = c.text-2.ensures.token
-
 pub returns-in_err-begin_movetext : goal.returns-in_err-begin_movetext
 returns-in_err-begin_movetext g c =
     let old = c.args.self.now in

@@ -26,15 +26,6 @@ returns-then-depth g c =
     (omega (arith, most, c.if-depth.true, c.depth.ensures.value, depth_is old part is, ap (λ (r : ReaderState). length r.text.levels.around) v))))
     (λ part. refl))
 
-pub put-requires : goal.put-requires
-put-requires g c =
-    let v = c.self.view_is in
-    let some =
-    sym (ap (λ (r : ReaderState). is_some r.text.levels.present.before) v) ∙ sym c.has_own_move.ensures ∙ c.if-not-has_own_move.false in (
-      search reader_alike,
-      (c.requires, (some, omega (arith, c.if-depth.false, c.depth.ensures.value, ap (λ (r : ReaderState). length r.text.levels.around) v))),
-    )
-
 pub returns : goal.returns
 returns g c =
     let old = c.args.self.now in

@@ -2,9 +2,6 @@ use Rattle.pgn_game.proofs.Words.{ap, Err, ◌∙◌, err_from_is_err_and}
 use Rattle.pgn_game.proofs.ReaderLemmas.{reader_alike, puts_number, puts_unbegun}
 use Rattle.pgn_game.proofs.reader.Reader.pass.Goals as goal
 
-pub begin_movetext-requires : goal.begin_movetext-requires
-begin_movetext-requires g c = (search reader_alike, c.requires)
-
 pub returns-in_err-begin_movetext : goal.returns-in_err-begin_movetext
 returns-in_err-begin_movetext g c =
     let p = err_from_is_err_and c.from_residual.result c.from_residual.ensures.1 in

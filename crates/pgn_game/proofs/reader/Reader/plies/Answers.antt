@@ -4,6 +4,3 @@ use Rattle.pgn_game.proofs.reader.Reader.plies.Goals as goal
 
 pub plies-requires : goal.plies-requires
 plies-requires g c = search text_fits
-
-pub returns : goal.returns
-returns g c = c.plies.ensures ∙ ap (λ (r : ReaderState). r.text.plies) c.self.view_is

@@ -3,16 +3,10 @@ use Rattle.pgn_game.proofs.Words.{ReaderState, Writing, refl, ap, subst, sym, â—
 use Rattle.pgn_game.proofs.ReaderLemmas.{reader_alike, text_fits, no_move, begins_as, fails_item, puts_item, puts_unbegun, text_begun}
 use Rattle.pgn_game.proofs.reader.Reader.put.Goals as goal
 
-pub begin_movetext-requires : goal.begin_movetext-requires
-begin_movetext-requires g c = (search reader_alike, c.requires.stage)
-
 pub put-requires : goal.put-requires
 put-requires g c =
     let text = text_begun c.args.self.now _ _ _ c.self.view_is c.in_ok-begin_movetext.ensures.takes in
     (search text_fits, subst (Î» (t : Movetext). ItemFits g.row.L t c.args.item) (sym text) c.requires.fits)
-
-pub invariant_of-self : goal.invariant_of-self
-invariant_of-self g c = c.self.invariant
 
 pub returns-in_err-begin_movetext : goal.returns-in_err-begin_movetext
 returns-in_err-begin_movetext g c =

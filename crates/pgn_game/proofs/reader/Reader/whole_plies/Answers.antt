@@ -24,8 +24,5 @@ overflow_add-result g c =
     let same = ap (λ (r : ReaderState). r.earlier_plies + r.text.plies) c.self.view_is in
     omega (arith, same, c.plies.ensures, c.requires)
 
-pub is_between-requires : goal.is_between-requires
-is_between-requires g c = search reader_alike
-
 pub plies-requires : goal.plies-requires
 plies-requires g c = search text_fits
