@@ -1,7 +1,7 @@
-use Rattle.pgn_game.proofs.Words.{◌≡◌, ◌-◌, ◌<◌, length, ◌∙◌, List, ℕ, Bool, true, false, None, Some, is_some, Pair, ap, sym, arith, suc, bytes_eq, index_of, pair_at, []}
+use Rattle.pgn_game.proofs.Words.{◌≡◌, ◌-◌, ◌<◌, length, ◌∙◌, true, false, ap, sym, arith, suc, bytes_eq, index_of, pair_at, []}
 use Rattle.std.proofs.lemmas.List.{get_or_read}
 use Rattle.pgn_game.proofs.pairs.SortedPairs.{new-first, value-behind}
-use Rattle.pgn_game.proofs.pairs.ValuesByName.{bytes_eq-true, pick}
+use Rattle.pgn_game.proofs.pairs.ValuesByName.{bytes_eq-true}
 use Rattle.pgn_game.proofs.ordered.find.Goals as goal
 
 pub returns-then-behind-eq0 : goal.returns-then-behind-eq0

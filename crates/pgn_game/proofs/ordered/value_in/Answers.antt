@@ -1,6 +1,5 @@
-use Rattle.pgn_game.proofs.Words.{◌≡◌, [], Some, ap, sym, pair_at}
+use Rattle.pgn_game.proofs.Words.{◌≡◌, [], Some, ap, pair_at}
 use Rattle.std.proofs.lemmas.List.{get_or_read}
-use Rattle.pgn_game.proofs.pairs.ValuesByName.{no_value}
 use Rattle.pgn_game.proofs.ordered.value_in.Goals as goal
 
 pub returns-in-Ok : goal.returns-in-Ok

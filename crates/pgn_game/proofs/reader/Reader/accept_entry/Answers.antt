@@ -1,4 +1,4 @@
-use Rattle.pgn_game.proofs.Words.{◌≡◌, ℕ, List, Option, None, Result, Ok, Err, refl, Kind, Reason, ReaderState, TagInMovetext, UnexpectedEnd, NotAMove, marker_of, unused}
+use Rattle.pgn_game.proofs.Words.{◌≡◌, ℕ, List, Option, None, Result, Ok, Err, refl, Kind, Reason, ReaderState, TagInMovetext, UnexpectedEnd, NotAMove, marker_of}
 use Rattle.pgn_lexer.specs.Tokens as tokens
 use Rattle.pgn_game.specs.PutResult.{MeetsEntry, TakesEntry, continued, no_marker}
 use Rattle.pgn_game.specs.ReaderState.{ReaderCall}

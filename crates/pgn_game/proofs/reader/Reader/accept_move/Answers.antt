@@ -4,7 +4,7 @@ use Rattle.std.proofs.Math.Nat.{le-max_right}
 use Rattle.pgn_game.specs.Game.{move}
 use Rattle.pgn_game.specs.declared.reason.Reason.TheVariants.{WriteFault}
 use Rattle.pgn_game.proofs.putting.SilentReader.{adds_as, seen_alike, silence_kept, silence_put, silence_then}
-use Rattle.pgn_game.proofs.ReaderLemmas.{reader_alike, text_fits, begins_as, fails_move, most_after, puts_move, puts_unbegun, text_begun}
+use Rattle.pgn_game.proofs.ReaderLemmas.{text_fits, begins_as, fails_move, most_after, puts_move, puts_unbegun, text_begun}
 use Rattle.pgn_game.proofs.ReaderLemmas.{unbegun_part, adds_move, move_refused, takes_move}
 use Rattle.pgn_game.proofs.reader.Reader.accept_move.Goals as goal
 

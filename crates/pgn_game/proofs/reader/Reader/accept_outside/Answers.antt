@@ -1,5 +1,5 @@
 use Rattle.pgn_game.proofs.Words.{◌≡◌, ap, sym, ◌∙◌, Stage, ReaderState, may_have_movetext}
-use Rattle.pgn_game.proofs.ReaderLemmas.{reader_alike, entry_in_movetext, enters}
+use Rattle.pgn_game.proofs.ReaderLemmas.{entry_in_movetext, enters}
 use Rattle.pgn_game.proofs.reader.Reader.accept_outside.Goals as goal
 
 -- the stage that was met is the reader's

@@ -1,13 +1,7 @@
-use Rattle.pgn_game.proofs.Words.{◌≡◌, refl, IsTrue, sym, ◌∙◌, Appends-nil, false≢true, device, seen, Stage, AfterTags, InMovetext, may_have_movetext}
-use Rattle.pgn_game.proofs.ReaderLemmas.{reader_alike, begun_before}
+use Rattle.pgn_game.proofs.Words.{refl, Appends-nil, device, seen}
+use Rattle.pgn_game.proofs.ReaderLemmas.{begun_before}
 use Rattle.pgn_game.proofs.putting.SilentReader.{silence_kept}
 use Rattle.pgn_game.proofs.reader.Reader.begin_movetext.Goals as goal
-
--- movetext has not begun
-after_tags : (stage : Stage) → IsTrue (may_have_movetext stage) → (stage ≡ InMovetext → ⊥) → stage ≡ AfterTags
-after_tags AfterTags may before = refl
-after_tags InMovetext may before = absurd (before refl)
-after_tags _ may before = absurd (cc)
 
 pub returns-then-is_in_movetext : goal.returns-then-is_in_movetext
 returns-then-is_in_movetext g c =

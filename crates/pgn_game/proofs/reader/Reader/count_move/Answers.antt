@@ -1,5 +1,5 @@
 use Rattle.pgn_game.proofs.Words.{sym, ◌∙◌}
-use Rattle.pgn_game.proofs.ReaderLemmas.{reader_alike, move_counted, no_symbol_counted, plain_counted}
+use Rattle.pgn_game.proofs.ReaderLemmas.{move_counted, no_symbol_counted, plain_counted}
 use Rattle.pgn_game.proofs.reader.Reader.count_move.Goals as goal
 
 pub returns-in_default : goal.returns-in_default

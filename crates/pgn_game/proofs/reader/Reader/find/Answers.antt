@@ -1,6 +1,6 @@
-use Rattle.pgn_game.proofs.Words.{ap, subst, ◌∙◌, arith, Parts, ReaderState}
+use Rattle.pgn_game.proofs.Words.{ap, subst, ◌∙◌, Parts, ReaderState}
 use Rattle.pgn_game.specs.FoundMove.{NamesMove}
-use Rattle.pgn_game.proofs.ReaderLemmas.{reader_alike, text_fits}
+use Rattle.pgn_game.proofs.ReaderLemmas.{text_fits}
 use Rattle.pgn_game.proofs.reader.Reader.find.Goals as goal
 
 pub position-requires : goal.position-requires

@@ -1,7 +1,7 @@
 use Rattle.pgn_game.proofs.Words.{◌≡◌, ◌-◌, length, not, refl, sym, ap, ◌∙◌, arith, is_some, le-leb, lt-leb, NoMoveBefore, TooDeep}
 use Rattle.pgn_game.proofs.Words.{depth, levels_of_part, ReaderState, left_paren}
 use Rattle.pgn_game.specs.declared.annotation.Annotation.TheVariants.{Open}
-use Rattle.pgn_game.proofs.ReaderLemmas.{reader_alike, hit, pass, holds_is, depth_is, entry_refused, item_entry}
+use Rattle.pgn_game.proofs.ReaderLemmas.{hit, pass, holds_is, depth_is, entry_refused, item_entry}
 use Rattle.pgn_game.proofs.putting.SilentReader.{unused_call}
 use Rattle.pgn_game.proofs.ReaderPartsFitInMemory.{text_fits}
 use Rattle.pgn_game.proofs.reader.Reader.open_variation.Goals as goal

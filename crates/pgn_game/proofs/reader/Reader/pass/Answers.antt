@@ -1,5 +1,5 @@
 use Rattle.pgn_game.proofs.Words.{ap, Err, ◌∙◌, err_from_is_err_and}
-use Rattle.pgn_game.proofs.ReaderLemmas.{reader_alike, puts_number, puts_unbegun}
+use Rattle.pgn_game.proofs.ReaderLemmas.{puts_number, puts_unbegun}
 use Rattle.pgn_game.proofs.reader.Reader.pass.Goals as goal
 
 pub returns-in_err-begin_movetext : goal.returns-in_err-begin_movetext

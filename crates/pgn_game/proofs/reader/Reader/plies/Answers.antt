@@ -1,5 +1,4 @@
 use Rattle.pgn_game.proofs.ReaderPartsFitInMemory.{text_fits}
-use Rattle.pgn_game.proofs.Words.{ap, ◌∙◌, ReaderState}
 use Rattle.pgn_game.proofs.reader.Reader.plies.Goals as goal
 
 pub plies-requires : goal.plies-requires

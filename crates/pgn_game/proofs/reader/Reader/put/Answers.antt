@@ -1,6 +1,6 @@
 use Rattle.pgn_game.proofs.putting.SilentReader.{adds_as, silence_put}
-use Rattle.pgn_game.proofs.Words.{ReaderState, Writing, refl, ap, subst, sym, ◌∙◌, arith, Err, err_from_is_err_and, Movetext, ItemFits, model_item}
-use Rattle.pgn_game.proofs.ReaderLemmas.{reader_alike, text_fits, no_move, begins_as, fails_item, puts_item, puts_unbegun, text_begun}
+use Rattle.pgn_game.proofs.Words.{Writing, refl, ap, subst, sym, ◌∙◌, arith, Err, err_from_is_err_and, Movetext, ItemFits, model_item}
+use Rattle.pgn_game.proofs.ReaderLemmas.{text_fits, no_move, begins_as, fails_item, puts_item, puts_unbegun, text_begun}
 use Rattle.pgn_game.proofs.reader.Reader.put.Goals as goal
 
 pub put-requires : goal.put-requires

@@ -1,5 +1,5 @@
 use Rattle.pgn_game.proofs.Words.{◌≡◌, ◌+◌, ℕ, refl, sym, ap, ◌∙◌, ReaderState, plies_behind, Stage, Between, arith}
-use Rattle.pgn_game.proofs.ReaderLemmas.{reader_alike, text_fits}
+use Rattle.pgn_game.proofs.ReaderLemmas.{text_fits}
 use Rattle.pgn_game.proofs.reader.Reader.whole_plies.Goals as goal
 
 -- in a game its own moves are not counted yet
