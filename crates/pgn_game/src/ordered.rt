@@ -74,10 +74,13 @@ impl<'a> OrderedPairs<'a> {
 pub fn value_in<'a>(pairs: &OrderedPairs<'a>, name: &[u8]) -> Option<&'a [u8]>
     ensures { ValueResult pairs.now name.now result }
 {
-    match find(pairs, name) {
-        Ok(index) => Some(pairs.at(index).value()),
-        Err(_) => None,
+    for index in 0..pairs.len() {
+        let pair = pairs.at(index);
+        if pair.name() == name {
+            return Some(pair.value());
+        }
     }
+    None
 }
 
 /// Returns the index of the pair of a name. If there is none, the error is how many pairs come
