@@ -82,7 +82,7 @@ pub use Rattle.pgn_lexer.specs.Written.{AreEnded, IsEndedBy, IsPiece, IsReadable
 pub use Rattle.pgn_lexer.specs.declared.token.TokenKind.{TokenKind}
 pub use Rattle.chess_text.specs.MoveOfForm.{form_pairs, move_of_form, with_next}
 pub use Rattle.chess_text.specs.declared.form.Form.{Form}
-pub use Rattle.pgn_game.specs.FoundMove.{found_in, with_position}
+pub use Rattle.pgn_game.specs.FoundMove.{found_in}
 pub use Rattle.pgn_game.specs.Laws.{IsPrefix, DueGrows}
 unfoldable pub use Rattle.pgn_game.specs.Tried.{Costs}
 pub use Rattle.std.proofs.lemmas.Result.{err_from_is_err_and}
