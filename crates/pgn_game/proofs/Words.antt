@@ -46,7 +46,7 @@ unfoldable pub use Rattle.pgn_game.specs.FaultTable.{refusal}
 pub use Rattle.pgn_game.specs.Filled.{exported_pairs, filled}
 pub use Rattle.pgn_game.specs.FixedPoint.{AreExportable, ExportIsKept, ExportIsKeptOfSource, ExportingTwice, FewPairsHaveRoom, FixedPoint, IsExportable, IsWrittenAgain, SameOutput, SameText, SliceIsKept, SourceIsKept, TagSectionFits, TextSpells, counted, games_in}
 pub use Rattle.pgn_game.specs.Game.{close_variation, open_variation}
-pub use Rattle.pgn_game.specs.ItemResult.{Adds, GoesOn, Plays, PutsTokens, TriesItem, WritesItem, after_move_if, item_text, number_due, plies_in}
+pub use Rattle.pgn_game.specs.ItemResult.{Adds, Annotates, Plays, PutsTokens, TriesItem, WritesItem, after_move_if, item_text, number_due, plies_in}
 pub use Rattle.pgn_game.specs.ItemResult.{tokens_due, tokens_if, LeavesSink}
 pub use Rattle.pgn_game.specs.Levels.{Level, Levels, back_to, depth, first_level, here, last_position, levels_after, levels_of, main_moves, outermost}
 pub use Rattle.pgn_game.specs.Levels.{plies_of, replayed, start_of, without_last}
@@ -58,7 +58,7 @@ pub use Rattle.pgn_game.specs.PutResult.{BeginsText, Goes, Keeps, PutResult, Put
 pub use Rattle.pgn_game.specs.ReaderState.{KeepsSilence, Writing, mode_written, silenced, sink_of, telling, Accepted, More, Finished, Agrees, AreSound, CountsWrites, FinishesAtMarker, HoldsPairs, HoldsText, IsBehind, ReaderState, as_written, is_outside_the_table, known_of, known_text, plies_behind, whole_plies, Answers, IsAccepted, IsKnown, IsStopped, Leads, plies_next}
 pub use Rattle.pgn_game.specs.SectionLines.{other_line, roster_line, text_by}
 pub use Rattle.pgn_game.specs.Spells.{AreDistinct, AreDropped, BeginsBare, IsPair, IsResult, IsSetUp, KeepsTags, Names, Spells, SpellsGame, SpellsGames, SpellsPair, SpellsPairs, SpellsText, StandsFor, by_name, comment_close, comment_open, glyph, level_after_move, move, new_level, next_game, next_pair, no_game, no_more, no_pair, number, pair, period, token, variation, word}
-pub use Rattle.pgn_game.specs.StoredPairs.{AllAfter, AllBelow, AreInOrder, FitsPairStore, InOrder, TagPairs, index_of, pair_at, pairs_seen, placed}
+pub use Rattle.pgn_game.specs.StoredPairs.{AllAfter, AllBelow, AreInOrder, FitsPairStore, HasBegun, InOrder, TagPairs, index_of, pair_at, pairs_seen, placed}
 pub use Rattle.pgn_game.specs.TagSection.{exported, in_roster, other_pairs, roster_pairs, tag_lines, tag_section, with_set_up}
 unfoldable pub use Rattle.pgn_game.specs.TagSection.{roster}
 pub use Rattle.pgn_game.specs.Text.{Placed, full_text, game_text, has_move, is_main_move, is_move, number_before, placed_from, tokens_at, tokens_from}
@@ -82,7 +82,7 @@ pub use Rattle.pgn_lexer.specs.Written.{AreEnded, IsEndedBy, IsPiece, IsReadable
 pub use Rattle.pgn_lexer.specs.declared.token.TokenKind.{TokenKind}
 pub use Rattle.chess_text.specs.MoveOfForm.{form_pairs, move_of_form, with_next}
 pub use Rattle.chess_text.specs.declared.form.Form.{Form}
-pub use Rattle.pgn_game.specs.FoundMove.{found_in, with_position}
+pub use Rattle.pgn_game.specs.FoundMove.{found_in}
 pub use Rattle.pgn_game.specs.Laws.{IsPrefix, DueGrows}
 unfoldable pub use Rattle.pgn_game.specs.Tried.{Costs}
 pub use Rattle.std.proofs.lemmas.Result.{err_from_is_err_and}

@@ -1,19 +1,24 @@
 -- **Bookkeeping**: what putting an item of movetext does to the levels, the line and the sink.
-use Rattle.std.specs.Prelude.{◌≡◌, ℕ, ◌+◌, ◌≤◌, Bool, true, false, List, [], ◌∷◌, ◌++◌, ◌==◌, map, length, drop, Option, None, Some, IfSome, Result, MatchResult, OnOk, All, IsTrue}
+use Rattle.std.specs.Prelude.{◌≡◌, ℕ, ◌+◌, ◌-◌, ◌^◌, ◌<◌, ◌≤◌, Bool, true, false, List, [], ◌∷◌, ◌++◌, ◌==◌, map, length, drop, Option, None, Some, IfSome, Result, MatchResult, OnOk, All, IsTrue}
 use Rattle.std.specs.Io.KnownBytes.{Appends}
+use Rattle.chess_rules.specs.declared.position.Move.{Move}
 use Rattle.chess_rules.specs.declared.position.Parts.{Parts}
+use Rattle.chess_rules.specs.Legal.{is_legal}
 use Rattle.chess_text.specs.declared.resolution.Played.{Played}
-use Rattle.pgn_layout.specs.Device.{AppendsFront, Counts, Device, Writes}
+use Rattle.pgn_layout.specs.Device.{AppendsFront, Counts, Device, Writes, device}
 use Rattle.pgn_layout.specs.Lines.{IsToken}
 use Rattle.pgn_layout.specs.Layout.{Put, laid_from}
 use Rattle.pgn_game.specs.declared.annotation.Annotation.{Annotation}
 use Rattle.pgn_game.specs.declared.annotation.Annotation.TheVariants.{Open, Close}
 use Rattle.pgn_game.specs.declared.mode.Mode.{Mode}
+use Rattle.pgn_game.specs.declared.mode.Written.{Written}
 use Rattle.pgn_game.specs.Chess.{is_black_to_move}
 use Rattle.pgn_game.specs.Game.{Item}
 use Rattle.pgn_game.specs.Text.{is_move, number_before, tokens_at, full_text}
 use Rattle.pgn_game.specs.Movetext.{Movetext, StoredLevels, HoldsItems, ClosesLevel, level_at}
 use Rattle.pgn_game.specs.MostTried.{CostsToWrite, is_written}
+use Rattle.pgn_game.specs.TokenInMovetext.{IsLegal}
+use Rattle.pgn_game.specs.Written.{is_nothing, mode_of_written, seen}
 
 -- Tokens are put on a line one after another: what is written, the line after that, and the
 -- failures. Each has 1 to 79 bytes.
@@ -75,14 +80,34 @@ pub record WritesItem {A E : Type 0} (mode : Option Mode) (i : Item) (text : Mov
 abbrev pub LeavesSink : {S : Type 0} → (silent : Bool) → S → S → Type 0
 LeavesSink silent sink_old sink_new = IsTrue silent → sink_new ≡ sink_old
 
+-- A call puts or writes an item as this says, of the sink that contracts see. If nothing is
+-- written, the sink does not change.
+pub record ItemCall {S : Type 0} (written : Written) (taken : S → Option (List ℕ)) (failures : S → ℕ)
+    (sink_old sink_new : S) (Does : Option Mode → Device → Type 0) : Type 0 where
+  pub writes : Does (mode_of_written written)
+      (seen (is_nothing written) (device taken failures sink_old sink_new))
+  pub silent : LeavesSink (is_nothing written) sink_old sink_new
+
+-- A legal move can be put: it can be counted, and so can the pairs that writing it tries.
+pub record MayPutMove (text : Movetext) (m : Move) (probes : ℕ) : Type 0 where
+  pub legal : IsTrue (is_legal text.levels.present.present m)
+  pub few : text.plies < 2 ^ 64 - 1
+  pub room : probes + 1032 < 2 ^ 32
+
+-- the same for a move that is only written
+pub record MayWriteMove (text : Movetext) (x : Played) (probes : ℕ) : Type 0 where
+  pub legal : IsLegal text.levels.present.present x
+  pub room : probes + 1032 < 2 ^ 32
+
 -- the number of pairs tried before an item is written, and after
 abbrev pub TriesItem : Option Mode → Movetext → Item → ℕ → ℕ → Type 0
 TriesItem mode text i old new =
     CostsToWrite (is_written mode (length text.levels.around) i) text.levels.present.present i old new
 
--- the number of pairs rises by at most 1,032
-abbrev pub Rises : ℕ → ℕ → Type 0
-Rises old new = (old ≤ new) × (new ≤ old + 1032)
+-- so many pairs are tried to write it, which are at most 1,032
+pub record TriesToWrite (mode : Option Mode) (text : Movetext) (i : Item) (old new : ℕ) : Type 0 where
+  pub tried : TriesItem mode text i old new
+  pub rises : (old ≤ new) × (new ≤ old + 1032)
 
 -- Movetext goes on with a legal move, whose text may be written by then.
 pub record Plays (x : Played) (old new : Movetext) : Type 0 where
@@ -94,7 +119,7 @@ pub record Plays (x : Played) (old new : Movetext) : Type 0 where
   pub is_after_move : new.is_after_move ≡ old.is_after_move
 
 -- Movetext goes on with an annotation, whose text may be written by then.
-pub record GoesOn (i : Annotation) (old new : Movetext) : Type 0 where
+pub record Annotates (i : Annotation) (old new : Movetext) : Type 0 where
   pub levels : LeadsLevels i old.levels new.levels
   pub plies : new.plies ≡ old.plies
   pub is_after_move : new.is_after_move ≡ old.is_after_move

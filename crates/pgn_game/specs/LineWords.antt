@@ -1,7 +1,8 @@
 -- **Bookkeeping**: how the words of a line of play are found.
-use Rattle.std.specs.Prelude.{◌≡◌, ℕ, ◌-◌, ◌<◌, ◌≤◌, List, [], ◌∷◌, length, take, drop, Option, None, Some}
+use Rattle.std.specs.Prelude.{◌≡◌, ℕ, ◌-◌, ◌<◌, ◌≤◌, false, List, [], ◌∷◌, ◌++◌, length, take, drop, get_or, Option, None, Some}
+use Rattle.pgn_lexer.specs.Bytes.{is_space}
 use Rattle.pgn_game.specs.declared.line_of_play.Span.{Span}
-use Rattle.pgn_game.specs.LineOfPlay.{Word, move_texts, words_behind}
+use Rattle.pgn_game.specs.LineOfPlay.{Word, move_texts, word_of, words_behind}
 
 -- the words of the text from a place on, and those of them that are to name moves
 abbrev pub words_from : List ℕ → ℕ → List Word
@@ -29,3 +30,21 @@ abbrev pub FindsFirst : (all : List ℕ → ℕ → List Word) → List ℕ → 
 FindsFirst all text from None = all text from ≡ []
 FindsFirst all text from (Some span) =
     IsWithin text from span × (all text from ≡ word_in text span ∷ all text span.end)
+
+-- white space ends at n, and the same words follow
+pub record SpaceEnds (text : List ℕ) (from n : ℕ) : Type 0 where
+  pub least : from ≤ n
+  pub within : n ≤ length text
+  pub words : words_from text from ≡ words_from text n
+  pub ends : n < length text → is_space (get_or text n 0) ≡ false
+
+-- a word begins at this place
+pub record WordBegins (text : List ℕ) (begin : ℕ) : Type 0 where
+  pub some : begin < length text
+  pub begins : is_space (get_or text begin 0) ≡ false
+
+-- the word that begins at a place ends at n, and the others are behind it
+pub record WordEnds (text : List ℕ) (begin n : ℕ) : Type 0 where
+  pub some : begin < n
+  pub within : n ≤ length text
+  pub words : words_from text begin ≡ word_of begin (bytes_between text begin n) ++ words_from text n

@@ -1,6 +1,6 @@
 -- **Bookkeeping**: what is stored of movetext while it is read.
 -- That is the levels, the number of moves outside variations, and whether a move was written last.
-use Rattle.std.specs.Prelude.{◌≡◌, ℕ, ◌≤◌, Bool, true, false, List, [], ◌∷◌, ◌++◌, map, length, Option, None, Some, All}
+use Rattle.std.specs.Prelude.{◌≡◌, ℕ, ◌+◌, ◌≤◌, Bool, true, false, List, [], ◌∷◌, ◌++◌, map, length, Option, None, Some, All}
 use Rattle.chess_rules.specs.declared.position.Parts.{Parts}
 use Rattle.pgn_layout.specs.Lines.{IsToken, lines_of, last_line}
 use Rattle.pgn_game.specs.declared.levels.Level.{Level as CodeLevel}
@@ -60,6 +60,11 @@ pub record FitsLevelStore (most : ℕ) (places : List (Option CodeLevel)) : Type
   pub around : List CodeLevel
   pub there : places ≡ places_of (current ∷ around)
   pub room : length places ≤ most
+
+-- n variations are open, of at most so many levels
+pub record IsDepth (most : ℕ) (around : List StoredLevel) (n : ℕ) : Type 0 where
+  pub value : n ≡ length around
+  pub room : n + 1 ≤ most
 
 -- A variation closes: the nearest level around is current again. No claim if there is none.
 abbrev pub ClosesLevel : List StoredLevel → StoredLevels → Type 0

@@ -10,7 +10,7 @@ use Rattle.pgn_lexer.specs.Tokens.{Kind}
 use Rattle.pgn_game.specs.declared.marker.Marker.{Marker}
 use Rattle.pgn_game.specs.declared.mode.Mode.{Mode}
 use Rattle.pgn_game.specs.declared.stage.Stage.{Stage}
-use Rattle.pgn_game.specs.declared.stage.Stage.TheVariants.{AfterTags, InMovetext}
+use Rattle.pgn_game.specs.declared.stage.Stage.TheVariants.{Between, AfterTags, InMovetext}
 use Rattle.pgn_game.specs.declared.reason.Reason.{Reason}
 use Rattle.pgn_game.specs.declared.reason.Reason.TheVariants.{WriteFault}
 use Rattle.pgn_game.specs.Markers.{marker_text}
@@ -115,7 +115,7 @@ abbrev pub TakesEntry : ReaderState → Kind → ReaderState → Result Accepted
 TakesEntry old k new r d = Takes old (IsEntry old k) k new r d
 
 -- The token is this marker, and was not taken: nothing has changed.
-pub record LeavesMarker (old : ReaderState) (k : Kind) (marker : Marker) (new : ReaderState) (d : Device) : Type 0 where
+pub record ReturnsMarker (old : ReaderState) (k : Kind) (marker : Marker) (new : ReaderState) (d : Device) : Type 0 where
   pub is : marker_of k ≡ Some (marker_text marker)
   pub same : new ≡ old
   pub unwritten : d.after ≡ d.before
@@ -129,7 +129,7 @@ pub record TakesOther (old : ReaderState) (k : Kind) (new : ReaderState) (r : Re
 
 -- A token of movetext is taken, unless it is a marker.
 abbrev pub MeetsEntry : ReaderState → Kind → ReaderState → Result (Option Marker) Reason → Device → Type 0
-MeetsEntry old k new (Ok (Some marker)) d = LeavesMarker old k marker new d
+MeetsEntry old k new (Ok (Some marker)) d = ReturnsMarker old k marker new d
 MeetsEntry old k new (Ok None) d = TakesOther old k new (Ok More) d
 MeetsEntry old k new (Err reason) d = TakesOther old k new (Err reason) d
 
@@ -137,6 +137,15 @@ MeetsEntry old k new (Err reason) d = TakesOther old k new (Err reason) d
 abbrev pub no_marker : Result Unit Reason → Result (Option Marker) Reason
 no_marker (Ok done) = Ok None
 no_marker (Err reason) = Err reason
+
+-- The marker that ends a game was taken, whatever token it is.
+pub record TakesMarker (old : ReaderState) (marker : Marker) (new : ReaderState)
+    (r : Result Unit Reason) (d : Device) : Type 0 where
+  pub takes : (k : Kind) → marker_of k ≡ Some (marker_text marker)
+      → TakesEntry old k new (ended r) d
+  pub keeps : Keeps old new
+  pub between : OnOk r (new.stage ≡ Between)
+  pub counted : CountsWrites (ended r) d
 
 -- a sink to which nothing is written in the call
 abbrev pub unused : Option (List ℕ) → ℕ → Device

@@ -66,6 +66,12 @@ pub record KeepsSilence {S : Type 0} (old new : ReaderState) (sink_old sink_new 
   pub silent : new.writing.is_silent ≡ old.writing.is_silent
   pub untouched : IsTrue old.writing.is_silent → sink_new ≡ sink_old
 
+-- A call of the reader takes what this says, of the sink that contracts see. It keeps its silence.
+pub record ReaderCall {S : Type 0} (taken : S → Option (List ℕ)) (failures : S → ℕ)
+    (old new : ReaderState) (sink_old sink_new : S) (Takes : Device → Type 0) : Type 0 where
+  pub takes : Takes (sink_of old taken failures sink_old sink_new)
+  pub silent : KeepsSilence old new sink_old sink_new
+
 -- What always holds of the pairs at a stage. After a name, and nowhere else, a name waits for its
 -- value, and it has at most 249 bytes. After a `[` there is room for one pair more.
 abbrev pub AreSound : ℕ → Stage → TagPairs → Type 0

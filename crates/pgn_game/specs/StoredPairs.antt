@@ -2,10 +2,12 @@
 -- They lie as they were read. The order of their names is kept beside them. The one whose value is
 -- still to come lies behind those that are complete. Behind these may be pairs of earlier games,
 -- which no contract sees.
-use Rattle.std.specs.Prelude.{ℕ, ◌+◌, ◌≤◌, ◌<◌, ◌≡◌, IsTrue, Bool, true, false, List, [], ◌∷◌, length, drop, map, slice_index_or, Option, None, Some}
+use Rattle.std.specs.Prelude.{ℕ, ◌+◌, ◌≤◌, ◌<◌, ◌≡◌, IsTrue, IfSome, Bool, true, false, List, [], ◌∷◌, length, drop, map, slice_index_or, Option, None, Some, Result, Ok, Err}
+use Rattle.std.specs.Borrow.{Bor}
 use Rattle.std.specs.List.{AllByRecursion}
+use Rattle.std.specs.Option.{option_copied}
 use Rattle.pgn_layout.specs.TagLine.{escaped}
-use Rattle.pgn_game.specs.Pairs.{Pair, comes_before, has_pair}
+use Rattle.pgn_game.specs.Pairs.{Pair, comes_before, has_pair, value_of}
 
 -- what a contract sees: the complete pairs, and the name that waits for its value
 pub record TagPairs : Type 0 where
@@ -68,3 +70,41 @@ pub record FitsPairStore (most : ℕ) (ps : List Pair) (order : List ℕ) (place
 pub record FitsOnLine (name_length : ℕ) (text : List ℕ) : Type 0 where
   pub named : name_length ≤ length text
   pub short : name_length + length (escaped (drop name_length text)) ≤ 249
+
+-- Calls of the store.
+
+-- n of these pairs come before a name or have it; they are in order
+pub record IndexResult (ps : List Pair) (name : List ℕ) (n : ℕ) : Type 0 where
+  pub index : n ≡ index_of name ps
+  pub within : n ≤ length ps
+  pub order : InOrder ps
+
+-- the pair with n others before it is the one of a name
+pub record IsFound (ps : List Pair) (name : List ℕ) (n : ℕ) : Type 0 where
+  pub within : n < length ps
+  pub named : (pair_at ps n).name ≡ name
+  pub value : value_of ps name ≡ Some (pair_at ps n).value
+
+-- no pair has the name, and n come before it
+pub record IsMissing (ps : List Pair) (name : List ℕ) (n : ℕ) : Type 0 where
+  pub new : has_pair ps name ≡ false
+  pub place : n ≡ index_of name ps
+
+-- the index of the pair of a name, or as the error how many pairs come before the name
+abbrev pub FindResult : List Pair → List ℕ → Result ℕ ℕ → Type 0
+FindResult ps name (Ok n) = IsFound ps name n
+FindResult ps name (Err n) = IsMissing ps name n
+
+-- the value of a name, if one of the pairs has it; both fit on their line
+pub record ValueResult (ps : List Pair) (name : List ℕ) (r : Option (Bor (List ℕ))) : Type 0 where
+  pub value : option_copied r ≡ value_of ps name
+  pub fits : IfSome r (λ value. length name + length (escaped value.now) ≤ 249)
+
+-- A name can be added: no other waits for its value, there is room, it fits on a line, it is new,
+-- and n pairs come before it.
+pub record MayBegin (most : ℕ) (tags : TagPairs) (name : List ℕ) (n : ℕ) : Type 0 where
+  pub whole : tags.pending_name ≡ None
+  pub room : length tags.held < most
+  pub fits : length name ≤ 249
+  pub new : has_pair tags.held name ≡ false
+  pub place : n ≡ index_of name tags.held

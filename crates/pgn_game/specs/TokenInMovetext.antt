@@ -1,5 +1,5 @@
 -- **Bookkeeping**: what the reader makes of a token in movetext.
-use Rattle.std.specs.Prelude.{◌≡◌, ℕ, ◌+◌, ◌<◌, ◌&&◌, not, nat_le, ◌==◌, Bool, true, false, IsTrue, is_some, List, [], ◌++◌, length, codes, bytes_eq, Option, None, Some, Result, Ok, Err}
+use Rattle.std.specs.Prelude.{◌≡◌, ℕ, ◌+◌, ◌-◌, ◌^◌, ◌<◌, ◌&&◌, not, nat_le, ◌==◌, Bool, true, false, IsTrue, is_some, List, [], ◌++◌, length, codes, bytes_eq, Option, None, Some, Result, Ok, Err}
 use Rattle.chess_rules.specs.declared.position.Parts.{Parts}
 use Rattle.chess_rules.specs.Legal.{legal}
 use Rattle.chess_text.specs.declared.resolution.Played.{Played}
@@ -46,6 +46,11 @@ abbrev pub may_have_movetext : Stage → Bool
 may_have_movetext AfterTags = true
 may_have_movetext InMovetext = true
 may_have_movetext _ = false
+
+-- the reader can take a move: movetext can begin or go on, and the move can be counted
+pub record MayTakeMove (reading : ReaderState) : Type 0 where
+  pub few : reading.text.plies < 2 ^ 64 - 1
+  pub stage : IsTrue (may_have_movetext reading.stage)
 
 -- the position of a FEN tag with this value, or its field at fault; no position for another tag
 abbrev pub fen_position : List ℕ → List ℕ → Result (Option Parts) ℕ

@@ -1,9 +1,9 @@
 //! The move that a symbol in movetext names.
-ghost use Rattle.std.specs.Prelude.{◌≡◌, ◌<◌, ◌≤◌, Some, IfOk, IsTrue, OnOk};
-ghost use Rattle.chess_rules.specs.Legal.{is_legal, legal};
+ghost use Rattle.std.specs.Prelude.{◌≡◌, ◌<◌, ◌≤◌, Some, IfOk, OnOk};
+ghost use Rattle.chess_rules.specs.Legal.{legal};
 ghost use Rattle.pgn_game.specs.Chess.{move_of};
 ghost use Rattle.pgn_game.specs.FaultTable as spec;
-ghost use Rattle.pgn_game.specs.FoundMove.{found_in, with_position};
+ghost use Rattle.pgn_game.specs.FoundMove.{NamesMove, found_in};
 ghost use Rattle.pgn_game.specs.Tried.{Costs};
 
 use crate::reason::Reason;
@@ -61,12 +61,7 @@ pub(crate) fn named_move(
     probes: &mut Probes,
 ) -> Result<Move, Reason>
     requires { probes.old ≡ 0 }
-    ensures found { with_position position.now result
-        ≡ found_in position.now (move_of position.now text.now) }
-    ensures legal { IfOk result (λ mv. IsTrue (is_legal position.now mv)) }
-    ensures tried { Costs position.now text.now probes.new }
-    ensures bound { probes.new ≤ 8 }
-    ensures some { OnOk result (0 < probes.new) }
+    ensures { NamesMove position.now text.now result probes.new }
 {
     let Some(form) = read_form(text) else {
         return Err(Reason::NotAMove);

@@ -1,7 +1,7 @@
 //! The levels of movetext: the game's own, and those of the variations that are open.
 ghost use Rattle.std.specs.Prelude.{◌≡◌, ◌+◌, ◌<◌, ◌≤◌, ◌∷◌, None, Some, IsSome, IfSome, is_some, length};
 ghost use Rattle.pgn_game.specs.Chess.{first_position};
-ghost use Rattle.pgn_game.specs.Movetext.{level_at, level_of, only_level, ClosesLevel};
+ghost use Rattle.pgn_game.specs.Movetext.{level_at, level_of, only_level, ClosesLevel, IsDepth};
 
 use arrayvec::ArrayVec;
 use chess_rules::Position;
@@ -77,7 +77,7 @@ impl<const L: usize> Levels<L> {
 
     /// Returns the position of the current level.
     #[inline(always)]
-    pub fn present(&self) -> &Position
+    pub fn position(&self) -> &Position
         ensures { result.now ≡ self.now.present.present }
     {
         &self.current().present
@@ -86,8 +86,7 @@ impl<const L: usize> Levels<L> {
     /// Returns how many variations are open.
     #[inline(always)]
     pub fn depth(&self) -> usize
-        ensures value { result ≡ length self.now.around }
-        ensures room { result + 1 ≤ L }
+        ensures { IsDepth L self.now.around result }
     {
         self.levels.len() - 1
     }

@@ -1,10 +1,11 @@
 //! A line of play: the plies that a text of moves names, one after another.
-ghost use Rattle.std.specs.Prelude.{◌≡◌, ◌-◌, ◌<◌, ◌≤◌, [], ◌++◌, Some, IfOk, IsSomeAnd, IfSome, OnOk, drop, false, length, take, get_or};
+ghost use Rattle.std.specs.Prelude.{◌≡◌, ◌≤◌, Some, IfOk, IfSome, length};
 ghost use Rattle.chess_rules.specs.Legal.{legal};
 ghost use Rattle.pgn_lexer.specs.Bytes.{is_space as is_white_space};
 ghost use Rattle.pgn_game.specs.LineOfPlay as spec;
-ghost use Rattle.pgn_game.specs.LineOfPlay.{NextPly, move_texts, word_of};
-ghost use Rattle.pgn_game.specs.LineWords.{FindsFirst, bytes_between, moves_from, words_from};
+ghost use Rattle.pgn_game.specs.LineOfPlay.{NextPly, move_texts};
+ghost use Rattle.pgn_game.specs.LineWords.{FindsFirst, SpaceEnds, WordBegins, WordEnds};
+ghost use Rattle.pgn_game.specs.LineWords.{moves_from, words_from};
 
 use crate::notation::{Notation, read_move};
 use crate::reason::Fault;
@@ -169,10 +170,7 @@ fn next_word(text: &[u8], from: usize) -> Option<Span>
 // Where the white space ends that begins at a place.
 fn behind_space(text: &[u8], from: usize) -> usize
     requires { from ≤ length text.now }
-    ensures least { from ≤ result }
-    ensures within { result ≤ length text.now }
-    ensures words { words_from text.now from ≡ words_from text.now result }
-    ensures ends { result < length text.now → is_white_space (get_or text.now result 0) ≡ false }
+    ensures { SpaceEnds text.now from result }
 {
     let mut at = from;
     while at < text.len() && is_space(text[at]) {
@@ -183,12 +181,8 @@ fn behind_space(text: &[u8], from: usize) -> usize
 
 // Where the word ends that begins at a place.
 fn word_end(text: &[u8], begin: usize) -> usize
-    requires some { begin < length text.now }
-    requires begins { is_white_space (get_or text.now begin 0) ≡ false }
-    ensures some { begin < result }
-    ensures within { result ≤ length text.now }
-    ensures words { words_from text.now begin
-        ≡ word_of begin (bytes_between text.now begin result) ++ words_from text.now result }
+    requires { WordBegins text.now begin }
+    ensures { WordEnds text.now begin result }
 {
     let mut end = begin + 1;
     while end < text.len() && !is_space(text[end]) {

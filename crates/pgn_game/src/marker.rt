@@ -2,13 +2,10 @@
 ghost use Rattle.std.specs.Prelude.{◌≡◌, ◌≤◌, length, is_some, option_map};
 ghost use Rattle.pgn_layout.specs.Lines.{IsToken};
 ghost use Rattle.pgn_layout.specs.TagLine.{escaped};
-ghost use Rattle.pgn_lexer.specs.Scanned.{kind_of};
 ghost use Rattle.pgn_lexer.specs.Tokens.{symbol};
 ghost use Rattle.pgn_game.specs.Markers.{marker_text, missing_of};
 ghost use Rattle.pgn_game.specs.Profile.{known_result};
 ghost use Rattle.pgn_game.specs.FaultTable.{is_score, marker_of, result_for};
-
-use pgn_lexer::TokenKind;
 
 /// A termination marker, which is also a value of Result (PGN 8.2.6).
 #[derive(Clone, Copy, Debug, PartialEq, Eq)]
@@ -24,18 +21,6 @@ pub enum Marker {
 }
 
 impl Marker {
-    /// Returns the marker that a token is, if it is one.
-    #[inline(always)]
-    pub fn of(kind: TokenKind<'_>) -> Option<Marker>
-        ensures { option_map marker_text result ≡ marker_of (kind_of kind.entry) }
-    {
-        match kind {
-            TokenKind::Asterisk => Some(Marker::Unknown),
-            TokenKind::Symbol(text) => Marker::of_symbol(text),
-            _ => None,
-        }
-    }
-
     /// Returns the marker that a symbol is, if it is one: `1-0`, `0-1` or `1/2-1/2`.
     pub fn of_symbol(text: &[u8]) -> Option<Marker>
         ensures text { option_map marker_text result ≡ marker_of (symbol text.now) }
@@ -95,8 +80,7 @@ impl MissingResult {
 
     /// Returns its text in a game that ends with this marker.
     pub fn text_at(&self, marker: Marker) -> &'static [u8]
-        ensures text { result.now ≡ result_for (missing_of self.now) (marker_text marker) }
-        ensures token { IsToken result.now }
+        ensures { result.now ≡ result_for (missing_of self.now) (marker_text marker) }
     {
         match self {
             MissingResult::CountsAs(missing) => missing.text(),

@@ -1,15 +1,16 @@
 //! The movetext of a game: each item is written when it is read.
-ghost use Rattle.std.specs.Prelude.{◌≡◌, ◌+◌, ◌-◌, ◌^◌, ◌<◌, ◌≤◌, true, is_some, length, IsTrue};
+ghost use Rattle.std.specs.Prelude.{◌≡◌, ◌-◌, ◌^◌, ◌<◌, ◌≤◌, Some, is_some, length};
 ghost use Rattle.pgn_layout.specs.Device.{device};
 ghost use Rattle.pgn_game.specs.Chess.{first_position};
 ghost use Rattle.pgn_game.specs.Game as games;
-ghost use Rattle.pgn_game.specs.Movetext.{movetext_from, movetext_after_fen};
-ghost use Rattle.pgn_game.specs.TokenInMovetext.{IsLegal, ItemFits, model_item};
-ghost use Rattle.pgn_game.specs.Written.{is_nothing, mode_of_written, seen};
-ghost use Rattle.pgn_game.specs.MostTried.{CostsToWrite, is_written};
+ghost use Rattle.pgn_game.specs.Movetext.{IsDepth, movetext_from, movetext_after_fen};
+ghost use Rattle.pgn_game.specs.TokenInMovetext.{ItemFits, model_item};
+ghost use Rattle.pgn_game.specs.Written.{mode_of_written};
+ghost use Rattle.pgn_game.specs.MostTried.{is_written};
 ghost use Rattle.chess_rules.specs.declared.position.Move.{Move as MoveSeen};
-ghost use Rattle.chess_rules.specs.Legal.{is_legal};
-ghost use Rattle.pgn_game.specs.ItemResult.{Adds, GoesOn, LeavesSink, Plays, PutsTokens, Rises, TriesItem, WritesItem};
+ghost use Rattle.pgn_game.specs.declared.mode.Mode.TheVariants as modes;
+ghost use Rattle.pgn_game.specs.ItemResult.{Adds, Annotates, ItemCall, MayPutMove, MayWriteMove, Plays};
+ghost use Rattle.pgn_game.specs.ItemResult.{PutsTokens, TriesToWrite, WritesItem};
 ghost use Rattle.pgn_game.specs.ItemResult.{number_due, tokens_due};
 
 use crate::annotation::Annotation;
@@ -74,16 +75,15 @@ impl<const L: usize> Movetext<L> {
     }
 
     /// Returns the current position.
-    pub fn present(&self) -> &Position
+    pub fn position(&self) -> &Position
         ensures { result.now ≡ self.now.levels.present.present }
     {
-        self.levels.present()
+        self.levels.position()
     }
 
     /// Returns the number of variations that are open.
     pub fn depth(&self) -> usize
-        ensures value { result ≡ length self.now.levels.around }
-        ensures room { result + 1 ≤ L }
+        ensures { IsDepth L self.now.levels.around result }
     {
         self.levels.depth()
     }
@@ -113,18 +113,13 @@ impl<const L: usize> Movetext<L> {
         line: &mut CurrentLine,
         out: &mut W,
     ) -> Result<(), WriteFault>
-        requires legal { IsTrue (is_legal self.old.levels.present.present mv.now) }
-        requires few { self.old.plies < 2 ^ 64 - 1 }
-        requires room { probes.old + 1032 < 2 ^ 32 }
-        ensures adds { Adds (mode_of_written written) (games.move mv.now) self.old line.old
-            self.new line.new result (seen (is_nothing written) (device W.taken W.failures out.old
-            out.new)) }
-        ensures silent { LeavesSink (is_nothing written) out.old out.new }
-        ensures probes { Rises probes.old probes.new }
-        ensures tried { TriesItem (mode_of_written written) self.old (games.move mv.now) probes.old
-            probes.new }
+        requires { MayPutMove self.old mv.now probes.old }
+        ensures item { ItemCall written W.taken W.failures out.old out.new
+            (λ mode. Adds mode (games.move mv.now) self.old line.old self.new line.new result) }
+        ensures probes { TriesToWrite (mode_of_written written) self.old (games.move mv.now)
+            probes.old probes.new }
     {
-        let next = position_after(self.levels.present(), mv);
+        let next = position_after(self.levels.position(), mv);
         let played = Played { mv: *mv, next };
         self.write_move(written, &played, probes, line, out)?;
         self.play(&played);
@@ -142,10 +137,8 @@ impl<const L: usize> Movetext<L> {
         out: &mut W,
     ) -> Result<(), WriteFault>
         requires { ItemFits L self.old item.now }
-        ensures adds { Adds (mode_of_written written) (model_item item.now) self.old line.old
-            self.new line.new result (seen (is_nothing written) (device W.taken W.failures out.old
-            out.new)) }
-        ensures silent { LeavesSink (is_nothing written) out.old out.new }
+        ensures { ItemCall written W.taken W.failures out.old out.new
+            (λ mode. Adds mode (model_item item.now) self.old line.old self.new line.new result) }
     {
         self.write(written, item, line, out)?;
         self.go_on(item);
@@ -162,14 +155,10 @@ impl<const L: usize> Movetext<L> {
         line: &mut CurrentLine,
         out: &mut W,
     ) -> Result<(), WriteFault>
-        requires legal { IsLegal self.old.levels.present.present played.now }
-        requires room { probes.old + 1032 < 2 ^ 32 }
-        ensures writes { WritesItem (mode_of_written written) (games.move played.now.mv) self.old
-            line.old self.new line.new result (seen (is_nothing written) (device W.taken W.failures
-            out.old out.new)) }
-        ensures silent { LeavesSink (is_nothing written) out.old out.new }
-        ensures probes { Rises probes.old probes.new }
-        ensures tried { TriesItem (mode_of_written written) self.old (games.move played.now.mv)
+        requires { MayWriteMove self.old played.now probes.old }
+        ensures item { ItemCall written W.taken W.failures out.old out.new (λ mode. WritesItem mode
+            (games.move played.now.mv) self.old line.old self.new line.new result) }
+        ensures probes { TriesToWrite (mode_of_written written) self.old (games.move played.now.mv)
             probes.old probes.new }
     {
         if !self.writes_move(written) {
@@ -203,10 +192,8 @@ impl<const L: usize> Movetext<L> {
         out: &mut W,
     ) -> Result<(), WriteFault>
         requires { ItemFits L self.old item.now }
-        ensures writes { WritesItem (mode_of_written written) (model_item item.now) self.old
-            line.old self.new line.new result (seen (is_nothing written) (device W.taken W.failures
-            out.old out.new)) }
-        ensures silent { LeavesSink (is_nothing written) out.old out.new }
+        ensures { ItemCall written W.taken W.failures out.old out.new (λ mode. WritesItem mode
+            (model_item item.now) self.old line.old self.new line.new result) }
     {
         if written != Written::Full {
             return Ok(());
@@ -225,15 +212,13 @@ impl<const L: usize> Movetext<L> {
         line: &mut CurrentLine,
         out: &mut W,
     ) -> Result<(), WriteFault>
-        requires legal { IsLegal self.now.levels.present.present played.now }
-        requires room { probes.old + 1032 < 2 ^ 32 }
+        requires { MayWriteMove self.now played.now probes.old }
         ensures puts { PutsTokens (tokens_due self.now (games.move played.now.mv)) line.old
             line.new result (device W.taken W.failures out.old out.new) }
-        ensures probes { Rises probes.old probes.new }
-        ensures tried { CostsToWrite true self.now.levels.present.present (games.move played.now.mv)
+        ensures probes { TriesToWrite (Some modes.Full) self.now (games.move played.now.mv)
             probes.old probes.new }
     {
-        let san = write_san(self.levels.present(), played, probes);
+        let san = write_san(self.levels.position(), played, probes);
         self.put_number(line, out)?;
         line.put(san.as_slice(), out)
     }
@@ -267,7 +252,7 @@ impl<const L: usize> Movetext<L> {
         ensures puts { PutsTokens (number_due self.now) line.old line.new result
             (device W.taken W.failures out.old out.new) }
     {
-        let position = self.levels.present();
+        let position = self.levels.position();
         match position.side() {
             Colour::White => put_move_number(position.full(), b".", line, out),
             Colour::Black => {
@@ -295,7 +280,7 @@ impl<const L: usize> Movetext<L> {
     #[inline(always)]
     fn go_on(&mut self, item: &Annotation<'_>)
         requires { ItemFits L self.old item.now }
-        ensures { GoesOn item.now self.old self.new }
+        ensures { Annotates item.now self.old self.new }
     {
         match item {
             Annotation::Open => self.levels.open(),

@@ -1,10 +1,8 @@
 //! Tag pairs in the order of their names, which need not be stored so.
-ghost use Rattle.std.specs.Prelude.{◌≡◌, ◌+◌, ◌<◌, ◌≤◌, IfSome, drop, length, slice_index_or, take};
-ghost use Rattle.std.specs.Option.{option_copied};
-ghost use Rattle.pgn_layout.specs.TagLine.{escaped};
-ghost use Rattle.pgn_game.specs.Pairs.{comes_before, value_of};
-ghost use Rattle.pgn_game.specs.StoredPairs as spec;
-ghost use Rattle.pgn_game.specs.StoredPairs.{AreInOrder, InOrder, placed};
+ghost use Rattle.std.specs.Prelude.{◌≡◌, ◌<◌, ◌≤◌, drop, length, slice_index_or, take};
+ghost use Rattle.pgn_game.specs.Pairs.{comes_before};
+ghost use Rattle.pgn_game.specs.StoredPairs.{AreInOrder, FindResult, InOrder, IndexResult};
+ghost use Rattle.pgn_game.specs.StoredPairs.{ValueResult, placed};
 
 use crate::pair::TagPair;
 use std::marker::Model;
@@ -74,8 +72,7 @@ impl<'a> OrderedPairs<'a> {
 
 /// Returns the value of a name among pairs, if it has one.
 pub fn value_in<'a>(pairs: &OrderedPairs<'a>, name: &[u8]) -> Option<&'a [u8]>
-    ensures value { option_copied result ≡ value_of pairs.now name.now }
-    ensures fits { IfSome result (λ value. length name.now + length (escaped value.now) ≤ 249) }
+    ensures { ValueResult pairs.now name.now result }
 {
     for index in 0..pairs.len() {
         let pair = pairs.at(index);
@@ -86,11 +83,24 @@ pub fn value_in<'a>(pairs: &OrderedPairs<'a>, name: &[u8]) -> Option<&'a [u8]>
     None
 }
 
+/// Returns the index of the pair of a name. If there is none, the error is how many pairs come
+/// before the name.
+pub fn find(pairs: &OrderedPairs<'_>, name: &[u8]) -> Result<usize, usize>
+    ensures { FindResult pairs.now name.now result }
+{
+    let behind = index_of(pairs, name);
+    if behind == 0 {
+        return Err(0);
+    }
+    if pairs.at(behind - 1).name() == name {
+        return Ok(behind - 1);
+    }
+    Err(behind)
+}
+
 /// Returns how many pairs come before a name in their order, or have it.
 pub fn index_of(pairs: &OrderedPairs<'_>, name: &[u8]) -> usize
-    ensures index { result ≡ spec.index_of name.now pairs.now }
-    ensures within { result ≤ length pairs.now }
-    ensures order { InOrder pairs.now }
+    ensures { IndexResult pairs.now name.now result }
 {
     let mut low = 0;
     let mut high = pairs.len();

@@ -55,7 +55,6 @@ impl TagPair {
     #[inline(always)]
     pub fn name(&self) -> &[u8]
         ensures name { result.now ≡ self.now.name }
-        ensures fits { length self.now.name + length (escaped self.now.value) ≤ 249 }
     {
         &self.text.as_slice()[..self.name_length]
     }

@@ -1,9 +1,9 @@
 //! Reads games token by token, stage by stage.
-ghost use Rattle.std.specs.Prelude.{◌≡◌, ◌+◌, ◌-◌, ◌≤◌, ◌<◌, ◌^◌, ◌&&◌, ◌∷◌, [], false, not};
-ghost use Rattle.std.specs.Prelude.{None, OnOk, Some, option_map, IsTrue, ◌↔◌, bytes_eq, codes, max};
+ghost use Rattle.std.specs.Prelude.{◌≡◌, ◌+◌, ◌-◌, ◌≤◌, ◌<◌, ◌^◌, ◌&&◌, ◌||◌, ◌∷◌, [], false, not};
+ghost use Rattle.std.specs.Prelude.{None, Some, option_map, IsTrue, ◌↔◌, bytes_eq, codes, max};
 ghost use Rattle.std.specs.Option.{option_copied};
 ghost use Rattle.pgn_layout.specs.Device.{WritesText, device};
-ghost use Rattle.pgn_lexer.specs.Tokens.{HasLength, Kind, left_paren, right_paren, symbol};
+ghost use Rattle.pgn_lexer.specs.Tokens.{HasLength, left_paren, right_paren, symbol};
 ghost use Rattle.pgn_lexer.specs.Scanned.{kind_of};
 ghost use Rattle.pgn_game.specs.Pairs.{value_of};
 ghost use Rattle.pgn_game.specs.Chess.{first_position};
@@ -13,15 +13,15 @@ ghost use Rattle.pgn_game.specs.declared.stage.Stage.TheVariants.{AfterValue, Af
 ghost use Rattle.pgn_game.specs.Profile.{counts_as, known_result};
 ghost use Rattle.pgn_game.specs.Markers.{marker_text, missing_of};
 ghost use Rattle.pgn_game.specs.Movetext.{movetext_from};
-ghost use Rattle.pgn_game.specs.ReaderState.{CountsWrites, KeepsSilence, known_of, sink_of};
-ghost use Rattle.pgn_game.specs.ReaderState.{silenced, telling, whole_plies};
-ghost use Rattle.pgn_game.specs.TokenInMovetext.{ItemFits, may_have_movetext, model_item};
+ghost use Rattle.pgn_game.specs.ReaderState.{ReaderCall, known_of, silenced, telling, whole_plies};
+ghost use Rattle.pgn_game.specs.TokenInMovetext.{ItemFits, MayTakeMove, may_have_movetext};
+ghost use Rattle.pgn_game.specs.TokenInMovetext.{model_item};
 ghost use Rattle.pgn_game.specs.TokenInMovetext.{fen_position as position_in_fen};
-ghost use Rattle.pgn_game.specs.PutResult.{BeginsText, CountsMove, Finds, Keeps, MeetsEntry};
-ghost use Rattle.pgn_game.specs.PutResult.{PutsItems, TakesEntry, TakesOutside, TakesUnlessMarker};
-ghost use Rattle.pgn_game.specs.PutResult.{TakesUnwritten, at_game_start, continued, ended, no_marker};
+ghost use Rattle.pgn_game.specs.PutResult.{BeginsText, CountsMove, Finds, MeetsEntry, PutsItems};
+ghost use Rattle.pgn_game.specs.PutResult.{TakesEntry, TakesMarker, TakesOutside, TakesUnlessMarker};
+ghost use Rattle.pgn_game.specs.PutResult.{TakesUnwritten, at_game_start, continued, no_marker};
 ghost use Rattle.pgn_game.specs.FaultTable as spec;
-ghost use Rattle.pgn_game.specs.FaultTable.{is_reduced, marker_of, result_for};
+ghost use Rattle.pgn_game.specs.FaultTable.{is_reduced, result_for};
 
 use crate::annotation::Annotation;
 use crate::find::named_move;
@@ -203,7 +203,7 @@ impl<const T: usize, const L: usize> Reader<T, L> {
     pub fn position(&self) -> &Position
         ensures { result.now ≡ self.now.text.levels.present.present }
     {
-        self.text.present()
+        self.text.position()
     }
 
     /// Returns the most pairs that were tried for one move so far.
@@ -262,9 +262,8 @@ impl<const T: usize, const L: usize> Reader<T, L> {
     ) -> Result<Option<Marker>, Reason>
         requires few { self.old.earlier_plies + self.old.text.plies < 2 ^ 64 - 1 }
         requires token { HasLength (kind_of kind) }
-        ensures takes { TakesUnlessMarker self.old (kind_of kind.entry) self.new result
-            (sink_of self.old W.taken W.failures out.old out.new) }
-        ensures silent { KeepsSilence self.old self.new out.old out.new }
+        ensures { ReaderCall W.taken W.failures self.old self.new out.old out.new
+            (TakesUnlessMarker self.old (kind_of kind.entry) self.new result) }
     {
         match self.accept_outside(kind) {
             Some(result) => {
@@ -289,9 +288,8 @@ impl<const T: usize, const L: usize> Reader<T, L> {
     ) -> Result<Option<Marker>, Reason>
         requires few { self.old.earlier_plies + self.old.text.plies < 2 ^ 64 - 1 }
         requires token { HasLength (kind_of kind) }
-        ensures takes { TakesUnlessMarker self.old (kind_of kind.entry) self.new result
-            (sink_of self.old W.taken W.failures out.old out.new) }
-        ensures silent { KeepsSilence self.old self.new out.old out.new }
+        ensures { ReaderCall W.taken W.failures self.old self.new out.old out.new
+            (TakesUnlessMarker self.old (kind_of kind.entry) self.new result) }
     {
         self.accept_unless_marker::<W, COPIED>(kind, out)
     }
@@ -355,8 +353,9 @@ impl<const T: usize, const L: usize> Reader<T, L> {
         if !is_tag_name(name) {
             return Err(Reason::BadTagName);
         }
-        let Some(place) = self.tags.place_of_new(name) else {
-            return Err(Reason::DuplicateTag);
+        let place = match self.tags.find(name) {
+            Ok(_) => return Err(Reason::DuplicateTag),
+            Err(place) => place,
         };
         if name.len() > NAME_OR_VALUE_LENGTH {
             return Err(Reason::TagLineTooLong);
@@ -480,12 +479,10 @@ impl<const T: usize, const L: usize> Reader<T, L> {
         kind: TokenKind<'_>,
         out: &mut W,
     ) -> Result<Option<Marker>, Reason>
-        requires few { self.old.text.plies < 2 ^ 64 - 1 }
-        requires stage { IsTrue (may_have_movetext self.old.stage) }
+        requires may { MayTakeMove self.old }
         requires token { HasLength (kind_of kind) }
-        ensures meets { MeetsEntry self.old (kind_of kind.entry) self.new result
-            (sink_of self.old W.taken W.failures out.old out.new) }
-        ensures silent { KeepsSilence self.old self.new out.old out.new }
+        ensures { ReaderCall W.taken W.failures self.old self.new out.old out.new
+            (MeetsEntry self.old (kind_of kind.entry) self.new result) }
     {
         match kind {
             TokenKind::Symbol(text) => self.accept_symbol(text, out),
@@ -507,11 +504,9 @@ impl<const T: usize, const L: usize> Reader<T, L> {
     // Takes a symbol in movetext: a move number (PGN 8.2.2.1) or a move. A marker is returned.
     #[inline(always)]
     fn accept_symbol<W: Sink>(&mut self, text: &[u8], out: &mut W) -> Result<Option<Marker>, Reason>
-        requires few { self.old.text.plies < 2 ^ 64 - 1 }
-        requires stage { IsTrue (may_have_movetext self.old.stage) }
-        ensures meets { MeetsEntry self.old (symbol text.now) self.new result
-            (sink_of self.old W.taken W.failures out.old out.new) }
-        ensures silent { KeepsSilence self.old self.new out.old out.new }
+        requires { MayTakeMove self.old }
+        ensures { ReaderCall W.taken W.failures self.old self.new out.old out.new
+            (MeetsEntry self.old (symbol text.now) self.new result) }
     {
         if may_be_score_or_number(text) {
             if is_number(text) {
@@ -529,13 +524,10 @@ impl<const T: usize, const L: usize> Reader<T, L> {
     // Finds the move that a symbol names, and plays it (PGN 8.2.3).
     #[inline(always)]
     fn accept_move<W: Sink>(&mut self, text: &[u8], out: &mut W) -> Result<(), Reason>
-        requires few { self.old.text.plies < 2 ^ 64 - 1 }
-        requires stage { IsTrue (may_have_movetext self.old.stage) }
-        requires number { spec.is_number text.now ≡ false }
-        requires score { spec.is_score text.now ≡ false }
-        ensures takes { TakesEntry self.old (symbol text.now) self.new (continued result)
-            (sink_of self.old W.taken W.failures out.old out.new) }
-        ensures silent { KeepsSilence self.old self.new out.old out.new }
+        requires may { MayTakeMove self.old }
+        requires is_move { (spec.is_score text.now || spec.is_number text.now) ≡ false }
+        ensures { ReaderCall W.taken W.failures self.old self.new out.old out.new
+            (TakesEntry self.old (symbol text.now) self.new (continued result)) }
     {
         let mut probes = Probes::new();
         match self.find(text, &mut probes) {
@@ -558,7 +550,7 @@ impl<const T: usize, const L: usize> Reader<T, L> {
         requires none { probes.old ≡ 0 }
         ensures { Finds self.old text.now self.new result probes.new }
     {
-        let named = named_move(self.text.present(), text, probes);
+        let named = named_move(self.text.position(), text, probes);
         self.count_probes(probes);
         named
     }
@@ -577,9 +569,8 @@ impl<const T: usize, const L: usize> Reader<T, L> {
     // Takes a `(`, which begins a variation (PGN 8.2.5).
     fn open_variation<W: Sink>(&mut self, out: &mut W) -> Result<(), Reason>
         requires { IsTrue (may_have_movetext self.old.stage) }
-        ensures takes { TakesEntry self.old left_paren self.new (continued result)
-            (sink_of self.old W.taken W.failures out.old out.new) }
-        ensures silent { KeepsSilence self.old self.new out.old out.new }
+        ensures { ReaderCall W.taken W.failures self.old self.new out.old out.new
+            (TakesEntry self.old left_paren self.new (continued result)) }
     {
         if !self.text.has_own_move() {
             return Err(Reason::NoMoveBefore);
@@ -593,9 +584,8 @@ impl<const T: usize, const L: usize> Reader<T, L> {
     // Takes a `)`, which ends a variation (PGN 8.2.5).
     fn close_variation<W: Sink>(&mut self, out: &mut W) -> Result<(), Reason>
         requires { IsTrue (may_have_movetext self.old.stage) }
-        ensures takes { TakesEntry self.old right_paren self.new (continued result)
-            (sink_of self.old W.taken W.failures out.old out.new) }
-        ensures silent { KeepsSilence self.old self.new out.old out.new }
+        ensures { ReaderCall W.taken W.failures self.old self.new out.old out.new
+            (TakesEntry self.old right_paren self.new (continued result)) }
     {
         if self.text.depth() == 0 {
             return Err(Reason::UnmatchedClose);
@@ -607,9 +597,8 @@ impl<const T: usize, const L: usize> Reader<T, L> {
     #[inline(always)]
     fn pass<W: Sink>(&mut self, out: &mut W) -> Result<(), Reason>
         requires { IsTrue (may_have_movetext self.old.stage) }
-        ensures puts { PutsItems self.old [] self.new (continued result)
-            (sink_of self.old W.taken W.failures out.old out.new) }
-        ensures silent { KeepsSilence self.old self.new out.old out.new }
+        ensures { ReaderCall W.taken W.failures self.old self.new out.old out.new
+            (PutsItems self.old [] self.new (continued result)) }
     {
         self.begin_movetext(out)?;
         Ok(())
@@ -620,9 +609,8 @@ impl<const T: usize, const L: usize> Reader<T, L> {
     fn put<W: Sink>(&mut self, item: Annotation<'_>, out: &mut W) -> Result<(), Reason>
         requires stage { IsTrue (may_have_movetext self.old.stage) }
         requires fits { ItemFits L self.old.text item }
-        ensures puts { PutsItems self.old (model_item item.entry ∷ []) self.new (continued result)
-            (sink_of self.old W.taken W.failures out.old out.new) }
-        ensures silent { KeepsSilence self.old self.new out.old out.new }
+        ensures { ReaderCall W.taken W.failures self.old self.new out.old out.new
+            (PutsItems self.old (model_item item.entry ∷ []) self.new (continued result)) }
     {
         self.begin_movetext(out)?;
         self.text.put(self.written, &item, &mut self.line, out)?;
@@ -633,14 +621,8 @@ impl<const T: usize, const L: usize> Reader<T, L> {
     #[inline(never)]
     pub fn end_game<W: Sink>(&mut self, marker: Marker, out: &mut W) -> Result<(), Reason>
         requires { IsTrue (may_have_movetext self.old.stage) }
-        ensures takes { (k : Kind) → marker_of k ≡ Some (marker_text marker)
-            → TakesEntry self.old k self.new (ended result)
-            (sink_of self.old W.taken W.failures out.old out.new) }
-        ensures keeps { Keeps self.old self.new }
-        ensures between { OnOk result (self.new.stage ≡ Between) }
-        ensures counted { CountsWrites (ended result)
-            (sink_of self.old W.taken W.failures out.old out.new) }
-        ensures silent { KeepsSilence self.old self.new out.old out.new }
+        ensures { ReaderCall W.taken W.failures self.old self.new out.old out.new
+            (TakesMarker self.old marker self.new result) }
     {
         if self.text.depth() > 0 {
             return Err(Reason::MarkerInVariation);
@@ -674,9 +656,8 @@ impl<const T: usize, const L: usize> Reader<T, L> {
     #[inline(always)]
     fn begin_movetext<W: Sink>(&mut self, out: &mut W) -> Result<(), WriteFault>
         requires stage { IsTrue (may_have_movetext self.old.stage) }
-        ensures begins { BeginsText self.old self.new result
-            (sink_of self.old W.taken W.failures out.old out.new) }
-        ensures silent { KeepsSilence self.old self.new out.old out.new }
+        ensures { ReaderCall W.taken W.failures self.old self.new out.old out.new
+            (BeginsText self.old self.new result) }
     {
         if self.is_in_movetext() {
             return Ok(());
@@ -689,9 +670,8 @@ impl<const T: usize, const L: usize> Reader<T, L> {
     #[inline(never)]
     fn write_tags<W: Sink>(&mut self, out: &mut W) -> Result<(), WriteFault>
         requires stage { self.old.stage ≡ AfterTags }
-        ensures begins { BeginsText self.old self.new result
-            (sink_of self.old W.taken W.failures out.old out.new) }
-        ensures silent { KeepsSilence self.old self.new out.old out.new }
+        ensures { ReaderCall W.taken W.failures self.old self.new out.old out.new
+            (BeginsText self.old self.new result) }
     {
         if let Written::Nothing = self.written {
             self.stage = Stage::InMovetext;

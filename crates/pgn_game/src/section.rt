@@ -1,5 +1,5 @@
 //! The tag section of a game.
-ghost use Rattle.std.specs.Prelude.{◌≡◌, ◌+◌, ◌<◌, ◌≤◌, Some, None, IfSome, codes, length, slice_get, unwrap_or};
+ghost use Rattle.std.specs.Prelude.{◌≡◌, ◌+◌, ◌<◌, ◌≤◌, Some, None, codes, length, slice_get};
 ghost use Rattle.std.specs.Option.{option_copied};
 ghost use Rattle.pgn_layout.specs.Device.{WritesText, device};
 ghost use Rattle.pgn_layout.specs.TagLine.{escaped};
@@ -7,6 +7,7 @@ ghost use Rattle.pgn_game.specs.Markers.{missing_of};
 ghost use Rattle.pgn_game.specs.Profile.{known_result};
 ghost use Rattle.pgn_game.specs.Pairs.{value_of, has_pair};
 ghost use Rattle.pgn_game.specs.SectionLines.{text_by, roster_line, other_line};
+ghost use Rattle.pgn_game.specs.StoredPairs.{ValueResult};
 ghost use Rattle.pgn_game.specs.TagSection.{roster, in_roster, exported, other_pairs, tag_lines, tag_section, with_set_up};
 
 use crate::marker::{Marker, MissingResult};
@@ -81,9 +82,7 @@ fn value_with_set_up<'a>(pairs: &OrderedPairs<'a>, name: &[u8]) -> Option<&'a [u
 
 // The default of a missing roster tag (PGN 8.1.1).
 fn unknown_value(missing_result: MissingResult, name: &[u8]) -> Option<&'static [u8]>
-    ensures value { option_copied result
-        ≡ value_of (roster (known_result (missing_of missing_result))) name.now }
-    ensures fits { IfSome result (λ unknown. length name.now + length (escaped unknown.now) ≤ 249) }
+    ensures { ValueResult (roster (known_result (missing_of missing_result))) name.now result }
 {
     for index in 0..7 {
         let (known, unknown) = roster_pair(missing_result, index);
@@ -105,22 +104,10 @@ fn write_roster<W: Sink>(
 {
     for index in 0..7 {
         let (name, unknown) = roster_pair(missing_result, index);
-        let value = value_or(pairs, name, unknown);
+        let value = value_in(pairs, name).unwrap_or(unknown);
         write_tag(name, value, out)?;
     }
     Ok(())
-}
-
-// The value of a name, or else this one.
-fn value_or<'a>(pairs: &OrderedPairs<'a>, name: &[u8], unknown: &'static [u8]) -> &'a [u8]
-    requires fits { length name.now + length (escaped unknown.now) ≤ 249 }
-    ensures value { result.now ≡ unwrap_or (value_of pairs.now name.now) unknown.now }
-    ensures fits { length name.now + length (escaped result.now) ≤ 249 }
-{
-    match value_in(pairs, name) {
-        Some(value) => value,
-        None => unknown,
-    }
 }
 
 // Writes the pairs outside the roster, SetUp 1 among them if there is a FEN (PGN 9.7.1).

@@ -1,11 +1,10 @@
 //! The tag pairs of one game, and the order of their names.
-ghost use Rattle.std.specs.Prelude.{◌≡◌, ◌+◌, ◌<◌, ◌≤◌, ◌↔◌, [], IsTrue, IfSome, IsSome, IsSomeAnd, Some, None, false, is_none, length};
+ghost use Rattle.std.specs.Prelude.{◌≡◌, ◌+◌, ◌≤◌, ◌↔◌, [], IsTrue, IfSome, IsSome, IsSomeAnd, Some, None, length};
 ghost use Rattle.pgn_layout.specs.TagLine.{escaped};
-ghost use Rattle.pgn_game.specs.Pairs.{value_of, has_pair, insert_pair};
-ghost use Rattle.pgn_game.specs.StoredPairs.{index_of as index_in};
-ghost use Rattle.std.specs.Option.{option_copied};
+ghost use Rattle.pgn_game.specs.Pairs.{insert_pair};
+ghost use Rattle.pgn_game.specs.StoredPairs.{FindResult, MayBegin, ValueResult};
 
-use crate::ordered::{OrderedPairs, index_of, value_in};
+use crate::ordered::{OrderedPairs, find, value_in};
 use crate::pair::TagPair;
 use arrayvec::ArrayVec;
 use std::marker::Model;
@@ -63,8 +62,7 @@ impl<const T: usize> TagPairs<T> {
     /// Returns the value of a name, if it has one.
     pub fn value(&self, name: &[u8]) -> Option<&[u8]>
         requires { self.now.pending_name ≡ None }
-        ensures value { option_copied result ≡ value_of self.now.held name.now }
-        ensures fits { IfSome result (λ value. length name.now + length (escaped value.now) ≤ 249) }
+        ensures { ValueResult self.now.held name.now result }
     {
         value_in(&self.pairs(), name)
     }
@@ -77,22 +75,18 @@ impl<const T: usize> TagPairs<T> {
         OrderedPairs::new(self.stored.as_slice(), self.order.as_slice())
     }
 
-    /// Returns how many pairs come before a name, or nothing if one has it.
-    pub fn place_of_new(&self, name: &[u8]) -> Option<usize>
+    /// Returns the index of the pair of a name. If there is none, the error is how many pairs come
+    /// before the name.
+    pub fn find(&self, name: &[u8]) -> Result<usize, usize>
         requires { self.now.pending_name ≡ None }
-        ensures new { is_none result ≡ has_pair self.now.held name.now }
-        ensures place { IfSome result (λ place. place ≡ index_in name.now self.now.held) }
+        ensures { FindResult self.now.held name.now result }
     {
-        place_of_new(&self.pairs(), name)
+        find(&self.pairs(), name)
     }
 
     /// Adds a name that has no value yet, and that so many pairs come before.
     pub fn begin(&mut self, name: &[u8], place: usize)
-        requires whole { self.old.pending_name ≡ None }
-        requires room { length self.old.held < T }
-        requires fits { length name.now ≤ 249 }
-        requires new { has_pair self.old.held name.now ≡ false }
-        requires place { place ≡ index_in name.now self.old.held }
+        requires { MayBegin T self.old name.now place }
         ensures { self.new ≡ record { held = self.old.held; pending_name = Some name.now } }
     {
         let count = self.order.len();
@@ -137,19 +131,4 @@ impl<const T: usize> TagPairs<T> {
         self.order.clear();
         self.has_pending_name = false;
     }
-}
-
-// Returns how many pairs come before a name, or nothing if one has it.
-fn place_of_new(pairs: &OrderedPairs<'_>, name: &[u8]) -> Option<usize>
-    ensures new { is_none result ≡ has_pair pairs.now name.now }
-    ensures place { IfSome result (λ place. place ≡ index_in name.now pairs.now) }
-{
-    let place = index_of(pairs, name);
-    if place == 0 {
-        return Some(place);
-    }
-    if pairs.at(place - 1).name() == name {
-        return None;
-    }
-    Some(place)
 }

@@ -65,8 +65,7 @@ pub fn is_score_or_number(text: &[u8]) -> bool
 /// moves, and begin with a letter.
 #[inline(always)]
 pub fn may_be_score_or_number(text: &[u8]) -> bool
-    ensures score { result ≡ false → spec.is_score text.now ≡ false }
-    ensures number { result ≡ false → spec.is_number text.now ≡ false }
+    ensures { result ≡ false → (spec.is_score text.now || spec.is_number text.now) ≡ false }
 {
     match text.first() {
         Some(byte) => byte.is_ascii_digit(),

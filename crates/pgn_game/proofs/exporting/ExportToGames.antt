@@ -1,6 +1,6 @@
 -- The export text of games that some text spells: it spells them with their defaults filled in, and
 -- these have the same text.
-use Rattle.pgn_game.proofs.Words.{◌≡◌, ℕ, false, List, [], ◌∷◌, ◌++◌, map, refl, sym, ap, subst, ◌∙◌, append_assoc, append-nil, Some, codes, All-append, All-map, AllByRecursion, LeavesPosition, TheOneMoveIsRead, ReadingIsSpelling, WrittenMoveIsSymbol, WrittenMoveIsRead, lines_of, text_of as text_of_lines, NumbersAreSymbols, KindsAreReadBack, TokensAreSound, IsSoundKind, CommentsClose, tokens_of, written, AreEnded, IsReadable, marker_of, exported_pairs, filled, TagSectionFits, AreExportable, TextSpells, Kind, Game, value_of, Profile, start_of, plies_of, Spells, by_name, IsResult, SpellsGame, SpellsGames, no_game, next_game, tag_lines, tokens_out, game_text, arith, rules, text_of_games as text_of}
+use Rattle.pgn_game.proofs.Words.{◌≡◌, ℕ, false, List, [], ◌∷◌, ◌++◌, map, refl, sym, ap, subst, ◌∙◌, append_assoc, append-nil, Some, codes, All-append, All-map, AllByRecursion, ReadingIsSpelling, lines_of, text_of as text_of_lines, KindsAreReadBack, TokensAreSound, IsSoundKind, CommentsClose, tokens_of, written, AreEnded, IsReadable, marker_of, exported_pairs, filled, TagSectionFits, AreExportable, TextSpells, Kind, Game, value_of, Profile, start_of, plies_of, Spells, by_name, IsResult, SpellsGame, SpellsGames, no_game, next_game, tag_lines, tokens_out, game_text, arith, rules, text_of_games as text_of}
 use Rattle.pgn_layout.specs.Laws.{LinesOfKeepTokens}
 use Rattle.pgn_lexer.specs.Tokens as tokens
 use Rattle.pgn_game.proofs.AllOfJoined.{all_front, all_behind}
@@ -11,6 +11,7 @@ use Rattle.pgn_game.proofs.exporting.PiecesToTokens.{AllShown, none_shown, next_
 use Rattle.pgn_game.proofs.exporting.PiecesToTokens.{at_text, line_feed, line_pieces, tag_kinds, tag_pieces, tags_spell, tags_close}
 use Rattle.pgn_game.proofs.reading.RunsToEnd.{kinds}
 use Rattle.pgn_game.proofs.exporting.SpelledToSound.{SoundGame, sound_game, marker_opens, marker_closed, marker_written, marker_writable}
+use Rattle.pgn_game.proofs.exporting.MoveTextToMove.{MoveLaws}
 
 pub record WrittenGame (p : Profile) (g : Game) : Type 0 where
   pub kinds : List Kind
@@ -44,8 +45,7 @@ pub record ExportedGames (p : Profile) (gs : List Game) : Type 0 where
   pub again : text_of p (map (filled p.mode) gs) ≡ text_of p gs
   pub plies : map plies_of (map (filled p.mode) gs) ≡ map plies_of gs
 
-module _ (one_read : TheOneMoveIsRead) (leaves : LeavesPosition) (is_symbol : WrittenMoveIsSymbol) (is_read : WrittenMoveIsRead)
-    (numbers : NumbersAreSymbols) (reads_fen : ReadingIsSpelling) (lines_keep : LinesOfKeepTokens) where
+module _ (laws : MoveLaws) (reads_fen : ReadingIsSpelling) (lines_keep : LinesOfKeepTokens) where
   text_kept : {p : Profile} {g : Game} (h : SoundGame p g) → ExportedPairs p g → KeptText p.mode p (start_of g.pairs) h.text g.items
   text_kept h e = search (rules, start_is_position, kept_text)
 

@@ -61,17 +61,17 @@ unfolding roster
 some_exported Full m ps e = cc
 some_exported Reduced m ps e = cc
 
-pub first_is_position : IsTrue (is_position first_position)
+first_is_position : IsTrue (is_position first_position)
 unfolding first_position squares
 first_is_position = refl
 
 module _ (reads_fen : ReadingIsSpelling) where
-  pub fen_is_position : (text : List ℕ) (start : Parts) → position_of text ≡ Ok start → IsTrue (is_position start)
+  fen_is_position : (text : List ℕ) (start : Parts) → position_of text ≡ Ok start → IsTrue (is_position start)
   unfolding position_of
   fen_is_position text start e = ((reads_fen text start).1 e).position
 
-  pub start_is_position : (mode : Mode) (ps : List Pair) → AllByRecursion (IsPair mode) ps → IsTrue (is_position (start_of ps))
-  start_is_position mode ps each = grind (arith, found, first_is_position, fen_is_position)
+  pub start_is_position : (ps : List Pair) → IsTrue (is_position (start_of ps))
+  start_is_position ps = grind (arith, first_is_position, fen_is_position)
 
 pub record ExportedPairs (p : Profile) (g : Game) : Type 0 where
   pub keeps : KeepsTags p (exported_pairs p.mode g)

@@ -50,20 +50,43 @@ as_symbol {s} h =
 no_score : (s : List ℕ) → IsMoveSymbol s → IsFalse (is_score s)
 no_score s h = (or_parts _ (bytes_eq s _) h.no_marker).0
 
-module _ (one_read : TheOneMoveIsRead) (leaves : LeavesPosition) (is_symbol : WrittenMoveIsSymbol)
-    (is_read : WrittenMoveIsRead) (numbers : NumbersAreSymbols) where
+-- The kinds of the number before a move.
+abbrev pub number_kinds : Bool → Bool → ℕ → List Kind
+number_kinds is_after_move false n = tokens.symbol (decimal n) ∷ tokens.period ∷ []
+number_kinds false true n = tokens.symbol (decimal n) ∷ tokens.period ∷ tokens.period ∷ tokens.period ∷ []
+number_kinds true true n = []
+
+pub number_shown : (b is_black : Bool) (n : ℕ) {ks : List Kind} {ts : List (List ℕ)}
+    → AllShown ks ts → AllShown (number_kinds b is_black n ++ ks) (number_before b is_black n ++ ts)
+number_shown b is_black n h = search (rules, next_shown, white, black)
+
+pub number_closes : (b is_black : Bool) (n : ℕ) (more : List Kind)
+    → CommentsClose false more → CommentsClose false (number_kinds b is_black n ++ more)
+number_closes b false n more h = h
+number_closes false true n more h = h
+number_closes true true n more h = h
+
+-- the laws that the text of a move rests on
+pub record MoveLaws : Type 0 where
+  pub one_read : TheOneMoveIsRead
+  pub leaves : LeavesPosition
+  pub is_symbol : WrittenMoveIsSymbol
+  pub is_read : WrittenMoveIsRead
+  pub numbers : NumbersAreSymbols
+
+module _ (laws : MoveLaws) where
   -- a move that is named leaves a position
   pub plays_on : (first : Parts) (trail : List Move) (s : List ℕ) (x : Played)
       → Names (replayed first trail) s x → ArePositions first trail → ArePositions first (x.mv ∷ trail)
   unfolding play
   plays_on first trail s x names h =
       let at = replayed first trail in
-      let is_legal = named_is_legal one_read at s x names.one in
-      (rw (ap (λ o. unwrap_or o at) is_legal) (leaves at x.next x.mv (last_position first trail h) is_legal), h)
+      let is_legal = named_is_legal laws.one_read at s x names.one in
+      (rw (ap (λ o. unwrap_or o at) is_legal) (laws.leaves at x.next x.mv (last_position first trail h) is_legal), h)
 
   pub move_symbol : (at : Parts) {s : List ℕ} (x : Played) → Names at s x → IsMoveSymbol (text_of_move at x.mv)
   unfolding text_of_move
-  move_symbol at x names = search (rules, named_is_legal)
+  move_symbol at x names = let one_read = laws.one_read in let is_symbol = laws.is_symbol in search (rules, named_is_legal)
 
   pub writable_move : (at : Parts) {s : List ℕ} (x : Played) → Names at s x → IsWritable (tokens.symbol (text_of_move at x.mv))
   writable_move at x names = as_symbol (move_symbol at x names)
@@ -71,7 +94,7 @@ module _ (one_read : TheOneMoveIsRead) (leaves : LeavesPosition) (is_symbol : Wr
   reads_again : (at : Parts) (s : List ℕ) (x : Played) → IsTrue (is_position at)
       → Names at s x → move_of at (text_of_move at x.mv) ≡ Some (Ok x)
   unfolding text_of_move move_of
-  reads_again at s x h names = is_read at _ x.mv h (named_is_legal one_read at s x names.one)
+  reads_again at s x h names = laws.is_read at _ x.mv h (named_is_legal laws.one_read at s x names.one)
 
   pub names_again : (at : Parts) (s : List ℕ) (x : Played) → IsTrue (is_position at) → Names at s x → Names at (text_of_move at x.mv) x
   names_again at s x h names =
@@ -84,16 +107,7 @@ module _ (one_read : TheOneMoveIsRead) (leaves : LeavesPosition) (is_symbol : Wr
       }
 
   number_is_symbol : (at : Parts) → IsTrue (is_position at) → IsSymbol (decimal at.full) × IsTrue (is_number (decimal at.full))
-  number_is_symbol at h = let fits = full_fits at h in let small : at.full < 2 ^ 64 = omega arith in numbers _ small
-
-  abbrev pub number_kinds : Bool → Bool → ℕ → List Kind
-  number_kinds is_after_move false n = tokens.symbol (decimal n) ∷ tokens.period ∷ []
-  number_kinds false true n = tokens.symbol (decimal n) ∷ tokens.period ∷ tokens.period ∷ tokens.period ∷ []
-  number_kinds true true n = []
-
-  pub number_shown : (b is_black : Bool) (n : ℕ) {ks : List Kind} {ts : List (List ℕ)}
-      → AllShown ks ts → AllShown (number_kinds b is_black n ++ ks) (number_before b is_black n ++ ts)
-  number_shown b is_black n h = search (rules, next_shown, white, black)
+  number_is_symbol at h = let fits = full_fits at h in let small : at.full < 2 ^ 64 = omega arith in laws.numbers _ small
 
   pub number_spells : {p : Profile} {first : Parts} (at : Parts) {deep : ℕ} (l : Level) (b is_black : Bool) {ks : List Kind} {items : List Item}
       → IsTrue (is_position at) → SpellsText p first deep l ks items → SpellsText p first deep l (number_kinds b is_black at.full ++ ks) items
@@ -106,9 +120,3 @@ module _ (one_read : TheOneMoveIsRead) (leaves : LeavesPosition) (is_symbol : Wr
 
   pub number_writable : (at : Parts) (b is_black : Bool) → IsTrue (is_position at) → AllByRecursion IsWritable (number_kinds b is_black at.full)
   number_writable at b is_black h = search (rules, number_is_symbol)
-
-  pub number_closes : (b is_black : Bool) (n : ℕ) (more : List Kind)
-      → CommentsClose false more → CommentsClose false (number_kinds b is_black n ++ more)
-  number_closes b false n more h = h
-  number_closes false true n more h = h
-  number_closes true true n more h = h

@@ -1,11 +1,12 @@
 -- The movetext that is written, of all items or of the moves outside variations: it spells the
 -- items that are kept, and these are written in the same way again.
-use Rattle.pgn_game.proofs.Words.{◌≡◌, ℕ, suc, ◌+◌, Bool, true, false, cond, List, [], ◌∷◌, ◌++◌, map, refl, ap, subst, ◌∙◌, arith, ◌==◌, filter, fold, IsTrue, AllByRecursion, ne_eqb, filter-append, fold-append, LeavesPosition, is_position, TheOneMoveIsRead, WrittenMoveIsSymbol, WrittenMoveIsRead, NumbersAreSymbols, IsSoundKind, CommentsClose, Parts, Kind, Mode, Full, Reduced, Item, Profile, Level, Levels, levels_after, first_level, here, main_moves, outermost, without_last, SpellsText, no_more, token, move, variation, new_level, Placed, placed_from, is_main_move, written_items, tokens_from, tokens_out, rules}
+use Rattle.pgn_game.proofs.Words.{◌≡◌, ℕ, suc, ◌+◌, Bool, true, false, cond, List, [], ◌∷◌, ◌++◌, map, refl, ap, subst, ◌∙◌, arith, ◌==◌, filter, fold, IsTrue, AllByRecursion, ne_eqb, filter-append, fold-append, is_position, IsSoundKind, CommentsClose, Parts, Kind, Mode, Full, Reduced, Item, Profile, Level, Levels, levels_after, first_level, here, main_moves, outermost, without_last, SpellsText, no_more, token, move, variation, new_level, Placed, placed_from, is_main_move, written_items, tokens_from, tokens_out, rules}
 use Rattle.pgn_lexer.specs.Tokens as tokens
 use Rattle.pgn_game.specs.Game as game
 use Rattle.pgn_game.proofs.AllOfJoined.{all_behind}
 use Rattle.pgn_game.proofs.exporting.PiecesToTokens.{IsWritable, AllShown}
 use Rattle.pgn_game.proofs.exporting.MovetextToItems.{level_in, aside, around_again, close_at, placed_variation, rewritten}
+use Rattle.pgn_game.proofs.exporting.MoveTextToMove.{MoveLaws}
 
 -- Inside variations no move is one outside them.
 inside : (n : ℕ) → (suc n == 0) ≡ false
@@ -109,12 +110,11 @@ pub record KeptText (mode : Mode) (p : Profile) (first : Parts) (ks : List Kind)
   pub again : tokens_out mode first (kept mode first items) ≡ tokens_out mode first items
   pub moves : main_moves (kept mode first items) ≡ main_moves items
 
-module _ (one_read : TheOneMoveIsRead) (leaves : LeavesPosition) (is_symbol : WrittenMoveIsSymbol)
-    (is_read : WrittenMoveIsRead) (numbers : NumbersAreSymbols) where
+module _ (laws : MoveLaws) where
   pub kept_text : (mode : Mode) {p : Profile} (first : Parts) {ks : List Kind} (items : List Item) → IsTrue (is_position first)
       → SpellsText p first 0 (new_level []) ks items → AllByRecursion IsSoundKind ks → KeptText mode p first ks items
   kept_text Full first items start text sound =
-      let r = rewritten one_read leaves is_symbol is_read numbers text start sound [] false in
+      let r = rewritten laws text start sound [] false in
       let same = all_kept first first_level items in
       record {
         kinds = r.kinds;
@@ -127,7 +127,7 @@ module _ (one_read : TheOneMoveIsRead) (leaves : LeavesPosition) (is_symbol : Wr
       }
   kept_text Reduced first items start text sound =
       let m = main text sound in
-      let r = rewritten one_read leaves is_symbol is_read numbers m.spells start m.sound [] false in
+      let r = rewritten laws m.spells start m.sound [] false in
       record {
         kinds = r.kinds;
         spells = r.spells;

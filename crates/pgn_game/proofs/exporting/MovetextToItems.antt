@@ -1,12 +1,12 @@
 -- The movetext that is written of a game spells the same items again.
-use Rattle.pgn_game.proofs.Words.{◌≡◌, ℕ, ◌+◌, ◌<◌, Bool, true, false, List, [], ◌∷◌, ◌++◌, refl, sym, ap, subst, ◌∙◌, append_assoc, codes, filter, fold, IsTrue, All-append, AllByRecursion, fold-append, LeavesPosition, TheOneMoveIsRead, WrittenMoveIsSymbol, WrittenMoveIsRead, NumbersAreSymbols, IsSoundKind, CommentsClose, written, text_of_move, is_black_to_move, is_comment, Parts, Kind, Played, Item, Profile, Level, Levels, levels_after, back_to, depth, here, without_last, replayed, StandsFor, Names, SpellsText, no_more, token, move, variation, number, period, glyph, comment_open, word, comment_close, new_level, level_after_move, Placed, placed_from, is_main_move, tokens_from, tokens_at, arith, rules}
+use Rattle.pgn_game.proofs.Words.{◌≡◌, ℕ, ◌+◌, ◌<◌, Bool, true, false, List, [], ◌∷◌, ◌++◌, refl, sym, ap, subst, ◌∙◌, append_assoc, codes, filter, fold, IsTrue, All-append, AllByRecursion, fold-append, IsSoundKind, CommentsClose, written, text_of_move, is_black_to_move, is_comment, Parts, Kind, Played, Item, Profile, Level, Levels, levels_after, back_to, depth, here, without_last, replayed, StandsFor, Names, SpellsText, no_more, token, move, variation, number, period, glyph, comment_open, word, comment_close, new_level, level_after_move, Placed, placed_from, is_main_move, tokens_from, tokens_at, arith, rules}
 use Rattle.pgn_lexer.specs.Tokens as tokens
 use Rattle.pgn_game.specs.Game as games
 use Rattle.pgn_game.proofs.AllOfJoined.{all_front, all_behind}
 use Rattle.pgn_game.proofs.putting.ItemsAppended.{placed-append, tokens_from-append}
 use Rattle.pgn_game.proofs.exporting.PiecesToTokens.{IsWritable, AllShown, none_shown, next_shown, shown-append, single}
 use Rattle.pgn_game.proofs.exporting.SpelledToSound.{GoesOn, plain}
-use Rattle.pgn_game.proofs.exporting.MoveTextToMove.{ArePositions, last_position, earlier_positions, plays_on, writable_move, names_again}
+use Rattle.pgn_game.proofs.exporting.MoveTextToMove.{ArePositions, MoveLaws, last_position, earlier_positions, plays_on, writable_move, names_again}
 use Rattle.pgn_game.proofs.exporting.MoveTextToMove.{number_kinds, number_shown, number_spells, number_writable, number_closes}
 
 abbrev pub level_in : Level → List Level → Levels
@@ -133,8 +133,7 @@ tokens_of_variation : {p : Profile} {first : Parts} (deep : ℕ) (l : Level) {ks
     ++ codes ")" ∷ tokens_from false (placed_from first (level_in l around) more))
 tokens_of_variation deep l more inner around b = grind (arith, tokens_from-append, placed_variation)
 
-module _ (one_read : TheOneMoveIsRead) (leaves : LeavesPosition) (is_symbol : WrittenMoveIsSymbol)
-    (is_read : WrittenMoveIsRead) (numbers : NumbersAreSymbols) where
+module _ (laws : MoveLaws) where
   move_again : (p : Profile) {first : Parts} {deep : ℕ} (l : Level) (s : List ℕ)
       (x : Played) {ks : List Kind} {items : List Item} (ts : List (List ℕ)) (b : Bool)
       → Names (replayed first l.trail) s x → ArePositions first l.trail → Rewritten p first deep (level_after_move x.mv l.trail) ks items ts
@@ -145,23 +144,23 @@ module _ (one_read : TheOneMoveIsRead) (leaves : LeavesPosition) (is_symbol : Wr
       let is_black = is_black_to_move at in
       let here = last_position first l.trail h in
       record {
-        kinds = number_kinds one_read leaves is_symbol is_read numbers b is_black at.full ++ tokens.symbol text ∷ r.kinds;
+        kinds = number_kinds b is_black at.full ++ tokens.symbol text ∷ r.kinds;
         spells =
-            number_spells one_read leaves is_symbol is_read numbers at l b is_black here
-            (move deep l text x r.kinds items (names_again one_read leaves is_symbol is_read numbers at s x here names) r.spells);
-        shown = (rw (append_assoc _ _ ts) (number_shown one_read leaves is_symbol is_read numbers b is_black at.full
+            number_spells laws at l b is_black here
+            (move deep l text x r.kinds items (names_again laws at s x here names) r.spells);
+        shown = (rw (append_assoc _ _ ts) (number_shown b is_black at.full
             (next_shown _ _ text ts (single _) r.shown)));
         writable = search (rules, All-append, IsWritable, number_kinds, number_writable, writable_move);
         closes = closes r b is_black at.full text;
       }
     where
       closes : (r : Rewritten p first deep (level_after_move x.mv l.trail) ks items ts) (b is_black : Bool) (n : ℕ) (text : List ℕ)
-          → InPlaceOf (number_kinds one_read leaves is_symbol is_read numbers b is_black n ++ tokens.symbol text ∷ r.kinds)
+          → InPlaceOf (number_kinds b is_black n ++ tokens.symbol text ∷ r.kinds)
           (tokens.symbol s ∷ ks)
       closes r b is_black n text true more then f h = absurd h
       closes r b is_black n text false more then f h =
-          let kinds = number_kinds one_read leaves is_symbol is_read numbers b is_black n in
-          rw (append_assoc kinds (tokens.symbol text ∷ r.kinds) then) (number_closes one_read leaves is_symbol is_read numbers b is_black n
+          let kinds = number_kinds b is_black n in
+          rw (append_assoc kinds (tokens.symbol text ∷ r.kinds) then) (number_closes b is_black n
           (tokens.symbol text ∷ (r.kinds ++ then)) (r.closes false more then f h))
 
   pub rewritten : {p : Profile} {first : Parts} {deep : ℕ} {l : Level} {ks : List Kind} {items : List Item} → SpellsText p first deep l ks items
@@ -178,7 +177,7 @@ module _ (one_read : TheOneMoveIsRead) (leaves : LeavesPosition) (is_symbol : Wr
   rewritten (token deep l _ ks _ items comment_close rest) h sound around b = written_again comment_close tt (rewritten rest h sound.1 around false)
   rewritten {p} {first} (move deep l s x ks items names rest) h sound around b =
       move_again p l s x _ b names h
-      (rewritten rest (plays_on one_read leaves is_symbol is_read numbers first _ s x names h) sound.1 around true)
+      (rewritten rest (plays_on laws first _ s x names h) sound.1 around true)
   rewritten {p} {first} (variation deep l ks ls items more holds room inner rest) h sound around b =
       let sound_in = all_front IsSoundKind ks (tokens.right_paren ∷ ls) sound.1 in
       subst (Rewritten p first deep l _ _) (sym (tokens_of_variation deep l more inner around b))

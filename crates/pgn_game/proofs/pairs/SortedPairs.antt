@@ -1,11 +1,11 @@
 -- The order of names, and places in it.
-use Rattle.pgn_game.proofs.Words.{◌≡◌, ℕ, suc, zero, ◌+◌, ◌<◌, ◌≤◌, Bool, true, false, List, [], ◌∷◌, length, refl, sym, ap, ◌∙◌, arith, Some, insert, take, drop, get_or, bytes_eq, false≢true, AllByRecursion, subst, Pair, has_pair, comes_before, insert_pair, AllAfter, InOrder, index_of, nat_tests}
+use Rattle.pgn_game.proofs.Words.{◌≡◌, ℕ, suc, zero, ◌+◌, ◌<◌, ◌≤◌, Bool, true, false, List, [], ◌∷◌, length, refl, sym, ap, ◌∙◌, arith, None, Some, insert, take, drop, get_or, bytes_eq, false≢true, AllByRecursion, subst, Pair, has_pair, value_of, comes_before, insert_pair, AllAfter, InOrder, index_of, nat_tests}
+use Rattle.std.proofs.ByRecursion.{All-get_or}
 use Rattle.std.specs.Ordering.{nat_cmp, is_lt, is_some_and}
 use Rattle.std.specs.Cmp.Lexicographic.{slice_partial_cmp}
 use Rattle.std.proofs.lemmas.Cmp.{same_from_slice_cmp_tested}
-use Rattle.std.proofs.Math.Bool.{or-false}
 use Rattle.pgn_game.proofs.pairs.NameOrder.{before-trans, further_after, absent-pair}
-use Rattle.pgn_game.proofs.pairs.ValuesByName.{bytes_eq-true, has-cons}
+use Rattle.pgn_game.proofs.pairs.ValuesByName.{bytes_eq-true, no_value, pick, value_of-cons}
 
 pub is_comes_before : (xs ys : List ℕ) (r : Bool)
     → r ≡ is_some_and is_lt (slice_partial_cmp (λ x y. Some (nat_cmp x y)) xs ys) → r ≡ comes_before xs ys
@@ -24,12 +24,7 @@ insert-place p (q ∷ qs) =
           rw next (ap (λ l. q ∷ l) (insert-place p qs))
     ]
 
--- what holds of all elements holds of each, and of the first and the last of them
-all_at : {A : Type 0} (P : A → Type 0) (xs : List A) (k : ℕ) {x : A} → AllByRecursion P xs → k < length xs → x ≡ get_or xs k x → P x
-all_at P [] k h l e = absurd (omega arith)
-all_at P (y ∷ ys) zero h l e = rw e h.0
-all_at P (y ∷ ys) (suc k) h l e = all_at P ys k h.1 (omega arith) e
-
+-- what holds of all elements holds of the first and the last of them
 pub all-take : {A : Type 0} (P : A → Type 0) (xs : List A) (k : ℕ) → AllByRecursion P xs → AllByRecursion P (take k xs)
 all-take P xs zero h = tt
 all-take P [] (suc k) h = tt
@@ -83,8 +78,8 @@ index-behind name (q ∷ qs) (suc k) {p} h l e early =
   where
     by_test : k < index_of name qs → (b : Bool) → comes_before name q.name ≡ b → suc k < index_if b (index_of name qs)
     by_test rest true first =
-        absurd (false≢true (sym early
-        ∙ before-trans name q.name p.name first (all_at (λ r. comes_before q.name r.name ≡ true) qs k h.0 (omega arith) e)))
+        let after = All-get_or (λ r. comes_before q.name r.name ≡ true) qs k p (omega arith) h.0 in
+        absurd (false≢true (sym early ∙ before-trans name q.name p.name first (subst (λ r. comes_before q.name r.name ≡ true) (sym e) after)))
     by_test rest false later = omega arith
 
 -- a name that comes before all has index 0
@@ -110,21 +105,22 @@ other-name name q qs k true h is e =
     absurd (omega arith)
 
 -- the last pair before the index of a name has this name, or none has it
-pub new-behind : (name : List ℕ) (ps : List Pair) (k : ℕ) {p : Pair} → InOrder ps → index_of name ps ≡ suc k → p ≡ get_or ps k p
-    → has_pair ps name ≡ bytes_eq p.name name
-new-behind name [] k h is e = absurd (omega arith)
-new-behind name (q ∷ qs) zero {p} h is e = by_test _ refl is
+pub value-behind : (name : List ℕ) (ps : List Pair) (k : ℕ) {p : Pair} → InOrder ps → index_of name ps ≡ suc k → p ≡ get_or ps k p
+    → value_of ps name ≡ pick (bytes_eq p.name name) p.value None
+value-behind name [] k h is e = absurd (omega arith)
+value-behind name (q ∷ qs) zero {p} h is e = by_test _ refl is
   where
-    by_test : (b : Bool) → comes_before name q.name ≡ b → index_if b (index_of name qs) ≡ 1 → has_pair (q ∷ qs) name ≡ bytes_eq p.name name
+    by_test : (b : Bool) → comes_before name q.name ≡ b → index_if b (index_of name qs) ≡ 1
+        → value_of (q ∷ qs) name ≡ pick (bytes_eq p.name name) p.value None
     by_test true first is = absurd (omega arith)
-    by_test false later is =
-        let none : has_pair qs name ≡ false = new-first name qs h.1 (omega arith) in
-        cc (has-cons q qs name, none, or-false (bytes_eq q.name name), e)
-new-behind name (q ∷ qs) (suc k) {p} h is e = by_test (λ at. new-behind name qs k h.1 at e) _ refl is
+    by_test false later is = cc (value_of-cons q qs name, no_value _ (new-first name qs h.1 (omega arith)), e)
+value-behind name (q ∷ qs) (suc k) {p} h is e = by_test (λ at. value-behind name qs k h.1 at e) _ refl is
   where
-    by_test : (index_of name qs ≡ suc k → has_pair qs name ≡ bytes_eq p.name name) → (b : Bool) → comes_before name q.name ≡ b
-        → index_if b (index_of name qs) ≡ suc (suc k) → has_pair (q ∷ qs) name ≡ bytes_eq p.name name
+    by_test : (index_of name qs ≡ suc k → value_of qs name ≡ pick (bytes_eq p.name name) p.value None) → (b : Bool)
+        → comes_before name q.name ≡ b → index_if b (index_of name qs) ≡ suc (suc k)
+        → value_of (q ∷ qs) name ≡ pick (bytes_eq p.name name) p.value None
     by_test rest true first is = absurd (omega arith)
     by_test rest false later is =
         let at : index_of name qs ≡ suc k = omega arith in
-        cc (has-cons q qs name, rest at, other-name name q qs k (bytes_eq q.name name) h.0 at refl)
+        let other = other-name name q qs k (bytes_eq q.name name) h.0 at refl in
+        rw (value_of-cons q qs name, other) (rest at)

@@ -1,5 +1,5 @@
 -- Pairs that are stored in another order.
-use Rattle.pgn_game.proofs.Words.{◌≡◌, IfSome, IsSomeAnd, length-map, length-set, refill, take-append_seam, subst, insert_pair, IsSome, ℕ, suc, zero, ◌+◌, ◌<◌, ◌≤◌, Bool, true, false, List, [], ◌∷◌, ◌++◌, length, refl, sym, ap, ◌∙◌, arith, Option, None, Some, insert, take, drop, get_or, set, map-append, Pair, has_pair, TagPairs, AllBelow, AreInOrder, FitsPairStore, InOrder, index_of, pair_at, placed, pairs_seen}
+use Rattle.pgn_game.proofs.Words.{◌≡◌, IfSome, IsSomeAnd, length-map, length-set, refill, take-append_seam, subst, insert_pair, IsSome, ℕ, suc, zero, ◌+◌, ◌<◌, ◌≤◌, Bool, true, false, List, [], ◌∷◌, ◌++◌, length, refl, sym, ap, ◌∙◌, arith, Option, None, Some, insert, take, drop, get_or, set, map-append, Pair, has_pair, TagPairs, AllBelow, AreInOrder, FitsPairStore, HasBegun, InOrder, index_of, pair_at, placed, pairs_seen}
 use Rattle.std.proofs.lemmas.List.{get_or-set_other, get_or-set_same, get_or_append_left, get_or_read, length_push, take-map, drop-map}
 use Rattle.std.proofs.lemmas.List.Edits.{length-insert}
 use Rattle.pgn_game.proofs.pairs.NameOrder.{order-insert}
@@ -139,86 +139,72 @@ begun-stored {most} {ps} {order} {n} p place has at sorted new index =
     })
 
 -- Its value comes, and its place goes into the order.
-is_at : (ps : List Pair) (n k : ℕ) (p : Pair) → n ≡ k → k < length ps → p ≡ get_or ps n p → p ≡ pair_at ps k
-is_at ps n k p at within is = get_or_read ps n p (omega arith) is empty ∙ ap (pair_at ps) at
-
-pub room-for-value : {most : ℕ} (ps : List Pair) (order : List ℕ) (place : ℕ) (b : Bool) {t : TagPairs} (n : ℕ) (p : Pair) (more : ℕ)
-    → FitsPairStore most ps order place b → seen_of ps order b ≡ t
-    → IsSomeAnd t.pending_name (λ name. length name + more ≤ 249) → IsSome t.pending_name
-    → n ≡ length order → p ≡ get_or ps n p → length p.name + more ≤ 249
-room-for-value ps order place b n p more fits view h some at is =
-    let begun = stored-begun ps order b view some in
-    let same = is_at ps n (length order) p at (fits.begun begun.0).within is in
-    rw same (rw begun.1 at h)
-
-pub begun-name : {most : ℕ} (ps : List Pair) (order : List ℕ) (place : ℕ) (b : Bool) {t : TagPairs} (n : ℕ) (p : Pair)
-    → FitsPairStore most ps order place b → seen_of ps order b ≡ t → IsSome t.pending_name → n ≡ length order → p ≡ get_or ps n p
-    → t.pending_name ≡ Some p.name
-begun-name ps order place b n p fits view some at is =
-    let begun = stored-begun ps order b view some in
-    let same = is_at ps n (length order) p at (fits.begun begun.0).within is in
-    ap (λ (s : TagPairs). s.pending_name) begun.1 ∙ ap (λ (q : Pair). Some q.name) (sym same)
-
-pub place-within : {most : ℕ} (ps : List Pair) (order : List ℕ) (place : ℕ) (b : Bool) {t : TagPairs}
+pub place-within : {most : ℕ} {ps : List Pair} {order : List ℕ} {place : ℕ} {b : Bool} {t : TagPairs}
     → FitsPairStore most ps order place b → seen_of ps order b ≡ t → IsSome t.pending_name
     → (place ≤ length order) × (length order < most)
-place-within ps order place b fits view some =
+place-within {ps} {order} {b} fits view some =
     let begun = fits.begun (stored-begun ps order b view some).0 in
     let low = index_of-le (pair_at ps (length order)).name (placed ps order) in
     (omega (arith, low, begun.index, length-map order (pair_at ps)), omega (arith, begun.within, fits.room))
 
 -- the pairs with the new one at its place
 record IsPut (ps : List Pair) (order : List ℕ) (place n : ℕ) (q : Pair) : Type 0 where
-  within : length order < length ps
-  before : place ≤ length order
   name : q.name ≡ (pair_at ps (length order)).name
   pairs : placed (set ps n q) (insert order place n) ≡ insert_pair q (placed ps order)
   new : has_pair (placed ps order) q.name ≡ false
 
-is-put : {most : ℕ} (ps : List Pair) (order : List ℕ) (place : ℕ) (b : Bool) {t : TagPairs} (n : ℕ) (p q : Pair)
-    → FitsPairStore most ps order place b → seen_of ps order b ≡ t → IsSome t.pending_name
-    → n ≡ length order → p ≡ get_or ps n p → q.name ≡ p.name → IsPut ps order place n q
-is-put ps order place b n p q fits view some at is named =
-    let begun = fits.begun (stored-begun ps order b view some).0 in
-    let name : q.name ≡ (pair_at ps (length order)).name = named ∙ ap (λ (r : Pair). r.name) (is_at ps n (length order) p at begun.within is) in
-    let below : AllBelow n order = subst (λ m. AllBelow m order) (sym at) fits.first in
-    let here : pair_at (set ps n q) n ≡ q = get_or-set_same ps n q empty (omega (arith, begun.within)) in
-    let index : place ≡ index_of q.name (placed ps order) = begun.index ∙ ap (λ m. index_of m (placed ps order)) (sym name) in record {
-      within = begun.within;
-      before = (place-within ps order place b fits view some).0;
-      name = name;
-      pairs = placed-insert (set ps n q) order place n ∙ ap (λ l. insert l place (pair_at (set ps n q) n)) (placed-set ps n q order below)
-          ∙ ap (insert (placed ps order) place) here ∙ ap (λ k. insert (placed ps order) k q) index ∙ insert-place q (placed ps order);
-      new = ap (has_pair (placed ps order)) name ∙ begun.new;
-    }
-
 abbrev named : List ℕ → List ℕ → Pair
 named name value = record { name = name; value = value }
 
-pub completed-seen : {most : ℕ} (ps : List Pair) (order more : List ℕ) (place : ℕ) (b : Bool) {t : TagPairs} (n : ℕ) (p q : Pair) (value : List ℕ)
-    → FitsPairStore most ps order place b → seen_of ps order b ≡ t → IsSome t.pending_name
-    → n ≡ length order → p ≡ get_or ps n p → q ≡ named p.name value → more ≡ insert order place n
-    → IfSome t.pending_name (λ name. seen (placed (refill (length ps) ps (set ps n q)) more) None ≡ seen (insert_pair (named name value) t.held) None)
-completed-seen ps order more place b n p q value fits view some at is new is_more =
-    let begun = stored-begun ps order b view some in
-    let put = is-put ps order place b n p q fits view some at is (ap (λ (r : Pair). r.name) new) in
-    let all : q ≡ named (pair_at ps (length order)).name value =
-    new ∙ ap (λ name. named name value) (ap (λ (r : Pair). r.name) (sym new) ∙ put.name) in
-    rw begun.1 (cc (written ps n q, is_more, put.pairs, all))
+module _ {most : ℕ} {ps : List Pair} {order : List ℕ} {place : ℕ} {b : Bool} {t : TagPairs} {n : ℕ} {p : Pair}
+    (fits : FitsPairStore most ps order place b) (view : seen_of ps order b ≡ t) (some : IsSome t.pending_name)
+    (at : n ≡ length order) (is : p ≡ get_or ps n p) where
+  begun : IsBegun (placed ps order) (pair_at ps (length order)) b t
+  begun = stored-begun ps order b view some
 
-pub completed-stored : {most : ℕ} (ps : List Pair) (order more : List ℕ) (place : ℕ) (b : Bool) {t : TagPairs} (n : ℕ) (p q : Pair) (value : List ℕ)
-    → FitsPairStore most ps order place b → seen_of ps order b ≡ t → IsSome t.pending_name
-    → n ≡ length order → p ≡ get_or ps n p → q ≡ named p.name value → more ≡ insert order place n
-    → FitsPairStore most (refill (length ps) ps (set ps n q)) more place false
-completed-stored ps order more place b n p q value fits view some at is new is_more =
-    let put = is-put ps order place b n p q fits view some at is (ap (λ (r : Pair). r.name) new) in
-    let long = length-set ps n q in
-    let count : length more ≡ length order + 1 = ap (length {A = ℕ}) is_more ∙ length-insert order place n put.before in
-    rw (written ps n q)
-    (record {
-      room = omega (arith, fits.room);
-      within = omega (arith, put.within);
-      first = rw (count, is_more) (below-insert order place n (below-more order fits.first (omega arith)) (omega arith));
-      in_order = rw (is_more, put.pairs) (order-insert q (placed ps order) put.new fits.in_order);
-      begun = λ e. absurd (cc);
-    })
+  store : HasBegun ps order place
+  store = fits.begun begun.0
+
+  here : p ≡ pair_at ps (length order)
+  here = get_or_read ps n p (omega (arith, at, store.within)) is empty ∙ ap (pair_at ps) at
+
+  pub room-for-value : (more : ℕ) → IsSomeAnd t.pending_name (λ name. length name + more ≤ 249) → length p.name + more ≤ 249
+  room-for-value more h = rw here (rw begun.1 at h)
+
+  pub begun-name : t.pending_name ≡ Some p.name
+  begun-name = ap (λ (s : TagPairs). s.pending_name) begun.1 ∙ ap (λ (q : Pair). Some q.name) (sym here)
+
+  is-put : (q : Pair) → q.name ≡ p.name → IsPut ps order place n q
+  is-put q same =
+      let name : q.name ≡ (pair_at ps (length order)).name = same ∙ ap (λ (r : Pair). r.name) here in
+      let below : AllBelow n order = subst (λ m. AllBelow m order) (sym at) fits.first in
+      let there : pair_at (set ps n q) n ≡ q = get_or-set_same ps n q empty (omega (arith, at, store.within)) in
+      let index : place ≡ index_of q.name (placed ps order) = store.index ∙ ap (λ m. index_of m (placed ps order)) (sym name) in record {
+        name = name;
+        pairs = placed-insert (set ps n q) order place n ∙ ap (λ l. insert l place (pair_at (set ps n q) n)) (placed-set ps n q order below)
+            ∙ ap (insert (placed ps order) place) there ∙ ap (λ k. insert (placed ps order) k q) index ∙ insert-place q (placed ps order);
+        new = ap (has_pair (placed ps order)) name ∙ store.new;
+      }
+
+  pub completed-seen : (q : Pair) (value : List ℕ) (more : List ℕ) → q ≡ named p.name value → more ≡ insert order place n
+      → IfSome t.pending_name (λ name. seen (placed (refill (length ps) ps (set ps n q)) more) None ≡ seen (insert_pair (named name value) t.held) None)
+  completed-seen q value more new is_more =
+      let put = is-put q (ap (λ (r : Pair). r.name) new) in
+      let all : q ≡ named (pair_at ps (length order)).name value = new ∙ ap (λ (r : Pair). named r.name value) here in
+      rw begun.1 (cc (written ps n q, is_more, put.pairs, all))
+
+  pub completed-stored : (q : Pair) (value : List ℕ) (more : List ℕ) → q ≡ named p.name value → more ≡ insert order place n
+      → FitsPairStore most (refill (length ps) ps (set ps n q)) more place false
+  completed-stored q value more new is_more =
+      let put = is-put q (ap (λ (r : Pair). r.name) new) in
+      let long = length-set ps n q in
+      let count : length more ≡ length order + 1 =
+      ap (length {A = ℕ}) is_more ∙ length-insert order place n (place-within fits view some).0 in
+      rw (written ps n q)
+      (record {
+        room = omega (arith, fits.room);
+        within = omega (arith, store.within);
+        first = rw (count, is_more) (below-insert order place n (below-more order fits.first (omega arith)) (omega arith));
+        in_order = rw (is_more, put.pairs) (order-insert q (placed ps order) put.new fits.in_order);
+        begun = λ e. absurd (cc);
+      })

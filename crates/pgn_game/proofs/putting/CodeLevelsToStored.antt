@@ -28,64 +28,64 @@ pub length-places : (ls : List CodeLevel) → length (places_of ls) ≡ length l
 length-places [] = refl
 length-places (l ∷ around) = omega (arith, length-append (places_of around) (Some l ∷ []), length-places around)
 
--- The levels that are seen of places that fit.
-pub held : (most : ℕ) (places : List (Option CodeLevel)) (fits : FitsLevelStore most places) (ls : StoredLevels)
-    → code_levels places ≡ ls → ls ≡ record { present = level_of fits.current; around = map level_of fits.around }
-held most places fits ls is = sym is ∙ ap code_levels fits.there ∙ seen fits.current fits.around
+-- Places that fit, and the levels that are seen of them.
+module _ {most : ℕ} {places : List (Option CodeLevel)} (fits : FitsLevelStore most places) where
+  abbrev front : List (Option CodeLevel)
+  front = places_of fits.around
 
-pub depth-held : (most : ℕ) (places : List (Option CodeLevel)) → FitsLevelStore most places → (ls : StoredLevels)
-    → code_levels places ≡ ls → length ls.around + 1 ≡ length places
-depth-held most places fits ls is =
-    omega (
-      arith,
-      ap (λ (ls : StoredLevels). length ls.around) (held most places fits ls is),
-      length-map fits.around level_of,
-      ap (length {A = Option CodeLevel}) fits.there,
-      length-places (fits.current ∷ fits.around),
-    )
+  last : length places - 1 ≡ length front
+  last = omega (arith, ap (length {A = Option CodeLevel}) fits.there, length-append front (Some fits.current ∷ []))
 
--- the last place
-last_at : (most : ℕ) (places : List (Option CodeLevel)) (fits : FitsLevelStore most places) (d : Option CodeLevel)
-    → get_or places (length places - 1) d ≡ Some fits.current
-last_at most places fits d =
-    let front = places_of fits.around in
-    let last : length places - 1 ≡ length front =
-    omega (arith, ap (length {A = Option CodeLevel}) fits.there, length-append front (Some fits.current ∷ [])) in
-    ap (λ (i : ℕ). get_or places i d) last ∙ ap (λ (ps : List (Option CodeLevel)). get_or ps (length front) d) fits.there
-    ∙ get_or-append_seam front (Some fits.current) [] d
+  -- the last place is of the current level
+  last_at : (d : Option CodeLevel) → get_or places (length places - 1) d ≡ Some fits.current
+  last_at d =
+      ap (λ (i : ℕ). get_or places i d) last ∙ ap (λ (ps : List (Option CodeLevel)). get_or ps (length front) d) fits.there
+      ∙ get_or-append_seam front (Some fits.current) [] d
 
--- has the current level
-pub current_at : (most : ℕ) (places : List (Option CodeLevel)) (fits : FitsLevelStore most places) (ls : StoredLevels)
-    → code_levels places ≡ ls → (l : CodeLevel) (d : Option CodeLevel) → get_or places (length places - 1) d ≡ Some l
-    → level_of l ≡ ls.present
-current_at most places fits ls is l d at =
-    let same : Some l ≡ Some fits.current = sym at ∙ last_at most places fits d in
-    let same : l ≡ fits.current = cc in
-    ap level_of same ∙ sym (ap (λ (ls : StoredLevels). ls.present) (held most places fits ls is))
+  -- without the last place, and with one more
+  pub popped : (rest : List (Option CodeLevel)) → rest ≡ take (length places - 1) places → rest ≡ front
+  popped rest is =
+      is ∙ ap (λ (i : ℕ). take i places) last ∙ ap (take (length front)) fits.there ∙ take-append_seam front (Some fits.current ∷ [])
 
--- Another current level is written in its place.
-pub plays : (most : ℕ) (places : List (Option CodeLevel)) (fits : FitsLevelStore most places) (ls : StoredLevels)
-    → code_levels places ≡ ls → (l : CodeLevel)
-    → code_levels (refill (length places) places (set places (length places - 1) (Some l)))
-    ≡ record { present = level_of l; around = ls.around }
-plays most places fits ls is l =
-    let front = places_of fits.around in
-    let last : length places - 1 ≡ length front =
-    omega (arith, ap (length {A = Option CodeLevel}) fits.there, length-append front (Some fits.current ∷ [])) in
-    ap code_levels (written places (length places - 1) (Some l)
-    ∙ ap (λ (i : ℕ). set places i (Some l)) last ∙ ap (λ (ps : List (Option CodeLevel)). set ps (length front) (Some l)) fits.there
-    ∙ set-append_seam front (Some fits.current) [] (Some l))
-    ∙ seen l fits.around
-    ∙ sym (ap (λ (ls : StoredLevels). record { present = level_of l; around = ls.around }) (held most places fits ls is))
+  pub pushed : (more : List (Option CodeLevel)) (l : CodeLevel) → more ≡ places ++ Some l ∷ [] → more ≡ places_of (l ∷ fits.current ∷ fits.around)
+  pushed more l is = is ∙ ap (λ (ps : List (Option CodeLevel)). ps ++ Some l ∷ []) fits.there
 
--- without the last place
-pub popped : (most : ℕ) (places front : List (Option CodeLevel)) (fits : FitsLevelStore most places)
-    → front ≡ take (length places - 1) places → front ≡ places_of fits.around
-popped most places front fits is =
-    let rest = places_of fits.around in
-    let last : length places - 1 ≡ length rest =
-    omega (arith, ap (length {A = Option CodeLevel}) fits.there, length-append rest (Some fits.current ∷ [])) in
-    is ∙ ap (λ (i : ℕ). take i places) last ∙ ap (take (length rest)) fits.there ∙ take-append_seam rest (Some fits.current ∷ [])
+  module _ {ls : StoredLevels} (is : code_levels places ≡ ls) where
+    pub held : ls ≡ record { present = level_of fits.current; around = map level_of fits.around }
+    held = sym is ∙ ap code_levels fits.there ∙ seen fits.current fits.around
+
+    pub depth-held : length ls.around + 1 ≡ length places
+    depth-held =
+        omega (
+          arith,
+          ap (λ (ls : StoredLevels). length ls.around) held,
+          length-map fits.around level_of,
+          ap (length {A = Option CodeLevel}) fits.there,
+          length-places (fits.current ∷ fits.around),
+        )
+
+    pub current_at : (l : CodeLevel) (d : Option CodeLevel) → get_or places (length places - 1) d ≡ Some l → level_of l ≡ ls.present
+    current_at l d at =
+        let some : Some l ≡ Some fits.current = sym at ∙ last_at d in
+        let same : l ≡ fits.current = cc in
+        ap level_of same ∙ sym (ap (λ (ls : StoredLevels). ls.present) held)
+
+    -- another current level is written in its place
+    pub plays : (l : CodeLevel) → code_levels (refill (length places) places (set places (length places - 1) (Some l)))
+        ≡ record { present = level_of l; around = ls.around }
+    plays l =
+        ap code_levels (written places (length places - 1) (Some l)
+        ∙ ap (λ (i : ℕ). set places i (Some l)) last ∙ ap (λ (ps : List (Option CodeLevel)). set ps (length front) (Some l)) fits.there
+        ∙ set-append_seam front (Some fits.current) [] (Some l))
+        ∙ seen l fits.around
+        ∙ sym (ap (λ (ls : StoredLevels). record { present = level_of l; around = ls.around }) held)
+
+    -- one more has the current one around it
+    pub opened : (more : List (Option CodeLevel)) (l : CodeLevel) → more ≡ places ++ Some l ∷ []
+        → code_levels more ≡ record { present = level_of l; around = ls.present ∷ ls.around }
+    opened more l pushes =
+        ap code_levels (pushed more l pushes) ∙ seen l (fits.current ∷ fits.around)
+        ∙ sym (ap (λ (ls : StoredLevels). record { present = level_of l; around = ls.present ∷ ls.around }) held)
 
 pub fits_front : (most : ℕ) (front : List (Option CodeLevel)) (around : List CodeLevel) → front ≡ places_of around
     → 0 < length around → length front ≤ most → FitsLevelStore most front
@@ -97,19 +97,6 @@ pub closes : (front : List (Option CodeLevel)) (around : List CodeLevel) (ls : L
     → ls ≡ map level_of around → ClosesLevel ls (code_levels front)
 closes front [] ls is e = rw e tt
 closes front (l ∷ around) ls is e = rw e (ap code_levels is ∙ seen l around)
-
--- one place more
-pub pushed : (most : ℕ) (places more : List (Option CodeLevel)) (fits : FitsLevelStore most places) (l : CodeLevel)
-    → more ≡ places ++ Some l ∷ [] → more ≡ places_of (l ∷ fits.current ∷ fits.around)
-pushed most places more fits l is = is ∙ ap (λ (ps : List (Option CodeLevel)). ps ++ Some l ∷ []) fits.there
-
--- has a level with the current one around it
-pub opened : (most : ℕ) (places more : List (Option CodeLevel)) (fits : FitsLevelStore most places) (ls : StoredLevels)
-    → code_levels places ≡ ls → (l : CodeLevel) → more ≡ places ++ Some l ∷ []
-    → code_levels more ≡ record { present = level_of l; around = ls.present ∷ ls.around }
-opened most places more fits ls is l pushes =
-    ap code_levels (pushed most places more fits l pushes) ∙ seen l (fits.current ∷ fits.around)
-    ∙ sym (ap (λ (ls : StoredLevels). record { present = level_of l; around = ls.present ∷ ls.around }) (held most places fits ls is))
 
 -- what a variation begins at: it is there, for the current level has a move
 pub opens : (o : Option Parts) (start : Parts) (ls new : StoredLevels) → o ≡ Some start

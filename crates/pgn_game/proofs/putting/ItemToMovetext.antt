@@ -1,5 +1,5 @@
 -- What an item adds to the movetext that is held.
-use Rattle.pgn_game.proofs.Words.{◌≡◌, ℕ, ◌+◌, ◌<◌, ◌≤◌, Bool, true, false, List, [], ◌∷◌, ◌++◌, map, length, Option, None, Some, refl, sym, ap, subst, ◌∙◌, append_assoc, append-nil, arith, All, ◌==◌, IsTrue, is_some, IfSome, Result, Ok, Err, IsErr, Appends, All-nil, All-cons, All-head, All-tail, length-map, drop-append_seam, Move, legal, Device, IsToken, lines_of, full_lines, last_line, text_of as text_of_lines, Put, laid_from, text_put, line_put, Parts, Played, Mode, play, text_of_move, Item, open_variation, close_variation, Level as ModelLevel, Levels as ModelLevels, levels_after, levels_of, depth, here, outermost, main_moves, Placed, is_move, tokens_out, StoredLevels, Movetext, level_at, ClosesLevel, before_last, stored_level, stored_levels, ends_in_move, HoldsItems, HoldsLineOf, seen, is_nothing, mode_of_written, ItemFits, model_item, PutsTokens, GoesOn, Plays, is_written, tokens_due, tokens_if, after_move_if, plies_in, item_text, Adds, WritesItem, rules}
+use Rattle.pgn_game.proofs.Words.{◌≡◌, ℕ, ◌+◌, ◌<◌, ◌≤◌, Bool, true, false, List, [], ◌∷◌, ◌++◌, map, length, Option, None, Some, refl, sym, ap, subst, ◌∙◌, append_assoc, append-nil, arith, All, ◌==◌, IsTrue, is_some, IfSome, Result, Ok, Err, IsErr, Appends, All-nil, All-cons, All-head, All-tail, length-map, drop-append_seam, Move, legal, Device, IsToken, lines_of, full_lines, last_line, text_of as text_of_lines, Put, laid_from, text_put, line_put, Parts, Played, Mode, play, text_of_move, Item, open_variation, close_variation, Level as ModelLevel, Levels as ModelLevels, levels_after, levels_of, depth, here, outermost, main_moves, Placed, is_move, tokens_out, StoredLevels, Movetext, level_at, ClosesLevel, before_last, stored_level, stored_levels, ends_in_move, HoldsItems, HoldsLineOf, seen, is_nothing, mode_of_written, ItemFits, model_item, PutsTokens, Annotates, Plays, is_written, tokens_due, tokens_if, after_move_if, plies_in, item_text, Adds, WritesItem, rules}
 use Rattle.std.proofs.lemmas.List.Elements.{All-append}
 use Rattle.std.proofs.Math.Dec.{eqb-suc-zero}
 use Rattle.chess_text.specs.San.{san, MarkPairs, disambiguation_pairs}
@@ -134,7 +134,7 @@ plays_on x text new is on = record {
 pub no_move : (i : Annotation) → is_move (model_item i) ≡ false
 no_move i = grind arith
 
-pub goes_on : (most : ℕ) (i : Annotation) (text new : Movetext) → ItemFits most text i → GoesOn i text new → Advances (model_item i) text new
+pub goes_on : (most : ℕ) (i : Annotation) (text new : Movetext) → ItemFits most text i → Annotates i text new → Advances (model_item i) text new
 goes_on most i text new fits on = search (rules, ModelLevels, opened, closed, no_move)
 
 one_at_most : (moved main : Bool) → elim moved [ true ↦ elim main [ true ↦ 1 | false ↦ 0 ] | false ↦ 0 ] ≤ 1

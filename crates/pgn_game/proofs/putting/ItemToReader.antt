@@ -1,5 +1,5 @@
 -- What putting a token of movetext adds to what stands written of its game, and to the reader.
-use Rattle.pgn_game.proofs.Words.{◌≡◌, max, ℕ, ◌<◌, ◌≤◌, true, false, List, [], ◌∷◌, ◌++◌, length, drop, Option, None, refl, sym, ap, subst, ◌∙◌, append-nil, length-append, arith, IsTrue, Ok, Err, list_any-append, drop-append-add, drop-length, Appends-trans, Appends, Move, AppendsFront, Device, one_more, Parts, Mode, Full, Reduced, Stage, Between, AfterTags, InMovetext, Pair, Item, Part, More, is_at, start_of, tag_section, is_move, full_text, torn_at, has_move, Next, going, Movetext, HoldsItems, ReaderState, Agrees, bytes_seen, mode_unless, mode_written, item_text, Bool, Some, as_written, known_of, whole_plies, IsOpen, may_have_movetext, with_items, Adds, BeginsText, Goes, Keeps, PutResult, PutsItems, gain_to, section_due, section_due_of, rules}
+use Rattle.pgn_game.proofs.Words.{◌≡◌, max, ℕ, ◌+◌, ◌<◌, ◌≤◌, true, false, List, [], ◌∷◌, ◌++◌, length, drop, Option, None, Result, refl, sym, ap, subst, ◌∙◌, append-nil, length-append, arith, IsTrue, Ok, Err, list_any-append, drop-append-add, drop-length, Appends-trans, Appends, Move, AppendsFront, Device, one_more, Parts, Mode, Full, Reduced, Stage, Between, AfterTags, InMovetext, Pair, Item, Part, More, is_at, start_of, tag_section, is_move, full_text, torn_at, has_move, Next, going, Movetext, HoldsItems, ReaderState, Agrees, bytes_seen, mode_unless, mode_written, item_text, Bool, Some, as_written, known_of, whole_plies, IsOpen, may_have_movetext, with_items, Adds, BeginsText, Goes, Keeps, PutResult, PutsItems, gain_to, section_due, section_due_of, rules}
 use Rattle.std.proofs.Math.Nat.{le-max_left}
 use Rattle.pgn_layout.specs.declared.sink.WriteFault.{WriteFault}
 use Rattle.pgn_game.specs.declared.reason.Reason.TheVariants as reasons
@@ -55,6 +55,15 @@ begins_as old begun held d same begins = rw same begins
 -- no move was played outside the games before
 pub plies_before : (old : ReaderState) → IsTrue (may_have_movetext old.stage) → whole_plies old ≡ old.earlier_plies
 plies_before old at = grind arith
+
+-- writing the section leaves what each call leaves
+pub keeps_begun : {A E : Type 0} {old new : ReaderState} {r : Result A E} {d : Device} → BeginsText old new r d → Keeps old new
+keeps_begun begins = record {
+  profile = begins.profile;
+  writing = begins.writing;
+  plies = omega (arith, begins.earlier, begins.plies);
+  probes = omega (arith, begins.probes);
+}
 
 -- a put that failed, and one after which the game goes on
 module _ (old new : ReaderState) (IsOf : Part → Type 0) (to : Part → Next) (d : Device) (keeps : Keeps old new) where
@@ -149,6 +158,14 @@ module _ (old begun new : ReaderState) (i : Item) (x y z : Option (List ℕ)) (n
   abbrev c : Option (List ℕ)
   c = bytes_seen old.writing.is_silent z
 
+  kept : new.text.plies ≤ begun.text.plies + 1 → Keeps old new
+  kept plies = record {
+    profile = next.profile ∙ begins.profile;
+    writing = next.writing ∙ begins.writing;
+    plies = omega (arith, next.earlier, begins.earlier, begins.plies);
+    probes = omega (arith, next.probes, begins.probes);
+  }
+
   same_mode : mode_written begun ≡ mode_written old
   same_mode = ap mode_written begins.begun
 
@@ -157,13 +174,7 @@ module _ (old begun new : ReaderState) (i : Item) (x y z : Option (List ℕ)) (n
       → PutResult old (IsOpen old) (to_items (i ∷ [])) new (Ok More) (from_to a c n k)
   puts_item put adds =
       let most : old.most_probes ≤ new.most_probes = omega (arith, next.probes, begins.probes) in
-      more_comes old new (IsOpen old) (to_items _) (from_to a c n k)
-      (record {
-        profile = next.profile ∙ begins.profile;
-        writing = next.writing ∙ begins.writing;
-        plies = omega (arith, next.earlier, begins.earlier, begins.plies, adds.plies);
-        probes = most;
-      })
+      more_comes old new (IsOpen old) (to_items _) (from_to a c n k) (kept adds.plies)
       (not_between new.stage (next.stage ∙ ap (λ r. r.stage) begins.begun)) (λ before. next.stage ∙ ap (λ r. r.stage) begins.begun)
       (adds.counted ∙ begins.counted)
       (λ part is.
@@ -177,13 +188,7 @@ module _ (old begun new : ReaderState) (i : Item) (x y z : Option (List ℕ)) (n
   pub fails_item : (f : WriteFault) → Adds {A = Unit} (mode_written begun) i begun.text begun.line new.text new.line (Err f) (from_to b c m k)
       → PutResult old (IsOpen old) (to_items (i ∷ [])) new (Err reasons.WriteFault) (from_to a c n k)
   fails_item f adds =
-      unwritten old new (IsOpen old) (to_items _) (from_to a c n k)
-      (record {
-        profile = next.profile ∙ begins.profile;
-        writing = next.writing ∙ begins.writing;
-        plies = omega (arith, next.earlier, begins.earlier, begins.plies, adds.plies);
-        probes = omega (arith, next.probes, begins.probes);
-      })
+      unwritten old new (IsOpen old) (to_items _) (from_to a c n k) (kept adds.plies)
       (adds.counted ∙ ap one_more begins.counted) (λ part is.
       front_of_both old.writing.is_silent old.profile.mode x y z _ _ (λ by. item_text by (start_of part.pairs) part.items i) refl
       begins.text (rw same_mode at (adds.adds (start_of part.pairs) part.items (begun_held old begun part is begins.begun)))
@@ -193,14 +198,7 @@ module _ (old begun new : ReaderState) (i : Item) (x y z : Option (List ℕ)) (n
 pub puts_unbegun : (old new : ReaderState) (more : List Item) (f : WriteFault) (d : Device) → IsTrue (may_have_movetext old.stage)
     → BeginsText {A = Unit} old new (Err f) d → PutResult old (IsOpen old) (to_items more) new (Err reasons.WriteFault) d
 puts_unbegun old new more f d at begins =
-    unwritten old new (IsOpen old) (to_items more) d
-    (record {
-      profile = begins.profile;
-      writing = begins.writing;
-      plies = omega (arith, begins.earlier, begins.plies);
-      probes = omega (arith, begins.probes);
-    })
-    begins.counted
+    unwritten old new (IsOpen old) (to_items more) d (keeps_begun begins) begins.counted
     (λ part is.
     (rw (gain_is old part more at is) at (front_of_more _ _ _ (lines_gain old.profile.mode part.pairs part.items more) begins.text)))
 

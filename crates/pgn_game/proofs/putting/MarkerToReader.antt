@@ -5,7 +5,7 @@ use Rattle.pgn_game.specs.declared.reason.Reason.TheVariants as reasons
 use Rattle.pgn_game.proofs.putting.WritesInTurn.{front_of_more, front_after}
 use Rattle.pgn_game.proofs.putting.ItemToMovetext.{from_to}
 use Rattle.pgn_game.proofs.putting.ItemsAppended.{game_ends}
-use Rattle.pgn_game.proofs.putting.ItemToReader.{gain_at, open_stage, plies_before, section_is, unwritten}
+use Rattle.pgn_game.proofs.putting.ItemToReader.{gain_at, keeps_begun, open_stage, plies_before, section_is, unwritten}
 use Rattle.pgn_game.proofs.refusals.RefusalsInMovetext.{depth_is, position_is}
 
 -- the lines of a game whose items are these, and an empty line
@@ -60,14 +60,14 @@ last_is old part outside is marker =
     position_is old part is
     ∙ ap (λ (ms : List Move). replayed (start_of part.pairs) ms) (sym (at_depth_0 (levels_of_part part) (levels_of_part part).around refl none))
 
-abbrev finished_reader : List ℕ → ReaderState → ReaderState
-finished_reader marker r = record r { stage = Between; line = []; marker = marker }
+abbrev finished_reader : (line marker : List ℕ) → ReaderState → ReaderState
+finished_reader line marker r = record r { stage = Between; line = line; marker = marker }
 
-behind : (old : ReaderState) (part : Part) (marker : List ℕ) → old.text.levels.around ≡ []
-    → IsOpen old part → IsBehind (finished_reader marker old) (game_of part marker)
-behind old part marker outside is =
+behind : (old : ReaderState) (part : Part) (line marker : List ℕ) → line ≡ [] → old.text.levels.around ≡ []
+    → IsOpen old part → IsBehind (finished_reader line marker old) (game_of part marker)
+behind old part line marker empty outside is =
     record {
-      agrees = record { stage = refl; pairs = refl; text = refl };
+      agrees = record { stage = refl; pairs = refl; text = empty };
       pairs = ap (λ t. t.held) is.pairs;
       plies = is.held.plies;
       position = last_is old part outside is marker;
@@ -96,13 +96,7 @@ pub ends_unbegun : (old new : ReaderState) (marker : Marker) (f : WriteFault) (d
     → BeginsText {A = Unit} old new (Err f) d → PutResult old (IsOpen old) (to_game marker) new (Err reasons.WriteFault) d
 ends_unbegun old new marker f d writes at begins =
     unwritten old new (IsOpen old) (to_game marker) d
-    (record {
-      profile = begins.profile;
-      writing = begins.writing;
-      plies = omega (arith, begins.earlier, begins.plies);
-      probes = omega (arith, begins.probes);
-    })
-    begins.counted
+    (keeps_begun begins) begins.counted
     (λ part is.
     subst (AppendsFront d.before d.after) (due_is old part (marker_text marker) writes at (marker_token marker) is)
     (front_of_more d.before d.after _ (ending old.line (marker_text marker)) begins.text))
@@ -118,81 +112,50 @@ pub record EndsText (old begun : ReaderState) (marker : Marker) (text : List ℕ
 abbrev of_line : (old begun : ReaderState) → begun ≡ record old { stage = InMovetext } → begun.line ≡ old.line
 of_line old begun e = ap (λ (r : ReaderState). r.line) e
 
+-- a game was finished, and what its marker adds was written
+finishes : (old new : ReaderState) (marker : Marker) (line : List ℕ) (d : Device) → IsTrue (may_have_movetext old.stage)
+    → old.text.levels.around ≡ [] → new ≡ finished_reader line (marker_text marker) old → d.failures_after ≡ d.failures
+    → ((part : Part) → IsOpen old part → (line ≡ []) × Appends d.before d.after (gain_to (as_written old) part (to_game marker part)))
+    → PutResult old (IsOpen old) (to_game marker) new (Ok Finished) d
+finishes old new marker line d at outside same still gained =
+    rw same
+    (record {
+      goes = λ part is. record {
+        leads = behind old part line (marker_text marker) (gained part is).0 outside is;
+        plies = omega (arith, is.held.plies, plies_before old at);
+        appended = (gained part is).1;
+      };
+      keeps = record { profile = refl; writing = refl; plies = omega arith; probes = omega arith };
+      stays = tt;
+      counted = still;
+    })
+
 pub ends_well : (old begun new : ReaderState) (marker : Marker) (text : List ℕ) (a b d c : Option (List ℕ)) (n m k : ℕ)
     → EndsText old begun marker text a b n m
     → Appends b d (text_at begun.line (Put text)) → Appends d c (text_at (line_at begun.line (Put text)) EndGame)
     → new ≡ record begun { stage = Between; line = new.line; marker = marker_text marker } → new.line ≡ [] → k ≡ m
     → PutResult old (IsOpen old) (to_game marker) new (Ok Finished) (from_to a c n k)
 ends_well old begun new marker text a b d c n m k ends put last rest empty counted =
-    let same : new ≡ finished_reader (marker_text marker) old =
-    rest ∙ ap (λ (l : List ℕ). record begun { stage = Between; line = l; marker = marker_text marker }) empty
-    ∙ ap (finished_reader (marker_text marker)) ends.begins.begun in
-    let earlier : new.earlier_plies ≡ old.earlier_plies = ap (λ (r : ReaderState). r.earlier_plies) same in
-    let plies : new.text.plies ≡ old.text.plies = ap (λ (r : ReaderState). r.text.plies) same in
-    record {
-      goes = λ part is.
-          record {
-            leads = subst (λ (r : ReaderState). IsBehind r (game_of part (marker_text marker)))
-                (sym same) (behind old part (marker_text marker) ends.outside is);
-            plies = ap (λ (s : Stage). plies_behind s new.earlier_plies new.text.plies) (ap (λ (r : ReaderState). r.stage) same)
-                ∙ omega (arith, earlier, plies, is.held.plies, plies_before old ends.at);
-            appended =
-                subst (Appends a c) (ap (λ (l : List ℕ). section_due_of old ++ ending l (marker_text marker)) (of_line old begun ends.begins.begun)
-                ∙ due_is old part (marker_text marker) ends.writes ends.at (marker_token marker) is)
-                (Appends-trans a b c _ _ ends.begins.text
-                (subst (λ (t : List ℕ). Appends b c (ending begun.line t)) ends.spells (Appends-trans b d c _ _ put last)));
-          };
-      keeps = record {
-        profile = ap (λ (r : ReaderState). r.profile) same;
-        writing = ap (λ (r : ReaderState). r.writing) same;
-        plies = omega (arith, earlier, plies);
-        probes = omega (arith, ap (λ (r : ReaderState). r.most_probes) same);
-      };
-      stays = tt;
-      counted = counted ∙ ends.begins.counted;
-    }
+    finishes old new marker [] (from_to a c n k) ends.at ends.outside
+    (rest ∙ ap (λ (l : List ℕ). record begun { stage = Between; line = l; marker = marker_text marker }) empty
+    ∙ ap (finished_reader [] (marker_text marker)) ends.begins.begun) (counted ∙ ends.begins.counted) (λ part is. (
+      refl,
+      subst (Appends a c) (ap (λ (l : List ℕ). section_due_of old ++ ending l (marker_text marker)) (of_line old begun ends.begins.begun)
+          ∙ due_is old part (marker_text marker) ends.writes ends.at (marker_token marker) is)
+          (Appends-trans a b c _ _ ends.begins.text
+          (subst (λ (t : List ℕ). Appends b c (ending begun.line t)) ends.spells (Appends-trans b d c _ _ put last))),
+    ))
 
 -- nothing is written of a silent reader's game
-silent_behind : (old : ReaderState) (part : Part) (marker : List ℕ) → old.writing.is_silent ≡ true → old.text.levels.around ≡ []
-    → IsOpen old part → IsBehind (record old { stage = Between; marker = marker }) (game_of part marker)
-silent_behind old part marker silent outside is =
-    record {
-      agrees = record { stage = refl; pairs = refl; text = rw silent at is.held.held };
-      pairs = ap (λ t. t.held) is.pairs;
-      plies = is.held.plies;
-      position = last_is old part outside is marker;
-      marker = refl;
-      probed = is.probed;
-    }
-
 pub ends_silent : (old begun new : ReaderState) (marker : Marker) (a b : Option (List ℕ)) (n m : ℕ) → old.writing.is_silent ≡ true
     → IsTrue (may_have_movetext old.stage) → old.text.levels.around ≡ []
     → BeginsText {A = Unit} {E = WriteFault} old begun (Ok tt) (seen old.writing.is_silent (from_to a b n m))
     → new ≡ record begun { stage = Between; marker = marker_text marker }
     → PutResult old (IsOpen old) (to_game marker) new (Ok Finished) (seen old.writing.is_silent (from_to a b n m))
 ends_silent old begun new marker a b n m silent at outside begins rest =
-    let same : new ≡ record old { stage = Between; marker = marker_text marker } =
-    rest ∙ ap (λ (r : ReaderState). record r { stage = Between; marker = marker_text marker }) begins.begun in
-    let earlier : new.earlier_plies ≡ old.earlier_plies = ap (λ (r : ReaderState). r.earlier_plies) same in
-    let plies : new.text.plies ≡ old.text.plies = ap (λ (r : ReaderState). r.text.plies) same in
-    record {
-      goes = λ part is.
-          record {
-            leads = subst (λ (r : ReaderState). IsBehind r (game_of part (marker_text marker)))
-                (sym same) (silent_behind old part (marker_text marker) silent outside is);
-            plies = ap (λ (s : Stage). plies_behind s new.earlier_plies new.text.plies) (ap (λ (r : ReaderState). r.stage) same)
-                ∙ omega (arith, earlier, plies, is.held.plies, plies_before old at);
-            appended = rw silent tt;
-          };
-      keeps = record {
-        profile = ap (λ (r : ReaderState). r.profile) same;
-        writing = ap (λ (r : ReaderState). r.writing) same;
-        plies = omega (arith, earlier, plies);
-        probes = omega (arith, ap (λ (r : ReaderState). r.most_probes) same);
-      };
-      stays = tt;
-      counted = begins.counted;
-    }
+    finishes old new marker old.line (seen old.writing.is_silent (from_to a b n m)) at outside
+    (rest ∙ ap (λ (r : ReaderState). record r { stage = Between; marker = marker_text marker }) begins.begun) begins.counted
+    (λ part is. (rw silent at is.held.held, rw silent tt))
 
 -- a write failed behind the section
 pub ends_ill : (old begun new : ReaderState) (marker : Marker) (text : List ℕ) (a b c : Option (List ℕ)) (n m k : ℕ)

@@ -1,14 +1,13 @@
 -- Each token that is written of a game that is read fits on a line, so its movetext is on the lines
 -- that its tokens have.
+use Rattle.std.proofs.ByRecursion.{All-append as all_joined}
 use Rattle.pgn_game.proofs.Words.{◌≡◌, ℕ, ◌<◌, ◌≤◌, Bool, true, false, List, [], ◌∷◌, ◌++◌, length, Option, None, Some, Result, Ok, Err, refl, sym, subst, ◌⊎◌, arith, inl, inr, is_some, IsTrue, and_parts, false≢true, filter, list_all, unwrap_or, codes, All, All-nil, All-cons, AllByRecursion, Move, Parts, is_position, legal, is_legal, LeavesPosition, WrittenMoveIsSymbol, ReadingIsSpelling, IsToken, lines_of, Kind, Token, IsSoundKind, Mode, Full, Reduced, InMovetext, Profile, Pair, value_of, Item, Game, Part, Level, Levels, levels_after, depth, first_level, back_to, start_of, Placed, placed_from, is_main_move, written_items, number_before, tokens_at, tokens_from, tokens_out, is_black_to_move, text_of_move, play, marker_of, Next, going, whole, next, in_text, items_of, Progress, progress_with, progress_after, no_progress, read_from, tokens_of, position_of, replayed}
 use Rattle.std.proofs.lemmas.List.Elements.{All-append}
 use Rattle.chess_text.specs.WrittenMove.{begins_with_letter}
-use Rattle.chess_text.specs.declared.fen.FenFault.{FenFault}
 use Rattle.pgn_layout.specs.Laws.{TokensDetermineLines}
 use Rattle.pgn_lexer.specs.Laws.{TokensAreSound}
 use Rattle.pgn_lexer.specs.Sound.{IsWord}
 use Rattle.pgn_game.specs.Game as games
-use Rattle.pgn_game.specs.Levels.{start_by, position_or_first}
 use Rattle.pgn_game.specs.MovesAreLegal.{is_legal_at, plays_legally, MovesAreLegal}
 use Rattle.pgn_game.specs.MovetextLines.{AreOnLines, GameIsOnLines, MovetextIsOnLines}
 use Rattle.pgn_game.proofs.MarkerTexts.{result_marker}
@@ -16,7 +15,7 @@ use Rattle.pgn_game.proofs.tokens.OneMoreToken.{by_token}
 use Rattle.pgn_game.proofs.putting.MarkerToReader.{marker_token}
 use Rattle.pgn_game.proofs.putting.NumberToTokens.{number_token, glyph_token}
 use Rattle.pgn_game.proofs.putting.PlayedMovesAreLegal.{HoldsNone, none_held, AddsNone, adds_none}
-use Rattle.pgn_game.proofs.exporting.GameTextToGame.{first_is_position, fen_is_position}
+use Rattle.pgn_game.proofs.exporting.GameTextToGame.{start_is_position}
 use Rattle.pgn_game.proofs.exporting.SpelledToSound.{marker_is_result}
 use Rattle.pgn_game.proofs.exporting.MoveTextToMove.{ArePositions, last_position, earlier_positions, full_fits}
 
@@ -83,11 +82,6 @@ leads_none (whole g) none = absurd none
 items_sound : (part : Part) (k : Kind) → IsSoundKind k → AllByRecursion IsSoundItem (items_of part k)
 items_sound part k sound = grind arith
 
-more_items : (items more : List Item) → AllByRecursion IsSoundItem items → AllByRecursion IsSoundItem more
-    → AllByRecursion IsSoundItem (items ++ more)
-more_items [] more h k = k
-more_items (i ∷ is) more h k = (h.0, more_items is more h.1 k)
-
 marker_fits : (k : Kind) (marker : List ℕ) → marker_of k ≡ Some marker → IsToken marker
 marker_fits k marker is =
     let found = result_marker marker (marker_is_result k is) in
@@ -101,7 +95,7 @@ text_sound part k sound h = by_marker (marker_of k) refl
           | Some marker ↦ whole (record { pairs = part.pairs; items = part.items; marker = marker })
           | None ↦ going (record { stage = InMovetext; pairs = part.pairs; name = part.name; items = part.items ++ items_of part k })
         ])
-    by_marker None is = (tt, more_items part.items _ h (items_sound part k sound))
+    by_marker None is = (tt, all_joined IsSoundItem part.items _ h (items_sound part k sound))
     by_marker (Some marker) is = record { items = h; marker = marker_fits k marker is }
 
 next_sound : (part : Part) (k : Kind) → IsSoundKind k → IsSoundPart part → LeadsSoundly (next part k)
@@ -114,13 +108,9 @@ next_sound part k sound h = by_stage (adds_none part.stage part k h.0)
 abbrev IsSoundProgress : Progress → Type 0
 IsSoundProgress b = AllByRecursion IsSoundGame b.games × IsSoundPart b.part
 
-more_games : (gs : List Game) (g : Game) → AllByRecursion IsSoundGame gs → IsSoundGame g → AllByRecursion IsSoundGame (gs ++ g ∷ [])
-more_games [] g h k = (k, tt)
-more_games (x ∷ gs) g h k = (h.0, more_games gs g h.1 k)
-
 with_sound : (gs : List Game) (nx : Next) → AllByRecursion IsSoundGame gs → LeadsSoundly nx → IsSoundProgress (progress_with gs nx)
 with_sound gs (going part) h k = (h, k)
-with_sound gs (whole g) h k = (more_games gs g h k, (refl, tt))
+with_sound gs (whole g) h k = (all_joined IsSoundGame gs (g ∷ []) h (k, tt), (refl, tt))
 
 read_sound : (p : Profile) (b : Progress) (ts : List Token) → AllByRecursion (λ t. IsSoundKind t.kind) ts → IsSoundProgress b
     → IsSoundProgress (read_from p b ts).progress
@@ -144,12 +134,9 @@ module _ (leaves : LeavesPosition) (is_symbol : WrittenMoveIsSymbol) (reads_fen 
       → FitsOnLines (record { position = at; depth = deep; item = i })
   item_fits at deep (games.move m) position sound may b = move_fits b at m position may
   item_fits at deep (games.glyph n) position sound may b = one_token _ (glyph_token n (omega arith))
-  item_fits at deep games.comment_open position sound may b = short_token _ (omega arith) (omega arith)
   item_fits at deep (games.word text) position sound may b =
       one_token text (record { not_empty = sound.some; fits = sound.fits })
-  item_fits at deep games.comment_close position sound may b = short_token _ (omega arith) (omega arith)
-  item_fits at deep games.open_variation position sound may b = short_token _ (omega arith) (omega arith)
-  item_fits at deep games.close_variation position sound may b = short_token _ (omega arith) (omega arith)
+  item_fits at deep _ position sound may b = short_token _ (omega arith) (omega arith)
 
   plays_on : (at : Parts) (m : Move) → IsTrue (is_position at) → IsTrue (is_legal at m) → IsTrue (is_position (play at m))
   unfolding play
@@ -183,22 +170,11 @@ module _ (leaves : LeavesPosition) (is_symbol : WrittenMoveIsSymbol) (reads_fen 
         placed_fit start (levels_after ls i) is (levels_go_on start ls i good both.0) sound.1 both.1,
       )
 
-  start_is_position : (pairs : List Pair) → IsTrue (is_position (start_of pairs))
-  start_is_position pairs = by_value (value_of pairs (codes "FEN"))
-    where
-      by_fen : (text : List ℕ) (r : Result Parts FenFault) → position_of text ≡ r → IsTrue (is_position (position_or_first r))
-      by_fen text (Ok q) e = fen_is_position reads_fen text q e
-      by_fen text (Err f) e = first_is_position
-
-      by_value : (o : Option (List ℕ)) → IsTrue (is_position (start_by o))
-      by_value None = first_is_position
-      by_value (Some text) = by_fen text (position_of text) refl
-
   tokens_fit : (mode : Mode) (pairs : List Pair) (items : List Item) → AllByRecursion IsSoundItem items
       → IsTrue (plays_legally pairs items) → All IsToken (tokens_out mode (start_of pairs) items)
   tokens_fit mode pairs items sound may =
       joined false _
-      (written_fit mode _ (placed_fit (start_of pairs) first_level items (start_is_position pairs, tt) sound may))
+      (written_fit mode _ (placed_fit (start_of pairs) first_level items (start_is_position reads_fen pairs, tt) sound may))
 
   on_lines : (ts : List (List ℕ)) → All IsToken ts → AreOnLines ts (lines_of ts)
   on_lines ts each = record { each = each; joined = (determine ts (lines_of ts) each).1 refl }

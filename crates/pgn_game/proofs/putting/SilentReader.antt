@@ -1,5 +1,6 @@
 -- What calls in turn do to the sink of a silent reader.
-use Rattle.pgn_game.proofs.Words.{Converter, IsGoing, writing_nothing, None, CountsFault, CountsReason, NoWriteFails, Fault, Reason, Ok, Err, Adds, LeavesSink, Device, Item, List, ℕ, Mode, Movetext, Option, Result, mode_of_written, mode_unless, seen, ◌≡◌, Bool, true, false, IsTrue, refl, sym, ap, subst, ◌∙◌, arith, ReaderState, Writing, KeepsSilence, is_nothing}
+use Rattle.pgn_game.proofs.Words.{Converter, IsGoing, writing_nothing, None, CountsFault, CountsReason, NoWriteFails, Fault, Reason, Ok, Err, Adds, LeavesSink, Device, Item, List, ℕ, Mode, Movetext, Option, Result, mode_of_written, mode_unless, seen, ◌≡◌, Bool, true, false, IsTrue, refl, sym, ap, subst, ◌∙◌, arith, ReaderState, Writing, KeepsSilence, is_nothing, unused}
+use Rattle.pgn_game.specs.ReaderState.{ReaderCall}
 use Rattle.pgn_game.specs.declared.mode.Written.{Written}
 use Rattle.pgn_game.specs.declared.mode.Written.TheVariants.{Nothing}
 
@@ -11,6 +12,10 @@ silence_of old new a b same untouched = record { silent = ap (λ (w : Writing). 
 -- one that does not use the sink
 pub silence_kept : {S : Type 0} (old new : ReaderState) (a : S) → new.writing ≡ old.writing → KeepsSilence old new a a
 silence_kept old new a same = silence_of old new a a same (λ silent. refl)
+
+pub unused_call : {S : Type 0} (taken : S → Option (List ℕ)) (failures : S → ℕ) (old : ReaderState) (a : S) (Takes : Device → Type 0)
+    → ((o : Option (List ℕ)) (m : ℕ) → Takes (unused o m)) → ReaderCall taken failures old old a a Takes
+unused_call taken failures old a Takes takes = record { takes = takes _ _; silent = silence_kept old old a refl }
 
 -- one call after another
 pub silence_then : {S : Type 0} (old mid new : ReaderState) (a b c : S) → KeepsSilence old mid a b → KeepsSilence mid new b c

@@ -59,34 +59,30 @@ pairs_run p ps name rest gs (next_pair ks ls q qs first others) takes runs =
     (pair_run p ps name (ls ++ rest) gs first takes.0 takes.1 takes.2 (pairs_run p (insert_pair q ps) [] rest gs others takes.3 runs))
 
 -- Movetext.
-move_free : (p : Profile) (ps : List Pair) (name : List ℕ) (items : List Item) (s : List ℕ) (played : Played)
-    → Names (here (start_of ps) (levels_of items)) s played → refusal p (at InMovetext ps name items) (tokens.symbol s) ≡ None
-move_free p ps name items s played h =
-    let place = here (start_of ps) (levels_of items) in
-    cc (
-      text_row p (at InMovetext ps name items) _ refl,
-      move_refusal p (at InMovetext ps name items) s h.no_number h.no_marker,
-      h.one,
-      pass _ _ None h.within,
-    )
+module _ (p : Profile) (ps : List Pair) (name : List ℕ) (items : List Item) where
+  abbrev in_movetext : Part
+  in_movetext = at InMovetext ps name items
 
-move_leads : (ps : List Pair) (name : List ℕ) (items : List Item) (s : List ℕ) (played : Played)
-    → Names (here (start_of ps) (levels_of items)) s played
-    → next (at InMovetext ps name items) (tokens.symbol s) ≡ going (at InMovetext ps name (items ++ games.move played.mv ∷ []))
-move_leads ps name items s played h = cc (symbol_leads (at InMovetext ps name items) s false h.no_number h.no_marker)
+  move_free : (s : List ℕ) (played : Played) → Names (here (start_of ps) (levels_of items)) s played
+      → refusal p in_movetext (tokens.symbol s) ≡ None
+  move_free s played h =
+      let place = here (start_of ps) (levels_of items) in
+      cc (text_row p in_movetext _ refl, move_refusal p in_movetext s h.no_number h.no_marker, h.one, pass _ _ None h.within)
 
-opens_free : (p : Profile) (ps : List Pair) (name : List ℕ) (items : List Item)
-    → (levels_of items).present.has_own_move ≡ true → depth (levels_of items) < p.depth
-    → refusal p (at InMovetext ps name items) tokens.left_paren ≡ None
-opens_free p ps name items holds room =
-    let free : nat_le p.depth (depth (levels_of items)) ≡ false = grind (arith, nat_tests) in
-    text_row p (at InMovetext ps name items) _ refl ∙ pass _ _ _ (ap not holds) ∙ pass _ TooDeep None free
+  move_leads : (s : List ℕ) (played : Played) → Names (here (start_of ps) (levels_of items)) s played
+      → next in_movetext (tokens.symbol s) ≡ going (at InMovetext ps name (items ++ games.move played.mv ∷ []))
+  move_leads s played h = cc (symbol_leads in_movetext s false h.no_number h.no_marker)
 
-closes_free : (p : Profile) (ps : List Pair) (name : List ℕ) (items : List Item) → 0 < depth (levels_of items)
-    → refusal p (at InMovetext ps name items) tokens.right_paren ≡ None
-closes_free p ps name items some =
-    let free : (depth (levels_of items) == 0) ≡ false = grind (arith, nat_tests) in
-    text_row p (at InMovetext ps name items) _ refl ∙ pass _ _ None free
+  opens_free : (levels_of items).present.has_own_move ≡ true → depth (levels_of items) < p.depth
+      → refusal p in_movetext tokens.left_paren ≡ None
+  opens_free holds room =
+      let free : nat_le p.depth (depth (levels_of items)) ≡ false = grind (arith, nat_tests) in
+      text_row p in_movetext _ refl ∙ pass _ _ _ (ap not holds) ∙ pass _ TooDeep None free
+
+  closes_free : 0 < depth (levels_of items) → refusal p in_movetext tokens.right_paren ≡ None
+  closes_free some =
+      let free : (depth (levels_of items) == 0) ≡ false = grind (arith, nat_tests) in
+      text_row p in_movetext _ refl ∙ pass _ _ None free
 
 abbrev leveled : Level → List Level → Levels
 leveled l around = record { present = l; around = around }
@@ -110,7 +106,7 @@ text_run {p} ps name {l} (move _ _ s played ks items names text) before all rest
     let placed : replayed (start_of ps) l.trail ≡ here (start_of ps) (levels_of before) =
     ap (λ (x : Levels). here (start_of ps) x) (sym at_level) in
     let named : Names (here (start_of ps) (levels_of before)) s played = rw placed at names in
-    goes _ _ _ _ gs (move_free p ps name before s played named) refl (move_leads ps name before s played named)
+    goes _ _ _ _ gs (move_free p ps name before s played named) refl (move_leads p ps name before s played named)
     (text_run ps name text _ all rest gs (rw at_level at (levels_more before (games.move played.mv))) at_depth
     (append_assoc before _ items ∙ same) further)
 text_run {p} ps name {deep} {l} (variation _ _ ks ls items more holds room inner text) before all {around} rest gs at_level at_depth same further =
@@ -167,30 +163,30 @@ runs_alike : (p : Profile) (part other : Part) (ks : List Kind) (gs : List Game)
     → (refusal p other k ≡ None) × (next other k ≡ next part k)) → Runs p part ks gs → Runs p other ks gs
 runs_alike p part other ks gs alike h6 = search (rules, ends, goes, finishes)
 
-textual : (p : Profile) (ps : List Pair) (name : List ℕ) (items : List Item) (k : Kind)
-    → refusal p (at InMovetext ps name items) k ≡ None → IsTrue (is_textual k)
-unfolding refusal
-textual p ps name items tokens.left_bracket free = absurd (none-some _ (sym free))
-textual p ps name items tokens.end free = absurd (none-some _ (sym free))
-textual p ps name items (tokens.refused r) free = absurd (none-some _ (sym free))
-textual p ps name items _ free = refl
+module _ (p : Profile) (ps : List Pair) (name : List ℕ) (items : List Item) where
+  textual : (k : Kind) → refusal p (in_movetext p ps name items) k ≡ None → IsTrue (is_textual k)
+  unfolding refusal
+  textual tokens.left_bracket free = absurd (none-some _ (sym free))
+  textual tokens.end free = absurd (none-some _ (sym free))
+  textual (tokens.refused r) free = absurd (none-some _ (sym free))
+  textual _ free = refl
 
-begins_after_tags : (p : Profile) (ps : List Pair) (name : List ℕ) (items : List Item) (ks : List Kind) (gs : List Game) → lacks_fen ps ≡ false
-    → Runs p (at InMovetext ps name items) ks gs → Runs p (at AfterTags ps name items) ks gs
-begins_after_tags p ps name items ks gs has =
-    runs_alike p _ _ ks gs (λ k js e free.
-    let is = textual p ps name items k free in (
-      after_tags p (at InMovetext ps name items) k is ∙ pass _ _ _ has ∙ free,
-      leads_after_tags (at InMovetext ps name items) k is,
-    ))
+  begins_after_tags : (ks : List Kind) (gs : List Game) → lacks_fen ps ≡ false
+      → Runs p (at InMovetext ps name items) ks gs → Runs p (at AfterTags ps name items) ks gs
+  begins_after_tags ks gs has =
+      runs_alike p _ _ ks gs (λ k js e free.
+      let is = textual k free in (
+        after_tags p (at InMovetext ps name items) k is ∙ pass _ _ _ has ∙ free,
+        leads_after_tags (at InMovetext ps name items) k is,
+      ))
 
-begins_between : (p : Profile) (ps : List Pair) (name : List ℕ) (items : List Item) (ks : List Kind) (gs : List Game) → BeginsBare ks
-    → Runs p (at InMovetext ps name items) ks gs → Runs p (at Between ps name items) ks gs
-begins_between p ps name items ks gs bare =
-    runs_alike p _ _ ks gs (λ k js e free.
-    let is = textual p ps name items k free in
-    let plain = subst BeginsBare e bare in
-    (between p (at InMovetext ps name items) k is plain ∙ free, leads_between (at InMovetext ps name items) k is plain))
+  begins_between : (ks : List Kind) (gs : List Game) → BeginsBare ks
+      → Runs p (at InMovetext ps name items) ks gs → Runs p (at Between ps name items) ks gs
+  begins_between ks gs bare =
+      runs_alike p _ _ ks gs (λ k js e free.
+      let is = textual k free in
+      let plain = subst BeginsBare e bare in
+      (between p (at InMovetext ps name items) k is plain ∙ free, leads_between (at InMovetext ps name items) k is plain))
 
 whole_text_run : (p : Profile) (ps : List Pair) (name : List ℕ) {text : List Kind}
     (rest : List Kind) {items : List Item} (last : Kind) {marker : List ℕ} (gs : List Game)

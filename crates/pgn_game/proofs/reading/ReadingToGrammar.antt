@@ -1,5 +1,5 @@
 -- From reading to the grammar: tokens that run to their end spell the games that they finish.
-use Rattle.pgn_game.proofs.Words.{◌≡◌, ℕ, ◌+◌, ◌<◌, ◌≤◌, Bool, true, false, ◌&&◌, ◌||◌, not, List, [], ◌∷◌, ◌++◌, length, nat_lt, nat_le, refl, sym, ap, subst, ◌∙◌, arith, append_assoc, append-nil, Option, None, Some, ◌==◌, codes, bytes_eq, is_some, unwrap_or, IsTrue, IsFalse, Result, Ok, Err, list_all, bytes_eq-Decides, false≢true, not-false, leb-false, ltb-false, none-some, FenFault, NoMove, Ambiguous, escaped, Parts, Played, SanFault, Kind, Mode, Full, Reduced, BadTagName, DuplicateTag, TooManyTags, BadResult, BadFen, TagLineTooLong, SetUpWithoutFen, NoMoveBefore, TooDeep, UnmatchedClose, MarkerInVariation, ResultDiffers, Stage, Between, AfterLeftBracket, AfterName, AfterValue, AfterTags, InMovetext, Profile, Pair, value_of, has_pair, insert_pair, Item, Game, Part, no_part, position_of, move_of, Level, levels_of, levels_after, depth, here, without_last, start_of, refusal, is_comment, in_name, is_result, is_score, is_number, is_end, is_reduced, fen_fault_field, marker_of, lacks_fen, Next, next, going, whole, AreDropped, pair, SpellsPairs, no_pair, next_pair, IsSetUp, StandsFor, number, period, glyph, comment_open, word, comment_close, Names, new_level, level_after_move, SpellsText, no_more, token, move, variation, BeginsBare, IsResult, SpellsGame, SpellsGames, no_game, next_game, rules, ReducedFen}
+use Rattle.pgn_game.proofs.Words.{◌≡◌, ℕ, ◌+◌, ◌<◌, ◌≤◌, Bool, true, false, ◌&&◌, ◌||◌, not, List, [], ◌∷◌, ◌++◌, length, nat_lt, nat_le, refl, sym, ap, subst, ◌∙◌, arith, append_assoc, append-nil, Option, None, Some, ◌==◌, codes, bytes_eq, is_some, unwrap_or, IsTrue, IsFalse, Result, Ok, Err, list_all, bytes_eq-Decides, false≢true, not-false, leb-false, ltb-false, none-some, FenFault, NoMove, Ambiguous, escaped, Parts, Played, SanFault, Kind, Mode, Full, Reduced, BadTagName, DuplicateTag, TooManyTags, BadResult, BadFen, TagLineTooLong, SetUpWithoutFen, NoMoveBefore, TooDeep, UnmatchedClose, MarkerInVariation, ResultDiffers, Stage, Between, AfterLeftBracket, AfterName, AfterValue, AfterTags, InMovetext, Profile, Pair, value_of, has_pair, insert_pair, Item, Game, Part, no_part, position_of, move_of, Level, levels_of, levels_after, depth, here, without_last, start_of, refusal, is_comment, in_name, is_result, is_score, is_number, is_end, is_reduced, fen_fault_field, marker_of, lacks_fen, Next, next, going, whole, AreDropped, pair, SpellsPairs, no_pair, next_pair, IsSetUp, StandsFor, number, period, glyph, comment_open, word, comment_close, Names, new_level, level_after_move, SpellsText, no_more, token, move, variation, BeginsBare, IsResult, SpellsGame, SpellsGames, no_game, next_game, rules, ReducedFen, text_refusal}
 use Rattle.pgn_lexer.specs.Tokens as tokens
 use Rattle.pgn_game.specs.Game as games
 use Rattle.pgn_game.proofs.reading.RunsToEnd.{at, Runs, ends, goes, finishes}
@@ -184,86 +184,77 @@ adds_close : (p : Profile) (ps : List Pair) (items : List Item) → (depth (leve
     → Adds p ps items tokens.right_paren (games.close_variation ∷ [])
 adds_close p ps items some = search (rules, at, levels_more, close_at)
 
-open_step : (p : Profile) {ps : List Pair} (name : List ℕ) {items : List Item} {ks : List Kind} {gs : List Game}
-    → refusal p (at InMovetext ps name items) tokens.left_paren ≡ None
-    → Text_left p ps (items ++ games.open_variation ∷ []) ks gs → Text_left p ps items (tokens.left_paren ∷ ks) gs
-open_step p {ps} name {items} free h =
-    let e = sym (text_row p (at InMovetext ps name items) _ refl) ∙ free in
-    let holds = not-false (levels_of items).present.has_own_move (test_failed _ NoMoveBefore _ e) in
-    let room =
-    test_failed _ TooDeep None (rest_passed (not _) NoMoveBefore e) in
-    text_more _ (adds_open p ps items holds (leb-false _ _ room)) h
+-- a token after this part of movetext
+module _ (p : Profile) (ps : List Pair) (name : List ℕ) (items : List Item) {ks : List Kind} {gs : List Game} where
+  open_step : text_refusal p (at InMovetext ps name items) tokens.left_paren ≡ None
+      → Text_left p ps (items ++ games.open_variation ∷ []) ks gs → Text_left p ps items (tokens.left_paren ∷ ks) gs
+  open_step free h =
+      let holds = not-false (levels_of items).present.has_own_move (test_failed _ NoMoveBefore _ free) in
+      let room = test_failed _ TooDeep None (rest_passed (not _) NoMoveBefore free) in
+      text_more _ (adds_open p ps items holds (leb-false _ _ room)) h
 
-close_step : (p : Profile) {ps : List Pair} (name : List ℕ) {items : List Item} {ks : List Kind} {gs : List Game}
-    → refusal p (at InMovetext ps name items) tokens.right_paren ≡ None
-    → Text_left p ps (items ++ games.close_variation ∷ []) ks gs → Text_left p ps items (tokens.right_paren ∷ ks) gs
-close_step p {ps} name {items} free h =
-    text_more _
-    (adds_close p ps items (test_failed _ UnmatchedClose None (sym (text_row p (at InMovetext ps name items) _ refl) ∙ free))) h
+  close_step : text_refusal p (at InMovetext ps name items) tokens.right_paren ≡ None
+      → Text_left p ps (items ++ games.close_variation ∷ []) ks gs → Text_left p ps items (tokens.right_paren ∷ ks) gs
+  close_step free h = text_more _ (adds_close p ps items (test_failed _ UnmatchedClose None free)) h
 
-marker_step : {p : Profile} {ps : List Pair} {items : List Item} {k : Kind} {marker : List ℕ} {ks : List Kind} {gs : List Game}
-    → marker_of k ≡ Some marker → nat_le 1 (depth (levels_of items)) ≡ false
-    → (differs p.missing_result (value_of ps (codes "Result")) marker && (depth (levels_of items) == 0)) ≡ false
-    → After p (whole (record { pairs = ps; items = items; marker = marker })) ks gs → Text_left p ps items (k ∷ ks) gs
-marker_step {p} {items} {k} {marker} {ks} is shallow same after =
-    let outside : depth (levels_of items) ≡ 0 = omega (arith, leb-false 1 (depth (levels_of items)) shallow) in
-    record {
-      text = [];
-      last = k;
-      behind = ks;
-      more = [];
-      marker = marker;
-      later = after.0;
-      kinds = refl;
-      closes = nothing_left p _ _ _ outside;
-      is_marker = is;
-      result = result_is _ _ marker (same_at_zero _ _ shallow same);
-      games = cc (append-nil items);
-      others = after.2;
-    }
+  marker_step : {k : Kind} {marker : List ℕ} → marker_of k ≡ Some marker → nat_le 1 (depth (levels_of items)) ≡ false
+      → (differs p.missing_result (value_of ps (codes "Result")) marker && (depth (levels_of items) == 0)) ≡ false
+      → After p (whole (record { pairs = ps; items = items; marker = marker })) ks gs → Text_left p ps items (k ∷ ks) gs
+  marker_step {k} {marker} is shallow same after =
+      let outside : depth (levels_of items) ≡ 0 = omega (arith, leb-false 1 (depth (levels_of items)) shallow) in
+      record {
+        text = [];
+        last = k;
+        behind = ks;
+        more = [];
+        marker = marker;
+        later = after.0;
+        kinds = refl;
+        closes = nothing_left p _ _ _ outside;
+        is_marker = is;
+        result = result_is _ _ marker (same_at_zero _ _ shallow same);
+        games = cc (append-nil items);
+        others = after.2;
+      }
 
-symbol_step : {p : Profile} {ps : List Pair} (name : List ℕ) {items : List Item} (s : List ℕ) {ks : List Kind} {gs : List Game}
-    → (is_digits score : Bool) (o : Option (Result Played SanFault))
-    → is_number s ≡ is_digits → is_score s ≡ score → move_of (here (start_of ps) (levels_of items)) s ≡ o
-    → rows_for p (at InMovetext ps name items) s (is_digits || score) score o ≡ None
-    → After p (symbol_next (at InMovetext ps name items) s is_digits score o) ks gs → Text_left p ps items (tokens.symbol s ∷ ks) gs
-symbol_step name s true false o digits is_marker one free after = token_step (number s digits) (after tt)
-symbol_step {p} {ps} name {items} s false false (Some (Ok played)) digits is_marker one free after =
-    let names : Names (here (start_of ps) (levels_of items)) s played =
-    record { no_number = digits; no_marker = is_marker; one = one; within = test_failed _ _ _ free } in
-    text_more _ (adds_move p ps items s played names) (after tt)
-symbol_step name s false false None digits is_marker one free after = absurd (none-some _ (sym free))
-symbol_step name s false false (Some (Err NoMove)) digits is_marker one free after = absurd (none-some _ (sym free))
-symbol_step name s false false (Some (Err Ambiguous)) digits is_marker one free after = absurd (none-some _ (sym free))
-symbol_step name s true true o digits is_marker one free after =
-    marker_step (ap (λ b. marker_if b s) is_marker) (test_failed _ MarkerInVariation _ free)
-    (test_failed _ ResultDiffers None (rest_passed (nat_le 1 _) MarkerInVariation free)) after
-symbol_step name s false true o digits is_marker one free after =
-    marker_step (ap (λ b. marker_if b s) is_marker) (test_failed _ MarkerInVariation _ free)
-    (test_failed _ ResultDiffers None (rest_passed (nat_le 1 _) MarkerInVariation free)) after
+  symbol_step : (s : List ℕ) (is_digits score : Bool) (o : Option (Result Played SanFault))
+      → is_number s ≡ is_digits → is_score s ≡ score → move_of (here (start_of ps) (levels_of items)) s ≡ o
+      → rows_for p (at InMovetext ps name items) s (is_digits || score) score o ≡ None
+      → After p (symbol_next (at InMovetext ps name items) s is_digits score o) ks gs → Text_left p ps items (tokens.symbol s ∷ ks) gs
+  symbol_step s true false o digits is_marker one free after = token_step (number s digits) (after tt)
+  symbol_step s false false (Some (Ok played)) digits is_marker one free after =
+      let names : Names (here (start_of ps) (levels_of items)) s played =
+      record { no_number = digits; no_marker = is_marker; one = one; within = test_failed _ _ _ free } in
+      text_more _ (adds_move p ps items s played names) (after tt)
+  symbol_step s false false None digits is_marker one free after = absurd (none-some _ (sym free))
+  symbol_step s false false (Some (Err NoMove)) digits is_marker one free after = absurd (none-some _ (sym free))
+  symbol_step s false false (Some (Err Ambiguous)) digits is_marker one free after = absurd (none-some _ (sym free))
+  symbol_step s true true o digits is_marker one free after =
+      marker_step (ap (λ b. marker_if b s) is_marker) (test_failed _ MarkerInVariation _ free)
+      (test_failed _ ResultDiffers None (rest_passed (nat_le 1 _) MarkerInVariation free)) after
+  symbol_step s false true o digits is_marker one free after =
+      marker_step (ap (λ b. marker_if b s) is_marker) (test_failed _ MarkerInVariation _ free)
+      (test_failed _ ResultDiffers None (rest_passed (nat_le 1 _) MarkerInVariation free)) after
 
-text_step : {p : Profile} {ps : List Pair} (name : List ℕ) {items : List Item} (k : Kind) {ks : List Kind} {gs : List Game}
-    → refusal p (at InMovetext ps name items) k ≡ None
-    → is_end k ≡ false → After p (next (at InMovetext ps name items) k) ks gs → Text_left p ps items (k ∷ ks) gs
-unfolding refusal
-text_step name tokens.left_paren free end after = open_step _ name free (after tt)
-text_step name tokens.right_paren free end after = close_step _ name free (after tt)
-text_step name tokens.period free end after = token_step period (after tt)
-text_step name (tokens.glyph n) free end after = token_step (glyph n) (after tt)
-text_step name tokens.comment_open free end after = token_step comment_open (after tt)
-text_step name (tokens.word s) free end after = token_step (word s) (after tt)
-text_step name tokens.comment_close free end after = token_step comment_close (after tt)
-text_step {p} {ps} name {items} tokens.asterisk free end after =
-    let e = sym (text_row p (at InMovetext ps name items) tokens.asterisk refl) ∙ free in
-    marker_step refl (test_failed _ MarkerInVariation _ e)
-    (test_failed _ ResultDiffers None (rest_passed (nat_le 1 _) MarkerInVariation e)) after
-text_step {p} {ps} name {items} (tokens.symbol s) free end after =
-    let place = here (start_of ps) (levels_of items) in
-    symbol_step name s _ _ _ refl refl refl
-    (sym (text_row p (at InMovetext ps name items) (tokens.symbol s) refl ∙ symbol_refusal p (at InMovetext ps name items) s _ refl refl)
-    ∙ free) after
-text_step name tokens.end free end after = absurd (false≢true (sym end))
-text_step name _ free end after = absurd (none-some _ (sym free))
+  text_step : (k : Kind) → refusal p (at InMovetext ps name items) k ≡ None
+      → is_end k ≡ false → After p (next (at InMovetext ps name items) k) ks gs → Text_left p ps items (k ∷ ks) gs
+  unfolding refusal
+  text_step tokens.left_paren free end after = open_step (sym (text_row p (at InMovetext ps name items) tokens.left_paren refl) ∙ free) (after tt)
+  text_step tokens.right_paren free end after = close_step (sym (text_row p (at InMovetext ps name items) tokens.right_paren refl) ∙ free) (after tt)
+  text_step tokens.period free end after = token_step period (after tt)
+  text_step (tokens.glyph n) free end after = token_step (glyph n) (after tt)
+  text_step tokens.comment_open free end after = token_step comment_open (after tt)
+  text_step (tokens.word s) free end after = token_step (word s) (after tt)
+  text_step tokens.comment_close free end after = token_step comment_close (after tt)
+  text_step tokens.asterisk free end after =
+      let e = sym (text_row p (at InMovetext ps name items) tokens.asterisk refl) ∙ free in
+      marker_step refl (test_failed _ MarkerInVariation _ e)
+      (test_failed _ ResultDiffers None (rest_passed (nat_le 1 _) MarkerInVariation e)) after
+  text_step (tokens.symbol s) free end after =
+      symbol_step s _ _ _ refl refl refl
+      (sym (text_row p (at InMovetext ps name items) (tokens.symbol s) refl ∙ symbol_refusal p (at InMovetext ps name items) s _ refl refl) ∙ free) after
+  text_step tokens.end free end after = absurd (false≢true (sym end))
+  text_step _ free end after = absurd (none-some _ (sym free))
 
 -- Pairs, token by token.
 dropped_more : (k : Kind) (ks : List Kind) → IsTrue (is_comment k) → AreDropped ks → AreDropped (k ∷ ks)
@@ -289,70 +280,64 @@ one_dropped P {k} is h =
 none_dropped : (P : List Kind → Type 0) {ks : List Kind} → P ks → Dropping P ks
 none_dropped P {ks} h = record { front = []; rest = ks; kinds = refl; dropped = refl; left = h }
 
-bracket_step : {p : Profile} {ps : List Pair} (name : List ℕ) {items : List Item} (k : Kind) {ks : List Kind} {gs : List Game} → items ≡ []
-    → refusal p (at AfterValue ps name items) k ≡ None
-    → After p (next (at AfterValue ps name items) k) ks gs → Bracket_left p ps (k ∷ ks) gs
-unfolding refusal
-bracket_step name tokens.comment_open none free after = one_dropped _ refl (after none)
-bracket_step name (tokens.word s) none free after = one_dropped _ refl (after none)
-bracket_step name tokens.comment_close none free after = one_dropped _ refl (after none)
-bracket_step name tokens.right_bracket {ks} none free after = none_dropped _ (record { behind = ks; kinds = refl; tags = after none })
-bracket_step name _ none free after = absurd (none-some _ (sym free))
+-- a token of a pair, after this part
+module _ (p : Profile) (ps : List Pair) (name : List ℕ) (items : List Item) {ks : List Kind} {gs : List Game} where
+  bracket_step : (k : Kind) → items ≡ [] → refusal p (at AfterValue ps name items) k ≡ None
+      → After p (next (at AfterValue ps name items) k) ks gs → Bracket_left p ps (k ∷ ks) gs
+  unfolding refusal
+  bracket_step tokens.comment_open none free after = one_dropped _ refl (after none)
+  bracket_step (tokens.word s) none free after = one_dropped _ refl (after none)
+  bracket_step tokens.comment_close none free after = one_dropped _ refl (after none)
+  bracket_step tokens.right_bracket none free after = none_dropped _ (record { behind = ks; kinds = refl; tags = after none })
+  bracket_step _ none free after = absurd (none-some _ (sym free))
 
-value_given : (p : Profile) {ps : List Pair} {name : List ℕ} (items : List Item) (s : List ℕ) {ks : List Kind} {gs : List Game}
-    → refusal p (at AfterName ps name items) (tokens.str s) ≡ None → Bracket_left p (insert_pair (record { name = name; value = s }) ps) ks gs
-    → Value_left p ps name (tokens.str s ∷ ks) gs
-value_given p {name} items s {ks} free h =
-    let e = sym (value_refusal p _ s refl) ∙ free in
-    let f = rest_passed (bytes_eq name _ && not _) BadResult e in
-    let is_position = test_failed (bytes_eq name _ && is_some _) (BadFen _) _ f in
-    let short =
-    test_failed _ TagLineTooLong None (rest_passed (bytes_eq name _ && is_some _) (BadFen _) f) in
-    none_dropped _ (record {
-      value = s;
-      behind = ks;
-      kinds = refl;
-      room = ltb-false 249 _ short;
-      result = λ is. not-false _
-          (forced (bytes_eq name _) (test_failed (bytes_eq name _ && not _) BadResult _ e) ((bytes_eq-Decides name _).1 is));
-      fen = λ is. position_is _ (forced (bytes_eq name _) is_position ((bytes_eq-Decides name _).1 is));
-      bracket = h;
-    })
+  value_given : (s : List ℕ) → refusal p (at AfterName ps name items) (tokens.str s) ≡ None
+      → Bracket_left p (insert_pair (record { name = name; value = s }) ps) ks gs → Value_left p ps name (tokens.str s ∷ ks) gs
+  value_given s free h =
+      let e = sym (value_refusal p _ s refl) ∙ free in
+      let f = rest_passed (bytes_eq name _ && not _) BadResult e in
+      let is_position = test_failed (bytes_eq name _ && is_some _) (BadFen _) _ f in
+      let short = test_failed _ TagLineTooLong None (rest_passed (bytes_eq name _ && is_some _) (BadFen _) f) in
+      none_dropped _ (record {
+        value = s;
+        behind = ks;
+        kinds = refl;
+        room = ltb-false 249 _ short;
+        result = λ is. not-false _
+            (forced (bytes_eq name _) (test_failed (bytes_eq name _ && not _) BadResult _ e) ((bytes_eq-Decides name _).1 is));
+        fen = λ is. position_is _ (forced (bytes_eq name _) is_position ((bytes_eq-Decides name _).1 is));
+        bracket = h;
+      })
 
-value_step : {p : Profile} {ps : List Pair} {name : List ℕ} {items : List Item} (k : Kind) {ks : List Kind} {gs : List Game} → items ≡ []
-    → refusal p (at AfterName ps name items) k ≡ None
-    → After p (next (at AfterName ps name items) k) ks gs → Value_left p ps name (k ∷ ks) gs
-unfolding refusal
-value_step tokens.comment_open none free after = one_dropped _ refl (after none)
-value_step (tokens.word s) none free after = one_dropped _ refl (after none)
-value_step tokens.comment_close none free after = one_dropped _ refl (after none)
-value_step {p} {items} (tokens.str s) none free after = value_given p items s free (after none)
-value_step _ none free after = absurd (none-some _ (sym free))
+  value_step : (k : Kind) → items ≡ [] → refusal p (at AfterName ps name items) k ≡ None
+      → After p (next (at AfterName ps name items) k) ks gs → Value_left p ps name (k ∷ ks) gs
+  unfolding refusal
+  value_step tokens.comment_open none free after = one_dropped _ refl (after none)
+  value_step (tokens.word s) none free after = one_dropped _ refl (after none)
+  value_step tokens.comment_close none free after = one_dropped _ refl (after none)
+  value_step (tokens.str s) none free after = value_given s free (after none)
+  value_step _ none free after = absurd (none-some _ (sym free))
 
-name_given : (p : Profile) (ps : List Pair) (name : List ℕ) (items : List Item) (s : List ℕ) (ks : List Kind) {gs : List Game}
-    → refusal p (at AfterLeftBracket ps name items) (tokens.symbol s) ≡ None
-    → Value_left p ps s ks gs → Name_left p ps (tokens.symbol s ∷ ks) gs
-name_given p ps name items s ks free h =
-    let e = sym (name_refusal p (at _ ps name items) s refl) ∙ free in
-    let f = rest_passed (not (list_all in_name s)) BadTagName e in
-    let g = rest_passed (nat_lt 249 (length s)) TagLineTooLong (rest_passed (has_pair ps s) DuplicateTag f) in
-    none_dropped _ (record {
-      name = s;
-      behind = ks;
-      kinds = refl;
-      fresh = test_failed _ DuplicateTag _ f;
-      is_name = not-false _ (test_failed _ BadTagName _ e);
-      full = λ is.
-          is_full _ (test_failed _ ReducedFen None g)
-          ((bytes_eq-Decides s _).1 is);
-      value = h;
-    })
+  name_given : (s : List ℕ) → refusal p (at AfterLeftBracket ps name items) (tokens.symbol s) ≡ None
+      → Value_left p ps s ks gs → Name_left p ps (tokens.symbol s ∷ ks) gs
+  name_given s free h =
+      let e = sym (name_refusal p (at _ ps name items) s refl) ∙ free in
+      let f = rest_passed (not (list_all in_name s)) BadTagName e in
+      let g = rest_passed (nat_lt 249 (length s)) TagLineTooLong (rest_passed (has_pair ps s) DuplicateTag f) in
+      none_dropped _ (record {
+        name = s;
+        behind = ks;
+        kinds = refl;
+        fresh = test_failed _ DuplicateTag _ f;
+        is_name = not-false _ (test_failed _ BadTagName _ e);
+        full = λ is. is_full _ (test_failed _ ReducedFen None g) ((bytes_eq-Decides s _).1 is);
+        value = h;
+      })
 
-name_step : {p : Profile} {ps : List Pair} (name : List ℕ) {items : List Item} {k : Kind} {ks : List Kind} {gs : List Game} → items ≡ []
-    → refusal p (at AfterLeftBracket ps name items) k ≡ None
-    → After p (next (at AfterLeftBracket ps name items) k) ks gs → Name_left p ps (k ∷ ks) gs
-unfolding refusal
-name_step name none free after = search (rules, none-some, one_dropped, name_given)
+  name_step : {k : Kind} → items ≡ [] → refusal p (at AfterLeftBracket ps name items) k ≡ None
+      → After p (next (at AfterLeftBracket ps name items) k) ks gs → Name_left p ps (k ∷ ks) gs
+  unfolding refusal
+  name_step none free after = search (rules, none-some, one_dropped, name_given)
 
 pair_step : (p : Profile) {ps : List Pair} {ks : List Kind} {gs : List Game} → nat_le p.tags (length ps) ≡ false → Name_left p ps ks gs
     → (t : Tags_left p ps (tokens.left_bracket ∷ ks) gs) × (t.given ≡ [] → ⊥)
@@ -412,7 +397,7 @@ tags_text p ps name items k none is free end after =
     let e = sym (after_tags p (at AfterTags ps name items) k is) ∙ free in
     let lacks = lacks_fen ps in
     no_pair_step none (is_set_up (test_failed lacks SetUpWithoutFen _ e))
-    (text_step name k (rest_passed lacks SetUpWithoutFen e) end (rw (leads_after_tags (at AfterTags ps name items) k is) at after))
+    (text_step p ps name items k (rest_passed lacks SetUpWithoutFen e) end (rw (leads_after_tags (at AfterTags ps name items) k is) at after))
 
 tags_step : {p : Profile} {ps : List Pair} (name : List ℕ) {items : List Item} {k : Kind} {ks : List Kind} {gs : List Game} → items ≡ []
     → refusal p (at AfterTags ps name items) k ≡ None → is_end k ≡ false
@@ -488,7 +473,7 @@ between_text : (p : Profile) {ps : List Pair} (name : List ℕ) {items : List It
     → After p (next (at Between ps name items) k) ks gs → SpellsGames p (k ∷ ks) gs
 unfolding no_pair_step
 between_text p {ps} name {items} k {ks} {gs} no_pairs none is bare free end after =
-    let text = text_step {p = p} {ps = ps} name {items = items} k {ks = ks} {gs = gs}
+    let text = text_step p ps name items {ks = ks} {gs = gs} k
     (sym (between p (at Between ps name items) k is bare) ∙ free) end (rw (leads_between (at Between ps name items) k is bare) at after) in
     let t = no_pair_step none (subst IsSetUp (sym no_pairs) (λ e. absurd (cc))) text in
     game_begins no_pairs t (λ given. bare_from t.text.text t.text.last t.text.behind bare t.text.kinds)

@@ -54,36 +54,22 @@ comment_passes p {part} k at out is =
     (comment_free p _ part _ drops (sym is), comment_stays part _ drops (sym is))
 
 -- Pairs.
-expected_name_at : (p : Profile) (part : Part) {k : TokenKind} → false ≡ is_comment (kind_of k)
-    → ((text : Bor (List ℕ)) → k ≡ token_kinds.Symbol text → ⊥)
-    → refusal p (at_stage AfterLeftBracket part) (kind_of k) ≡ Some ExpectedName
-unfolding refusal
-expected_name_at p part is other = grind (arith, false≢true)
-
 pub expected_name : (p : Profile) (part : Part) (k : TokenKind) → part.stage ≡ AfterLeftBracket
     → false ≡ is_comment (kind_of k) → ((text : Bor (List ℕ)) → k ≡ token_kinds.Symbol text → ⊥)
     → refusal p part (kind_of k) ≡ Some ExpectedName
-expected_name p part k at is other = at_the_stage (λ q. refusal p q (kind_of k) ≡ Some ExpectedName) part at (expected_name_at p part is other)
-
-expected_value_at : (p : Profile) (part : Part) {k : TokenKind} → false ≡ is_comment (kind_of k)
-    → ((text : Bor (List ℕ)) → k ≡ token_kinds.Str text → ⊥) → refusal p (at_stage AfterName part) (kind_of k) ≡ Some ExpectedValue
 unfolding refusal
-expected_value_at p part is other = grind (arith, false≢true)
+expected_name p part k at is other = grind (arith, false≢true, at_the_stage)
 
 pub expected_value : (p : Profile) (part : Part) (k : TokenKind) → part.stage ≡ AfterName
     → false ≡ is_comment (kind_of k) → ((text : Bor (List ℕ)) → k ≡ token_kinds.Str text → ⊥)
     → refusal p part (kind_of k) ≡ Some ExpectedValue
-expected_value p part k at is other = at_the_stage (λ q. refusal p q (kind_of k) ≡ Some ExpectedValue) part at (expected_value_at p part is other)
-
-expected_bracket_at : (p : Profile) (part : Part) {k : TokenKind} → false ≡ is_comment (kind_of k) → (k ≡ token_kinds.RightBracket → ⊥)
-    → refusal p (at_stage AfterValue part) (kind_of k) ≡ Some ExpectedBracket
 unfolding refusal
-expected_bracket_at p part is other = grind (arith, false≢true)
+expected_value p part k at is other = grind (arith, false≢true, at_the_stage)
 
 pub expected_bracket : (p : Profile) (part : Part) (k : TokenKind) → part.stage ≡ AfterValue
     → false ≡ is_comment (kind_of k) → (k ≡ token_kinds.RightBracket → ⊥) → refusal p part (kind_of k) ≡ Some ExpectedBracket
-expected_bracket p part k at is other =
-    at_the_stage (λ q. refusal p q (kind_of k) ≡ Some ExpectedBracket) part at (expected_bracket_at p part is other)
+unfolding refusal
+expected_bracket p part k at is other = grind (arith, false≢true, at_the_stage)
 
 -- what a name and a value are rejected for, each test before the next
 abbrev pub name_rows : Profile → List Pair → List ℕ → Option Reason

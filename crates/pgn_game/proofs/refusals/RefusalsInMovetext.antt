@@ -105,24 +105,21 @@ found_at : (old : ReaderState) (part : Part) (s : List ℕ) {here : Parts} {r : 
     → found_in (position_in part) (move_of (position_in part) s) ≡ r
 found_at old part s is same found = cc (position_is old part is)
 
-pub move_free : {old : ReaderState} {part : Part} (s : List ℕ) (here : Parts) {played : Played}
-    → is_number s ≡ false → is_score s ≡ false → IsOpen old part → here ≡ old.text.levels.present.present
-    → Ok played ≡ found_in here (move_of here s) → text_refusal old.profile part (symbol s) ≡ None
-move_free s here number score is same found = grind (arith, move_refusal, found_free, found_at)
-
-pub move_refused : {old : ReaderState} {part : Part} (s : List ℕ) (here : Parts) {reason : Reason}
-    → is_number s ≡ false → is_score s ≡ false → IsOpen old part → here ≡ old.text.levels.present.present
-    → Err reason ≡ found_in here (move_of here s) → text_refusal old.profile part (symbol s) ≡ Some reason
-move_refused s here number score is same found = grind (arith, move_refusal, found_refused, found_at)
-
 pub refused_inside : (here : Parts) (s : List ℕ) {reason : Reason}
     → Err reason ≡ found_in here (move_of here s) → IsFalse (is_outside_the_table reason)
 refused_inside here s found = (found_refused here (move_of here s) (sym found)).1
 
-pub move_leads : {old : ReaderState} {part : Part} (s : List ℕ) (here : Parts) {played : Played}
-    → is_number s ≡ false → is_score s ≡ false → IsOpen old part → here ≡ old.text.levels.present.present
-    → Ok played ≡ found_in here (move_of here s) → in_text part (symbol s) ≡ going (with_items part (game.move played.mv ∷ []))
-move_leads s here number score is same found = grind (arith, symbol_leads, found_free, found_at)
+module _ {old : ReaderState} {part : Part} (s : List ℕ) (here : Parts) (number : is_number s ≡ false) (score : is_score s ≡ false)
+    (is : IsOpen old part) (same : here ≡ old.text.levels.present.present) where
+  pub move_free : {played : Played} → Ok played ≡ found_in here (move_of here s) → text_refusal old.profile part (symbol s) ≡ None
+  move_free found = grind (arith, move_refusal, found_free, found_at)
+
+  pub move_refused : {reason : Reason} → Err reason ≡ found_in here (move_of here s) → text_refusal old.profile part (symbol s) ≡ Some reason
+  move_refused found = grind (arith, move_refusal, found_refused, found_at)
+
+  pub move_leads : {played : Played} → Ok played ≡ found_in here (move_of here s)
+      → in_text part (symbol s) ≡ going (with_items part (game.move played.mv ∷ []))
+  move_leads found = grind (arith, symbol_leads, found_free, found_at)
 
 pub number_free : (p : Profile) (part : Part) (s : List ℕ) → is_number s ≡ true
     → is_score s ≡ false → text_refusal p part (symbol s) ≡ None

@@ -28,31 +28,6 @@ module _ (p : Parts) where
   stopped m (Some q) legal limit = limited p (record { mv = m; next = q }) true limit
   stopped m None legal limit = absurd (cc)
 
-pub returns-in_default-clause-found : goal.returns-in_default-clause-found
-returns-in_default-clause-found c = ap (found_in c.args.position.now) (sym (no_form c.args.position.now c.args.text.now c.in_default.ensures))
-
-pub returns-in-Err-NoMove-clause-found : goal.returns-in-Err-NoMove-clause-found
-returns-in-Err-NoMove-clause-found c =
-    ap (found_in c.args.position.now) (sym (of_form c.args.position.now c.args.text.now c.in-Some.form _ c.in-Some.ensures
-    (rw c.in-Err-NoMove.field-0-is at c.in-Err-NoMove.ensures.answer)))
-
-pub returns-in-Err-Ambiguous-clause-found : goal.returns-in-Err-Ambiguous-clause-found
-returns-in-Err-Ambiguous-clause-found c =
-    ap (found_in c.args.position.now) (sym (of_form c.args.position.now c.args.text.now c.in-Some.form _ c.in-Some.ensures
-    (rw c.in-Err-Ambiguous.field-0-is at c.in-Err-Ambiguous.ensures.answer)))
-
-pub returns-then-is_at_limit-clause-found : goal.returns-then-is_at_limit-clause-found
-returns-then-is_at_limit-clause-found c =
-    let p = c.args.position.now in
-    stopped p c.in-Ok.mv (legal p c.in-Ok.mv) c.in-Ok.ensures.legal (sym c.is_at_limit.ensures ∙ c.if-is_at_limit.true)
-    ∙ ap (found_in p) (sym (of_form p c.args.text.now c.in-Some.form _ c.in-Some.ensures c.in-Ok.ensures.answer))
-
-pub returns-else-is_at_limit-clause-found : goal.returns-else-is_at_limit-clause-found
-returns-else-is_at_limit-clause-found c =
-    let p = c.args.position.now in
-    free p c.in-Ok.mv (legal p c.in-Ok.mv) c.in-Ok.ensures.legal (sym c.is_at_limit.ensures ∙ c.if-is_at_limit.false)
-    ∙ ap (found_in p) (sym (of_form p c.args.text.now c.in-Some.form _ c.in-Some.ensures c.in-Ok.ensures.answer))
-
 -- what resolving a form costs
 of_answer : (p : Parts) (s : List ℕ) (f : Form) (r : Result Played SanFault) (n : ℕ)
     → Some f ≡ form_of s → r ≡ move_of_form p f → CostsAnswer p f r n → Costs p s n
@@ -76,33 +51,71 @@ of_legal : (p : Parts) (f : Form) (m : Move) (next : Option Parts) (n : ℕ) →
 of_legal p f m (Some q) n legal e = e
 of_legal p f m None n legal e = absurd (cc)
 
-pub returns-in_default-clause-tried : goal.returns-in_default-clause-tried
-returns-in_default-clause-tried c = of_no_form c.args.position.now c.args.text.now _ c.in_default.ensures c.requires
+of_move : (p : Parts) (s : List ℕ) (f : Form) (m : Move) (before after : ℕ) → Some f ≡ form_of s
+    → ok_or (with_next m (legal p m)) NoMove ≡ move_of_form p f → is_some (legal p m) ≡ true → before ≡ 0 → after ≡ before + form_pairs p f
+    → Costs p s after
+of_move p s f m before after e answer legal_move none each =
+    of_answer p s f _ after e answer (of_legal p f m (legal p m) after legal_move (from_none before after _ none each))
 
-pub returns-in-Err-NoMove-clause-tried : goal.returns-in-Err-NoMove-clause-tried
-returns-in-Err-NoMove-clause-tried c =
+pub returns-in_default : goal.returns-in_default
+returns-in_default c = record {
+  found = ap (found_in c.args.position.now) (sym (no_form c.args.position.now c.args.text.now c.in_default.ensures));
+  legal = tt;
+  tried = of_no_form c.args.position.now c.args.text.now _ c.in_default.ensures c.requires;
+  few = omega (arith, c.requires);
+  some = tt;
+}
+
+pub returns-in-Err-NoMove : goal.returns-in-Err-NoMove
+returns-in-Err-NoMove c =
     let answer = rw c.in-Err-NoMove.field-0-is at c.in-Err-NoMove.ensures.answer in
-    of_answer c.args.position.now c.args.text.now c.in-Some.form _ _ c.in-Some.ensures answer
-    (from_none _ _ _ c.requires (c.in-Err-NoMove.ensures.each (λ e. cc)))
+    record {
+      found = ap (found_in c.args.position.now) (sym (of_form c.args.position.now c.args.text.now c.in-Some.form _ c.in-Some.ensures answer));
+      legal = tt;
+      tried = of_answer c.args.position.now c.args.text.now c.in-Some.form _ _ c.in-Some.ensures answer
+          (from_none _ _ _ c.requires (c.in-Err-NoMove.ensures.each (λ e. cc)));
+      few = omega (arith, c.requires, c.in-Err-NoMove.ensures.bound);
+      some = tt;
+    }
 
-pub returns-in-Err-Ambiguous-clause-tried : goal.returns-in-Err-Ambiguous-clause-tried
-returns-in-Err-Ambiguous-clause-tried c =
+pub returns-in-Err-Ambiguous : goal.returns-in-Err-Ambiguous
+returns-in-Err-Ambiguous c =
     let answer = rw c.in-Err-Ambiguous.field-0-is at c.in-Err-Ambiguous.ensures.answer in
-    of_answer c.args.position.now c.args.text.now c.in-Some.form _ _ c.in-Some.ensures answer (
-      omega (arith, c.in-Err-Ambiguous.ensures.two (ap Err c.in-Err-Ambiguous.field-0-is), c.requires),
-      omega (arith, c.in-Err-Ambiguous.ensures.most, c.requires),
-    )
+    record {
+      found = ap (found_in c.args.position.now) (sym (of_form c.args.position.now c.args.text.now c.in-Some.form _ c.in-Some.ensures answer));
+      legal = tt;
+      tried = of_answer c.args.position.now c.args.text.now c.in-Some.form _ _ c.in-Some.ensures answer (
+        omega (arith, c.in-Err-Ambiguous.ensures.two (ap Err c.in-Err-Ambiguous.field-0-is), c.requires),
+        omega (arith, c.in-Err-Ambiguous.ensures.most, c.requires),
+      );
+      few = omega (arith, c.requires, c.in-Err-Ambiguous.ensures.bound);
+      some = tt;
+    }
 
-pub returns-then-is_at_limit-clause-tried : goal.returns-then-is_at_limit-clause-tried
-returns-then-is_at_limit-clause-tried c =
+pub returns-then-is_at_limit : goal.returns-then-is_at_limit
+returns-then-is_at_limit c =
+    let p = c.args.position.now in
     let f = c.in-Some.form in
-    of_answer c.args.position.now c.args.text.now f _ _ c.in-Some.ensures c.in-Ok.ensures.answer
-    (of_legal c.args.position.now f c.in-Ok.mv (legal c.args.position.now c.in-Ok.mv) _ c.in-Ok.ensures.legal
-    (from_none _ _ _ c.requires (c.in-Ok.ensures.each (λ e. false≢true (sym (ap is_ok e))))))
+    let found = c.in-Ok.ensures in
+    record {
+      found = stopped p c.in-Ok.mv (legal p c.in-Ok.mv) found.legal (sym c.is_at_limit.ensures ∙ c.if-is_at_limit.true)
+          ∙ ap (found_in p) (sym (of_form p c.args.text.now f _ c.in-Some.ensures found.answer));
+      legal = tt;
+      tried = of_move p c.args.text.now f c.in-Ok.mv _ _ c.in-Some.ensures found.answer found.legal c.requires (found.each (λ e. false≢true (sym (ap is_ok e))));
+      few = omega (arith, c.requires, found.bound);
+      some = tt;
+    }
 
-pub returns-else-is_at_limit-clause-tried : goal.returns-else-is_at_limit-clause-tried
-returns-else-is_at_limit-clause-tried c =
+pub returns-else-is_at_limit : goal.returns-else-is_at_limit
+returns-else-is_at_limit c =
+    let p = c.args.position.now in
     let f = c.in-Some.form in
-    of_answer c.args.position.now c.args.text.now f _ _ c.in-Some.ensures c.in-Ok.ensures.answer
-    (of_legal c.args.position.now f c.in-Ok.mv (legal c.args.position.now c.in-Ok.mv) _ c.in-Ok.ensures.legal
-    (from_none _ _ _ c.requires (c.in-Ok.ensures.each (λ e. false≢true (sym (ap is_ok e))))))
+    let found = c.in-Ok.ensures in
+    record {
+      found = free p c.in-Ok.mv (legal p c.in-Ok.mv) found.legal (sym c.is_at_limit.ensures ∙ c.if-is_at_limit.false)
+          ∙ ap (found_in p) (sym (of_form p c.args.text.now f _ c.in-Some.ensures found.answer));
+      legal = found.legal;
+      tried = of_move p c.args.text.now f c.in-Ok.mv _ _ c.in-Some.ensures found.answer found.legal c.requires (found.each (λ e. false≢true (sym (ap is_ok e))));
+      few = omega (arith, c.requires, found.bound);
+      some = omega (arith, c.requires, found.some);
+    }

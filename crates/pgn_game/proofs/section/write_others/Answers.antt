@@ -13,9 +13,6 @@ both_sides held pairs before after n is place front back some = grind (arith, ot
 pub returns-then-not-has_fen : goal.returns-then-not-has_fen
 returns-then-not-has_fen g c = search (rules, others_without_fen)
 
-pub split_at-before-requires : goal.split_at-before-requires
-split_at-before-requires g c = c.index_of.ensures.within
-
 pub returns-in_err-write_pairs : goal.returns-in_err-write_pairs
 returns-in_err-write_pairs g c =
     let some : has_pair c.args.pairs.now (codes "FEN") ≡ true = sym c.has_fen.ensures ∙ c.if-not-has_fen.false in

@@ -1,4 +1,4 @@
-use Rattle.pgn_game.proofs.Words.{◌≡◌, ℕ, ◌+◌, List, ◌∙◌, take, Option, Some, slice_get, unwrap_or, ap, err_from_is_err_and, take_all, Appends, AppendsFront, one_more, tag_line, missing_of, known_result, Pair, value_of, roster_line, text_by, roster, rules}
+use Rattle.pgn_game.proofs.Words.{◌≡◌, ℕ, ◌+◌, ◌≤◌, Bor, IfSome, List, ◌∙◌, escaped, length, option_copied, take, Option, None, Some, slice_get, unwrap_or, ap, err_from_is_err_and, take_all, Appends, AppendsFront, one_more, tag_line, missing_of, known_result, Pair, value_of, roster_line, text_by, roster, rules}
 use Rattle.pgn_game.proofs.pairs.ExportedValues.{seven}
 use Rattle.pgn_game.proofs.putting.WritesInTurn.{next_text, next_front, within_at}
 use Rattle.pgn_game.proofs.section.write_roster.Goals as goal
@@ -19,18 +19,34 @@ front_of_line result held i name unknown value a b c at is done next =
     let p = within_at (roster result) i (record { name = name; value = unknown }) at in
     next_front (roster_line held) (roster result) i (record { name = name; value = unknown }) a b c p.0 p.1 done (rw is at next)
 
+-- a value found, or the default
+default_or : (o : Option (Bor (List ℕ))) (value unknown : Bor (List ℕ)) (found : Option (List ℕ)) → value ≡ unwrap_or o unknown → option_copied o ≡ found
+    → value.now ≡ unwrap_or found unknown.now
+default_or None value unknown found is same = rw (is, ← same)
+default_or (Some v) value unknown found is same = rw (is, ← same)
+
+-- it fits on its line
+fits_or : (name : List ℕ) (o : Option (Bor (List ℕ))) (value unknown : Bor (List ℕ)) → value ≡ unwrap_or o unknown
+    → IfSome o (λ v. length name + length (escaped v.now) ≤ 249) → length name + length (escaped unknown.now) ≤ 249
+    → length name + length (escaped value.now) ≤ 249
+fits_or name None value unknown is fits short = rw is short
+fits_or name (Some v) value unknown is fits short = rw is fits
+
+pub write_tag-requires : goal.write_tag-requires
+write_tag-requires g c = fits_or _ c.value_in.result _ _ c.unwrap_or-value.ensures c.value_in.ensures.fits c.roster_pair.ensures.fits
+
 pub returns-in_err-write_tag : goal.returns-in_err-write_tag
 returns-in_err-write_tag g c =
     rw (err_from_is_err_and c.from_residual.result c.from_residual.ensures.1).1
     (record {
       written = front_of_line (known_result (missing_of c.args.missing_result)) c.args.pairs.now c.loop-index.index
-          c.roster_pair.result.0.now c.roster_pair.result.1.now c.value_or-value.result.now _ _ _
-          c.roster_pair.ensures.pair c.value_or-value.ensures.value c.loop-index.invariant.1 c.in_err-write_tag.ensures.text;
+          c.roster_pair.result.0.now c.roster_pair.result.1.now c.unwrap_or-value.result.now _ _ _
+          c.roster_pair.ensures.pair (default_or c.value_in.result _ _ _ c.unwrap_or-value.ensures c.value_in.ensures.value) c.loop-index.invariant.1 c.in_err-write_tag.ensures.text;
       counted = c.in_err-write_tag.ensures.counted ∙ ap one_more c.loop-index.invariant.0;
     })
 
 pub loop-index-preserved : goal.loop-index-preserved
-loop-index-preserved g c = search (rules, next_line)
+loop-index-preserved g c = search (rules, next_line, default_or)
 
 pub returns : goal.returns
 returns g c = search (rules, take_all, seven)

@@ -12,12 +12,12 @@ end_game-requires g c = (
 
 pub returns-in-Err : goal.returns-in-Err
 returns-in-Err g c =
-    let keeps = c.end_game.ensures.keeps in
+    let keeps = c.end_game.ensures.takes.keeps in
     let flag = not_just_finished _ _ (ap (λ (s : Converter). s.just_finished) c.self.view_is ∙ c.requires.before.none_just_finished) in
     record {
       ends = record {
         takes = λ k is.
-            let takes = rw c.in-Err.is at c.end_game.ensures.takes in
+            let takes = rw c.in-Err.is at c.end_game.ensures.takes.takes in
             subst (λ (s : Converter). TakesEntry s.reading k c.end_game.new.self (Err c.in-Err.reason)
             (sink_of s.reading g.W.Sink.taken g.W.Sink.failures c.args.out.now c.end_game.new.out)) c.self.view_is (takes k is);
         place = refl;
@@ -33,20 +33,20 @@ returns-in-Err g c =
         probes = omega (arith, ap (λ (s : Converter). s.reading.most_probes) c.self.view_is, keeps.probes);
         counted = counts_reason c.in-Err.reason (sink_of c.args.self.now.reading g.W.Sink.taken g.W.Sink.failures c.args.out.now c.end_game.new.out)
             (subst (λ (s : Converter). CountsWrites (Err c.in-Err.reason) (sink_of s.reading g.W.Sink.taken g.W.Sink.failures c.args.out.now c.end_game.new.out))
-            c.self.view_is (rw c.in-Err.is at c.end_game.ensures.counted));
+            c.self.view_is (rw c.in-Err.is at c.end_game.ensures.takes.counted));
       };
       silent = subst (λ (s : Converter). KeepsSilence s.reading c.end_game.new.self c.args.out.now c.end_game.new.out) c.self.view_is c.end_game.ensures.silent;
     }
 
 pub returns-in-Ok : goal.returns-in-Ok
 returns-in-Ok g c =
-    let keeps = c.end_game.ensures.keeps in
+    let keeps = c.end_game.ensures.takes.keeps in
     let none = ap (λ (s : Converter). s.fault) c.self.view_is ∙ c.requires.before.no_fault in
-    let counted = rw c.in-Ok.is at c.end_game.ensures.counted in
+    let counted = rw c.in-Ok.is at c.end_game.ensures.takes.counted in
     record {
       ends = record {
         takes = λ k is.
-            let takes = rw c.in-Ok.is at c.end_game.ensures.takes in
+            let takes = rw c.in-Ok.is at c.end_game.ensures.takes.takes in
             subst (λ (s : Converter). TakesEntry s.reading k c.end_game.new.self (ended_by (Ok tt))
             (sink_of s.reading g.W.Sink.taken g.W.Sink.failures c.args.out.now c.end_game.new.out)) c.self.view_is (takes k is);
         place = tt;
@@ -77,8 +77,8 @@ invariant_of-self-in-Ok g c =
     let few = subst (λ (s : Converter). s.games + 1 + waiting s.lexer ≤ 2 * s.lexer.count + 2) (sym c.self.view_is) c.requires.few in
     let plies = subst (λ (s : Converter). s.reading.earlier_plies + s.reading.text.plies + 1 + waiting s.lexer ≤ 2 * s.lexer.count + 2)
     (sym c.self.view_is) c.requires.few_plies in
-    let between = rw c.in-Ok.is at c.end_game.ensures.between in
-    let keeps = c.end_game.ensures.keeps in
+    let between = rw c.in-Ok.is at c.end_game.ensures.takes.between in
+    let keeps = c.end_game.ensures.takes.keeps in
     record {
       count = c.self.invariant.count;
       few = λ is. few;

@@ -32,8 +32,8 @@ accept_entry-met-requires g c =
     let behind = rw (take_rest, c.in-Some.is) at c.whole_token-count.ensures.reads in (
       search fits_reader,
       (
-        omega (arith, here.sound.few_plies refl, here.sound.count),
-        (ap may_have_movetext here.stage, behind.reads.lengths),
+        record { few = omega (arith, here.sound.few_plies refl, here.sound.count); stage = ap may_have_movetext here.stage },
+        behind.reads.lengths,
       ),
     )
 
@@ -55,7 +55,7 @@ loop-used-preserved g c =
     let is : c.accept_entry-met.result ≡ Ok None = read ∙ ap Ok (rw read at c.in-Ok-None.field-0-is) in
     let takes = rw is at (meets_in_movetext c.loop-used.self-inside.reader c.accept_entry-met.new.self c.in-Some.token.kind c.accept_entry-met.result _
     here.stage (seen_alike (λ d. MeetsEntry c.loop-used.self-inside.reader (kind_of c.in-Some.token.kind) c.accept_entry-met.new.self c.accept_entry-met.result d) _ _
-    (device g.W.Sink.taken g.W.Sink.failures c.loop-used.out c.accept_entry-met.new.out) here.silent.silent c.accept_entry-met.ensures.meets)) in
+    (device g.W.Sink.taken g.W.Sink.failures c.loop-used.out c.accept_entry-met.new.out) here.silent.silent c.accept_entry-met.ensures.takes)) in
     record {
       flag = here.flag;
       not_finished = here.not_finished;
@@ -77,7 +77,7 @@ invariant_of-self-in_default-met g c =
     let behind = rw (take_rest, c.in-Some.is) at c.whole_token-count.ensures.reads in
     let takes = meets_in_movetext c.loop-used.self-inside.reader c.accept_entry-met.new.self c.in-Some.token.kind c.accept_entry-met.result _ here.stage
     (seen_alike (λ d. MeetsEntry c.loop-used.self-inside.reader (kind_of c.in-Some.token.kind) c.accept_entry-met.new.self c.accept_entry-met.result d) _ _
-    (device g.W.Sink.taken g.W.Sink.failures c.loop-used.out c.accept_entry-met.new.out) here.silent.silent c.accept_entry-met.ensures.meets) in
+    (device g.W.Sink.taken g.W.Sink.failures c.loop-used.out c.accept_entry-met.new.out) here.silent.silent c.accept_entry-met.ensures.takes) in
     rw here.flag
     (sound_met_behind _ _ _ _ here.sound short (λ _. here.stage)
     behind within c.accept_entry-met.new.self c.accept_entry-met.result _ takes)
@@ -90,7 +90,7 @@ returns-in_default-met-clause-steps g c =
     let behind = rw (take_rest, c.in-Some.is) at c.whole_token-count.ensures.reads in
     let takes = meets_in_movetext c.loop-used.self-inside.reader c.accept_entry-met.new.self c.in-Some.token.kind c.accept_entry-met.result _ here.stage
     (seen_alike (λ d. MeetsEntry c.loop-used.self-inside.reader (kind_of c.in-Some.token.kind) c.accept_entry-met.new.self c.accept_entry-met.result d) _ _
-    (device g.W.Sink.taken g.W.Sink.failures c.loop-used.out c.accept_entry-met.new.out) here.silent.silent c.accept_entry-met.ensures.meets) in
+    (device g.W.Sink.taken g.W.Sink.failures c.loop-used.out c.accept_entry-met.new.out) here.silent.silent c.accept_entry-met.ensures.takes) in
     let outcome : c.settle-outcome.result ≡ outcome_at c.in-Some.token.at c.accept_entry-met.result =
     c.settle-outcome.ensures.outcome in
     rw (here.flag, here.not_finished, c.settle-outcome.ensures.fault, outcome)

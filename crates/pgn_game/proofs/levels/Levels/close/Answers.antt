@@ -5,13 +5,9 @@ use Rattle.pgn_game.proofs.levels.Levels.close.Goals as goal
 
 pub invariant_of-self : goal.invariant_of-self
 invariant_of-self g c =
-    let places = c.self.inside.levels.items in
-    let now = c.args.self.now in
     let fits = c.self.invariant in
-    let same : now.around ≡ map level_of fits.around =
-    ap (λ (ls : StoredLevels). ls.around) (held g.row.L places fits now c.self.view_is) in
-    fits_front g.row.L c.pop.new.self.items fits.around
-    (popped g.row.L places c.pop.new.self.items fits c.pop.ensures.rest)
+    let same : c.args.self.now.around ≡ map level_of fits.around = ap (λ (ls : StoredLevels). ls.around) (held fits c.self.view_is) in
+    fits_front g.row.L c.pop.new.self.items fits.around (popped fits c.pop.new.self.items c.pop.ensures.rest)
     (omega (arith, c.requires, ap (length {A = StoredLevel}) same, length-map fits.around level_of))
     (omega (
       arith,
@@ -23,6 +19,5 @@ invariant_of-self g c =
 pub returns : goal.returns
 returns g c =
     let fits = c.self.invariant in
-    closes c.pop.new.self.items fits.around c.args.self.now.around
-    (popped g.row.L c.self.inside.levels.items c.pop.new.self.items fits c.pop.ensures.rest)
-    (ap (λ (ls : StoredLevels). ls.around) (held g.row.L c.self.inside.levels.items fits c.args.self.now c.self.view_is))
+    closes c.pop.new.self.items fits.around c.args.self.now.around (popped fits c.pop.new.self.items c.pop.ensures.rest)
+    (ap (λ (ls : StoredLevels). ls.around) (held fits c.self.view_is))

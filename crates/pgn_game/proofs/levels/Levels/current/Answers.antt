@@ -5,4 +5,4 @@ use Rattle.pgn_game.proofs.levels.Levels.current.Goals as goal
 pub returns : goal.returns
 returns g c =
     let at : get_or c.self.inside.levels.items (length c.self.inside.levels.items - 1) c.index-levels-levels.result ≡ Some c.in-Some.level = cc in
-    current_at g.row.L c.self.inside.levels.items c.self.invariant c.args.self.now c.self.view_is c.in-Some.level c.index-levels-levels.result at
+    current_at c.self.invariant c.self.view_is c.in-Some.level c.index-levels-levels.result at

@@ -6,16 +6,15 @@ use Rattle.pgn_game.proofs.levels.Levels.open.Goals as goal
 
 pub push-requires : goal.push-requires
 push-requires g c =
-    let depth = depth-held g.row.L c.self.inside.levels.items c.self.invariant c.args.self.now c.self.view_is in search rules
+    let depth = depth-held c.self.invariant c.self.view_is in search rules
 
 pub invariant_of-self : goal.invariant_of-self
 invariant_of-self g c =
-    let places = c.self.inside.levels.items in
     let fits = c.self.invariant in record {
       current = c.at.result;
       around = fits.current ∷ fits.around;
-      there = pushed g.row.L places c.push.new.self.items fits c.at.result c.push.ensures.items;
-      room = omega (arith, c.push.ensures.len, c.requires.room, depth-held g.row.L places fits c.args.self.now c.self.view_is);
+      there = pushed fits c.push.new.self.items c.at.result c.push.ensures.items;
+      room = omega (arith, c.push.ensures.len, c.requires.room, depth-held fits c.self.view_is);
     }
 
 pub returns-in-Some : goal.returns-in-Some
@@ -23,5 +22,5 @@ returns-in-Some g c =
     let now = c.args.self.now in
     let before : now.present.before ≡ Some c.in-Some.start = ap (λ (l : StoredLevel). l.before) (sym c.current.ensures) ∙ c.in-Some.is in
     opens now.present.before c.in-Some.start now _ before
-    (opened g.row.L c.self.inside.levels.items c.push.new.self.items c.self.invariant now c.self.view_is c.at.result c.push.ensures.items
+    (opened c.self.invariant c.self.view_is c.push.new.self.items c.at.result c.push.ensures.items
     ∙ ap (λ (l : CodeLevel). record { present = level_of l; around = now.present ∷ now.around }) c.at.ensures)

@@ -6,9 +6,6 @@ use Rattle.pgn_game.proofs.movetext.Movetext.write_tokens.Goals.{in-CommentOpen,
 one_byte : (b : ℕ) → IsToken (b ∷ [])
 one_byte b = record { not_empty = omega arith; fits = omega arith }
 
-pub returns-in-Glyph : goal.returns-in-Glyph
-returns-in-Glyph g c = rw c.in-Glyph.is c.put_glyph.ensures
-
 pub put-requires : goal.put-requires
 put-requires g c = elim c.match-item.branch [
   | in-CommentOpen w ↦ rw w.token-is (one_byte 123)

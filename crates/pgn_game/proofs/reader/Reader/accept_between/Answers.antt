@@ -1,16 +1,10 @@
-use Rattle.pgn_game.proofs.Words.{◌≡◌, ◌||◌, Bool, true, refl, sym, ap, subst, ◌∙◌, arith, or_right, kind_of, is_comment, is_end}
+use Rattle.pgn_game.proofs.Words.{◌≡◌, ◌||◌, Bool, true, refl, sym, ap, subst, ◌∙◌, or_right, kind_of, is_comment, is_end}
 use Rattle.pgn_game.proofs.Words.{ReaderState, TakesOutside}
 use Rattle.std.specs.Prelude.{option_map}
 use Rattle.pgn_game.specs.PutResult.{continued}
-use Rattle.pgn_game.proofs.ReaderLemmas.{reader_alike, passes_first, takes_outside_first}
+use Rattle.pgn_game.proofs.ReaderLemmas.{passes_first, takes_outside_first}
 use Rattle.pgn_game.proofs.reader.Reader.accept_between.Goals as goal
 use Rattle.pgn_game.proofs.reader.Reader.accept_between.Goals.{then-is_comment-via-then-is_comment, then-is_comment-via-else-is_comment+then-is_end}
-
-pub begin_game-requires : goal.begin_game-requires
-begin_game-requires g c = (search reader_alike, omega (arith, c.requires.few))
-
-pub accept_after_tags-requires : goal.accept_after_tags-requires
-accept_after_tags-requires g c = (search reader_alike, ap (λ (r : ReaderState). r.stage) c.begin_game.ensures)
 
 pub returns-then-is_comment : goal.returns-then-is_comment
 returns-then-is_comment g c =

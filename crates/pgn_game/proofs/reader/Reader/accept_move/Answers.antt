@@ -1,129 +1,121 @@
-use Rattle.pgn_game.proofs.Words.{mode_written, Mode, Option, Ok, More, TakesEntry, Writing, device, symbol, ◌∷◌, [], inl, inr, IsTrue, refl, sym, ap, subst, ◌∙◌, arith, Err, err_from_is_err_and, is_legal}
+use Rattle.pgn_game.proofs.Words.{mode_written, Mode, Option, Ok, More, TakesEntry, Writing, device, symbol, ◌∷◌, [], inl, inr, IsTrue, refl, sym, ap, subst, ◌∙◌, arith, Err, err_from_is_err_and, is_legal, or_parts}
 use Rattle.pgn_game.proofs.Words.{InMovetext, Movetext, ReaderState, may_have_movetext, TriesItem}
 use Rattle.std.proofs.Math.Nat.{le-max_right}
 use Rattle.pgn_game.specs.Game.{move}
 use Rattle.pgn_game.specs.declared.reason.Reason.TheVariants.{WriteFault}
-use Rattle.pgn_game.proofs.putting.SilentReader.{adds_as, seen_alike, silence_put}
-use Rattle.pgn_game.proofs.ReaderLemmas.{reader_alike, text_fits, begins_as, fails_move, most_after, puts_move, puts_unbegun, text_begun}
+use Rattle.pgn_game.proofs.putting.SilentReader.{adds_as, seen_alike, silence_kept, silence_put, silence_then}
+use Rattle.pgn_game.proofs.ReaderLemmas.{text_fits, begins_as, fails_move, most_after, puts_move, puts_unbegun, text_begun}
 use Rattle.pgn_game.proofs.ReaderLemmas.{unbegun_part, adds_move, move_refused, takes_move}
 use Rattle.pgn_game.proofs.reader.Reader.accept_move.Goals as goal
-
-pub find-requires : goal.find-requires
-find-requires g c = (search reader_alike, c.new-probes.ensures)
-
-pub begin_movetext-requires : goal.begin_movetext-requires
-begin_movetext-requires g c =
-    (search reader_alike, subst (λ (r : ReaderState). IsTrue (may_have_movetext r.stage)) (sym c.find.ensures.counted) c.requires.stage)
 
 pub put_move-put-requires : goal.put_move-put-requires
 put_move-put-requires g c =
     let finds = c.in-Ok.ensures in
-    let text = text_begun c.find.new.self _ _ _ c.self.view_is c.in_ok-begin_movetext-in-Ok.ensures.begins
+    let text = text_begun c.find.new.self _ _ _ c.self.view_is c.in_ok-begin_movetext-in-Ok.ensures.takes
     ∙ ap (λ (r : ReaderState). r.text) finds.counted in (
       search text_fits,
-      (
-        subst (λ (t : Movetext). IsTrue (is_legal t.levels.present.present c.in-Ok.mv)) (sym text) finds.legal,
-        (omega (arith, c.requires.few, ap (λ (t : Movetext). t.plies) text), omega (arith, finds.few)),
-      ),
+      record {
+        legal = subst (λ (t : Movetext). IsTrue (is_legal t.levels.present.present c.in-Ok.mv)) (sym text) finds.legal;
+        few = omega (arith, c.requires.may.few, ap (λ (t : Movetext). t.plies) text);
+        room = omega (arith, finds.few);
+      },
     )
 
-pub invariant_of-self : goal.invariant_of-self
-invariant_of-self g c = c.self.invariant
+pub returns-in-Err : goal.returns-in-Err
+returns-in-Err g c =
+    let plain = or_parts _ _ c.requires.is_move in
+    let finds = c.in-Err.ensures in
+    record {
+      takes = move_refused c.args.self.now c.find.new.self c.args.text.now _ c.requires.may.stage plain.1 plain.0 c.in-Err.reason _ _ finds;
+      silent = silence_kept c.args.self.now c.find.new.self _ (ap (λ (r : ReaderState). r.writing) finds.counted);
+    }
 
-pub count_probes-requires : goal.count_probes-requires
-count_probes-requires g c = (search reader_alike, omega (arith, c.put_move-put.ensures.probes, c.in-Ok.ensures.few))
-
-pub returns-in-Err-clause-takes : goal.returns-in-Err-clause-takes
-returns-in-Err-clause-takes g c =
-    move_refused c.args.self.now c.find.new.self c.args.text.now _ c.requires.stage
-    c.requires.number c.requires.score c.in-Err.reason _ _ c.in-Err.ensures
-
-pub returns-in_err-begin_movetext-in-Ok-clause-takes : goal.returns-in_err-begin_movetext-in-Ok-clause-takes
-returns-in_err-begin_movetext-in-Ok-clause-takes g c =
+pub returns-in_err-begin_movetext-in-Ok : goal.returns-in_err-begin_movetext-in-Ok
+returns-in_err-begin_movetext-in-Ok g c =
     let old = c.args.self.now in
+    let plain = or_parts _ _ c.requires.is_move in
     let finds = c.in-Ok.ensures in
     let p = err_from_is_err_and c.from_residual.result c.from_residual.ensures.1 in
-    let begins = c.in_err-begin_movetext-in-Ok.ensures.begins in
-    let may = subst (λ (r : ReaderState). IsTrue (may_have_movetext r.stage)) (sym finds.counted) c.requires.stage in
+    let first = c.in_err-begin_movetext-in-Ok.ensures in
+    let begins = first.takes in
+    let may = subst (λ (r : ReaderState). IsTrue (may_have_movetext r.stage)) (sym finds.counted) c.requires.may.stage in
     rw (p.1 ∙ ap Err p.2)
-    (seen_alike (λ d. TakesEntry old (symbol c.args.text.now) c.begin_movetext.new.self (Err WriteFault) d) _ _ (device g.W.Sink.taken g.W.Sink.failures c.args.out.now c.begin_movetext.new.out)
-    (ap (λ (r : ReaderState). r.writing.is_silent) finds.counted)
-    (takes_move old c.find.new.self c.args.text.now _ c.requires.stage c.requires.number c.requires.score _ c.in-Ok.mv _ _ _ finds
-    (puts_unbegun c.find.new.self _ (move c.in-Ok.mv ∷ []) c.in_err-begin_movetext-in-Ok.field-0.0 _ may begins) tt
-    (begins.probes ∙ ap (λ (r : ReaderState). r.most_probes) finds.counted)
-    (λ part is. inr (
-      unbegun_part c.find.new.self _ c.in_err-begin_movetext-in-Ok.field-0.0 _ part may begins
-          (ap (λ (r : ReaderState). r.stage) finds.counted ∙ is.stage),
-      refl,
-    ))))
+    (record {
+      takes = seen_alike (λ d. TakesEntry old (symbol c.args.text.now) c.begin_movetext.new.self (Err WriteFault) d) _ _
+          (device g.W.Sink.taken g.W.Sink.failures c.args.out.now c.begin_movetext.new.out)
+          (ap (λ (r : ReaderState). r.writing.is_silent) finds.counted)
+          (takes_move old c.find.new.self c.args.text.now _ c.requires.may.stage plain.1 plain.0 _ c.in-Ok.mv _ _ _ finds
+          (puts_unbegun c.find.new.self _ (move c.in-Ok.mv ∷ []) c.in_err-begin_movetext-in-Ok.field-0.0 _ may begins) tt
+          (begins.probes ∙ ap (λ (r : ReaderState). r.most_probes) finds.counted)
+          (λ part is. inr (
+            unbegun_part c.find.new.self _ c.in_err-begin_movetext-in-Ok.field-0.0 _ part may begins
+                (ap (λ (r : ReaderState). r.stage) finds.counted ∙ is.stage),
+            refl,
+          )));
+      silent = silence_then old c.find.new.self _ _ _ _ (silence_kept old _ _ (ap (λ (r : ReaderState). r.writing) finds.counted)) first.silent;
+    })
 
-pub returns-in_err-put-in-Ok-clause-takes : goal.returns-in_err-put-in-Ok-clause-takes
-returns-in_err-put-in-Ok-clause-takes g c =
+pub returns-in_err-put-in-Ok : goal.returns-in_err-put-in-Ok
+returns-in_err-put-in-Ok g c =
     let old = c.args.self.now in
+    let plain = or_parts _ _ c.requires.is_move in
     let finds = c.in-Ok.ensures in
     let p = err_from_is_err_and c.from_residual-in_err-put-in-Ok.result c.from_residual-in_err-put-in-Ok.ensures.1 in
-    let begins = begins_as c.find.new.self _ _ _ c.self.view_is c.in_ok-begin_movetext-in-Ok.ensures.begins in
-    let may = subst (λ (r : ReaderState). IsTrue (may_have_movetext r.stage)) (sym finds.counted) c.requires.stage in
+    let first = c.in_ok-begin_movetext-in-Ok.ensures in
+    let begins = begins_as c.find.new.self _ _ _ c.self.view_is first.takes in
+    let may = subst (λ (r : ReaderState). IsTrue (may_have_movetext r.stage)) (sym finds.counted) c.requires.may.stage in
     let put = c.in_err-put-in-Ok.ensures in
     let tries = subst (λ (r : ReaderState). TriesItem (mode_written r) r.text (move c.in-Ok.mv) c.find.new.probes c.put_move-put.new.probes)
     (begins.begun ∙ ap (λ (r : ReaderState). record r { stage = InMovetext }) finds.counted)
-    (subst (λ (o : Option Mode). TriesItem o c.self.inside.text (move c.in-Ok.mv) c.find.new.probes c.put_move-put.new.probes) c.self.invariant.2 put.tried) in
-    let adds = adds_as c.self.inside.written c.self.inside.mode c.find.new.self.writing.is_silent _ _ _ _ _ _ _ c.self.invariant.2
-    (ap (λ (w : Writing). w.is_silent) begins.writing) put.adds in
+    (subst (λ (o : Option Mode). TriesItem o c.self.inside.text (move c.in-Ok.mv) c.find.new.probes c.put_move-put.new.probes) c.self.invariant.2 put.probes.tried) in
+    let alike = ap (λ (r : ReaderState). r.writing.is_silent) finds.counted in
+    let held = ap (λ (w : Writing). w.is_silent) begins.writing in
+    let adds = adds_as c.self.inside.written c.self.inside.mode c.find.new.self.writing.is_silent _ _ _ _ _ _ _ c.self.invariant.2 held put.item.writes in
     rw (p.1 ∙ ap Err p.2)
-    (seen_alike (λ d. TakesEntry old (symbol c.args.text.now) c.count_probes.new.self (Err WriteFault) d) _ _
-    (device g.W.Sink.taken g.W.Sink.failures c.args.out.now c.put_move-put.new.out)
-    (ap (λ (r : ReaderState). r.writing.is_silent) finds.counted)
-    (takes_move old c.find.new.self c.args.text.now _ c.requires.stage
-    c.requires.number c.requires.score c.count_probes.new.self c.in-Ok.mv _ _ _ finds
-    (fails_move c.find.new.self _ c.count_probes.new.self c.in-Ok.mv _ _ _ _ may begins c.count_probes.ensures c.in_err-put-in-Ok.field-0.0 adds) tt
-    (omega (
-      arith,
-      most_after c.find.new.self _ c.count_probes.new.self _ _ _ _ begins c.count_probes.ensures,
-      ap (λ (r : ReaderState). r.most_probes) finds.counted,
-      c.put_move-put.ensures.probes,
-    ))
-    (λ part is. inl (adds_move old part c.in-Ok.mv _ _ is tries))))
+    (record {
+      takes = seen_alike (λ d. TakesEntry old (symbol c.args.text.now) c.count_probes.new.self (Err WriteFault) d) _ _
+          (device g.W.Sink.taken g.W.Sink.failures c.args.out.now c.put_move-put.new.out) alike
+          (takes_move old c.find.new.self c.args.text.now _ c.requires.may.stage plain.1 plain.0 c.count_probes.new.self c.in-Ok.mv _ _ _ finds
+          (fails_move c.find.new.self _ c.count_probes.new.self c.in-Ok.mv _ _ _ _ may begins c.count_probes.ensures c.in_err-put-in-Ok.field-0.0 adds) tt
+          (omega (
+            arith,
+            most_after c.find.new.self _ c.count_probes.new.self _ _ _ _ begins c.count_probes.ensures,
+            ap (λ (r : ReaderState). r.most_probes) finds.counted,
+            put.probes.rises,
+          ))
+          (λ part is. inl (adds_move old part c.in-Ok.mv _ _ is tries)));
+      silent = silence_put old c.find.new.self c.count_probes.new.self c.self.inside.written _ _ _ alike held
+          (ap (λ (r : ReaderState). r.writing.is_silent) c.count_probes.ensures) first.silent.untouched put.item.silent;
+    })
 
-pub returns-in_ok-put-in-Ok-clause-takes : goal.returns-in_ok-put-in-Ok-clause-takes
-returns-in_ok-put-in-Ok-clause-takes g c =
+pub returns-in_ok-put-in-Ok : goal.returns-in_ok-put-in-Ok
+returns-in_ok-put-in-Ok g c =
     let old = c.args.self.now in
+    let plain = or_parts _ _ c.requires.is_move in
     let finds = c.in-Ok.ensures in
-    let begins = begins_as c.find.new.self _ _ _ c.self.view_is c.in_ok-begin_movetext-in-Ok.ensures.begins in
-    let may = subst (λ (r : ReaderState). IsTrue (may_have_movetext r.stage)) (sym finds.counted) c.requires.stage in
+    let first = c.in_ok-begin_movetext-in-Ok.ensures in
+    let begins = begins_as c.find.new.self _ _ _ c.self.view_is first.takes in
+    let may = subst (λ (r : ReaderState). IsTrue (may_have_movetext r.stage)) (sym finds.counted) c.requires.may.stage in
     let put = c.in_ok-put-in-Ok.ensures in
     let tries = subst (λ (r : ReaderState). TriesItem (mode_written r) r.text (move c.in-Ok.mv) c.find.new.probes c.put_move-put.new.probes)
     (begins.begun ∙ ap (λ (r : ReaderState). record r { stage = InMovetext }) finds.counted)
-    (subst (λ (o : Option Mode). TriesItem o c.self.inside.text (move c.in-Ok.mv) c.find.new.probes c.put_move-put.new.probes) c.self.invariant.2 put.tried) in
-    let adds = adds_as c.self.inside.written c.self.inside.mode c.find.new.self.writing.is_silent _ _ _ _ _ _ _ c.self.invariant.2
-    (ap (λ (w : Writing). w.is_silent) begins.writing) put.adds in
-    seen_alike (λ d. TakesEntry old (symbol c.args.text.now) c.count_probes.new.self (Ok More) d) _ _
-    (device g.W.Sink.taken g.W.Sink.failures c.args.out.now c.put_move-put.new.out)
-    (ap (λ (r : ReaderState). r.writing.is_silent) finds.counted)
-    (takes_move old c.find.new.self c.args.text.now _ c.requires.stage
-    c.requires.number c.requires.score c.count_probes.new.self c.in-Ok.mv _ _ _ finds
-    (puts_move c.find.new.self _ c.count_probes.new.self c.in-Ok.mv _ _ _ _ may begins c.count_probes.ensures
-    (omega (arith, finds.some, ap (λ (r : ReaderState). r.most_probes) finds.counted, le-max_right old.most_probes c.find.new.probes)) adds) tt
-    (omega (
-      arith,
-      most_after c.find.new.self _ c.count_probes.new.self _ _ _ _ begins c.count_probes.ensures,
-      ap (λ (r : ReaderState). r.most_probes) finds.counted,
-      c.put_move-put.ensures.probes,
-    ))
-    (λ part is. adds_move old part c.in-Ok.mv _ _ is tries))
-
-pub returns-in_err-put-in-Ok-clause-silent : goal.returns-in_err-put-in-Ok-clause-silent
-returns-in_err-put-in-Ok-clause-silent g c =
-    let begins = begins_as c.find.new.self _ _ _ c.self.view_is c.in_ok-begin_movetext-in-Ok.ensures.begins in
-    silence_put c.args.self.now c.find.new.self c.count_probes.new.self c.self.inside.written _ _ _
-    (ap (λ (r : ReaderState). r.writing.is_silent) c.in-Ok.ensures.counted) (ap (λ (w : Writing). w.is_silent) begins.writing)
-    (ap (λ (r : ReaderState). r.writing.is_silent) c.count_probes.ensures) c.in_ok-begin_movetext-in-Ok.ensures.silent.untouched
-    c.in_err-put-in-Ok.ensures.silent
-
-pub returns-in_ok-put-in-Ok-clause-silent : goal.returns-in_ok-put-in-Ok-clause-silent
-returns-in_ok-put-in-Ok-clause-silent g c =
-    let begins = begins_as c.find.new.self _ _ _ c.self.view_is c.in_ok-begin_movetext-in-Ok.ensures.begins in
-    silence_put c.args.self.now c.find.new.self c.count_probes.new.self c.self.inside.written _ _ _
-    (ap (λ (r : ReaderState). r.writing.is_silent) c.in-Ok.ensures.counted) (ap (λ (w : Writing). w.is_silent) begins.writing)
-    (ap (λ (r : ReaderState). r.writing.is_silent) c.count_probes.ensures) c.in_ok-begin_movetext-in-Ok.ensures.silent.untouched
-    c.in_ok-put-in-Ok.ensures.silent
+    (subst (λ (o : Option Mode). TriesItem o c.self.inside.text (move c.in-Ok.mv) c.find.new.probes c.put_move-put.new.probes) c.self.invariant.2 put.probes.tried) in
+    let alike = ap (λ (r : ReaderState). r.writing.is_silent) finds.counted in
+    let held = ap (λ (w : Writing). w.is_silent) begins.writing in
+    let adds = adds_as c.self.inside.written c.self.inside.mode c.find.new.self.writing.is_silent _ _ _ _ _ _ _ c.self.invariant.2 held put.item.writes in
+    record {
+      takes = seen_alike (λ d. TakesEntry old (symbol c.args.text.now) c.count_probes.new.self (Ok More) d) _ _
+          (device g.W.Sink.taken g.W.Sink.failures c.args.out.now c.put_move-put.new.out) alike
+          (takes_move old c.find.new.self c.args.text.now _ c.requires.may.stage plain.1 plain.0 c.count_probes.new.self c.in-Ok.mv _ _ _ finds
+          (puts_move c.find.new.self _ c.count_probes.new.self c.in-Ok.mv _ _ _ _ may begins c.count_probes.ensures
+          (omega (arith, finds.some, ap (λ (r : ReaderState). r.most_probes) finds.counted, le-max_right old.most_probes c.find.new.probes)) adds) tt
+          (omega (
+            arith,
+            most_after c.find.new.self _ c.count_probes.new.self _ _ _ _ begins c.count_probes.ensures,
+            ap (λ (r : ReaderState). r.most_probes) finds.counted,
+            put.probes.rises,
+          ))
+          (λ part is. adds_move old part c.in-Ok.mv _ _ is tries));
+      silent = silence_put old c.find.new.self c.count_probes.new.self c.self.inside.written _ _ _ alike held
+          (ap (λ (r : ReaderState). r.writing.is_silent) c.count_probes.ensures) first.silent.untouched put.item.silent;
+    }

@@ -1,4 +1,4 @@
-use Rattle.pgn_game.proofs.Words.{mode_written, AreSound, ◌≡◌, ℕ, List, Bor, has_pair, Part, Agrees, ◌&&◌, not, bytes_eq, codes, length, Some, refl, sym, ap, subst, ◌∙◌, kind_of, TokenKind, Mode, ExpectedName, BadTagName, DuplicateTag, TagLineTooLong, ReducedFen, Stage, AfterLeftBracket, AfterName, TagPairs, next, refusal, is_reduced, ReaderState, AreSound}
+use Rattle.pgn_game.proofs.Words.{mode_written, AreSound, ◌≡◌, ℕ, List, Bor, has_pair, Part, Agrees, ◌&&◌, not, bytes_eq, codes, length, is_some, Some, refl, sym, ap, subst, ◌∙◌, kind_of, TokenKind, Mode, ExpectedName, BadTagName, DuplicateTag, TagLineTooLong, ReducedFen, Stage, AfterLeftBracket, AfterName, TagPairs, next, refusal, is_reduced, ReaderState, AreSound}
 use Rattle.std.proofs.lemmas.Bool.{lt-ltb, le-ltb}
 use Rattle.pgn_lexer.specs.declared.token.TokenKind.TheVariants.{Symbol}
 use Rattle.pgn_game.proofs.ReaderLemmas.{name_rows, hit, pass, expected_name, name_refusal, name_next, part_stage, held_at, puts_name}
@@ -37,14 +37,14 @@ returns-then-not-is_tag_name g c =
     rows old _ _ c.requires.stage c.in-Symbol.is part agrees
     ∙ hit _ _ _ (ap not (sym c.is_tag_name.ensures ∙ c.if-not-is_tag_name.true)))
 
-pub returns-in_default-place_of_new : goal.returns-in_default-place_of_new
-returns-in_default-place_of_new g c =
+pub returns-in-Ok : goal.returns-in-Ok
+returns-in-Ok g c =
     let old = c.args.self.now in
     let v = c.self.view_is in
     refused_in_pair old _ (kind_of c.args.kind) AfterLeftBracket c.requires.stage (λ q. refl) DuplicateTag refl refl (λ part agrees.
     rows old _ _ c.requires.stage c.in-Symbol.is part agrees
     ∙ pass _ _ _ (ap not (sym c.is_tag_name.ensures ∙ c.if-not-is_tag_name.false))
-    ∙ hit _ _ _ (in_part old _ _ v c.requires.stage part agrees ∙ sym c.in_default-place_of_new.ensures.new))
+    ∙ hit _ _ _ (in_part old _ _ v c.requires.stage part agrees ∙ ap is_some c.in-Ok.ensures.value))
 
 pub returns-then-name-gt-NAME_OR_VALUE_LENGTH : goal.returns-then-name-gt-NAME_OR_VALUE_LENGTH
 returns-then-name-gt-NAME_OR_VALUE_LENGTH g c =
@@ -53,7 +53,7 @@ returns-then-name-gt-NAME_OR_VALUE_LENGTH g c =
     refused_in_pair old _ (kind_of c.args.kind) AfterLeftBracket c.requires.stage (λ q. refl) TagLineTooLong refl refl (λ part agrees.
     rows old _ _ c.requires.stage c.in-Symbol.is part agrees
     ∙ pass _ _ _ (ap not (sym c.is_tag_name.ensures ∙ c.if-not-is_tag_name.false))
-    ∙ pass _ _ _ (in_part old _ _ v c.requires.stage part agrees ∙ sym c.in-Some.ensures.new)
+    ∙ pass _ _ _ (in_part old _ _ v c.requires.stage part agrees ∙ c.in-Err.ensures.new)
     ∙ hit _ _ _ (lt-ltb 249 (length c.in-Symbol.name.now) c.if-name-gt-NAME_OR_VALUE_LENGTH.true))
 
 pub returns-then-is_reduced_fen : goal.returns-then-is_reduced_fen
@@ -63,7 +63,7 @@ returns-then-is_reduced_fen g c =
     refused_in_pair old _ (kind_of c.args.kind) AfterLeftBracket c.requires.stage (λ q. refl) ReducedFen refl refl (λ part agrees.
     rows old _ _ c.requires.stage c.in-Symbol.is part agrees
     ∙ pass _ _ _ (ap not (sym c.is_tag_name.ensures ∙ c.if-not-is_tag_name.false))
-    ∙ pass _ _ _ (in_part old _ _ v c.requires.stage part agrees ∙ sym c.in-Some.ensures.new)
+    ∙ pass _ _ _ (in_part old _ _ v c.requires.stage part agrees ∙ c.in-Err.ensures.new)
     ∙ pass _ _ _ (le-ltb 249 (length c.in-Symbol.name.now) c.if-name-gt-NAME_OR_VALUE_LENGTH.false)
     ∙ hit _ _ _ (ap (λ (m : Mode). is_reduced m && bytes_eq c.in-Symbol.name.now (codes "FEN")) (sym (ap (λ (r : ReaderState). r.profile.mode) v))
     ∙ sym c.is_reduced_fen.ensures ∙ c.if-is_reduced_fen.true))
@@ -73,8 +73,16 @@ begin-requires g c =
     let old = c.args.self.now in
     let v = c.self.view_is in
     let sound =
-    subst (λ (s : Stage). AreSound g.row.T s c.self.inside.tags) (ap (λ (r : ReaderState). r.stage) v ∙ c.requires.stage) c.self.invariant.0 in
-    (search tags_fit, (sound.0, (sound.1, (c.if-name-gt-NAME_OR_VALUE_LENGTH.false, (sym c.in-Some.ensures.new, c.in-Some.ensures.place)))))
+    subst (λ (s : Stage). AreSound g.row.T s c.self.inside.tags) (ap (λ (r : ReaderState). r.stage) v ∙ c.requires.stage) c.self.invariant.0 in (
+      search tags_fit,
+      record {
+        whole = sound.0;
+        room = sound.1;
+        fits = c.if-name-gt-NAME_OR_VALUE_LENGTH.false;
+        new = c.in-Err.ensures.new;
+        place = c.in-Err.ensures.place;
+      },
+    )
 
 pub returns : goal.returns
 returns g c =
@@ -82,7 +90,7 @@ returns g c =
     let v = c.self.view_is in
     let name = c.in-Symbol.name.now in
     let held = c.begin.new.self in
-    let fresh = ap (λ (r : ReaderState). has_pair r.tags.held name) (sym v) ∙ sym c.in-Some.ensures.new in
+    let fresh = ap (λ (r : ReaderState). has_pair r.tags.held name) (sym v) ∙ c.in-Err.ensures.new in
     step_in_pair old _ (kind_of c.args.kind) AfterLeftBracket c.requires.stage (λ q. refl) (to_name name)
     (λ o m. puts_name old _ name held o m c.requires.stage fresh
     (c.begin.ensures ∙ ap (λ (r : ReaderState). record r.tags { pending_name = Some name }) v)
@@ -91,7 +99,7 @@ returns g c =
     (λ part. adds_same (mode_written old) part (record { stage = AfterName; pairs = part.pairs; name = name; items = part.items }) refl) (λ part agrees. (
       rows old _ _ c.requires.stage c.in-Symbol.is part agrees
           ∙ pass _ _ _ (ap not (sym c.is_tag_name.ensures ∙ c.if-not-is_tag_name.false))
-          ∙ pass _ _ _ (in_part old _ _ v c.requires.stage part agrees ∙ sym c.in-Some.ensures.new)
+          ∙ pass _ _ _ (in_part old _ _ v c.requires.stage part agrees ∙ c.in-Err.ensures.new)
           ∙ pass _ _ _ (le-ltb 249 (length c.in-Symbol.name.now) c.if-name-gt-NAME_OR_VALUE_LENGTH.false)
           ∙ pass _ _ _ (ap (λ (m : Mode). is_reduced m && bytes_eq c.in-Symbol.name.now (codes "FEN"))
           (sym (ap (λ (r : ReaderState). r.profile.mode) v)) ∙ sym c.is_reduced_fen.ensures ∙ c.if-is_reduced_fen.false),
@@ -99,7 +107,7 @@ returns g c =
           ∙ name_next part name (part_stage old part AfterLeftBracket agrees c.requires.stage),
     ))
 
-pub place_of_new-requires : goal.place_of_new-requires
-place_of_new-requires g c =
+pub find-requires : goal.find-requires
+find-requires g c =
     let at = ap (λ (r : ReaderState). r.stage) c.self.view_is ∙ c.requires.stage in
     (search tags_fit, (subst (λ (stage : Stage). AreSound g.row.T stage c.self.inside.tags) at c.self.invariant.0).0)

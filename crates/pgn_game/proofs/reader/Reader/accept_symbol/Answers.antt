@@ -1,7 +1,8 @@
-use Rattle.pgn_game.proofs.Words.{◌≡◌, ℕ, List, [], Option, None, Some, Result, Err, is_some, true, false, refl, sym, ap, ◌∙◌}
+use Rattle.pgn_game.proofs.Words.{◌≡◌, ◌||◌, ℕ, List, [], Option, None, Some, Result, Err, is_some, true, false, refl, sym, ap, ◌∙◌}
 use Rattle.pgn_game.proofs.Words.{err_from_is_err_and, Device, symbol, Reason, ReaderState, Accepted, Marker, marker_of, is_number, is_score}
 use Rattle.pgn_game.specs.PutResult.{PutsItems, TakesOther}
 use Rattle.pgn_game.proofs.ReaderLemmas.{reader_alike, number_no_score, number_free, number_leads, number_untried, passes_entry}
+use Rattle.pgn_game.proofs.putting.SilentReader.{unused_call}
 use Rattle.pgn_game.proofs.reader.Reader.accept_symbol.Goals as goal
 use Rattle.pgn_game.proofs.reader.Reader.accept_symbol.Goals.{then-may_be_score_or_number+else-is_number+in_default, else-may_be_score_or_number}
 
@@ -19,17 +20,24 @@ number_entry old new s r d number puts =
           (λ part is. (number_free old.profile part s number score, number_leads part s number score)) (λ part. number_untried part s number);
     }
 
-pub returns-in_err-pass-clause-meets : goal.returns-in_err-pass-clause-meets
-returns-in_err-pass-clause-meets g c =
+pub returns-in_err-pass : goal.returns-in_err-pass
+returns-in_err-pass g c =
     let p = err_from_is_err_and c.from_residual.result c.from_residual.ensures.1 in
     rw (p.1 ∙ ap Err p.2)
-    (number_entry c.args.self.now _ c.args.text.now _ _ (sym c.is_number.ensures ∙ c.if-is_number.true) c.in_err-pass.ensures.puts)
+    (record {
+      takes = number_entry c.args.self.now _ c.args.text.now _ _ (sym c.is_number.ensures ∙ c.if-is_number.true) c.in_err-pass.ensures.takes;
+      silent = c.in_err-pass.ensures.silent;
+    })
 
-pub returns-then-is_number-clause-meets : goal.returns-then-is_number-clause-meets
-returns-then-is_number-clause-meets g c = number_entry c.args.self.now _ c.args.text.now _ _ (sym c.is_number.ensures ∙ c.if-is_number.true) c.in_ok-pass.ensures.puts
+pub returns-then-is_number : goal.returns-then-is_number
+returns-then-is_number g c = record {
+  takes = number_entry c.args.self.now _ c.args.text.now _ _ (sym c.is_number.ensures ∙ c.if-is_number.true) c.in_ok-pass.ensures.takes;
+  silent = c.in_ok-pass.ensures.silent;
+}
 
-pub returns-in-Some-clause-meets : goal.returns-in-Some-clause-meets
-returns-in-Some-clause-meets g c = record { is = sym c.in-Some.ensures.text; same = refl; unwritten = refl; still = refl }
+pub returns-in-Some : goal.returns-in-Some
+returns-in-Some g c =
+    unused_call _ _ c.args.self.now _ _ (λ o m. record { is = sym c.in-Some.ensures.text; same = refl; unwritten = refl; still = refl })
 
 no_marker : (o : Option Marker) → ((m : Marker) → o ≡ Some m → ⊥) → is_some o ≡ false
 no_marker None other = refl
@@ -38,14 +46,9 @@ no_marker (Some m) other = absurd (other m refl)
 pub accept_move-requires : goal.accept_move-requires
 accept_move-requires g c =
     let s = c.args.text.now in
-    let plain : (is_number s ≡ false) × (is_score s ≡ false) = elim c.if-may_be_score_or_number.branch [
-      | then-may_be_score_or_number+else-is_number+in_default w ↦ (
-        sym w.is_number.ensures ∙ w.if-is_number.false,
-        sym w.of_symbol.ensures.score ∙ no_marker w.of_symbol.result w.in_default.not-Some,
-      )
-      | else-may_be_score_or_number w ↦ (
-        c.may_be_score_or_number.ensures.number w.if-may_be_score_or_number.false,
-        c.may_be_score_or_number.ensures.score w.if-may_be_score_or_number.false,
-      )
+    let plain : (is_score s || is_number s) ≡ false = elim c.if-may_be_score_or_number.branch [
+      | then-may_be_score_or_number+else-is_number+in_default w ↦
+          rw (sym w.of_symbol.ensures.score ∙ no_marker w.of_symbol.result w.in_default.not-Some) (sym w.is_number.ensures ∙ w.if-is_number.false)
+      | else-may_be_score_or_number w ↦ c.may_be_score_or_number.ensures w.if-may_be_score_or_number.false
     ] in
-    (search reader_alike, (c.requires.few, (c.requires.stage, (plain.0, plain.1))))
+    (search reader_alike, (c.requires, plain))

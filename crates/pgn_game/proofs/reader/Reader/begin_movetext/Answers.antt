@@ -1,23 +1,13 @@
-use Rattle.pgn_game.proofs.Words.{◌≡◌, refl, IsTrue, sym, ◌∙◌, Appends-nil, false≢true, device, seen, Stage, AfterTags, InMovetext, may_have_movetext}
-use Rattle.pgn_game.proofs.ReaderLemmas.{reader_alike, begun_before}
+use Rattle.pgn_game.proofs.Words.{refl, Appends-nil, device, seen}
+use Rattle.pgn_game.proofs.ReaderLemmas.{begun_before}
+use Rattle.pgn_game.proofs.putting.SilentReader.{silence_kept}
 use Rattle.pgn_game.proofs.reader.Reader.begin_movetext.Goals as goal
 
--- movetext has not begun
-after_tags : (stage : Stage) → IsTrue (may_have_movetext stage) → (stage ≡ InMovetext → ⊥) → stage ≡ AfterTags
-after_tags AfterTags may before = refl
-after_tags InMovetext may before = absurd (before refl)
-after_tags _ may before = absurd (cc)
-
-pub is_in_movetext-requires : goal.is_in_movetext-requires
-is_in_movetext-requires g c = search reader_alike
-
-pub write_tags-requires : goal.write_tags-requires
-write_tags-requires g c = (
-  search reader_alike,
-  after_tags c.args.self.now.stage c.requires.stage (λ e. false≢true (sym c.if-is_in_movetext.false ∙ c.is_in_movetext.ensures.1 e)),
-)
-
-pub returns-then-is_in_movetext-clause-begins : goal.returns-then-is_in_movetext-clause-begins
-returns-then-is_in_movetext-clause-begins g c =
+pub returns-then-is_in_movetext : goal.returns-then-is_in_movetext
+returns-then-is_in_movetext g c =
+    let old = c.args.self.now in
     let d = device g.W.Sink.taken g.W.Sink.failures c.args.out.now c.args.out.now in
-    begun_before c.args.self.now (seen c.args.self.now.writing.is_silent d) (c.is_in_movetext.ensures.0 c.if-is_in_movetext.true) (Appends-nil _) refl
+    record {
+      takes = begun_before old (seen old.writing.is_silent d) (c.is_in_movetext.ensures.0 c.if-is_in_movetext.true) (Appends-nil _) refl;
+      silent = silence_kept old old _ refl;
+    }

@@ -1,9 +1,6 @@
 use Rattle.pgn_game.proofs.Words.{sym, ◌∙◌}
-use Rattle.pgn_game.proofs.ReaderLemmas.{reader_alike, move_counted, no_symbol_counted, plain_counted}
+use Rattle.pgn_game.proofs.ReaderLemmas.{move_counted, no_symbol_counted, plain_counted}
 use Rattle.pgn_game.proofs.reader.Reader.count_move.Goals as goal
-
-pub find-requires : goal.find-requires
-find-requires g c = (search reader_alike, c.new-probes.ensures)
 
 pub returns-in_default : goal.returns-in_default
 returns-in_default g c = no_symbol_counted c.args.self.now c.args.kind c.in_default.not-Symbol

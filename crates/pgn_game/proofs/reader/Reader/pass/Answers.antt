@@ -1,16 +1,22 @@
 use Rattle.pgn_game.proofs.Words.{ap, Err, ◌∙◌, err_from_is_err_and}
-use Rattle.pgn_game.proofs.ReaderLemmas.{reader_alike, puts_number, puts_unbegun}
+use Rattle.pgn_game.proofs.ReaderLemmas.{puts_number, puts_unbegun}
 use Rattle.pgn_game.proofs.reader.Reader.pass.Goals as goal
 
-pub begin_movetext-requires : goal.begin_movetext-requires
-begin_movetext-requires g c = (search reader_alike, c.requires)
-
-pub returns-in_err-begin_movetext-clause-puts : goal.returns-in_err-begin_movetext-clause-puts
-returns-in_err-begin_movetext-clause-puts g c =
+pub returns-in_err-begin_movetext : goal.returns-in_err-begin_movetext
+returns-in_err-begin_movetext g c =
     let p = err_from_is_err_and c.from_residual.result c.from_residual.ensures.1 in
-    let begins = c.in_err-begin_movetext.ensures.begins in
+    let begins = c.in_err-begin_movetext.ensures in
     rw (p.1 ∙ ap Err p.2)
-    (record { puts = puts_unbegun c.args.self.now _ _ c.in_err-begin_movetext.field-0.0 _ c.requires begins; goes_on = tt; probes = begins.probes })
+    (record {
+      takes = record {
+        puts = puts_unbegun c.args.self.now _ _ c.in_err-begin_movetext.field-0.0 _ c.requires begins.takes;
+        goes_on = tt;
+        probes = begins.takes.probes;
+      };
+      silent = begins.silent;
+    })
 
-pub returns-clause-puts : goal.returns-clause-puts
-returns-clause-puts g c = puts_number c.args.self.now _ _ c.requires c.in_ok-begin_movetext.ensures.begins
+pub returns : goal.returns
+returns g c =
+    let begins = c.in_ok-begin_movetext.ensures in
+    record { takes = puts_number c.args.self.now _ _ c.requires begins.takes; silent = begins.silent }

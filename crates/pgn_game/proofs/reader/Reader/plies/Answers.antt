@@ -1,9 +1,5 @@
 use Rattle.pgn_game.proofs.ReaderPartsFitInMemory.{text_fits}
-use Rattle.pgn_game.proofs.Words.{ap, ◌∙◌, ReaderState}
 use Rattle.pgn_game.proofs.reader.Reader.plies.Goals as goal
 
 pub plies-requires : goal.plies-requires
 plies-requires g c = search text_fits
-
-pub returns : goal.returns
-returns g c = c.plies.ensures ∙ ap (λ (r : ReaderState). r.text.plies) c.self.view_is

@@ -1,5 +1,5 @@
 use Rattle.pgn_game.proofs.Words.{◌≡◌, ◌+◌, ℕ, refl, sym, ap, ◌∙◌, ReaderState, plies_behind, Stage, Between, arith}
-use Rattle.pgn_game.proofs.ReaderLemmas.{reader_alike, text_fits}
+use Rattle.pgn_game.proofs.ReaderLemmas.{text_fits}
 use Rattle.pgn_game.proofs.reader.Reader.whole_plies.Goals as goal
 
 -- in a game its own moves are not counted yet
@@ -23,9 +23,6 @@ pub overflow_add-result : goal.overflow_add-result
 overflow_add-result g c =
     let same = ap (λ (r : ReaderState). r.earlier_plies + r.text.plies) c.self.view_is in
     omega (arith, same, c.plies.ensures, c.requires)
-
-pub is_between-requires : goal.is_between-requires
-is_between-requires g c = search reader_alike
 
 pub plies-requires : goal.plies-requires
 plies-requires g c = search text_fits

@@ -1,7 +1,7 @@
 use Rattle.pgn_game.proofs.Words.{seen, false, ◌≡◌, ℕ, List, sym, ap, Ok, Err, err_from_is_err_and, Device, AfterTags, InMovetext, Pair, known_of, tag_section, ReaderState, may_have_movetext, BeginsText, section_due_of, WritesText, refl}
 use Rattle.pgn_layout.specs.declared.sink.WriteFault.{WriteFault}
 use Rattle.pgn_game.proofs.ReaderLemmas.{tags_fit, no_name}
-use Rattle.pgn_game.proofs.putting.SilentReader.{holds_some, seen_if}
+use Rattle.pgn_game.proofs.putting.SilentReader.{holds_some, seen_if, silence_of}
 use Rattle.pgn_game.proofs.reader.Reader.write_tags.Goals as goal
 
 -- The section is that of the reader, whose fields are `held`.
@@ -42,14 +42,22 @@ pairs-requires g c = (search tags_fit, no_name g.row.T _ _ c.self.view_is (ap ma
 pub invariant_of-self : goal.invariant_of-self
 invariant_of-self g c = (no_name g.row.T _ _ c.self.view_is (ap may_have_movetext c.requires.stage) c.self.invariant.0, c.self.invariant.1, c.self.invariant.2)
 
-pub returns-in_err-write_section-clause-begins : goal.returns-in_err-write_section-clause-begins
-returns-in_err-write_section-clause-begins g c =
+pub returns-in_err-write_section : goal.returns-in_err-write_section
+returns-in_err-write_section g c =
+    let old = c.args.self.now in
     let p = err_from_is_err_and c.from_residual.result c.from_residual.ensures.1 in
+    let writes = holds_some c.self.inside.written _ _ c.self.view_is refl c.in_default.not-Nothing in
     rw p.1
-    (fails c.args.self.now _ c.pairs.result _ _ c.self.view_is c.requires.stage c.pairs.ensures c.known_missing_result.ensures
-    (holds_some c.self.inside.written _ _ c.self.view_is refl c.in_default.not-Nothing) _ c.in_err-write_section.ensures)
+    (record {
+      takes = fails old _ c.pairs.result _ _ c.self.view_is c.requires.stage c.pairs.ensures c.known_missing_result.ensures writes _ c.in_err-write_section.ensures;
+      silent = silence_of old old _ _ refl (λ silent. absurd (cc (writes, silent)));
+    })
 
-pub returns-clause-begins : goal.returns-clause-begins
-returns-clause-begins g c =
-    begins c.args.self.now _ c.pairs.result _ _ c.self.view_is c.requires.stage c.pairs.ensures c.known_missing_result.ensures
-    (holds_some c.self.inside.written _ _ c.self.view_is refl c.in_default.not-Nothing) c.in_ok-write_section.ensures
+pub returns : goal.returns
+returns g c =
+    let old = c.args.self.now in
+    let writes = holds_some c.self.inside.written _ _ c.self.view_is refl c.in_default.not-Nothing in
+    record {
+      takes = begins old _ c.pairs.result _ _ c.self.view_is c.requires.stage c.pairs.ensures c.known_missing_result.ensures writes c.in_ok-write_section.ensures;
+      silent = silence_of old _ _ _ (ap (λ (r : ReaderState). r.writing) c.self.view_is) (λ silent. absurd (cc (writes, silent)));
+    }
