@@ -245,7 +245,7 @@ class SeveralMachines(Spread):
 
     def test_a_machine_without_the_program(self):
         script = self.server.client + ' "$@"; case $* in *beta*) exit 127;; esac'
-        self.server.write("lacking", "#!/bin/sh\n" + script + "\n")
+        self.server.put("lacking", "#!/bin/sh\n" + script + "\n")
         os.chmod(self.server.folder + "/lacking", 0o755)
         jobs = self.agrees(archive(), REMOTE, PARALLEL_SSH=self.server.folder + "/lacking")
         self.assertTrue(any(job[6] != b"0" for job in jobs))
