@@ -1,6 +1,6 @@
 -- Reading the first tokens of a list, and all of them.
 -- Letters: p is the profile, b the progress, xs and ys are tokens.
-use Rattle.pgn_c.proofs.Words.{◌≡◌, ℕ, ◌≤◌, List, [], ◌∷◌, ◌++◌, length, Option, None, Some, refl, sym, ap, subst, ◌∙◌, length-append, arith, Token, Reason, Fault, Profile, Read, read, games_read, refusal}
+use Rattle.pgn_c.proofs.Words.{◌≡◌, ◌≤◌, List, [], ◌∷◌, ◌++◌, length, Option, None, Some, refl, sym, ap, subst, ◌∙◌, length-append, arith, Token, Reason, Fault, Profile, Read, read, games_read, refusal}
 use Rattle.pgn_game.specs.Game.{Game}
 use Rattle.pgn_game.specs.Progress.{Next, going, whole, next, Progress, no_progress, progress_with, progress_after, read_from}
 
@@ -9,9 +9,8 @@ abbrev after_row : Profile → Progress → Token → List Token → Option Reas
 after_row p b x xs (Some reason) = record { progress = b; fault = Some (record { at = x.at; reason = reason }) }
 after_row p b x xs None = read_from p (progress_after b x) xs
 
-by_row : (p : Profile) (b : Progress) (x : Token) (xs : List Token) (P : Read → Type 0)
-    → ((o : Option Reason) → refusal p b.part x.kind ≡ o → P (after_row p b x xs o)) → P (read_from p b (x ∷ xs))
-by_row p b x xs P each = subst P (let e : after_row p b x xs (refusal p b.part x.kind) ≡ read_from p b (x ∷ xs) = cc in e) (each (refusal p b.part x.kind) refl)
+row_is : (p : Profile) (b : Progress) (x : Token) (xs : List Token) → read_from p b (x ∷ xs) ≡ after_row p b x xs (refusal p b.part x.kind)
+row_is p b x xs = cc
 
 -- what is read of all tokens after what was read of the first
 abbrev then_read : Profile → Read → List Token → Read
@@ -19,11 +18,14 @@ then_read p r ys = elim r.fault [ Some f ↦ r | None ↦ read_from p r.progress
 
 in_two : (p : Profile) (b : Progress) (xs ys : List Token) → read_from p b (xs ++ ys) ≡ then_read p (read_from p b xs) ys
 in_two p b [] ys = refl
-in_two p b (x ∷ xs) ys = by_test (refusal p b.part x.kind) refl
+in_two p b (x ∷ xs) ys =
+    row_is p b x (xs ++ ys) ∙ by_row (refusal p b.part x.kind) (in_two p (progress_after b x) xs ys)
+    ∙ ap (λ r. then_read p r ys) (sym (row_is p b x xs))
   where
-    by_test : (o : Option Reason) → refusal p b.part x.kind ≡ o → read_from p b (x ∷ xs ++ ys) ≡ then_read p (read_from p b (x ∷ xs)) ys
-    by_test (Some reason) is = cc
-    by_test None is = cc (in_two p (progress_after b x) xs ys)
+    by_row : (o : Option Reason) → read_from p (progress_after b x) (xs ++ ys) ≡ then_read p (read_from p (progress_after b x) xs) ys
+        → after_row p b x (xs ++ ys) o ≡ then_read p (after_row p b x xs o) ys
+    by_row (Some reason) later = refl
+    by_row None later = later
 
 -- no game is lost
 games_with : (games : List Game) (to : Next) → length games ≤ length (progress_with games to).games
@@ -32,11 +34,14 @@ games_with games (whole g) = omega (arith, length-append games (g ∷ []))
 
 none_lost : (p : Profile) (b : Progress) (ys : List Token) → length b.games ≤ length (read_from p b ys).progress.games
 none_lost p b [] = omega arith
-none_lost p b (y ∷ ys) = by_row p b y ys (λ r. length b.games ≤ length r.progress.games) (λ o is. by_test o)
+none_lost p b (y ∷ ys) =
+    subst (λ (r : Read). length b.games ≤ length r.progress.games) (sym (row_is p b y ys))
+    (by_row (refusal p b.part y.kind) (none_lost p (progress_after b y) ys))
   where
-    by_test : (o : Option Reason) → length b.games ≤ length (after_row p b y ys o).progress.games
-    by_test (Some reason) = omega arith
-    by_test None = omega (arith, games_with b.games (next b.part y.kind), none_lost p (progress_after b y) ys)
+    by_row : (o : Option Reason) → length (progress_after b y).games ≤ length (read_from p (progress_after b y) ys).progress.games
+        → length b.games ≤ length (after_row p b y ys o).progress.games
+    by_row (Some reason) later = omega arith
+    by_row None later = omega (arith, games_with b.games (next b.part y.kind), later)
 
 -- The first tokens are not rejected if all of them are not.
 pub front_passes : (p : Profile) (xs ys : List Token) → (read p (xs ++ ys)).fault ≡ None → (read p xs).fault ≡ None

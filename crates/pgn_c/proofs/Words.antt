@@ -23,7 +23,7 @@ pub use Rattle.pgn_game.specs.declared.reason.Reason.TheVariants.{InputTooLong, 
 pub use Rattle.pgn_layout.specs.Device.{Device}
 pub use Rattle.pgn_lexer.specs.Tokens.{EndsAt, Kind, Token}
 pub use Rattle.pgn_lexer.specs.TokensOf.{tokens_of}
-pub use Rattle.std.proofs.Common.{Bool, Err, IsTrue, List, None, Ok, OnOk, Option, Result, Some, [], ap, append-nil, append_assoc, ap₂, arith, bytes_eq, codes, drop, false, inl, inr, length, length-append, map, min, refl, replicate, subst, sym, take, true, ℕ, ◌&&◌, ◌++◌, ◌+◌, ◌-◌, ◌<◌, ◌^◌, ◌||◌, ◌∙◌, ◌∷◌, ◌≡◌, ◌≢◌, ◌≤◌, ◌⊎◌}
+pub use Rattle.std.proofs.Common.{Bool, Err, IsTrue, List, None, Ok, OnOk, Option, Result, Some, [], ap, append-nil, append_assoc, ap₂, arith, bytes_eq, codes, drop, false, inl, inr, length, length-append, map, min, refl, replicate, subst, suc, sym, take, true, zero, ℕ, ◌&&◌, ◌++◌, ◌+◌, ◌-◌, ◌<◌, ◌^◌, ◌||◌, ◌∙◌, ◌∷◌, ◌≡◌, ◌≢◌, ◌≤◌, ◌⊎◌}
 pub use Rattle.std.proofs.Math.Seq.{length_paste_head, take-append-add}
 pub use Rattle.std.proofs.lemmas.List.{drop-drop, drop-replicate, drop_at, length-drop, length-take-le, take-append-drop, take_all, take_at, take_rest}
 pub use Rattle.std.proofs.lemmas.Slice.Eq.{bytes_eq-Decides, strip_prefix_is}

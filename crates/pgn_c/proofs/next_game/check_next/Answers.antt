@@ -15,8 +15,8 @@ returns-then-found-eq-OK c =
           (c.marker_of_number-marker.ensures marker is) c.convert_next.ensures;
       takes = takes_marker c.missing_results.ensures c.args.mode taken c.args.text.now c.args.from
           c.args.buffer.now c.convert_next.new.buffer c.convert_next.result c.convert_next.ensures;
-      converts = second.converts c.missing_results.ensures c.args.mode taken c.args.text.now c.args.from read.result read.ensures.next
-          c.if-found-eq-OK.true c.marker_of_number-marker.ensures c.args.buffer.now c.convert_next.new.buffer c.convert_next.result
+      converts = λ ok. second.converts c.missing_results.ensures c.args.mode taken c.args.text.now c.args.from read.result read.ensures.next
+          ok c.marker_of_number-marker.ensures c.args.buffer.now c.convert_next.new.buffer c.convert_next.result
           c.convert_next.ensures c.requires.within;
       not_found = λ other. absurd (other c.if-found-eq-OK.true);
     }
