@@ -7,7 +7,6 @@ use Rattle.pgn_game.proofs.MarkerTexts.{result_marker}
 use Rattle.pgn_game.proofs.reading.PairsInTurn.{all-all}
 use Rattle.pgn_game.proofs.pairs.ExportedValues.{set_up, on_roster, all-exported}
 use Rattle.pgn_game.proofs.exporting.PairsExportedAgain.{keeps_exported, by_name_values, by_name_order}
-use Rattle.pgn_game.proofs.pairs.ValuesByName.{found}
 use Rattle.pgn_game.proofs.exporting.PiecesToTokens.{IsSoundPair}
 use Rattle.pgn_game.proofs.exporting.SpelledToSound.{SoundGame, marker_is_result}
 

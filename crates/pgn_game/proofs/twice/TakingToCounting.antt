@@ -3,7 +3,7 @@
 -- Letters: q is the profile whose missing Result takes the marker, b the progress, t a token, ts
 -- are tokens.
 use Rattle.std.proofs.lemmas.Bool.{and_parts}
-use Rattle.pgn_game.proofs.Words.{Token, Profile, takes_the_marker, Game, ◌≡◌, inl, inr, Bool, true, ◌&&◌, ℕ, List, [], ◌∷◌, ◌++◌, bytes_eq, Option, None, Some, IsTrue, refl, sym, ap, ◌∙◌, list_all, list_all-append, bytes_eq-Decides, marker_text, counting, refusal, marker_of, Next, going, whole, next, Progress, progress_with, progress_after, no_progress, read_from, read}
+use Rattle.pgn_game.proofs.Words.{Token, Profile, takes_the_marker, Game, ◌≡◌, inl, inr, true, ℕ, List, [], ◌∷◌, ◌++◌, bytes_eq, Option, None, Some, IsTrue, refl, sym, ap, ◌∙◌, list_all-append, bytes_eq-Decides, counting, refusal, marker_of, Next, going, whole, next, Progress, progress_with, progress_after, read_from}
 use Rattle.pgn_game.specs.MissingResults.{all_end_with}
 use Rattle.pgn_game.proofs.tokens.OneMoreToken.{by_token, first_passes, goes_on}
 use Rattle.pgn_game.proofs.twice.MarkerCounts.{marker_finishes, refusal_counting}
