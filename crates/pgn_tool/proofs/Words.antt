@@ -42,8 +42,8 @@ pub use Rattle.pgn_tool.specs.Files.{number_after, refusal_step, taken_by, whole
 pub use Rattle.pgn_tool.specs.ListLines.{CountsReadFault, IsListed, ListResult, ListStops, ListsNoMore, game_line, line_just_finished, lines_from}
 pub use Rattle.pgn_tool.specs.ListLines.{lines_of, list_profile, listed_value, six_fields, too_long, unread}
 unfoldable pub use Rattle.pgn_tool.specs.ListLines.{finished_game_line}
-pub use Rattle.pgn_tool.specs.Machine.{Holding, IsOpened, Machine, Reading, holds, missing, reading}
-pub use Rattle.pgn_tool.specs.Program.{Carries, EndsUnopened, IsMissing, RunsAnswer, RunsOpened, RunsToOutput, RunsWords, StartsFrom, by_fault, by_task, file_source, makes_files, opened, opened_again, source_of, streams, unbuffered, unopened, unopened_again}
+pub use Rattle.pgn_tool.specs.Machine.{Holding, IsOpened, Machine, Reading, holds, missing}
+pub use Rattle.pgn_tool.specs.Program.{Carries, EndsUnopened, IsMissing, RunsAnswer, RunsWords, StartsFrom, by_fault, by_task, file_source, opened, opened_again, source_of, streams, unbuffered, unopened, unopened_again}
 pub use Rattle.pgn_tool.specs.SplitFiles.{CountsSource, CountsSplit, EndsSplit, GameSplit, IsOwn, LastFile, RunsSplit, SplitFiles, reported, settled}
 pub use Rattle.pgn_tool.specs.SplitGames.{CutFile, CutsFile, IsSplit, IsSplitWhole, Logs, LogsCut, SplitResult, SplitStops, SplitsNoMore, StopsAt}
 pub use Rattle.pgn_tool.specs.SplitGames.{files_of, texts_in, torn_file, torn_text}

@@ -10,5 +10,6 @@ pub mod Machine
 pub mod FileSystem
 pub mod Standard
 pub mod Program
+pub mod Devices
 pub mod SplitGames
 pub mod BetweenGames

@@ -4,7 +4,7 @@
 use Rattle.std.specs.Prelude.{◌≡◌, ℕ, Bool, true, false, List, Option, Result, Ok, Err}
 use Rattle.std.specs.declared.io.ErrorKind.{ErrorKind}
 use Rattle.std.specs.declared.io.ErrorKind.TheVariants.{OutOfMemory}
-use Rattle.pgn_layout.specs.Device.{Device, device}
+use Rattle.pgn_layout.specs.Device.{Device}
 use Rattle.pgn_tool.specs.declared.machine.SystemFault.{SystemFault}
 use Rattle.pgn_tool.specs.declared.machine.SystemFault.TheVariants.{Refused, NoMemory}
 use Rattle.pgn_tool.specs.Files.{FileStep}
@@ -46,45 +46,22 @@ pub record Reading : Type 0 where
   pub holding : List ℕ → Holding
   pub refuses : List ℕ → SystemFault → Bool
 
--- the same, of the states before the run and after it
-abbrev pub reading : {S : Type 0} → (S → Option (List ℕ)) → (S → ℕ) → (S → List ℕ → Holding)
-    → (S → List ℕ → SystemFault → Bool) → S → S → Reading
-reading left failures holding refuses old new = record {
-  standard = device left failures old new;
-  holding = holding old;
-  refuses = refuses old;
-}
-
--- There is a state of standard output with the bytes taken and the failures of the first one, in
--- which memory for its buffer is not lacking.
-abbrev pub HasRoom : {S : Type 0} → (S → Option (List ℕ)) → (S → ℕ) → (S → Bool) → S → Type 0
-HasRoom {S} taken failures lacks_memory old =
-    (reserved : S) × (taken reserved ≡ taken old) × (failures reserved ≡ failures old)
-    × (lacks_memory reserved ≡ false)
-
--- The devices before a run and after it. `second` reads a file that is opened once more.
--- `lacks_memory` says that there was no memory for the buffer of standard output, and `has_room`
--- that there was. `files` are the steps with files, if they are reported.
-pub record Machine : Type 1 where
-  pub input : Reading
-  pub second : Reading
+-- What a run writes to, before it and after it. `unflushed` are the bytes of standard output that
+-- are not flushed, if it reports them. `lacks_memory` says that there was no memory for its buffer,
+-- and `has_room` that there was. `files` are the steps with files, if they are reported.
+pub record Outputs : Type 1 where
   pub out : Device
+  pub unflushed : Option (List ℕ)
+  pub unflushed_after : Option (List ℕ)
   pub lacks_memory : Bool
   pub has_room : Type 0
   pub files : Option (List FileStep)
   pub files_after : Option (List FileStep)
   pub err : Device
 
--- a machine of these devices
-abbrev pub machine : Reading → Reading → Device → Bool → Type 0 → Option (List FileStep)
-    → Option (List FileStep) → Device → Machine
-machine input second out lacks_memory has_room files files_after err = record {
-  input = input;
-  second = second;
-  out = out;
-  lacks_memory = lacks_memory;
-  has_room = has_room;
-  files = files;
-  files_after = files_after;
-  err = err;
-}
+-- The devices before a run and after it. `second` reads a file that is opened once more.
+pub record Machine : Type 1 where
+  pub input : Reading
+  pub second : Reading
+  pub outputs : Outputs
+  pub open outputs use *

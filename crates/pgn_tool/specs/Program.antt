@@ -2,7 +2,7 @@
 -- command line.
 use Rattle.std.specs.Prelude.{◌≡◌, ℕ, ◌≤◌, Bool, true, false, List, [], ◌∷◌, map, codes, Option, None, Some, Result, Ok, Err, String, Vec, string_bytes}
 use Rattle.std.specs.Global.{Global}
-use Rattle.pgn_layout.specs.Device.{Device}
+use Rattle.pgn_layout.specs.Device.{Device, NoneUnflushed}
 use Rattle.pgn_game.specs.declared.reason.Reason.TheVariants.{ReadFault}
 use Rattle.pgn_game.specs.declared.mode.Mode.{Mode}
 use Rattle.pgn_game.specs.Reason.{line_of}
@@ -11,11 +11,11 @@ use Rattle.pgn_arguments.specs.declared.arguments.Task.TheVariants.{Checked, Spl
 use Rattle.pgn_arguments.specs.declared.arguments.ParseFault.{ParseFault}
 use Rattle.pgn_tool.specs.declared.machine.SystemFault.{SystemFault}
 use Rattle.pgn_tool.specs.declared.machine.SystemFault.TheVariants.{Refused, NoMemory}
-use Rattle.pgn_tool.specs.Files.{FileStep, added, entered}
-use Rattle.pgn_tool.specs.Machine.{Holding, Machine, Opens, Reading, holds, missing}
+use Rattle.pgn_tool.specs.Files.{added, entered}
+use Rattle.pgn_tool.specs.Machine.{Holding, Machine, Opens, Outputs, Reading, holds, missing}
 use Rattle.pgn_tool.specs.Replies.{AnswersFault}
 use Rattle.pgn_arguments.specs.Requests.{AnswersBy, file_of, refusals, request_in, request_of}
-use Rattle.pgn_tool.specs.TaskRun.{Answers, IsSmooth, IsUntouched, Job, Runs, Tells, job_of, line, mode_for}
+use Rattle.pgn_tool.specs.TaskRun.{Answers, IsFlushed, IsSmooth, IsUntouched, Job, Runs, Tells, job_of, line, mode_for}
 use Rattle.pgn_tool.specs.CheckedRun.{AnswersSame, AnswersTwice, RunsTwice}
 use Rattle.pgn_tool.specs.SplitFiles.{RunsSplit}
 
@@ -60,49 +60,44 @@ EndsUnopened Refused err status =
 EndsUnopened NoMemory err status = Reports (codes "out of memory") 3 err status
 
 -- a file could not be opened, which is reported, and nothing is written to standard output
-abbrev pub IsMissing : (out err : Device) (status : ℕ) → Type 0
-IsMissing out err status = (fault : SystemFault) × EndsUnopened fault err status × IsUntouched out
+abbrev pub IsMissing : Outputs → ℕ → Type 0
+IsMissing o status = (fault : SystemFault) × EndsUnopened fault o.err status × IsUntouched o.out
 
 -- A task that writes to standard output.
 -- - `unbuffered`: there is no memory for its buffer, and nothing is read or written.
 -- - `streams`: there was room for it, and the task runs. If no device fails, `Answers` says what it
 --   does with the text read.
-pub data RunsStream (job : Job) (source out : Device) (lacks_memory : Bool) (has_room : Type 0)
-    (err : Device) (status : ℕ) : Type 0 where
-  unbuffered : lacks_memory ≡ true → IsUntouched source → IsUntouched out
-      → Reports (codes "out of memory") 3 err status
-      → RunsStream job source out lacks_memory has_room err status
-  streams : has_room → status ≤ 1 → Runs job source out err status → ((s : List ℕ) → IsSmooth s source out
-      → Answers job s out err status)
-      → RunsStream job source out lacks_memory has_room err status
+pub data RunsStream (job : Job) (source : Device) (o : Outputs) (status : ℕ) : Type 0 where
+  unbuffered : o.lacks_memory ≡ true → IsUntouched source → IsUntouched o.out
+      → Reports (codes "out of memory") 3 o.err status → RunsStream job source o status
+  streams : o.has_room → status ≤ 1 → Runs job source o.out o.err status
+      → ((s : List ℕ) → IsSmooth s source o.out → Answers job s o.out o.err status)
+      → RunsStream job source o status
 
 -- A task that reads two sources, which needs that buffer too. If no device fails, `AnswersTwice`
 -- says what it does, and if both texts are the same, `AnswersSame` says more.
-pub data RunsBoth (mode : Mode) (first second out : Device) (lacks_memory : Bool)
-    (has_room : Type 0) (err : Device) (status : ℕ) : Type 0 where
-  unbuffered_twice : lacks_memory ≡ true → IsUntouched first → IsUntouched second → IsUntouched out
-      → Reports (codes "out of memory") 3 err status
-      → RunsBoth mode first second out lacks_memory has_room err status
-  streams_twice : has_room → status ≤ 1 → RunsTwice mode first second out err status
-      → ((s r : List ℕ) → IsSmooth s first out → IsSmooth r second out
-      → AnswersTwice mode s r out err status)
-      → ((s : List ℕ) → IsSmooth s first out → IsSmooth s second out
-      → AnswersSame mode s out err status)
-      → RunsBoth mode first second out lacks_memory has_room err status
+pub data RunsBoth (mode : Mode) (first second : Device) (o : Outputs) (status : ℕ) : Type 0 where
+  unbuffered_twice : o.lacks_memory ≡ true → IsUntouched first → IsUntouched second
+      → IsUntouched o.out → Reports (codes "out of memory") 3 o.err status
+      → RunsBoth mode first second o status
+  streams_twice : o.has_room → status ≤ 1 → RunsTwice mode first second o.out o.err status
+      → ((s r : List ℕ) → IsSmooth s first o.out → IsSmooth r second o.out
+      → AnswersTwice mode s r o.out o.err status)
+      → ((s : List ℕ) → IsSmooth s first o.out → IsSmooth s second o.out
+      → AnswersSame mode s o.out o.err status)
+      → RunsBoth mode first second o status
 
 -- The file that is read by now is opened once more.
 -- - `unopened_again`: it is refused, for a reason for which the machine refuses the file of this
 --   name. Nothing is read or written.
 -- - `opened_again`: it is read twice.
-pub data RunsAgain (mode : Mode) (name : List ℕ) (first : Device) (second : Reading) (out : Device)
-    (lacks_memory : Bool) (has_room : Type 0) (err : Device) (status : ℕ) : Type 0 where
+pub data RunsAgain (mode : Mode) (name : List ℕ) (first : Device) (second : Reading) (o : Outputs)
+    (status : ℕ) : Type 0 where
   unopened_again : (fault : SystemFault) → second.refuses name fault ≡ true
-      → IsUntouched first → IsUntouched second.standard → IsUntouched out
-      → EndsUnopened fault err status
-      → RunsAgain mode name first second out lacks_memory has_room err status
+      → IsUntouched first → IsUntouched second.standard → IsUntouched o.out
+      → EndsUnopened fault o.err status → RunsAgain mode name first second o status
   opened_again : (again : Device) → source_of (Some name) second ≡ Some again
-      → RunsBoth mode first again out lacks_memory has_room err status
-      → RunsAgain mode name first second out lacks_memory has_room err status
+      → RunsBoth mode first again o status → RunsAgain mode name first second o status
 
 -- only `split` makes files
 abbrev pub makes_files : Task → Bool
@@ -110,22 +105,29 @@ makes_files (Split dir file) = true
 makes_files _ = false
 
 -- A task that makes no file: `export --checked` opens its file once more, and no other task does.
-abbrev pub RunsToOutput : Task → Device → Reading → Device → Bool → Type 0 → Device → ℕ → Type 0
-RunsToOutput (Checked reduced file) source second out lacks_memory has_room err status =
-    RunsAgain (mode_for reduced) (string_bytes file) source second out lacks_memory has_room err
-    status
-RunsToOutput task source second out lacks_memory has_room err status =
-    RunsStream (job_of task) source out lacks_memory has_room err status × IsUntouched second.standard
+abbrev pub RunsToOutput : Task → Device → Reading → Outputs → ℕ → Type 0
+RunsToOutput (Checked reduced file) source second o status =
+    RunsAgain (mode_for reduced) (string_bytes file) source second o status
+RunsToOutput task source second o status =
+    RunsStream (job_of task) source o status × IsUntouched second.standard
 
 -- The task, on what is read. Only `split` makes files, in its folder, and it writes nothing to
 -- standard output.
-abbrev pub RunsOpened : Task → Device → Reading → Device → Bool → Type 0 → Option (List FileStep)
-    → Option (List FileStep) → Device → ℕ → Type 0
-RunsOpened (Split dir file) source second out lacks_memory has_room files files_after err status =
-    RunsSplit (added files (entered (string_bytes dir) ∷ [])) files_after source err status
-    × IsUntouched out × IsUntouched second.standard
-RunsOpened task source second out lacks_memory has_room files files_after err status =
-    RunsToOutput task source second out lacks_memory has_room err status × (files_after ≡ files)
+abbrev pub RunsOpened : Task → Device → Reading → Outputs → ℕ → Type 0
+RunsOpened (Split dir file) source second o status =
+    RunsSplit (added o.files (entered (string_bytes dir) ∷ [])) o.files_after source o.err status
+    × IsUntouched o.out × IsUntouched second.standard
+RunsOpened task source second o status =
+    RunsToOutput task source second o status × (o.files_after ≡ o.files)
+
+-- the task, on the input as it is
+abbrev pub RunsOnInput : Task → Machine → ℕ → Type 0
+RunsOnInput task m status = RunsOpened task m.input.standard m.second m.outputs status
+
+-- a task that reads both inputs as they are, and makes no file
+abbrev pub RunsOnBoth : Mode → Machine → ℕ → Type 0
+RunsOnBoth mode m status =
+    RunsBoth mode m.input.standard m.second.standard m.outputs status × (m.files_after ≡ m.files)
 
 -- nothing was read, and no file was made
 abbrev pub IsIdle : Machine → Type 0
@@ -142,9 +144,7 @@ pub data Carries (task : Task) (m : Machine) (status : ℕ) : Type 0 where
       → IsIdle m → IsUntouched m.out → EndsUnopened fault m.err status
       → Carries task m status
   opened : (source : Device) → source_of (file_of (request_of task)) m.input ≡ Some source
-      → RunsOpened task source m.second m.out m.lacks_memory m.has_room m.files m.files_after
-      m.err status
-      → Carries task m status
+      → RunsOpened task source m.second m.outputs status → Carries task m status
 
 -- ---- by the words
 
@@ -166,6 +166,17 @@ RunsAnswer (Err fault) m status = AnswersFault fault m.out m.err status × IsIdl
 abbrev pub EndsUnread : SystemFault → Device → ℕ → Type 0
 EndsUnread Refused err status = Reports (codes "arguments cannot be read") 2 err status
 EndsUnread NoMemory err status = Reports (codes "out of memory") 3 err status
+
+-- Nothing that standard output took is unflushed at the end, if nothing was before the run. Or a
+-- call of it failed, and the status is 1.
+abbrev pub EndsFlushed : Outputs → ℕ → Type 0
+EndsFlushed o status = NoneUnflushed o.unflushed → IsFlushed o.out o.unflushed_after status
+
+-- what a part of a run does, and how each of them ends
+pub record RunsPart (does : Machine → ℕ → Type 0) (m : Machine) (status : ℕ) : Type 0 where
+  pub runs : does m status
+  pub low : status ≤ 3
+  pub flushed : EndsFlushed m.outputs status
 
 -- what a run does, with the words of its command line or without
 abbrev pub Ran : Result (Vec (String Global) Global) SystemFault → Machine → ℕ → Type 0

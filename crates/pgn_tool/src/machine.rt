@@ -92,3 +92,15 @@ pub trait GameFolder: GameFiles {
         ensures { Self.log self.new
             ≡ added (Self.log self.old) (entered (string_bytes path) ∷ []) };
 }
+
+/// The devices of a run.
+#[derive(Drop)]
+pub struct Devices<I, O, F, E> {
+    /// Standard input, or the file that is read in its place.
+    pub input: I,
+    /// What the file is read from that is opened once more.
+    pub second: I,
+    pub out: O,
+    pub files: F,
+    pub err: E,
+}

@@ -29,7 +29,7 @@ mod stream_tests;
 mod system;
 
 use crate::folder::Folder;
-use crate::machine::SystemFault;
+use crate::machine::{Devices, SystemFault};
 use crate::standard::{StandardInput, StandardOutput};
 use crate::system::System;
 use pgn_game::Outlet;
@@ -37,17 +37,16 @@ use std::env;
 use std::process::ExitCode;
 
 fn main(rt: HostRuntime) -> ExitCode {
-    let status = run::run(
-        rt.alloc(),
-        words_of(rt),
-        &mut StandardInput::new(System::new(rt), rt.stdin()),
-        &mut StandardInput::new(System::new(rt), rt.stdin()),
-        &mut StandardOutput::new(rt.alloc(), rt.stdout()),
-        &mut Folder {
+    let mut devices = Devices {
+        input: StandardInput::new(System::new(rt), rt.stdin()),
+        second: StandardInput::new(System::new(rt), rt.stdin()),
+        out: StandardOutput::new(rt.alloc(), rt.stdout()),
+        files: Folder {
             system: System::new(rt),
         },
-        &mut Outlet::new(rt.stderr()),
-    );
+        err: Outlet::new(rt.stderr()),
+    };
+    let status = run::run(rt.alloc(), words_of(rt), &mut devices);
     ExitCode::from(status)
 }
 

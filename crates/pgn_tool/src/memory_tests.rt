@@ -14,7 +14,7 @@ use crate::devices::holds_at;
 use crate::file_system::FileSystem;
 use crate::files::GameFiles;
 use crate::folder::Folder;
-use crate::machine::{GameFolder, Input, Output, SystemFault};
+use crate::machine::{Devices, GameFolder, Input, Output, SystemFault};
 use crate::run::{run, run_task};
 use crate::split::split_to;
 use crate::standard::{StandardInput, StandardOutput};
@@ -150,14 +150,12 @@ impl<A: Abort + Copy + Drop> FileSystem for Memory<A> {
 }
 
 /// A machine in memory, with this file system.
-#[derive(Drop)]
-struct Machine<S: FileSystem> {
-    input: StandardInput<S, VecDeque<u8>>,
-    second: StandardInput<S, VecDeque<u8>>,
-    out: StandardOutput<Vec<u8>>,
-    folder: Folder<S>,
-    err: Outlet<Vec<u8>>,
-}
+type Machine<S> = Devices<
+    StandardInput<S, VecDeque<u8>>,
+    StandardOutput<Vec<u8>>,
+    Folder<S>,
+    Outlet<Vec<u8>>,
+>;
 
 /// What a run left.
 #[derive(Drop)]
@@ -183,7 +181,7 @@ fn run_errand<A: Abort + Copy + Drop>(
     text: &'static [u8],
 ) -> Ran {
     let mut machine = machine_of(rt, alloc, text);
-    let status = carry_out_on(&mut machine, alloc, errand);
+    let status = carry_out(alloc, errand, &mut machine);
     left_by(status, machine)
 }
 
@@ -206,50 +204,32 @@ pub fn owned_words(alloc: Global, words: &[&str]) -> Result<Vec<String>, AllocEr
     Ok(owned)
 }
 
-fn carry_out_on<S: FileSystem>(machine: &mut Machine<S>, alloc: Global, errand: Errand) -> u8
-    requires { machine.old.out.outlet.failures < 2 ^ 64 - 1 }
-{
-    carry_out(
-        alloc,
-        errand,
-        &mut machine.input,
-        &mut machine.second,
-        &mut machine.out,
-        &mut machine.folder,
-        &mut machine.err,
-    )
-}
-
 /// Carries out the errand, and returns the status: of an export and a split 0 if both have it.
 fn carry_out<I: Input, O: Output, F: GameFolder, E: Sink>(
     alloc: Global,
     errand: Errand,
-    input: &mut I,
-    second: &mut I,
-    out: &mut O,
-    files: &mut F,
-    err: &mut E,
+    devices: &mut Devices<I, O, F, E>,
 ) -> u8
-    requires { O.failures out.old < 2 ^ 64 - 1 }
+    requires { O.failures devices.old.out < 2 ^ 64 - 1 }
 {
     match errand {
-        Errand::Words(words) => run(alloc, Ok(words), input, second, out, files, err),
+        Errand::Words(words) => run(alloc, Ok(words), devices),
         Errand::ExportAndSplit(name) => {
-            let exported = export_named(name, input, second, out, files, err);
-            exported | split_text(two(), files, err)
+            let exported = export_named(name, devices);
+            exported | split_text(two(), &mut devices.files, &mut devices.err)
         }
     }
 }
 
 /// What a run with this status left.
 fn left_by<A: Abort + Copy + Drop>(status: u8, machine: Machine<Memory<A>>) -> Ran {
-    let Machine {
+    let Devices {
         out,
-        folder,
+        files,
         err,
         ..
     } = machine;
-    let Memory { steps, .. } = folder.system;
+    let Memory { steps, .. } = files.system;
     Ran {
         status,
         out: out.outlet.into_inner(),
@@ -269,11 +249,11 @@ fn machine_of<A: Abort + Copy + Drop>(
     let input = Memory::new(rt, alloc, text);
     let second = Memory::new(rt, alloc, text);
     let system = Memory::new(rt, alloc, text);
-    Machine {
+    Devices {
         input: StandardInput::new(input, VecDeque::new(alloc)),
         second: StandardInput::new(second, VecDeque::new(alloc)),
         out: StandardOutput::new(alloc, Vec::new(alloc)),
-        folder: Folder { system },
+        files: Folder { system },
         err: Outlet::new(Vec::new(alloc)),
     }
 }
@@ -388,22 +368,19 @@ fn splits_into_files_of_a_folder(rt: HostRuntime) -> Result<(), Fail> {
 /// Exports the file of this name. If the status is 0, the export text of the file was written.
 fn export_named<I: Input, O: Output, F: GameFolder, E: Sink>(
     name: String,
-    input: &mut I,
-    second: &mut I,
-    out: &mut O,
-    files: &mut F,
-    err: &mut E,
+    devices: &mut Devices<I, O, F, E>,
 ) -> u8
-    requires { O.failures out.old < 2 ^ 64 - 1 }
+    requires { O.failures devices.old.out < 2 ^ 64 - 1 }
     ensures { result ≡ 0 → (text : List ℕ)
-        → I.holding input.old (string_bytes name) ≡ holds (Some text) → length text ≤ 2 ^ 62
-        → Appends (O.taken out.old) (O.taken out.new) (output (profile_of 64 32 Full) text) }
+        → I.holding devices.old.input (string_bytes name) ≡ holds (Some text)
+        → length text ≤ 2 ^ 62 → Appends (O.taken devices.old.out) (O.taken devices.new.out)
+        (output (profile_of 64 32 Full) text) }
 {
     let task = Task::Export {
         reduced: false,
         file: Some(name),
     };
-    run_task(task, input, second, out, files, err)
+    run_task(task, devices)
 }
 
 /// Splits a text. If the status is 0, each of its games has a file, with its export text.

@@ -3,7 +3,7 @@ ghost use Rattle.std.specs.Prelude.{◌≡◌};
 
 use crate::devices::{Page, Reader, holds_at, memory, whole};
 use crate::files::{CreateFault, GameFiles};
-use crate::machine::{GameFolder, Input, Output, SystemFault};
+use crate::machine::{Devices, GameFolder, Input, Output, SystemFault};
 use crate::memory_tests::owned_words;
 use crate::run::run;
 use crate::stream_tests::{UNKNOWN, WON};
@@ -178,33 +178,34 @@ impl Ran {
 }
 
 fn run_words(alloc: Global, words: Result<Vec<String>, SystemFault>, has_memory: bool) -> Ran {
-    let (mut input, mut second) = (new_desk(false), new_desk(true));
-    let mut out = Screen {
-        outlet: Outlet::new(memory(alloc)),
-        buffers: 0,
-        has_memory,
-        lacks_memory: false,
+    let mut devices = Devices {
+        input: new_desk(false),
+        second: new_desk(true),
+        out: Screen {
+            outlet: Outlet::new(memory(alloc)),
+            buffers: 0,
+            has_memory,
+            lacks_memory: false,
+        },
+        files: Drawers {
+            alloc,
+            path: String::new(alloc),
+            files: 0,
+        },
+        err: Outlet::new(memory(alloc)),
     };
-    let mut folders = Drawers {
-        alloc,
-        path: String::new(alloc),
-        files: 0,
-    };
-    let mut err = Outlet::new(memory(alloc));
-    let status = run(
-        alloc,
-        words,
-        &mut input,
-        &mut second,
-        &mut out,
-        &mut folders,
-        &mut err,
-    );
+    let status = run(alloc, words, &mut devices);
+    let Devices {
+        out,
+        files,
+        err,
+        ..
+    } = devices;
     Ran {
         status,
         out: out.outlet.into_inner(),
         buffers: out.buffers,
-        files: folders.files,
+        files: files.files,
         err: err.into_inner(),
     }
 }

@@ -10,54 +10,24 @@ head = codes "[Event \"?\"]\n[Site \"?\"]\n[Date \"????.??.??\"]\n[Round \"?\"]\
 abbrev Gives : Job → List ℕ → List ℕ → ℕ → Type 0
 Gives job s text status = (text_for job s ≡ text) × (status_of (verdict (profile_for job) s) ≡ status)
 
-marker_alone : Gives (exporting Full) (codes "*") (head ++ codes "*\n\n") 0
-unfolding refusal roster
-marker_alone = (refl, refl)
-
-roster_alone : Gives (exporting Reduced) (codes "[A \"1\"] *") (head ++ codes "*\n\n") 0
-unfolding refusal roster
-roster_alone = (refl, refl)
-
-marker_differs : Gives (exporting Full) (codes "* 1-0") (head ++ codes "*\n\n") 1
-unfolding refusal roster
-marker_differs = (refl, refl)
-
-empty_input : Gives checking [] (codes "games: 0, plies: 0\n") 0
-unfolding refusal roster digits
-empty_input = (refl, refl)
-
-two_games : Gives checking (codes "* *") (codes "games: 2, plies: 0\n") 0
-unfolding refusal roster digits
-two_games = (refl, refl)
-
-no_line : Gives checking (codes "* 1-0") [] 1
-unfolding refusal roster
-no_line = (refl, refl)
-
 -- the usual first position, with LF
 abbrev first_fen : List ℕ
 first_fen = codes "rnbqkbnr/pppppppp/8/8/8/8/PPPPPPPP/RNBQKBNR w KQkq - 0 1\n"
 
-no_game : Gives listing [] [] 0
-unfolding refusal roster
-no_game = (refl, refl)
-
-two_lines : Gives listing (codes "* *") (codes "1\t?\t?\t*\t0\t" ++ first_fen ++ codes "2\t?\t?\t*\t0\t" ++ first_fen) 0
+runs : Unit {0}
 unfolding refusal roster digits finished_game_line first_position
-two_lines = (refl, refl)
-
-values_in_a_line : Gives listing (codes "[White \"A\"] [Black \"B\"] [Result \"1-0\"] 1-0") (codes "1\tA\tB\t1-0\t0\t" ++ first_fen) 0
-unfolding refusal roster digits finished_game_line first_position
-values_in_a_line = (refl, refl)
-
-lines_before_a_fault : Gives listing (codes "* 1-0") (codes "1\t?\t?\t*\t0\t" ++ first_fen) 1
-unfolding refusal roster digits finished_game_line first_position
-lines_before_a_fault = (refl, refl)
-
-counts : counting_line 12 345 ≡ codes "games: 12, plies: 345\n"
-unfolding digits
-counts = refl
-
-fault_line : line (line_of (record { at = 7; reason = UnexpectedEnd })) ≡ codes "byte 7: unexpected end of input\n"
-unfolding digits
-fault_line = refl
+runs =
+    let marker_alone : Gives (exporting Full) (codes "*") (head ++ codes "*\n\n") 0 = (refl, refl) in
+    let roster_alone : Gives (exporting Reduced) (codes "[A \"1\"] *") (head ++ codes "*\n\n") 0 = (refl, refl) in
+    let marker_differs : Gives (exporting Full) (codes "* 1-0") (head ++ codes "*\n\n") 1 = (refl, refl) in
+    let empty_input : Gives checking [] (codes "games: 0, plies: 0\n") 0 = (refl, refl) in
+    let two_games : Gives checking (codes "* *") (codes "games: 2, plies: 0\n") 0 = (refl, refl) in
+    let no_line : Gives checking (codes "* 1-0") [] 1 = (refl, refl) in
+    let no_game : Gives listing [] [] 0 = (refl, refl) in
+    let two_lines : Gives listing (codes "* *") (codes "1\t?\t?\t*\t0\t" ++ first_fen ++ codes "2\t?\t?\t*\t0\t" ++ first_fen) 0 = (refl, refl) in
+    let values_in_a_line :
+    Gives listing (codes "[White \"A\"] [Black \"B\"] [Result \"1-0\"] 1-0") (codes "1\tA\tB\t1-0\t0\t" ++ first_fen) 0 = (refl, refl) in
+    let lines_before_a_fault : Gives listing (codes "* 1-0") (codes "1\t?\t?\t*\t0\t" ++ first_fen) 1 = (refl, refl) in
+    let counts : counting_line 12 345 ≡ codes "games: 12, plies: 345\n" = refl in
+    let fault_line : line (line_of (record { at = 7; reason = UnexpectedEnd })) ≡ codes "byte 7: unexpected end of input\n" = refl in
+    tt

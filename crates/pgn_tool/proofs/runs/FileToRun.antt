@@ -1,5 +1,5 @@
 -- How a run of the program is put together from opening its file and carrying out its task.
-use Rattle.pgn_tool.proofs.Words.{◌≡◌, ◌∙◌, ℕ, Bool, true≢false, false, List, Option, None, Some, Result, Ok, Err, refl, sym, ap, IfOk, Device, Split, SystemFault, Holding, IsOpened, Machine, Reading, holds, missing, Carries, EndsUnopened, IsMissing, RunsAnswer, RunsOpened, RunsToOutput, RunsWords, StartsFrom, by_fault, by_task, file_source, makes_files, opened, source_of, unopened, IsUntouched, FileStep, none-some}
+use Rattle.pgn_tool.proofs.Words.{◌≡◌, ◌∙◌, ℕ, List, Option, None, Some, Result, Ok, Err, refl, sym, ap, IfOk, Device, SystemFault, Holding, IsOpened, Machine, Reading, holds, missing, Carries, EndsUnopened, IsMissing, RunsAnswer, RunsWords, StartsFrom, by_fault, by_task, file_source, opened, source_of, unopened, IsUntouched, none-some}
 use Rattle.pgn_arguments.specs.declared.arguments.Task.{Task}
 use Rattle.pgn_arguments.specs.declared.arguments.ParseFault.{ParseFault}
 use Rattle.pgn_arguments.specs.Requests.{AnswersBy, file_of, request_in, request_of}
@@ -34,14 +34,6 @@ unopened_is None task m status fault same starts second files out ends = absurd 
 unopened_is (Some name) task m status fault same (refuses, stays) second files out ends =
     unopened name fault same refuses (stays, second, files) out ends
 
--- the task makes no file
-pub opened_to_output : (task : Task) (first : Device) (second : Reading) (out : Device)
-    (lacks_memory : Bool) (has_room : Type 0) (files : Option (List FileStep)) (err : Device)
-    (status : ℕ) → makes_files task ≡ false → RunsToOutput task first second out lacks_memory has_room err status
-    → RunsOpened task first second out lacks_memory has_room files files err status
-opened_to_output (Split dir file) first second out lacks_memory has_room files err status not runs = absurd (true≢false not)
-opened_to_output _ first second out lacks_memory has_room files err status not runs = (runs, refl)
-
 -- the words were parsed, and what that resulted in was carried out
 pub ran_answer : (words : List (List ℕ)) (m : Machine) (status : ℕ) (answer : Result Task ParseFault)
     → IfOk answer (λ task. request_in words ≡ Some (request_of task))
@@ -51,7 +43,7 @@ ran_answer words m status (Err fault) request refused (answers, idle) = by_fault
 
 -- a file that is not there is reported, and nothing is written
 pub missing_told : (task : Task) (m : Machine) (status : ℕ) (name : List ℕ) → file_of (request_of task) ≡ Some name
-    → m.input.holding name ≡ missing → Carries task m status → IsMissing m.out m.err status
+    → m.input.holding name ≡ missing → Carries task m status → IsMissing m.outputs status
 missing_told task m status name named gone (unopened other fault same refuses idle out ends) = (fault, ends, out)
 missing_told task m status name named gone (opened source is runs) =
     absurd (none-some source (sym (ap (λ h. file_source h m.input) gone) ∙ sym (ap (λ f. source_of f m.input) named) ∙ is))

@@ -18,4 +18,4 @@ carried name m status text (opened source is ((streams room low runs answers, id
     (answers text (record { gives = gives; short = small; reads = (still.0, omega (arith, none)); writes = (still.1, calm) })).written
 
 pub returns : goal.returns
-returns g c = λ zero text held small. carried c.args.name _ _ text c.run_task.ensures.carries zero held small c.requires
+returns g c = λ zero text held small. carried c.args.name _ _ text c.run_task.ensures.carries.runs zero held small c.requires
