@@ -1,6 +1,6 @@
 -- The lines of plies in a buffer, one after another.
 use Rattle.pgn_c.proofs.Words.{◌≡◌, ℕ, ◌+◌, ◌<◌, ◌≤◌, List, [], ◌∷◌, ◌++◌, length, take, drop, sym, ap, ap₂, ◌∙◌, arith, append-nil, append_assoc, length-append, drop-drop, drop_at, take_at, length-drop, IsFilled}
-use Rattle.pgn_game.specs.LineOfPlay.{Line, Ply, behind_ply}
+use Rattle.pgn_game.specs.calls.LineOfPlay.{Line, Ply, behind_ply}
 use Rattle.pgn_c.specs.LinesOfPlay.{ply_line, ply_lines}
 
 one_more_line : (xs : List Ply) (x : Ply) → ply_lines (xs ++ x ∷ []) ≡ ply_lines xs ++ ply_line x

@@ -8,12 +8,12 @@ pub use Rattle.pgn_c.specs.TagScan.{length_to_quote, name_length, one_more, pair
 unfoldable pub use Rattle.pgn_c.specs.TagScan.{first_pair}
 pub use Rattle.pgn_c.specs.declared.game_result.PgnGame.{PgnGame}
 pub use Rattle.pgn_c.specs.declared.tag.PgnTag.{PgnTag}
-pub use Rattle.pgn_game.specs.FaultTable.{in_name, is_score, marker_of, refusal}
-pub use Rattle.pgn_game.specs.GamesRestart.{FinishesGame, games_read}
-pub use Rattle.pgn_game.specs.Markers.{marker_text}
-pub use Rattle.pgn_game.specs.Profile.{Profile}
-pub use Rattle.pgn_game.specs.Progress.{Read, due, output, read}
-pub use Rattle.pgn_game.specs.Text.{game_text, text_of}
+pub use Rattle.pgn_game.specs.games.FaultTable.{in_name, is_score, marker_of, refusal}
+pub use Rattle.pgn_game.specs.laws.GamesRestart.{FinishesGame, games_read}
+pub use Rattle.pgn_game.specs.games.Markers.{marker_text}
+pub use Rattle.pgn_game.specs.games.Profile.{Profile}
+pub use Rattle.pgn_game.specs.games.Progress.{Read, due, output, read}
+pub use Rattle.pgn_game.specs.export.Text.{game_text, text_of}
 pub use Rattle.pgn_game.specs.declared.marker.Marker.{Marker}
 pub use Rattle.pgn_game.specs.declared.marker.Marker.TheVariants.{BlackWins, Draw, Unknown, WhiteWins}
 pub use Rattle.pgn_game.specs.declared.mode.Mode.{Mode}

@@ -8,8 +8,8 @@ use Rattle.chess_text.specs.Fen.{fen_text}
 use Rattle.chess_text.specs.Uci.{uci}
 use Rattle.pgn_game.specs.declared.notation.Notation.{Notation}
 use Rattle.pgn_game.specs.declared.reason.Fault.{Fault}
-use Rattle.pgn_game.specs.LineOfPlay.{Line, Ply, line_of_text}
-use Rattle.pgn_game.specs.Reason.{number_of}
+use Rattle.pgn_game.specs.calls.LineOfPlay.{Line, Ply, line_of_text}
+use Rattle.pgn_game.specs.games.Reason.{number_of}
 use Rattle.pgn_c.specs.declared.line_of_play.PgnPlies.{PgnPlies}
 use Rattle.pgn_c.specs.Results.{IsFilled}
 

@@ -8,12 +8,12 @@ use Rattle.pgn_game.specs.declared.reason.Reason.{Reason}
 use Rattle.pgn_game.specs.declared.reason.Reason.TheVariants.{WriteFault}
 use Rattle.pgn_game.specs.declared.reason.Fault.{Fault}
 use Rattle.pgn_game.specs.declared.conversion.Totals.{Totals}
-use Rattle.pgn_game.specs.Profile.{Profile}
-use Rattle.pgn_game.specs.Reason.{number_of, line_of}
-use Rattle.pgn_game.specs.Progress.{output}
-use Rattle.pgn_game.specs.ConverterCalls.{profile_of}
-use Rattle.pgn_game.specs.Conversion.{AfterSlice, ChecksSlice}
-use Rattle.pgn_game.specs.Laws.{IsPrefix}
+use Rattle.pgn_game.specs.games.Profile.{Profile}
+use Rattle.pgn_game.specs.games.Reason.{number_of, line_of}
+use Rattle.pgn_game.specs.games.Progress.{output}
+use Rattle.pgn_game.specs.calls.ConverterCalls.{profile_of}
+use Rattle.pgn_game.specs.calls.Conversion.{AfterSlice, ChecksSlice}
+use Rattle.pgn_game.specs.laws.Laws.{IsPrefix}
 use Rattle.pgn_c.specs.declared.pgn_result.PgnResult.{PgnResult}
 
 -- The text, and zeros after it up to so many bytes.

@@ -2,7 +2,7 @@
 use Rattle.std.specs.Prelude.{◌≡◌, ◌⊎◌, ℕ, ◌+◌, ◌≤◌, List, ◌++◌, length, drop, IsTrue}
 use Rattle.std.specs.List.{list_all}
 use Rattle.pgn_layout.specs.TagLine.{escaped, tag_line}
-use Rattle.pgn_game.specs.FaultTable.{in_name}
+use Rattle.pgn_game.specs.games.FaultTable.{in_name}
 use Rattle.pgn_c.specs.declared.tag.PgnTag.{PgnTag}
 
 -- The text begins with the line of this tag pair. Its name is 1 to 255 letters, digits and

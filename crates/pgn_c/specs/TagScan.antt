@@ -4,7 +4,7 @@
 use Rattle.std.specs.Prelude.{ℕ, ◌+◌, Bool, true, false, ◌&&◌, List, [], ◌∷◌, codes, drop, Option, None, Some, option_map, ◌==◌, nat_le, if◌then◌else◌}
 use Rattle.std.specs.List.{prefix_len}
 use Rattle.pgn_layout.specs.TagLine.{needs_escape}
-use Rattle.pgn_game.specs.FaultTable.{in_name}
+use Rattle.pgn_game.specs.games.FaultTable.{in_name}
 use Rattle.pgn_c.specs.declared.tag.PairLengths.{PairLengths}
 
 -- the text after this prefix, if it begins with it

@@ -1,9 +1,9 @@
 //! The result of a call for the next game, as C gets it.
 ghost use Rattle.std.specs.Prelude.{◌≡◌, ◌-◌, None, Some, length};
 ghost use Rattle.std.specs.Option.{option_copied};
-ghost use Rattle.pgn_game.specs.Game.{Game};
-ghost use Rattle.pgn_game.specs.Markers.{marker_text};
-ghost use Rattle.pgn_game.specs.ConverterCalls.{finished_game_of, refused_position};
+ghost use Rattle.pgn_game.specs.games.Game.{Game};
+ghost use Rattle.pgn_game.specs.games.Markers.{marker_text};
+ghost use Rattle.pgn_game.specs.calls.ConverterCalls.{finished_game_of, refused_position};
 ghost use Rattle.pgn_c.specs.NextGame.{fault_result, fen_bytes, game_result, nothing, marker_number};
 ghost use Rattle.pgn_c.specs.NextGame as spec;
 

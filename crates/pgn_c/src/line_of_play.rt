@@ -1,6 +1,6 @@
 //! A line of play, as C gets it.
 ghost use Rattle.std.specs.Prelude.{◌≡◌, ◌+◌, ◌<◌, ◌≤◌, [], ◌∷◌, ◌++◌, None, Some, drop, length, take};
-ghost use Rattle.pgn_game.specs.LineOfPlay.{line_ahead, line_of_text, ply_of};
+ghost use Rattle.pgn_game.specs.calls.LineOfPlay.{line_ahead, line_of_text, ply_of};
 ghost use Rattle.pgn_c.specs.LinesOfPlay as spec;
 ghost use Rattle.pgn_c.specs.LinesOfPlay.{WritesLine, line_result};
 

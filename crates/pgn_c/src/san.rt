@@ -1,7 +1,7 @@
 //! The move that a text names in a position, as C gets it.
 ghost use Rattle.std.specs.Prelude.{◌≡◌, Some, Ok};
 ghost use Rattle.chess_rules.specs.Legal.{legal};
-ghost use Rattle.pgn_game.specs.Notations.{named_in};
+ghost use Rattle.pgn_game.specs.calls.Notations.{named_in};
 ghost use Rattle.pgn_c.specs.Positions.{failed_move, move_result, notation_of, san_result};
 
 use crate::pgn_result::{FAULT, NO_MODE, OK, padded};

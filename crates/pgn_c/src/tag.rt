@@ -1,6 +1,6 @@
 //! The tag pairs of an export text, as C gets them.
 ghost use Rattle.std.specs.Prelude.{◌≡◌, ◌+◌, ◌≤◌, IfSome, MatchOption, None, Some, length};
-ghost use Rattle.pgn_game.specs.FaultTable.{in_name};
+ghost use Rattle.pgn_game.specs.games.FaultTable.{in_name};
 ghost use Rattle.pgn_layout.specs.TagLine.{needs_escape};
 ghost use Rattle.pgn_c.specs.TagAt.{TagResult, no_tag as no_tag_result};
 ghost use Rattle.pgn_c.specs.TagScan as tag_scan;

@@ -1,7 +1,7 @@
 -- Two equal readings: the most pairs tried are those of the second one.
 use Rattle.std.proofs.lemmas.List.{append_cancel_left}
-use Rattle.pgn_game.specs.CheckedConversion.{AreTotalled, HasTaken, MostOfBoth}
-use Rattle.pgn_game.specs.EqualReadings.{EqualTotals}
+use Rattle.pgn_game.specs.calls.CheckedConversion.{AreTotalled, HasTaken, MostOfBoth}
+use Rattle.pgn_game.specs.laws.EqualReadings.{EqualTotals}
 use Rattle.pgn_game.proofs.Words.{◌≡◌, ℕ, max, Bool, true, false, List, [], ◌∷◌, ◌++◌, Option, None, Some, refl, sym, ap, subst, ◌∙◌, append-nil, arith, Token, TokensRise, RisesTo, tokens_of, Fault, Profile, takes_the_marker, Game, no_part, Next, going, whole, next, Progress, no_progress, progress_with, progress_after, Read, read, read_from, verdict, verdict_of, Mark, Comparison, compared, compared_from, marks_after, marks_from, is_changed, MostFrom, MostTried, Totals, Device, verdict_in, IsTotalled, IsTrue, play_moves}
 use Rattle.pgn_game.proofs.EqualReadings.{equal_readings, after_change, change_test, compared_same, ends, Same}
 use Rattle.pgn_game.proofs.reading.RunsToEnd.{Runs, kinds, from_read}

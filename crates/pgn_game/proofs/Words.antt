@@ -11,9 +11,9 @@ pub use Rattle.pgn_game.specs.declared.stage.Stage.TheVariants.{Between, AfterLe
 pub use Rattle.pgn_game.specs.declared.reason.Fault.{Fault}
 pub use Rattle.pgn_game.specs.declared.reason.Reason.{Reason}
 pub use Rattle.pgn_game.specs.declared.reason.Reason.TheVariants.{Lexical, ExpectedName, BadTagName, DuplicateTag, TooManyTags, ExpectedValue, BadResult, BadFen, TagLineTooLong, ExpectedBracket, SetUpWithoutFen, ReducedFen, TagInMovetext, NotAMove, IllegalMove, AmbiguousMove, MoveLimit, NoMoveBefore, TooDeep, UnmatchedClose, MarkerInVariation, ResultDiffers, UnexpectedEnd, ReadFault, WriteFault, InputTooLong, Changed}
-pub use Rattle.pgn_game.specs.Profile.{Profile, Missing, counts_as, takes_the_marker, known_result, counting, with_missing}
-pub use Rattle.pgn_game.specs.Pairs.{Pair, value_of, has_pair, comes_before, insert_pair}
-pub use Rattle.pgn_game.specs.Game.{Item, Game, Part, no_part}
+pub use Rattle.pgn_game.specs.games.Profile.{Profile, Missing, counts_as, takes_the_marker, known_result, counting, with_missing}
+pub use Rattle.pgn_game.specs.games.Pairs.{Pair, value_of, has_pair, comes_before, insert_pair}
+pub use Rattle.pgn_game.specs.games.Game.{Item, Game, Part, no_part}
 pub use Rattle.std.proofs.Common.{All, Bool, Bor, Err, IfOk, IfSome, IsErr, IsFalse, IsSome, IsSomeAnd, IsTrue, List, None, Ok, OnOk, Option, Result, Some, [], add-one, ap, append-nil, append_assoc, arith, bytes_eq, codes, cond, decimal, drop, eq-eqb, false, filter, fold, get_or, if◌then◌else◌, inl, inr, insert, is_none, is_ok, is_some, le-ltb, le_refl, length, length-append, lit<, lit≤, lt-ltb, map, max, nat_le, nat_lt, not, option_map, refl, rules, set, slice_get, subst, suc, sum, sym, take, true, true≢false, unwrap_or, zero, ℕ, ◌&&◌, ◌++◌, ◌+◌, ◌-◌, ◌<◌, ◌==◌, ◌^◌, ◌||◌, ◌↔◌, ◌∙◌, ◌∷◌, ◌≡◌, ◌≤◌, ◌⊎◌, drop_of_length-le, le_trans, length-drop, length-take, ◌*◌}
 pub use Rattle.std.proofs.ByRecursion.{All-append, All-map, All-weaker, all_kept_by}
 pub use Rattle.std.proofs.KnownBytes.{Appends-nil, Appends-trans, Consumes-kept, Consumes-nil, Consumes-trans}
@@ -39,32 +39,32 @@ pub use Rattle.chess_text.specs.Laws.{ReadingIsSpelling, TheOneMoveIsRead}
 pub use Rattle.chess_text.specs.WrittenMove.{IsMoveSymbol, WrittenMoveIsRead, WrittenMoveIsSymbol, begins_with_letter, is_move_byte}
 pub use Rattle.chess_text.specs.declared.fen.FenFault.{FenFault}
 pub use Rattle.chess_text.specs.declared.resolution.SanFault.TheVariants.{Ambiguous, NoMove}
-pub use Rattle.pgn_game.specs.Chess.{is_black_to_move}
-unfoldable pub use Rattle.pgn_game.specs.Chess.{first_position, move_of, play, position_of, text_of_move}
-pub use Rattle.pgn_game.specs.FaultTable.{Row, fen_fault_field, fen_field, fen_field_of, first_holding, has_other_result, in_name, is_at, is_at_limit, is_comment, is_end, is_many_moves, is_no_form, is_no_move, is_number, is_one_move, is_outside_tag_pairs, is_reduced, is_result, is_score, lacks_fen, levels_of_part, marker_of, position_in, result_for, row, rows, position_if_move}
-unfoldable pub use Rattle.pgn_game.specs.FaultTable.{refusal}
-pub use Rattle.pgn_game.specs.Filled.{exported_pairs, filled}
-pub use Rattle.pgn_game.specs.FixedPoint.{AreExportable, ExportIsKept, ExportIsKeptOfSource, ExportingTwice, FewPairsHaveRoom, FixedPoint, IsExportable, IsWrittenAgain, SameOutput, SameText, SliceIsKept, SourceIsKept, TagSectionFits, TextSpells, counted, games_in}
-pub use Rattle.pgn_game.specs.Game.{close_variation, open_variation}
-pub use Rattle.pgn_game.specs.ItemResult.{Adds, Annotates, Plays, PutsTokens, TriesItem, WritesItem, after_move_if, item_text, number_due, plies_in}
-pub use Rattle.pgn_game.specs.ItemResult.{tokens_due, tokens_if, LeavesSink}
-pub use Rattle.pgn_game.specs.Levels.{Level, Levels, back_to, depth, first_level, here, last_position, levels_after, levels_of, main_moves, outermost}
-pub use Rattle.pgn_game.specs.Levels.{plies_of, replayed, start_of, without_last}
-pub use Rattle.pgn_game.specs.Markers.{marker_text, missing_of}
-pub use Rattle.pgn_game.specs.Written.{bytes_seen, failures_seen, is_nothing, mode_of_written, mode_unless, seen}
-pub use Rattle.pgn_game.specs.Movetext.{HoldsLineOf, ClosesLevel, FitsLevelStore, HoldsItems, Movetext, StoredLevel, StoredLevels, before_last, code_levels, ends_in_move, inside, level_at, level_of, movetext_after_fen, movetext_from, nearest_first, only_level, places_of, stored_level, stored_levels}
-pub use Rattle.pgn_game.specs.Progress.{Next, Progress, Read, at_stage, going, in_text, items_of, move_item, next, next_in, no_progress, output, progress_after, progress_with, read, read_from, refused, totals, verdict, whole, due, verdict_of, written as written_so_far, position_at_fault}
-pub use Rattle.pgn_game.specs.PutResult.{BeginsText, Goes, Keeps, PutResult, PutsItems, TakesOutside, TakesToken, at_game_start, gain_to, section_due, section_due_of, CountsMove, EntersMovetext, Finds, FinishesNone, GoesTo, Takes, TakesEntry, TakesUnwritten, counting_probes, unused}
-pub use Rattle.pgn_game.specs.ReaderState.{KeepsSilence, Writing, mode_written, silenced, sink_of, telling, Accepted, More, Finished, Agrees, AreSound, CountsWrites, FinishesAtMarker, HoldsPairs, HoldsText, IsBehind, ReaderState, as_written, is_outside_the_table, known_of, known_text, plies_behind, whole_plies, Answers, IsAccepted, IsKnown, IsStopped, Leads, plies_next}
-pub use Rattle.pgn_game.specs.SectionLines.{other_line, roster_line, text_by}
-pub use Rattle.pgn_game.specs.Spells.{AreDistinct, AreDropped, BeginsBare, IsPair, IsResult, IsSetUp, KeepsTags, Names, Spells, SpellsGame, SpellsGames, SpellsPair, SpellsPairs, SpellsText, StandsFor, by_name, comment_close, comment_open, glyph, level_after_move, move, new_level, next_game, next_pair, no_game, no_more, no_pair, number, pair, period, token, variation, word}
-pub use Rattle.pgn_game.specs.StoredPairs.{AllAfter, AllBelow, AreInOrder, FitsPairStore, HasBegun, InOrder, TagPairs, index_of, pair_at, pairs_seen, placed}
-pub use Rattle.pgn_game.specs.TagSection.{exported, in_roster, other_pairs, roster_pairs, tag_lines, tag_section, with_set_up}
-unfoldable pub use Rattle.pgn_game.specs.TagSection.{roster}
-pub use Rattle.pgn_game.specs.Text.{Placed, full_text, game_text, has_move, is_main_move, is_move, number_before, placed_from, tokens_at, tokens_from}
-pub use Rattle.pgn_game.specs.Text.{tokens_out, torn, torn_at, torn_for, written_items, text_of as text_of_games}
-pub use Rattle.pgn_game.specs.TokenInMovetext.{IsEntry, IsOpen, ItemFits, fen_position, game_of, may_have_movetext, model_item, or_else}
-pub use Rattle.pgn_game.specs.TokenInMovetext.{text_refusal, with_items}
+pub use Rattle.pgn_game.specs.games.Chess.{is_black_to_move}
+unfoldable pub use Rattle.pgn_game.specs.games.Chess.{first_position, move_of, play, position_of, text_of_move}
+pub use Rattle.pgn_game.specs.games.FaultTable.{Row, fen_fault_field, fen_field, fen_field_of, first_holding, has_other_result, in_name, is_at, is_at_limit, is_comment, is_end, is_many_moves, is_no_form, is_no_move, is_number, is_one_move, is_outside_tag_pairs, is_reduced, is_result, is_score, lacks_fen, levels_of_part, marker_of, position_in, result_for, row, rows, position_if_move}
+unfoldable pub use Rattle.pgn_game.specs.games.FaultTable.{refusal}
+pub use Rattle.pgn_game.specs.calls.Filled.{exported_pairs, filled}
+pub use Rattle.pgn_game.specs.laws.FixedPoint.{AreExportable, ExportIsKept, ExportIsKeptOfSource, ExportingTwice, FewPairsHaveRoom, FixedPoint, IsExportable, IsWrittenAgain, SameOutput, SameText, SliceIsKept, SourceIsKept, TagSectionFits, TextSpells, counted, games_in}
+pub use Rattle.pgn_game.specs.games.Game.{close_variation, open_variation}
+pub use Rattle.pgn_game.specs.state.ItemResult.{Adds, Annotates, Plays, PutsTokens, TriesItem, WritesItem, after_move_if, item_text, number_due, plies_in}
+pub use Rattle.pgn_game.specs.state.ItemResult.{tokens_due, tokens_if, LeavesSink}
+pub use Rattle.pgn_game.specs.games.Levels.{Level, Levels, back_to, depth, first_level, here, last_position, levels_after, levels_of, main_moves, outermost}
+pub use Rattle.pgn_game.specs.games.Levels.{plies_of, replayed, start_of, without_last}
+pub use Rattle.pgn_game.specs.games.Markers.{marker_text, missing_of}
+pub use Rattle.pgn_game.specs.state.Written.{bytes_seen, failures_seen, is_nothing, mode_of_written, mode_unless, seen}
+pub use Rattle.pgn_game.specs.state.Movetext.{HoldsLineOf, ClosesLevel, FitsLevelStore, HoldsItems, Movetext, StoredLevel, StoredLevels, before_last, code_levels, ends_in_move, inside, level_at, level_of, movetext_after_fen, movetext_from, nearest_first, only_level, places_of, stored_level, stored_levels}
+pub use Rattle.pgn_game.specs.games.Progress.{Next, Progress, Read, at_stage, going, in_text, items_of, move_item, next, next_in, no_progress, output, progress_after, progress_with, read, read_from, refused, totals, verdict, whole, due, verdict_of, written as written_so_far, position_at_fault}
+pub use Rattle.pgn_game.specs.state.PutResult.{BeginsText, Goes, Keeps, PutResult, PutsItems, TakesOutside, TakesToken, at_game_start, gain_to, section_due, section_due_of, CountsMove, EntersMovetext, Finds, FinishesNone, GoesTo, Takes, TakesEntry, TakesUnwritten, counting_probes, unused}
+pub use Rattle.pgn_game.specs.state.ReaderState.{KeepsSilence, Writing, mode_written, silenced, sink_of, telling, Accepted, More, Finished, Agrees, AreSound, CountsWrites, FinishesAtMarker, HoldsPairs, HoldsText, IsBehind, ReaderState, as_written, is_outside_the_table, known_of, known_text, plies_behind, whole_plies, Answers, IsAccepted, IsKnown, IsStopped, Leads, plies_next}
+pub use Rattle.pgn_game.specs.export.SectionLines.{other_line, roster_line, text_by}
+pub use Rattle.pgn_game.specs.export.Spells.{AreDistinct, AreDropped, BeginsBare, IsPair, IsResult, IsSetUp, KeepsTags, Names, Spells, SpellsGame, SpellsGames, SpellsPair, SpellsPairs, SpellsText, StandsFor, by_name, comment_close, comment_open, glyph, level_after_move, move, new_level, next_game, next_pair, no_game, no_more, no_pair, number, pair, period, token, variation, word}
+pub use Rattle.pgn_game.specs.state.StoredPairs.{AllAfter, AllBelow, AreInOrder, FitsPairStore, HasBegun, InOrder, TagPairs, index_of, pair_at, pairs_seen, placed}
+pub use Rattle.pgn_game.specs.export.TagSection.{exported, in_roster, other_pairs, roster_pairs, tag_lines, tag_section, with_set_up}
+unfoldable pub use Rattle.pgn_game.specs.export.TagSection.{roster}
+pub use Rattle.pgn_game.specs.export.Text.{Placed, full_text, game_text, has_move, is_main_move, is_move, number_before, placed_from, tokens_at, tokens_from}
+pub use Rattle.pgn_game.specs.export.Text.{tokens_out, torn, torn_at, torn_for, written_items, text_of as text_of_games}
+pub use Rattle.pgn_game.specs.state.TokenInMovetext.{IsEntry, IsOpen, ItemFits, fen_position, game_of, may_have_movetext, model_item, or_else}
+pub use Rattle.pgn_game.specs.state.TokenInMovetext.{text_refusal, with_items}
 pub use Rattle.pgn_game.specs.declared.marker.Marker.{Marker}
 pub use Rattle.pgn_game.specs.declared.marker.Marker.TheVariants.{BlackWins, Draw, Unknown, WhiteWins}
 pub use Rattle.pgn_layout.specs.Device.{AppendsFront, Counts, Device, Writes, WritesText, device, one_more, FailsOnce, IsStill}
@@ -82,31 +82,31 @@ pub use Rattle.pgn_lexer.specs.Written.{AreEnded, IsEndedBy, IsPiece, IsReadable
 pub use Rattle.pgn_lexer.specs.declared.token.TokenKind.{TokenKind}
 pub use Rattle.chess_text.specs.MoveOfForm.{form_pairs, move_of_form, with_next}
 pub use Rattle.chess_text.specs.declared.form.Form.{Form}
-pub use Rattle.pgn_game.specs.FoundMove.{found_in}
-pub use Rattle.pgn_game.specs.Laws.{IsPrefix, DueGrows}
-unfoldable pub use Rattle.pgn_game.specs.Tried.{Costs}
+pub use Rattle.pgn_game.specs.calls.FoundMove.{found_in}
+pub use Rattle.pgn_game.specs.laws.Laws.{IsPrefix, DueGrows}
+unfoldable pub use Rattle.pgn_game.specs.calls.Tried.{Costs}
 pub use Rattle.std.proofs.lemmas.Result.{err_from_is_err_and}
-pub use Rattle.pgn_game.specs.Tried.{CostsAnswer, CostsForm}
-pub use Rattle.pgn_game.specs.ConverterCalls.{NoWriteFails, StillStands, writing_nothing, AreNext, within_limit, Converter, CountsFault, CountsMissingAs, CountsReason, FedAll, FedFault, FedGame, FedToFault, FedWhole, FinishedGame, HasRead, IsSound, ReadsUpTo, Stands, StopsIn, at_token, counting_missing_as, finished_game_of, finished_game_plies, game_in_reader_if, play_moves, profile_of, too_long, AfterFinish, Finishes, FinishesToFault, game_in_reader, Stops, unwritten, StopsWriting, games_before, position_at_stop, ProbesAtStop, has_played_move, reported_position, refused as refused_stop, IsLast as IsLastGame}
+pub use Rattle.pgn_game.specs.calls.Tried.{CostsAnswer, CostsForm}
+pub use Rattle.pgn_game.specs.calls.ConverterCalls.{NoWriteFails, StillStands, writing_nothing, AreNext, within_limit, Converter, CountsFault, CountsMissingAs, CountsReason, FedAll, FedFault, FedGame, FedToFault, FedWhole, FinishedGame, HasRead, IsSound, ReadsUpTo, Stands, StopsIn, at_token, counting_missing_as, finished_game_of, finished_game_plies, game_in_reader_if, play_moves, profile_of, too_long, AfterFinish, Finishes, FinishesToFault, game_in_reader, Stops, unwritten, StopsWriting, games_before, position_at_stop, ProbesAtStop, has_played_move, reported_position, refused as refused_stop, IsLast as IsLastGame}
 pub use Rattle.pgn_lexer.specs.Standing.{Standing, coming, waiting}
 pub use Rattle.pgn_lexer.specs.Stands.{AfterScan, FinishGivesToken, Follows, HasLeft, IsDecided, IsNext, StandsAfter, first, still}
-pub use Rattle.pgn_game.specs.Readings.{BothSoFar, HasMarked, HasMatched, Reading, changed_reason, model_mark}
-pub use Rattle.pgn_game.specs.MostTried.{CostsIf, CostsToAdd, CostsToFind, CostsToWrite, MostFrom, MostTried, Raises, Tries}
-pub use Rattle.pgn_game.specs.MostTried.{TriesUnwritten, added, is_written, none}
-pub use Rattle.pgn_game.specs.GamesCalls.{AfterNext, CountsNext, Games, HasReadAll, HaveRead, NextGame, NextStops, NoGame, ReadSoFar, at_end}
-pub use Rattle.pgn_game.specs.GamesCalls.{games_of, most_left, within}
-pub use Rattle.pgn_game.specs.Due.{Gains, gain, text_next}
-pub use Rattle.pgn_game.specs.ConverterSteps.{AfterStep, AfterStepAtEnd, AllSoFar, AtEndSoFar, EndsGame, EndsWithin, FaultAtEnd, FeedsAllSoFar, FeedsSoFar, FinishesSoFar, GainsAs, IsGoing, Meets, NotTaken, OneGame, Reaches, ReadsMore, SameGames, SoFar, StaysBetween, due_as, ended_by, fault_of, next_at, outcome_at, part_after}
-pub use Rattle.pgn_game.specs.Checked.{Comparison, Mark, checked_profile, compared, compared_from, earlier_fault, is_changed, is_other, mark_at}
-pub use Rattle.pgn_game.specs.Checked.{marks, marks_after, marks_from, torn_before, with_mark, written_by}
+pub use Rattle.pgn_game.specs.state.Readings.{BothSoFar, HasMarked, HasMatched, Reading, changed_reason, model_mark}
+pub use Rattle.pgn_game.specs.calls.MostTried.{CostsIf, CostsToAdd, CostsToFind, CostsToWrite, MostFrom, MostTried, Raises, Tries}
+pub use Rattle.pgn_game.specs.calls.MostTried.{TriesUnwritten, added, is_written, none}
+pub use Rattle.pgn_game.specs.calls.GamesCalls.{AfterNext, CountsNext, Games, HasReadAll, HaveRead, NextGame, NextStops, NoGame, ReadSoFar, at_end}
+pub use Rattle.pgn_game.specs.calls.GamesCalls.{games_of, most_left, within}
+pub use Rattle.pgn_game.specs.export.Due.{Gains, gain, text_next}
+pub use Rattle.pgn_game.specs.state.ConverterSteps.{AfterStep, AfterStepAtEnd, AllSoFar, AtEndSoFar, EndsGame, EndsWithin, FaultAtEnd, FeedsAllSoFar, FeedsSoFar, FinishesSoFar, GainsAs, IsGoing, Meets, NotTaken, OneGame, Reaches, ReadsMore, SameGames, SoFar, StaysBetween, due_as, ended_by, fault_of, next_at, outcome_at, part_after}
+pub use Rattle.pgn_game.specs.calls.Checked.{Comparison, Mark, checked_profile, compared, compared_from, earlier_fault, is_changed, is_other, mark_at}
+pub use Rattle.pgn_game.specs.calls.Checked.{marks, marks_after, marks_from, torn_before, with_mark, written_by}
 pub use Rattle.pgn_lexer.specs.Decided.{decided}
-pub use Rattle.pgn_game.specs.Conversion.{AfterConversion, AfterEnd, AfterSlice, CountsDevices, Fails, FailsOn, IsConverted, IsTotalled, MostProbes}
-pub use Rattle.pgn_game.specs.Conversion.{ReadsNoMore, verdict_in}
-pub use Rattle.pgn_game.specs.GamesSteps.{FillResult, MoreResult, MoreSoFar, ReadsSoFar, StandsWithin}
-pub use Rattle.pgn_game.specs.GamesRestart.{FinishesGame, GamesRestart, counting_also, games_read}
+pub use Rattle.pgn_game.specs.calls.Conversion.{AfterConversion, AfterEnd, AfterSlice, CountsDevices, Fails, FailsOn, IsConverted, IsTotalled, MostProbes}
+pub use Rattle.pgn_game.specs.calls.Conversion.{ReadsNoMore, verdict_in}
+pub use Rattle.pgn_game.specs.state.GamesSteps.{FillResult, MoreResult, MoreSoFar, ReadsSoFar, StandsWithin}
+pub use Rattle.pgn_game.specs.laws.GamesRestart.{FinishesGame, GamesRestart, counting_also, games_read}
 pub use Rattle.pgn_game.specs.declared.conversion.Totals.{Totals}
 pub use Rattle.pgn_lexer.specs.declared.token.LexFault.{LexFault}
-pub use Rattle.pgn_game.specs.GameEnds.{EndsByMarker, GamesEndByMarker, LastGame, TextsEndBehindMarker, TextsEndBetweenGames}
+pub use Rattle.pgn_game.specs.laws.GameEnds.{EndsByMarker, GamesEndByMarker, LastGame, TextsEndBehindMarker, TextsEndBetweenGames}
 pub use Rattle.pgn_game.specs.declared.annotation.Annotation.{Annotation}
 pub use Rattle.pgn_lexer.specs.PartialToken.{pending_in, tokens_to_come_in}
 pub use Rattle.pgn_lexer.specs.declared.token.LexReason.{LexReason}

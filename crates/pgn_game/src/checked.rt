@@ -3,16 +3,16 @@ ghost use Rattle.std.specs.Prelude.{◌≡◌, ◌-◌, ◌≤◌, ◌&&◌, ◌
 ghost use Rattle.std.specs.Prelude.{Option, OnOk};
 ghost use Rattle.pgn_layout.specs.Device.{device};
 ghost use Rattle.pgn_game.specs.declared.reason.Reason.TheVariants.{Changed};
-ghost use Rattle.pgn_game.specs.Checked.{checked_profile};
-ghost use Rattle.pgn_game.specs.CheckedConversion.{TwoReadingsConvert, TwoReadingsCount};
-ghost use Rattle.pgn_game.specs.ConverterSteps.{IsGoing};
-ghost use Rattle.pgn_game.specs.GamesSteps.{CountsReading};
-ghost use Rattle.pgn_game.specs.Markers.{marker_text};
-ghost use Rattle.pgn_game.specs.Readings.{GoesOnAfterGame, HasGiven, ReadsGame, StillGivenNone};
-ghost use Rattle.pgn_game.specs.Readings.{ReadsUpToMarker, WritesGame, as_changed, no_sink};
-ghost use Rattle.pgn_game.specs.ReaderState.{KeepsSilence, sink_of, whole_plies};
-ghost use Rattle.pgn_game.specs.Written.{bytes_seen};
-ghost use Rattle.pgn_game.specs.Size.{HoldsTwice};
+ghost use Rattle.pgn_game.specs.calls.Checked.{checked_profile};
+ghost use Rattle.pgn_game.specs.calls.CheckedConversion.{TwoReadingsConvert, TwoReadingsCount};
+ghost use Rattle.pgn_game.specs.state.ConverterSteps.{IsGoing};
+ghost use Rattle.pgn_game.specs.state.GamesSteps.{CountsReading};
+ghost use Rattle.pgn_game.specs.games.Markers.{marker_text};
+ghost use Rattle.pgn_game.specs.state.Readings.{GoesOnAfterGame, HasGiven, ReadsGame, StillGivenNone};
+ghost use Rattle.pgn_game.specs.state.Readings.{ReadsUpToMarker, WritesGame, as_changed, no_sink};
+ghost use Rattle.pgn_game.specs.state.ReaderState.{KeepsSilence, sink_of, whole_plies};
+ghost use Rattle.pgn_game.specs.state.Written.{bytes_seen};
+ghost use Rattle.pgn_game.specs.state.Size.{HoldsTwice};
 
 use crate::conversion::Totals;
 use crate::converter::Converter;
@@ -98,7 +98,7 @@ struct Reading<const T: usize, const L: usize> {
 }
 
 impl<const T: usize, const L: usize> Model for Reading<T, L> {
-    ghost use Rattle.pgn_game.specs.Readings.{Reading as Seen};
+    ghost use Rattle.pgn_game.specs.state.Readings.{Reading as Seen};
 
     ghost Value = { Seen };
 

@@ -1,15 +1,15 @@
 //! Converts a whole input.
 ghost use Rattle.std.specs.Prelude.{◌≡◌, ◌-◌, ◌≤◌, ◌^◌, [], length, None, OnOk, IfSome};
 ghost use Rattle.pgn_layout.specs.Device.{device, nowhere};
-ghost use Rattle.pgn_game.specs.ConverterCalls.{CountsFault, Stands, profile_of};
-ghost use Rattle.pgn_game.specs.ConverterSteps.{IsGoing};
-ghost use Rattle.pgn_game.specs.Profile.{Profile};
-ghost use Rattle.pgn_game.specs.Written.{bytes_seen};
-ghost use Rattle.pgn_game.specs.ReaderState.{sink_of, whole_plies};
-ghost use Rattle.pgn_game.specs.Size.{Holds};
-ghost use Rattle.pgn_game.specs.Conversion.{AfterConversion, AfterSlice, Concludes};
-ghost use Rattle.pgn_game.specs.Conversion.{Checks, ChecksSlice, Converts, ConvertsSlice};
-ghost use Rattle.pgn_game.specs.Conversion.{CountsResult, CountsSink};
+ghost use Rattle.pgn_game.specs.calls.ConverterCalls.{CountsFault, Stands, profile_of};
+ghost use Rattle.pgn_game.specs.state.ConverterSteps.{IsGoing};
+ghost use Rattle.pgn_game.specs.games.Profile.{Profile};
+ghost use Rattle.pgn_game.specs.state.Written.{bytes_seen};
+ghost use Rattle.pgn_game.specs.state.ReaderState.{sink_of, whole_plies};
+ghost use Rattle.pgn_game.specs.state.Size.{Holds};
+ghost use Rattle.pgn_game.specs.calls.Conversion.{AfterConversion, AfterSlice, Concludes};
+ghost use Rattle.pgn_game.specs.calls.Conversion.{Checks, ChecksSlice, Converts, ConvertsSlice};
+ghost use Rattle.pgn_game.specs.calls.Conversion.{CountsResult, CountsSink};
 
 use crate::converter::Converter;
 use crate::games::next_game;

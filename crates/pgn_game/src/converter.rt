@@ -3,27 +3,27 @@ ghost use Rattle.std.specs.Prelude.{◌≡◌, ◌+◌, ◌-◌, ◌*◌, ◌≤
 ghost use Rattle.std.specs.Prelude.{None, Some, Ok, Err, IsTrue, option_map, is_ok, IfOk, OnErr, length, take};
 ghost use Rattle.std.specs.Option.{option_copied};
 ghost use Rattle.pgn_layout.specs.Device.{WritesText, device};
-ghost use Rattle.pgn_game.specs.Markers.{marker_text};
-ghost use Rattle.pgn_game.specs.ConverterCalls.{finished_game_marker, finished_game_section};
+ghost use Rattle.pgn_game.specs.games.Markers.{marker_text};
+ghost use Rattle.pgn_game.specs.calls.ConverterCalls.{finished_game_marker, finished_game_section};
 ghost use Rattle.pgn_lexer.specs.Standing.{waiting};
 ghost use Rattle.pgn_lexer.specs.WhiteSpace.{white_space};
 ghost use Rattle.pgn_game.specs.declared.converter.Fed.TheVariants as fed;
 ghost use Rattle.pgn_game.specs.declared.reason.Reason.TheVariants.{InputTooLong, Lexical, ReadFault};
 ghost use Rattle.pgn_game.specs.declared.stage.Stage.TheVariants.{InMovetext};
-ghost use Rattle.pgn_game.specs.ConverterSteps.{IsBeforePiece, IsBeforeToken, IsGoing, IsReady};
-ghost use Rattle.pgn_game.specs.ConverterSteps.{Steps, StepsAtEnd, FeedsFront, FeedsToMarker};
-ghost use Rattle.pgn_game.specs.ConverterSteps.{GoesToMarker, GoesToEndOfPiece, EndsToMarker};
-ghost use Rattle.pgn_game.specs.ConverterSteps.{EndsGame, CountsGame, fault_of, outcome_at};
-ghost use Rattle.pgn_game.specs.ConverterSteps.{taking_marker, announcing};
-ghost use Rattle.pgn_game.specs.ConverterCalls.{Stands, Feeds, KeepsGames, FeedsAll, Ends};
-ghost use Rattle.pgn_game.specs.ConverterCalls.{Again, KeepsFault, CountsFault, Advances, profile_of};
-ghost use Rattle.pgn_game.specs.ConverterCalls.{used_of, finished_game_value};
-ghost use Rattle.pgn_game.specs.ConverterCalls.{finished_game_plies, finished_game_position};
-ghost use Rattle.pgn_game.specs.ConverterCalls.{refused_position};
-ghost use Rattle.pgn_game.specs.ConverterCalls.{CountsMissingAs, counting_missing_as};
-ghost use Rattle.pgn_game.specs.ReaderState.{KeepsSilence, sink_of, whole_plies};
-ghost use Rattle.pgn_game.specs.ConverterCalls.{NoWriteFails, StillStands, writing_nothing};
-ghost use Rattle.pgn_game.specs.ConverterCalls.{ReadsByMarker, reading_by_marker};
+ghost use Rattle.pgn_game.specs.state.ConverterSteps.{IsBeforePiece, IsBeforeToken, IsGoing, IsReady};
+ghost use Rattle.pgn_game.specs.state.ConverterSteps.{Steps, StepsAtEnd, FeedsFront, FeedsToMarker};
+ghost use Rattle.pgn_game.specs.state.ConverterSteps.{GoesToMarker, GoesToEndOfPiece, EndsToMarker};
+ghost use Rattle.pgn_game.specs.state.ConverterSteps.{EndsGame, CountsGame, fault_of, outcome_at};
+ghost use Rattle.pgn_game.specs.state.ConverterSteps.{taking_marker, announcing};
+ghost use Rattle.pgn_game.specs.calls.ConverterCalls.{Stands, Feeds, KeepsGames, FeedsAll, Ends};
+ghost use Rattle.pgn_game.specs.calls.ConverterCalls.{Again, KeepsFault, CountsFault, Advances, profile_of};
+ghost use Rattle.pgn_game.specs.calls.ConverterCalls.{used_of, finished_game_value};
+ghost use Rattle.pgn_game.specs.calls.ConverterCalls.{finished_game_plies, finished_game_position};
+ghost use Rattle.pgn_game.specs.calls.ConverterCalls.{refused_position};
+ghost use Rattle.pgn_game.specs.calls.ConverterCalls.{CountsMissingAs, counting_missing_as};
+ghost use Rattle.pgn_game.specs.state.ReaderState.{KeepsSilence, sink_of, whole_plies};
+ghost use Rattle.pgn_game.specs.calls.ConverterCalls.{NoWriteFails, StillStands, writing_nothing};
+ghost use Rattle.pgn_game.specs.calls.ConverterCalls.{ReadsByMarker, reading_by_marker};
 
 use crate::marker::{Mark, Marker, MissingResult};
 use crate::mode::Mode;
@@ -107,8 +107,8 @@ pub struct Converter<const T: usize, const L: usize> {
 }
 
 impl<const T: usize, const L: usize> Model for Converter<T, L> {
-    ghost use Rattle.pgn_game.specs.ConverterCalls.{Converter as Seen};
-    ghost use Rattle.pgn_game.specs.ConverterCalls.{game_in_reader_if, IsSound};
+    ghost use Rattle.pgn_game.specs.calls.ConverterCalls.{Converter as Seen};
+    ghost use Rattle.pgn_game.specs.calls.ConverterCalls.{game_in_reader_if, IsSound};
 
     ghost Value = { Seen };
 

@@ -1,10 +1,10 @@
 //! The move that a symbol in movetext names.
 ghost use Rattle.std.specs.Prelude.{◌≡◌, ◌<◌, ◌≤◌, Some, IfOk, OnOk};
 ghost use Rattle.chess_rules.specs.Legal.{legal};
-ghost use Rattle.pgn_game.specs.Chess.{move_of};
-ghost use Rattle.pgn_game.specs.FaultTable as spec;
-ghost use Rattle.pgn_game.specs.FoundMove.{NamesMove, found_in};
-ghost use Rattle.pgn_game.specs.Tried.{Costs};
+ghost use Rattle.pgn_game.specs.games.Chess.{move_of};
+ghost use Rattle.pgn_game.specs.games.FaultTable as spec;
+ghost use Rattle.pgn_game.specs.calls.FoundMove.{NamesMove, found_in};
+ghost use Rattle.pgn_game.specs.calls.Tried.{Costs};
 
 use crate::reason::Reason;
 use chess_rules::{Colour, Move, Position, Probes, position_after};

@@ -1,15 +1,15 @@
 //! Laws of the definitions that the contracts cite. The functions do nothing.
-ghost use Rattle.pgn_game.specs.Laws as laws;
-ghost use Rattle.pgn_game.specs.GamesJoined as games_joined;
-ghost use Rattle.pgn_game.specs.GameEnds as game_ends;
-ghost use Rattle.pgn_game.specs.GamesRestart as restart;
-ghost use Rattle.pgn_game.specs.MovesAreLegal as legality;
-ghost use Rattle.pgn_game.specs.MovetextLines as on_lines;
-ghost use Rattle.pgn_game.specs.FixedPoint as fixed;
-ghost use Rattle.pgn_game.specs.UniqueReading as unique;
-ghost use Rattle.pgn_game.specs.EqualReadings as equal;
-ghost use Rattle.pgn_game.specs.MissingResults as missing;
-ghost use Rattle.pgn_game.specs.SilentReadings as silent;
+ghost use Rattle.pgn_game.specs.laws.Laws as laws;
+ghost use Rattle.pgn_game.specs.laws.GamesJoined as games_joined;
+ghost use Rattle.pgn_game.specs.laws.GameEnds as game_ends;
+ghost use Rattle.pgn_game.specs.laws.GamesRestart as restart;
+ghost use Rattle.pgn_game.specs.laws.MovesAreLegal as legality;
+ghost use Rattle.pgn_game.specs.export.MovetextLines as on_lines;
+ghost use Rattle.pgn_game.specs.laws.FixedPoint as fixed;
+ghost use Rattle.pgn_game.specs.laws.UniqueReading as unique;
+ghost use Rattle.pgn_game.specs.laws.EqualReadings as equal;
+ghost use Rattle.pgn_game.specs.laws.MissingResults as missing;
+ghost use Rattle.pgn_game.specs.laws.SilentReadings as silent;
 
 use chess_rules::laws::{a_legal_move_leaves_a_position, candidates_are_few};
 use chess_text::laws::{

@@ -1,7 +1,7 @@
 //! The levels of movetext: the game's own, and those of the variations that are open.
 ghost use Rattle.std.specs.Prelude.{◌≡◌, ◌+◌, ◌<◌, ◌≤◌, ◌∷◌, None, Some, IsSome, IfSome, is_some, length};
-ghost use Rattle.pgn_game.specs.Chess.{first_position};
-ghost use Rattle.pgn_game.specs.Movetext.{level_at, level_of, only_level, ClosesLevel, IsDepth};
+ghost use Rattle.pgn_game.specs.games.Chess.{first_position};
+ghost use Rattle.pgn_game.specs.state.Movetext.{level_at, level_of, only_level, ClosesLevel, IsDepth};
 
 use arrayvec::ArrayVec;
 use chess_rules::Position;
@@ -35,7 +35,7 @@ pub struct Levels<const L: usize> {
 }
 
 impl<const L: usize> Model for Levels<L> {
-    ghost use Rattle.pgn_game.specs.Movetext.{StoredLevels as Seen, FitsLevelStore, code_levels};
+    ghost use Rattle.pgn_game.specs.state.Movetext.{StoredLevels as Seen, FitsLevelStore, code_levels};
 
     ghost Value = { Seen };
 

@@ -3,9 +3,9 @@ ghost use Rattle.std.specs.Prelude.{◌≡◌, ◌≤◌, length, is_some, optio
 ghost use Rattle.pgn_layout.specs.Lines.{IsToken};
 ghost use Rattle.pgn_layout.specs.TagLine.{escaped};
 ghost use Rattle.pgn_lexer.specs.Tokens.{symbol};
-ghost use Rattle.pgn_game.specs.Markers.{marker_text, missing_of};
-ghost use Rattle.pgn_game.specs.Profile.{known_result};
-ghost use Rattle.pgn_game.specs.FaultTable.{is_score, marker_of, result_for};
+ghost use Rattle.pgn_game.specs.games.Markers.{marker_text, missing_of};
+ghost use Rattle.pgn_game.specs.games.Profile.{known_result};
+ghost use Rattle.pgn_game.specs.games.FaultTable.{is_score, marker_of, result_for};
 
 /// A termination marker, which is also a value of Result (PGN 8.2.6).
 #[derive(Clone, Copy, Debug, PartialEq, Eq)]

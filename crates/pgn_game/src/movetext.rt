@@ -1,17 +1,17 @@
 //! The movetext of a game: each item is written when it is read.
 ghost use Rattle.std.specs.Prelude.{◌≡◌, ◌-◌, ◌^◌, ◌<◌, ◌≤◌, Some, is_some, length};
 ghost use Rattle.pgn_layout.specs.Device.{device};
-ghost use Rattle.pgn_game.specs.Chess.{first_position};
-ghost use Rattle.pgn_game.specs.Game as games;
-ghost use Rattle.pgn_game.specs.Movetext.{IsDepth, movetext_from, movetext_after_fen};
-ghost use Rattle.pgn_game.specs.TokenInMovetext.{ItemFits, model_item};
-ghost use Rattle.pgn_game.specs.Written.{mode_of_written};
-ghost use Rattle.pgn_game.specs.MostTried.{is_written};
+ghost use Rattle.pgn_game.specs.games.Chess.{first_position};
+ghost use Rattle.pgn_game.specs.games.Game as games;
+ghost use Rattle.pgn_game.specs.state.Movetext.{IsDepth, movetext_from, movetext_after_fen};
+ghost use Rattle.pgn_game.specs.state.TokenInMovetext.{ItemFits, model_item};
+ghost use Rattle.pgn_game.specs.state.Written.{mode_of_written};
+ghost use Rattle.pgn_game.specs.calls.MostTried.{is_written};
 ghost use Rattle.chess_rules.specs.declared.position.Move.{Move as MoveSeen};
 ghost use Rattle.pgn_game.specs.declared.mode.Mode.TheVariants as modes;
-ghost use Rattle.pgn_game.specs.ItemResult.{Adds, Annotates, ItemCall, MayPutMove, MayWriteMove, Plays};
-ghost use Rattle.pgn_game.specs.ItemResult.{PutsTokens, TriesToWrite, WritesItem};
-ghost use Rattle.pgn_game.specs.ItemResult.{number_due, tokens_due};
+ghost use Rattle.pgn_game.specs.state.ItemResult.{Adds, Annotates, ItemCall, MayPutMove, MayWriteMove, Plays};
+ghost use Rattle.pgn_game.specs.state.ItemResult.{PutsTokens, TriesToWrite, WritesItem};
+ghost use Rattle.pgn_game.specs.state.ItemResult.{number_due, tokens_due};
 
 use crate::annotation::Annotation;
 use crate::levels::Levels;
@@ -31,7 +31,7 @@ pub struct Movetext<const L: usize> {
 }
 
 impl<const L: usize> Model for Movetext<L> {
-    ghost use Rattle.pgn_game.specs.Movetext.{Movetext as Seen};
+    ghost use Rattle.pgn_game.specs.state.Movetext.{Movetext as Seen};
 
     ghost Value = { Seen };
 

@@ -2,8 +2,8 @@
 ghost use Rattle.std.specs.Prelude.{◌≡◌, ◌≤◌, Some, IfOk};
 ghost use Rattle.chess_rules.specs.Legal.{legal};
 ghost use Rattle.chess_text.specs.Uci.{move_of_uci};
-ghost use Rattle.pgn_game.specs.FoundMove.{found_in};
-ghost use Rattle.pgn_game.specs.Notations as spec;
+ghost use Rattle.pgn_game.specs.calls.FoundMove.{found_in};
+ghost use Rattle.pgn_game.specs.calls.Notations as spec;
 
 use crate::find::{find_move, is_at_limit};
 use crate::reason::Reason;

@@ -18,8 +18,8 @@ pub struct TagPair {
 impl Model for TagPair {
     ghost use Rattle.std.specs.Prelude.{◌+◌, ◌≤◌, length, take, drop};
     ghost use Rattle.pgn_layout.specs.TagLine.{escaped};
-    ghost use Rattle.pgn_game.specs.Pairs.{Pair};
-    ghost use Rattle.pgn_game.specs.StoredPairs.{FitsOnLine};
+    ghost use Rattle.pgn_game.specs.games.Pairs.{Pair};
+    ghost use Rattle.pgn_game.specs.state.StoredPairs.{FitsOnLine};
 
     ghost Value = { Pair };
 

@@ -5,23 +5,23 @@ ghost use Rattle.std.specs.Option.{option_copied};
 ghost use Rattle.pgn_layout.specs.Device.{WritesText, device};
 ghost use Rattle.pgn_lexer.specs.Tokens.{HasLength, left_paren, right_paren, symbol};
 ghost use Rattle.pgn_lexer.specs.Scanned.{kind_of};
-ghost use Rattle.pgn_game.specs.Pairs.{value_of};
-ghost use Rattle.pgn_game.specs.Chess.{first_position};
-ghost use Rattle.pgn_game.specs.TagSection.{exported, tag_section};
+ghost use Rattle.pgn_game.specs.games.Pairs.{value_of};
+ghost use Rattle.pgn_game.specs.games.Chess.{first_position};
+ghost use Rattle.pgn_game.specs.export.TagSection.{exported, tag_section};
 ghost use Rattle.pgn_game.specs.declared.stage.Stage.TheVariants.{Between, AfterLeftBracket, AfterName};
 ghost use Rattle.pgn_game.specs.declared.stage.Stage.TheVariants.{AfterValue, AfterTags, InMovetext};
-ghost use Rattle.pgn_game.specs.Profile.{counts_as, known_result};
-ghost use Rattle.pgn_game.specs.Markers.{marker_text, missing_of};
-ghost use Rattle.pgn_game.specs.Movetext.{movetext_from};
-ghost use Rattle.pgn_game.specs.ReaderState.{ReaderCall, known_of, silenced, telling, whole_plies};
-ghost use Rattle.pgn_game.specs.TokenInMovetext.{ItemFits, MayTakeMove, may_have_movetext};
-ghost use Rattle.pgn_game.specs.TokenInMovetext.{model_item};
-ghost use Rattle.pgn_game.specs.TokenInMovetext.{fen_position as position_in_fen};
-ghost use Rattle.pgn_game.specs.PutResult.{BeginsText, CountsMove, Finds, MeetsEntry, PutsItems};
-ghost use Rattle.pgn_game.specs.PutResult.{TakesEntry, TakesMarker, TakesOutside, TakesUnlessMarker};
-ghost use Rattle.pgn_game.specs.PutResult.{TakesUnwritten, at_game_start, continued, no_marker};
-ghost use Rattle.pgn_game.specs.FaultTable as spec;
-ghost use Rattle.pgn_game.specs.FaultTable.{is_reduced, result_for};
+ghost use Rattle.pgn_game.specs.games.Profile.{counts_as, known_result};
+ghost use Rattle.pgn_game.specs.games.Markers.{marker_text, missing_of};
+ghost use Rattle.pgn_game.specs.state.Movetext.{movetext_from};
+ghost use Rattle.pgn_game.specs.state.ReaderState.{ReaderCall, known_of, silenced, telling, whole_plies};
+ghost use Rattle.pgn_game.specs.state.TokenInMovetext.{ItemFits, MayTakeMove, may_have_movetext};
+ghost use Rattle.pgn_game.specs.state.TokenInMovetext.{model_item};
+ghost use Rattle.pgn_game.specs.state.TokenInMovetext.{fen_position as position_in_fen};
+ghost use Rattle.pgn_game.specs.state.PutResult.{BeginsText, CountsMove, Finds, MeetsEntry, PutsItems};
+ghost use Rattle.pgn_game.specs.state.PutResult.{TakesEntry, TakesMarker, TakesOutside, TakesUnlessMarker};
+ghost use Rattle.pgn_game.specs.state.PutResult.{TakesUnwritten, at_game_start, continued, no_marker};
+ghost use Rattle.pgn_game.specs.games.FaultTable as spec;
+ghost use Rattle.pgn_game.specs.games.FaultTable.{is_reduced, result_for};
 
 use crate::annotation::Annotation;
 use crate::find::named_move;
@@ -72,9 +72,9 @@ pub struct Reader<const T: usize, const L: usize> {
 
 impl<const T: usize, const L: usize> Model for Reader<T, L> {
     ghost use Rattle.std.specs.Prelude.{◌≡◌, ◌-◌, ◌≤◌, option_map};
-    ghost use Rattle.pgn_game.specs.Markers.{marker_text, missing_of};
-    ghost use Rattle.pgn_game.specs.ReaderState.{ReaderState, AreSound};
-    ghost use Rattle.pgn_game.specs.Written.{is_nothing, mode_of_written, mode_unless};
+    ghost use Rattle.pgn_game.specs.games.Markers.{marker_text, missing_of};
+    ghost use Rattle.pgn_game.specs.state.ReaderState.{ReaderState, AreSound};
+    ghost use Rattle.pgn_game.specs.state.Written.{is_nothing, mode_of_written, mode_unless};
 
     ghost Value = { ReaderState };
 

@@ -1,6 +1,6 @@
 //! Why an input is rejected, and where.
 ghost use Rattle.std.specs.Prelude.{◌≡◌, ◌+◌, ◌≤◌, ◌++◌, length};
-ghost use Rattle.pgn_game.specs.Reason.{number_of, words_of, line_of, lexical_number_of, lexical_words_of};
+ghost use Rattle.pgn_game.specs.games.Reason.{number_of, words_of, line_of, lexical_number_of, lexical_words_of};
 
 use arrayvec::ArrayVec;
 use itoa::Buffer;

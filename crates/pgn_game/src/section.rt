@@ -3,12 +3,12 @@ ghost use Rattle.std.specs.Prelude.{◌≡◌, ◌+◌, ◌<◌, ◌≤◌, Some
 ghost use Rattle.std.specs.Option.{option_copied};
 ghost use Rattle.pgn_layout.specs.Device.{WritesText, device};
 ghost use Rattle.pgn_layout.specs.TagLine.{escaped};
-ghost use Rattle.pgn_game.specs.Markers.{missing_of};
-ghost use Rattle.pgn_game.specs.Profile.{known_result};
-ghost use Rattle.pgn_game.specs.Pairs.{value_of, has_pair};
-ghost use Rattle.pgn_game.specs.SectionLines.{text_by, roster_line, other_line};
-ghost use Rattle.pgn_game.specs.StoredPairs.{ValueResult};
-ghost use Rattle.pgn_game.specs.TagSection.{roster, in_roster, exported, other_pairs, tag_lines, tag_section, with_set_up};
+ghost use Rattle.pgn_game.specs.games.Markers.{missing_of};
+ghost use Rattle.pgn_game.specs.games.Profile.{known_result};
+ghost use Rattle.pgn_game.specs.games.Pairs.{value_of, has_pair};
+ghost use Rattle.pgn_game.specs.export.SectionLines.{text_by, roster_line, other_line};
+ghost use Rattle.pgn_game.specs.state.StoredPairs.{ValueResult};
+ghost use Rattle.pgn_game.specs.export.TagSection.{roster, in_roster, exported, other_pairs, tag_lines, tag_section, with_set_up};
 
 use crate::marker::{Marker, MissingResult};
 use crate::mode::Mode;

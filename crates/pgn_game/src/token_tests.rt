@@ -2,7 +2,7 @@
 ghost use Rattle.std.specs.Prelude.{◌≡◌, ◌||◌, false};
 ghost use Rattle.std.specs.List.{list_all};
 ghost use Rattle.pgn_lexer.specs.Scanned.{kind_of};
-ghost use Rattle.pgn_game.specs.FaultTable as spec;
+ghost use Rattle.pgn_game.specs.games.FaultTable as spec;
 
 use crate::marker::Marker;
 use pgn_lexer::TokenKind;

@@ -10,22 +10,22 @@ pub use Rattle.std.specs.Global.{Global}
 pub use Rattle.std.specs.Io.KnownBytes.{Appends, Consumes, IsAtEnd, Keeps, WriteAppends, append_known}
 pub use Rattle.std.specs.Prelude.{Err, IfOk, Ok, OnOk, String, codes, if◌then◌else◌, is_ok, option_map, string_bytes}
 pub use Rattle.pgn_arguments.specs.declared.arguments.Task.TheVariants.{Export, Split}
-pub use Rattle.pgn_game.specs.CheckedConversion.{AreConverted, CountsThree, FirstStops, HasTaken, OneFails, SecondStops, TwoReadingsConvert, TwoReadingsFail, WriteStops, first_too_long, first_unread, second_too_long, second_unread, unwritten}
-pub use Rattle.pgn_game.specs.Conversion.{AfterConversion, CountsDevices, Decides, Fails, IsConverted, IsTokenPrefix}
-pub use Rattle.pgn_game.specs.ConverterCalls.{AreNext, FinishedGame, HasRead, Stops, StopsWriting, games_before, profile_of}
-pub use Rattle.pgn_game.specs.EqualReadings.{EqualReadings, InterruptedReadings}
-pub use Rattle.pgn_game.specs.FaultTable.{Row, first_holding, result_for, rows}
-unfoldable pub use Rattle.pgn_game.specs.FaultTable.{refusal}
-pub use Rattle.pgn_game.specs.Game.{Game, Part}
-pub use Rattle.pgn_game.specs.GamesCalls.{Games, HaveRead, NextGame, NextStops, NoGame, ReadsNoGame, at_end, most_left, within}
-pub use Rattle.pgn_game.specs.Levels.{start_of}
-pub use Rattle.pgn_game.specs.Profile.{Profile, takes_the_marker}
-pub use Rattle.pgn_game.specs.Progress.{Progress, Read, Verdict, due, no_progress, output, progress_after, read}
-pub use Rattle.pgn_game.specs.Progress.{read_from, refused, totals, verdict, verdict_of, Counted}
-pub use Rattle.pgn_game.specs.Reason.{line_of}
-pub use Rattle.pgn_game.specs.TagSection.{exported, tag_section}
-unfoldable pub use Rattle.pgn_game.specs.TagSection.{roster}
-pub use Rattle.pgn_game.specs.Text.{game_text, text_of, tokens_out}
+pub use Rattle.pgn_game.specs.calls.CheckedConversion.{AreConverted, CountsThree, FirstStops, HasTaken, OneFails, SecondStops, TwoReadingsConvert, TwoReadingsFail, WriteStops, first_too_long, first_unread, second_too_long, second_unread, unwritten}
+pub use Rattle.pgn_game.specs.calls.Conversion.{AfterConversion, CountsDevices, Decides, Fails, IsConverted, IsTokenPrefix}
+pub use Rattle.pgn_game.specs.calls.ConverterCalls.{AreNext, FinishedGame, HasRead, Stops, StopsWriting, games_before, profile_of}
+pub use Rattle.pgn_game.specs.laws.EqualReadings.{EqualReadings, InterruptedReadings}
+pub use Rattle.pgn_game.specs.games.FaultTable.{Row, first_holding, result_for, rows}
+unfoldable pub use Rattle.pgn_game.specs.games.FaultTable.{refusal}
+pub use Rattle.pgn_game.specs.games.Game.{Game, Part}
+pub use Rattle.pgn_game.specs.calls.GamesCalls.{Games, HaveRead, NextGame, NextStops, NoGame, ReadsNoGame, at_end, most_left, within}
+pub use Rattle.pgn_game.specs.games.Levels.{start_of}
+pub use Rattle.pgn_game.specs.games.Profile.{Profile, takes_the_marker}
+pub use Rattle.pgn_game.specs.games.Progress.{Progress, Read, Verdict, due, no_progress, output, progress_after, read}
+pub use Rattle.pgn_game.specs.games.Progress.{read_from, refused, totals, verdict, verdict_of, Counted}
+pub use Rattle.pgn_game.specs.games.Reason.{line_of}
+pub use Rattle.pgn_game.specs.export.TagSection.{exported, tag_section}
+unfoldable pub use Rattle.pgn_game.specs.export.TagSection.{roster}
+pub use Rattle.pgn_game.specs.export.Text.{game_text, text_of, tokens_out}
 pub use Rattle.pgn_game.specs.declared.conversion.Totals.{Totals}
 pub use Rattle.pgn_game.specs.declared.mode.Mode.{Mode}
 pub use Rattle.pgn_game.specs.declared.mode.Mode.TheVariants.{Full, Reduced}

@@ -11,11 +11,11 @@ use Rattle.pgn_game.specs.declared.reason.Reason.{Reason}
 use Rattle.pgn_game.specs.declared.reason.Reason.TheVariants.{ReadFault, WriteFault}
 use Rattle.pgn_game.specs.declared.reason.Fault.{Fault}
 use Rattle.pgn_game.specs.declared.conversion.Totals.{Totals}
-use Rattle.pgn_game.specs.Profile.{Profile}
-use Rattle.pgn_game.specs.Reason.{line_of}
-use Rattle.pgn_game.specs.Progress.{output, verdict}
-use Rattle.pgn_game.specs.Checked.{checked_output, checked_profile, checked_verdict}
-use Rattle.pgn_game.specs.CheckedConversion.{TwoReadingsConvert, TwoReadingsCount}
+use Rattle.pgn_game.specs.games.Profile.{Profile}
+use Rattle.pgn_game.specs.games.Reason.{line_of}
+use Rattle.pgn_game.specs.games.Progress.{output, verdict}
+use Rattle.pgn_game.specs.calls.Checked.{checked_output, checked_profile, checked_verdict}
+use Rattle.pgn_game.specs.calls.CheckedConversion.{TwoReadingsConvert, TwoReadingsCount}
 use Rattle.pgn_arguments.specs.declared.arguments.Task.{Task}
 use Rattle.pgn_arguments.specs.declared.arguments.Task.TheVariants.{Checked}
 use Rattle.pgn_tool.specs.TaskRun.{Concludes, FlushCounts, HasFailed, HasFront, Tells, TellsVerdict, line, mode_for, status_of}

@@ -13,14 +13,14 @@ use Rattle.pgn_game.specs.declared.mode.Mode.TheVariants.{Full}
 use Rattle.pgn_game.specs.declared.reason.Reason.{Reason}
 use Rattle.pgn_game.specs.declared.reason.Reason.TheVariants.{ReadFault, WriteFault, InputTooLong}
 use Rattle.pgn_game.specs.declared.reason.Fault.{Fault}
-use Rattle.pgn_game.specs.Profile.{Profile}
-use Rattle.pgn_game.specs.FaultTable.{result_for}
-use Rattle.pgn_game.specs.Pairs.{value_of}
-use Rattle.pgn_game.specs.TagSection.{exported}
-use Rattle.pgn_game.specs.Game.{Game}
-use Rattle.pgn_game.specs.Progress.{read}
-use Rattle.pgn_game.specs.ConverterCalls.{Converter, FinishedGame, finished_game_of, profile_of, IsRefused}
-use Rattle.pgn_game.specs.Conversion.{Decides}
+use Rattle.pgn_game.specs.games.Profile.{Profile}
+use Rattle.pgn_game.specs.games.FaultTable.{result_for}
+use Rattle.pgn_game.specs.games.Pairs.{value_of}
+use Rattle.pgn_game.specs.export.TagSection.{exported}
+use Rattle.pgn_game.specs.games.Game.{Game}
+use Rattle.pgn_game.specs.games.Progress.{read}
+use Rattle.pgn_game.specs.calls.ConverterCalls.{Converter, FinishedGame, finished_game_of, profile_of, IsRefused}
+use Rattle.pgn_game.specs.calls.Conversion.{Decides}
 use Rattle.pgn_tool.specs.declared.list.Stopped.{Stopped}
 use Rattle.pgn_tool.specs.declared.list.Stopped.TheVariants.{Refused, Unwritten}
 

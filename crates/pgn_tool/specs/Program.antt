@@ -5,7 +5,7 @@ use Rattle.std.specs.Global.{Global}
 use Rattle.pgn_layout.specs.Device.{Device, NoneUnflushed}
 use Rattle.pgn_game.specs.declared.reason.Reason.TheVariants.{ReadFault}
 use Rattle.pgn_game.specs.declared.mode.Mode.{Mode}
-use Rattle.pgn_game.specs.Reason.{line_of}
+use Rattle.pgn_game.specs.games.Reason.{line_of}
 use Rattle.pgn_arguments.specs.declared.arguments.Task.{Task}
 use Rattle.pgn_arguments.specs.declared.arguments.Task.TheVariants.{Checked, Split}
 use Rattle.pgn_arguments.specs.declared.arguments.ParseFault.{ParseFault}

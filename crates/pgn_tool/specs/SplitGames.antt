@@ -10,10 +10,10 @@ use Rattle.pgn_lexer.specs.TokensOf.{tokens_of}
 use Rattle.pgn_lexer.specs.Decided.{decided}
 use Rattle.pgn_game.specs.declared.reason.Reason.TheVariants.{ReadFault, WriteFault, InputTooLong}
 use Rattle.pgn_game.specs.declared.reason.Fault.{Fault}
-use Rattle.pgn_game.specs.Text.{game_text, text_of, torn}
-use Rattle.pgn_game.specs.Progress.{due, read}
-use Rattle.pgn_game.specs.ConverterCalls.{IsRefused}
-use Rattle.pgn_game.specs.Conversion.{Decides}
+use Rattle.pgn_game.specs.export.Text.{game_text, text_of, torn}
+use Rattle.pgn_game.specs.games.Progress.{due, read}
+use Rattle.pgn_game.specs.calls.ConverterCalls.{IsRefused}
+use Rattle.pgn_game.specs.calls.Conversion.{Decides}
 use Rattle.pgn_tool.specs.declared.split.Unsplit.{Unsplit}
 use Rattle.pgn_tool.specs.declared.split.Unsplit.TheVariants.{Refused, NoMemory}
 use Rattle.pgn_tool.specs.ListLines.{list_profile}

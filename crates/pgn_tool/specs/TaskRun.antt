@@ -11,11 +11,11 @@ use Rattle.pgn_game.specs.declared.reason.Reason.{Reason}
 use Rattle.pgn_game.specs.declared.reason.Reason.TheVariants.{ReadFault, WriteFault}
 use Rattle.pgn_game.specs.declared.reason.Fault.{Fault}
 use Rattle.pgn_game.specs.declared.conversion.Totals.{Totals}
-use Rattle.pgn_game.specs.Profile.{Profile}
-use Rattle.pgn_game.specs.Reason.{line_of}
-use Rattle.pgn_game.specs.Progress.{Verdict, refused, totals, output, verdict}
-use Rattle.pgn_game.specs.ConverterCalls.{profile_of}
-use Rattle.pgn_game.specs.Conversion.{Checks, Converts, CountsResult}
+use Rattle.pgn_game.specs.games.Profile.{Profile}
+use Rattle.pgn_game.specs.games.Reason.{line_of}
+use Rattle.pgn_game.specs.games.Progress.{Verdict, refused, totals, output, verdict}
+use Rattle.pgn_game.specs.calls.ConverterCalls.{profile_of}
+use Rattle.pgn_game.specs.calls.Conversion.{Checks, Converts, CountsResult}
 use Rattle.pgn_arguments.specs.declared.arguments.Task.{Task}
 use Rattle.pgn_arguments.specs.declared.arguments.Task.TheVariants.{Export, Checked, Check, List as ListGames, Split}
 use Rattle.pgn_tool.specs.declared.list.Stopped.{Stopped}

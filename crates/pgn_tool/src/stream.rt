@@ -2,7 +2,7 @@
 ghost use Rattle.std.specs.Prelude.{◌≡◌, ◌⊎◌, ℕ, ◌+◌, ◌≤◌, List, ◌++◌, length, true, false, codes, if◌then◌else◌};
 ghost use Rattle.std.specs.Io.KnownBytes.{Appends};
 ghost use Rattle.pgn_layout.specs.Device.{NoneUnflushed, device};
-ghost use Rattle.pgn_game.specs.Reason.{line_of};
+ghost use Rattle.pgn_game.specs.games.Reason.{line_of};
 ghost use Rattle.pgn_tool.specs.TaskRun.{Answers, FlushCounts, HasFailed, HasFront, IsFlushed, IsSmooth, Runs, Tells, checking, counting_line, exporting, is_for_stream, job_of, line, listing, mode_for};
 
 use crate::list::{Stopped, list_games};

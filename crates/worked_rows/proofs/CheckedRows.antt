@@ -3,10 +3,10 @@ use Rattle.worked_rows.proofs.Words.{String, ◌≡◌, ℕ, ◌+◌, List, [], 
 use Rattle.std.specs.Prelude.{drop}
 use Rattle.worked_rows.proofs.Words.{ResultDiffers, IllegalMove, UnexpectedEnd, Changed, Profile, Verdict, totals, due, output}
 use Rattle.pgn_lexer.specs.Decided.{decided}
-use Rattle.pgn_game.specs.Checked.{checked_profile, compared, written_by, checked_verdict, checked_output}
-use Rattle.pgn_game.specs.CheckedConversion.{WriteStops}
-use Rattle.pgn_game.specs.Conversion.{Decides}
-use Rattle.pgn_game.specs.ConverterCalls.{AreShown}
+use Rattle.pgn_game.specs.calls.Checked.{checked_profile, compared, written_by, checked_verdict, checked_output}
+use Rattle.pgn_game.specs.calls.CheckedConversion.{WriteStops}
+use Rattle.pgn_game.specs.calls.Conversion.{Decides}
+use Rattle.pgn_game.specs.calls.ConverterCalls.{AreShown}
 use Rattle.pgn_lexer.specs.Tokens.{asterisk}
 use Rattle.std.proofs.lemmas.Bool.{leb-true, ltb-true}
 use Rattle.worked_rows.proofs.WorkedRows.{counted, fault, head, unknown, of_moves}

@@ -2,7 +2,7 @@
 use Rattle.worked_rows.proofs.Words.{LexReason, String, ◌≡◌, ℕ, List, [], ◌∷◌, ◌++◌, refl, codes, replicate, map, Full, Reduced, Lexical, ExpectedName, BadTagName, DuplicateTag, TooManyTags, ExpectedValue, BadResult, TagLineTooLong, ExpectedBracket, ReducedFen, NotAMove, NoMoveBefore, ResultDiffers, UnexpectedEnd, Profile, counts_as, takes_the_marker, move_of, first_position, position_of, text_of_move, play, refusal, rows, no_part, roster, output, verdict, Verdict, refused, totals, digits, squares, agreeing}
 use Rattle.pgn_lexer.specs.Tokens as tokens
 use Rattle.pgn_game.specs.declared.reason.Reason.{Reason}
-use Rattle.pgn_game.specs.Reason.{number_of}
+use Rattle.pgn_game.specs.games.Reason.{number_of}
 
 abbrev pub plain : Profile
 plain = record { tags = 64; depth = 32; mode = Full; missing_result = counts_as (codes "*") }

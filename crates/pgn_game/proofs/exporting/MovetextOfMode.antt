@@ -2,7 +2,7 @@
 -- items that are kept, and these are written in the same way again.
 use Rattle.pgn_game.proofs.Words.{◌≡◌, ℕ, suc, ◌+◌, Bool, true, false, cond, List, [], ◌∷◌, ◌++◌, map, refl, ap, subst, ◌∙◌, arith, ◌==◌, filter, fold, IsTrue, AllByRecursion, ne_eqb, filter-append, fold-append, is_position, IsSoundKind, CommentsClose, Parts, Kind, Mode, Full, Reduced, Item, Profile, Level, Levels, levels_after, first_level, here, main_moves, outermost, without_last, SpellsText, no_more, token, move, variation, new_level, Placed, placed_from, is_main_move, written_items, tokens_from, tokens_out, rules}
 use Rattle.pgn_lexer.specs.Tokens as tokens
-use Rattle.pgn_game.specs.Game as game
+use Rattle.pgn_game.specs.games.Game as game
 use Rattle.pgn_game.proofs.AllOfJoined.{all_behind}
 use Rattle.pgn_game.proofs.exporting.PiecesToTokens.{IsWritable, AllShown}
 use Rattle.pgn_game.proofs.exporting.MovetextToItems.{level_in, aside, around_again, close_at, placed_variation, rewritten}

@@ -3,7 +3,7 @@ use Rattle.pgn_game.proofs.Words.{◌≡◌, max, ℕ, ◌+◌, ◌<◌, ◌≤�
 use Rattle.std.proofs.Math.Nat.{le-max_left}
 use Rattle.pgn_layout.specs.declared.sink.WriteFault.{WriteFault}
 use Rattle.pgn_game.specs.declared.reason.Reason.TheVariants as reasons
-use Rattle.pgn_game.specs.Game.{move}
+use Rattle.pgn_game.specs.games.Game.{move}
 use Rattle.pgn_game.proofs.putting.WritesInTurn.{front_after, front_of_more}
 use Rattle.pgn_game.proofs.putting.ItemToMovetext.{from_to}
 

@@ -1,6 +1,6 @@
 -- What calls in turn do to the sink of a silent reader.
 use Rattle.pgn_game.proofs.Words.{Converter, IsGoing, writing_nothing, None, CountsFault, CountsReason, NoWriteFails, Fault, Reason, Ok, Err, Adds, LeavesSink, Device, Item, List, ℕ, Mode, Movetext, Option, Result, mode_of_written, mode_unless, seen, ◌≡◌, Bool, true, false, IsTrue, refl, sym, ap, subst, ◌∙◌, arith, ReaderState, Writing, KeepsSilence, is_nothing, unused}
-use Rattle.pgn_game.specs.ReaderState.{ReaderCall}
+use Rattle.pgn_game.specs.state.ReaderState.{ReaderCall}
 use Rattle.pgn_game.specs.declared.mode.Written.{Written}
 use Rattle.pgn_game.specs.declared.mode.Written.TheVariants.{Nothing}
 

@@ -1,7 +1,7 @@
 -- Worked rows of the grammar: what some inputs spell, and what they don't.
 use Rattle.pgn_game.proofs.Words.{◌≡◌, ℕ, ◌<◌, List, [], ◌∷◌, ◌++◌, Kind, refl, arith, codes, tokens_of, RisesTo, Played, Full, Profile, counts_as, Pair, Item, Game, first_position, refusal, Spells, SpellsText, Names, pair, no_pair, next_pair, no_game, next_game, no_more, token, move, variation, number, period, comment_open, word, comment_close, new_level, level_after_move, rules, inl}
 use Rattle.pgn_lexer.specs.Tokens as tokens
-use Rattle.pgn_game.specs.Game as games
+use Rattle.pgn_game.specs.games.Game as games
 use Rattle.pgn_game.proofs.reading.RunsToEnd.{kinds, runs_as_read}
 use Rattle.pgn_game.proofs.reading.GrammarToReading.{games_run}
 

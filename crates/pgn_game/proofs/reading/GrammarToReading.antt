@@ -1,7 +1,7 @@
 -- From the grammar to reading: tokens that spell games run, and finish these games.
 use Rattle.pgn_game.proofs.Words.{◌≡◌, ℕ, ◌<◌, Bool, true, false, ◌&&◌, not, List, [], ◌∷◌, ◌++◌, length, nat_le, refl, sym, ap, subst, ◌∙◌, arith, append_assoc, append-nil, Option, None, Some, ◌==◌, codes, bytes_eq, unwrap_or, IsTrue, IsFalse, list_all, bytes_eq-Decides, and_parts, nat_tests, Played, Kind, Mode, TooDeep, MarkerInVariation, ResultDiffers, Stage, Between, AfterLeftBracket, AfterName, AfterTags, InMovetext, Profile, Pair, value_of, has_pair, insert_pair, Item, Game, Part, no_part, Level, Levels, levels_of, depth, here, replayed, without_last, start_of, refusal, is_comment, is_end, is_reduced, marker_of, lacks_fen, next, going, whole, AreDropped, SpellsPair, pair, SpellsPairs, no_pair, next_pair, IsPair, by_name, IsSetUp, Names, new_level, SpellsText, no_more, token, move, variation, BeginsBare, IsResult, SpellsGame, SpellsGames, no_game, next_game, rules, none-some}
 use Rattle.pgn_lexer.specs.Tokens as tokens
-use Rattle.pgn_game.specs.Game as games
+use Rattle.pgn_game.specs.games.Game as games
 use Rattle.pgn_game.proofs.reading.RunsToEnd.{at, Runs, ends, goes, finishes}
 use Rattle.pgn_game.proofs.refusals.RefusalsByStage.{pass, drops_comments, comment_free, comment_stays, comment_goes, open_refusal, open_between, name_refusal, value_refusal, close_refusal, is_textual, after_tags, leads_after_tags, between, leads_between, is_lexical, text_row}
 use Rattle.pgn_game.proofs.reading.PairsInTurn.{with_pairs, Takes, takes}

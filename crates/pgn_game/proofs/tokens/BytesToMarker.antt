@@ -2,9 +2,9 @@
 use Rattle.std.specs.Io.KnownBytes.{Keeps, IsAtEnd}
 use Rattle.pgn_game.proofs.Words.{Token, ReadFault, Fault, Profile, ◌≡◌, ℕ, ◌^◌, ◌≤◌, List, [], ◌∷◌, ◌++◌, length, drop, take, Option, None, refl, sym, ap, subst, ◌∙◌, inl, inr, append-nil, append_assoc, take-append-drop, Consumes, Consumes-nil, Consumes-trans, decided, IsDecided, StandsAfter, first, still, Games, games_of, Converter, HasRead, Reaches, ReadsMore, as_written, MoreSoFar, StandsWithin, StopsIn, at_token, too_long, arith}
 use Rattle.pgn_game.specs.declared.marker.Mark.{Mark}
-use Rattle.pgn_game.specs.ConverterSteps.{FailsIn, ReadsPiece, ReadsToMarker}
-use Rattle.pgn_game.specs.GamesSteps as games_steps
-use Rattle.pgn_game.specs.GamesSteps.{MeetsNext, ReadsAllOf, StopsBefore, UsesAll}
+use Rattle.pgn_game.specs.state.ConverterSteps.{FailsIn, ReadsPiece, ReadsToMarker}
+use Rattle.pgn_game.specs.state.GamesSteps as games_steps
+use Rattle.pgn_game.specs.state.GamesSteps.{MeetsNext, ReadsAllOf, StopsBefore, UsesAll}
 use Rattle.pgn_game.proofs.tokens.AcceptedToConverter.{follows_none}
 use Rattle.pgn_game.proofs.tokens.StepsInPiece.{decided_at_end}
 use Rattle.pgn_game.proofs.tokens.GamesInPiece.{behind_first}

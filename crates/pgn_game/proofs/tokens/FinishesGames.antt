@@ -3,8 +3,8 @@ use Rattle.pgn_lexer.specs.Tokens as tokens
 use Rattle.pgn_game.proofs.Words.{Token, Kind, Between, Fault, Profile, Part, Game, ◌≡◌, ℕ, ◌+◌, ◌<◌, Bool, true, false, IsTrue, List, [], ◌∷◌, ◌++◌, length, Option, None, Some, Ok, Err, refl, sym, ap, subst, ◌∙◌, arith, append-nil, append_assoc, length-append, Appends-nil, ◌↔◌, Device, tokens_of, Standing, coming, HasLeft, refusal, is_end, next, progress_with, Progress, Read, read, due, written_so_far as written, Gains, ReaderState, as_written, Converter, HasRead, IsLastGame as IsLast, game_in_reader, game_in_reader_if, Finishes, FinishesToFault, SameGames, ReadsMore, EndsGame, StaysBetween, FaultAtEnd, AtEndSoFar, AfterStepAtEnd, part_after, Stands, false≢true, le_refl}
 use Rattle.pgn_game.specs.declared.marker.Mark.{Mark}
 use Rattle.pgn_game.specs.declared.converter.StepEnd.TheVariants.{Token as Other, Marker as AtMarker}
-use Rattle.pgn_game.specs.ConverterSteps.{CountsGame, LeftSoFar, ReadsToLeftMarker, ReadsToEnd, FailsAtEnd}
-use Rattle.pgn_game.specs.ConverterCalls.{IsSound}
+use Rattle.pgn_game.specs.state.ConverterSteps.{CountsGame, LeftSoFar, ReadsToLeftMarker, ReadsToEnd, FailsAtEnd}
+use Rattle.pgn_game.specs.calls.ConverterCalls.{IsSound}
 use Rattle.pgn_game.proofs.tokens.AcceptedToConverter.{read_as}
 use Rattle.pgn_game.proofs.tokens.OneMoreToken.{read-passes, gains_none, gains_more, stops_more, games_still, counts_still, position_still}
 use Rattle.pgn_game.proofs.tokens.NoneBeforeFault.{none_before_fault}

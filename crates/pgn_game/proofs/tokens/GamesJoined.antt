@@ -1,8 +1,8 @@
 -- Calls of `next` one after another.
 use Rattle.pgn_game.proofs.Words.{Profile, Game, ◌≡◌, ℕ, ◌∷◌, ◌++◌, true, false, List, [], map, Option, Some, Ok, Err, refl, subst, Consumes-nil, Consumes-trans, Appends, Consumes, coming, first, Token, tokens_of, plies_of, FinishedGame, finished_game_of, Games, HaveRead, ReadSoFar, NextGame, games_read, append_assoc, append-nil, map-append, length-map, IfSome, rules, length, sum, sym, ap, read, totals, ◌∙◌}
-use Rattle.pgn_game.specs.GamesCalls as games_calls
-use Rattle.pgn_game.specs.GamesJoined as games_joined
-use Rattle.pgn_game.specs.GamesJoined.{TakesGames, GamesJoin}
+use Rattle.pgn_game.specs.calls.GamesCalls as games_calls
+use Rattle.pgn_game.specs.laws.GamesJoined as games_joined
+use Rattle.pgn_game.specs.laws.GamesJoined.{TakesGames, GamesJoin}
 use Rattle.pgn_game.proofs.tokens.AcceptedToConverter.{follows_first}
 use Rattle.pgn_game.proofs.tokens.OneMoreToken.{gains_none, gains_more}
 use Rattle.pgn_game.proofs.tokens.WholeInput.{games_stop, verdict_passes, appended, known_left, known_whole}

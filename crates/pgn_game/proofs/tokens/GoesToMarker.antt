@@ -5,8 +5,8 @@ use Rattle.pgn_game.specs.declared.converter.StepEnd.{StepEnd}
 use Rattle.pgn_game.specs.declared.converter.StepEnd.TheVariants.{Marker as AtMarker}
 use Rattle.pgn_game.specs.declared.converter.FedUpTo.{FedUpTo}
 use Rattle.pgn_game.specs.declared.converter.FedUpTo.TheVariants.{All, Marker as ToMarker}
-use Rattle.pgn_game.specs.ConverterCalls.{Again}
-use Rattle.pgn_game.specs.ConverterSteps.{GoesToMarker, IsGoing, KeepsRest, StepGoes, fault_of, used_to}
+use Rattle.pgn_game.specs.calls.ConverterCalls.{Again}
+use Rattle.pgn_game.specs.state.ConverterSteps.{GoesToMarker, IsGoing, KeepsRest, StepGoes, fault_of, used_to}
 use Rattle.pgn_game.proofs.Words.{Fault, Converter, Device, InputTooLong, waiting, as_written, ◌≡◌, ℕ, ◌+◌, ◌*◌, ◌^◌, ◌<◌, ◌≤◌, Bool, false, List, [], length, take, Option, None, Some, Result, Ok, Err, IfOk, ap, refl, sym, ◌∙◌, arith, length-take, none-some}
 
 -- a converter without a fault does not repeat one

@@ -1,7 +1,7 @@
 -- Between games no pair is tried: the tokens behind the last game of a text without a fault.
 use Rattle.pgn_lexer.specs.Tokens as tokens
-use Rattle.pgn_game.specs.MostTried as most_tried
-use Rattle.pgn_game.specs.MostTried.{CostsUnlessRefused}
+use Rattle.pgn_game.specs.calls.MostTried as most_tried
+use Rattle.pgn_game.specs.calls.MostTried.{CostsUnlessRefused}
 use Rattle.pgn_game.proofs.Words.{◌≡◌, ◌⊎◌, inl, inr, ℕ, true, false, ◌||◌, List, [], ◌∷◌, Option, None, Some, refl, sym, ap, subst, ◌∙◌, Parts, Kind, Token, Mode, Reason, Stage, Between, Pair, Item, Game, Part, no_part, progress_with, Profile, refusal, is_at, is_comment, is_end, Next, going, whole, next, next_in, in_text, Progress, Tries, MostFrom, rules}
 use Rattle.pgn_game.proofs.reading.RunsToEnd.{Runs, at, kinds, ends, goes, finishes}
 

@@ -1,8 +1,8 @@
 -- White space that is passed, with numbers and periods in movetext.
 use Rattle.pgn_lexer.specs.Tokens.{symbol, period}
 use Rattle.pgn_lexer.specs.WholeTokens.{Passes, is_passed, none, over_space, over_token}
-use Rattle.pgn_game.specs.ConverterSteps.{ReadsOn}
-use Rattle.pgn_game.specs.PutResult.{MeetsEntry, PutsItems, TakesEntry, TakesUnlessMarker}
+use Rattle.pgn_game.specs.state.ConverterSteps.{ReadsOn}
+use Rattle.pgn_game.specs.state.PutResult.{MeetsEntry, PutsItems, TakesEntry, TakesUnlessMarker}
 use Rattle.pgn_lexer.specs.declared.token.TokenKind.TheVariants as token_kinds
 use Rattle.pgn_game.proofs.Words.{length-drop, Bool, Marker, Kind, Token, Standing, waiting, InMovetext, ReaderState, Profile, Converter, Device, Reason, ◌≡◌, ℕ, ◌+◌, ◌*◌, ◌<◌, ◌≤◌, List, [], ◌++◌, length, take, drop, Option, None, Ok, IsTrue, refl, sym, ap, subst, ◌∙◌, arith, inl, Appends-nil, More, kind_of, TokenKind, Result, Accepted, may_have_movetext, TakesToken, Reaches, SoFar, first, StandsAfter, next_at, still, decided}
 use Rattle.pgn_game.proofs.ReaderLemmas.{enters, entry_in_movetext, entry_met, begun_before, puts_number, passes_entry, number_no_score, number_free, number_leads, number_untried}

@@ -1,7 +1,7 @@
 -- Runs over a piece in turn, and the step that they are.
 use Rattle.pgn_game.specs.declared.converter.StepEnd.TheVariants.{Token as Other, Marker as AtMarker}
 use Rattle.pgn_game.specs.declared.converter.StepEnd.{StepEnd}
-use Rattle.pgn_game.specs.ConverterSteps.{IsBeforePiece, IsBeforeToken, KeepsRest, StepAdvances, StepGoes, Steps, TakesSteps, fault_of}
+use Rattle.pgn_game.specs.state.ConverterSteps.{IsBeforePiece, IsBeforeToken, KeepsRest, StepAdvances, StepGoes, Steps, TakesSteps, fault_of}
 use Rattle.pgn_game.proofs.Words.{seen, Fault, Converter, CountsFault, Device, Standing, waiting, ◌≡◌, ℕ, ◌+◌, ◌*◌, ◌<◌, ◌≤◌, ◌^◌, ◌⊎◌, inl, inr, zero, suc, Bool, false, List, length, drop, Option, None, Some, Result, Ok, Err, refl, subst, ◌∙◌, arith, length-drop, first}
 use Rattle.pgn_game.proofs.tokens.StepsInPiece.{after_steps, reads_on_none, stands_here}
 

@@ -2,8 +2,8 @@
 use Rattle.pgn_lexer.specs.Tokens as tokens
 use Rattle.pgn_lexer.specs.PartialToken.{refusal as refusal_token}
 use Rattle.pgn_game.proofs.Words.{length, Kind, Token, Stage, Between, Reason, Lexical, Fault, Profile, Pair, Item, Game, Part, no_part, ◌≡◌, ℕ, ◌+◌, ◌<◌, ◌≤◌, Bool, true, false, ◌&&◌, List, [], ◌∷◌, ◌++◌, Option, None, Some, Result, Ok, Err, is_ok, refl, sym, subst, append-nil, append_assoc, Appends, arith, ◌*◌, ◌^◌, IsTrue, is_some, Device, tokens_of, Standing, waiting, HasLeft, IsNext, FinishGivesToken, More, refusal, is_end, marker_of, Marker, next, gain, progress_with, Progress, read, ReaderState, Agrees, HoldsPairs, as_written, CountsWrites, Keeps, TakesToken, AfterStepAtEnd, ReadsMore, due_as, part_after, outcome_at, fault_of, LexFault, Converter, IsSound, game_in_reader_if, HasRead, Stands, CountsFault, CountsReason, IsStill, rules, ap, ◌∙◌, coming, none-some, false≢true}
-use Rattle.pgn_game.specs.PutResult.{TakesUnlessMarker}
-use Rattle.pgn_game.specs.ConverterSteps.{IsBeforePiece, IsBeforeToken, IsReadyAfter, KeepsRest, StepAdvances, StepAtEndAdvances, is_ended}
+use Rattle.pgn_game.specs.state.PutResult.{TakesUnlessMarker}
+use Rattle.pgn_game.specs.state.ConverterSteps.{IsBeforePiece, IsBeforeToken, IsReadyAfter, KeepsRest, StepAdvances, StepAtEndAdvances, is_ended}
 use Rattle.pgn_game.proofs.tokens.OneMoreToken.{read-passes}
 use Rattle.pgn_game.proofs.tokens.EndOfText.{end_place}
 use Rattle.pgn_game.proofs.tokens.AcceptedToConverter.{follows_none, has_read_more, meets_marker, not_taken, not_taken_lexical, now_at, read_as, read_at, written_same, reads_token}

@@ -3,8 +3,8 @@ use Rattle.pgn_lexer.specs.Scanned.{fault, more, token}
 use Rattle.pgn_lexer.specs.Stands.{Scans}
 use Rattle.pgn_lexer.specs.WholeTokens.{Passes, ReadsBehind}
 use Rattle.pgn_game.specs.declared.converter.StepEnd.TheVariants.{Token as Other}
-use Rattle.pgn_game.specs.ConverterSteps.{Steps, fault_of, outcome_at}
-use Rattle.pgn_game.specs.PutResult.{TakesUnlessMarker}
+use Rattle.pgn_game.specs.state.ConverterSteps.{Steps, fault_of, outcome_at}
+use Rattle.pgn_game.specs.state.PutResult.{TakesUnlessMarker}
 use Rattle.pgn_game.proofs.Words.{LexFault, Lexical, Fault, Bool, IsTrue, false, ◌≡◌, ℕ, ◌+◌, ◌-◌, ◌<◌, ◌≤◌, ◌^◌, List, length, drop, length-drop, first, Option, None, Some, Result, Ok, Err, refl, subst, arith, Marker, Token, InMovetext, Reason, ReaderState, Converter, Device, IsSound, Standing, Keeps}
 use Rattle.pgn_game.proofs.tokens.AcceptedToConverter.{follows_own, now_at, took, took_fault, took_none}
 use Rattle.pgn_game.proofs.tokens.PastNumbers.{passes_count, passes_few, passes_sooner, reads_past}

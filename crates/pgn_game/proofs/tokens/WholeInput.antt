@@ -2,10 +2,10 @@
 use Rattle.std.specs.Io.KnownBytes.{Keeps, IsAtEnd}
 use Rattle.std.proofs.lemmas.Option.{IfSome_then}
 use Rattle.pgn_game.proofs.Words.{Token, InputTooLong, Fault, Profile, ◌≡◌, ℕ, false, ◌^◌, ◌≤◌, List, [], ◌++◌, length, Option, None, Some, Result, Ok, Err, IfSome, OnOk, sym, ap, subst, ◌∙◌, append-nil, map, sum, Consumes-nil, Consumes-trans, tokens_of, decided, plies_of, whole_plies, Gains, IsConverted, IsTotalled, MostProbes, ReadsNoMore, FailsOn, Fails, AfterEnd, AfterConversion, AfterSlice, verdict_in, Games, games_of, HaveRead, NextGame, NoGame, NextStops, ReadSoFar, ReaderState, Bool, Appends, Consumes, Totals, Read, read, due, refused as is_refused, totals, verdict, verdict_of, Converter, HasRead, Stands, Stops, refused_stop as refused, unwritten, StopsIn, at_token, too_long, FedFault, FedWhole, ReadsUpTo, Finishes, rules, no_progress, inl, refl, within, first, writing_nothing}
-use Rattle.pgn_game.specs.GamesCalls as games_calls
-use Rattle.pgn_game.specs.Conversion as conversion
+use Rattle.pgn_game.specs.calls.GamesCalls as games_calls
+use Rattle.pgn_game.specs.calls.Conversion as conversion
 use Rattle.pgn_game.proofs.tokens.OneMoreToken.{torn-none, gains_none, gains_more, stops_more, stops_from}
-use Rattle.pgn_game.specs.ConverterCalls.{AreShown, IsRefused, at_end}
+use Rattle.pgn_game.specs.calls.ConverterCalls.{AreShown, IsRefused, at_end}
 use Rattle.pgn_game.proofs.tokens.AcceptedToConverter.{in_games}
 use Rattle.pgn_game.proofs.tokens.MissingCountsAs.{reads_silently, stands_silently}
 use Rattle.pgn_game.proofs.tokens.BytesWithinLimit.{all_shown, decides_by, shown_begins, shown_by}

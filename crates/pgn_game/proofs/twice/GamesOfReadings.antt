@@ -5,12 +5,12 @@ use Rattle.std.proofs.lemmas.Option.{IfSome_then}
 use Rattle.pgn_lexer.specs.Tokens as tokens
 use Rattle.pgn_game.specs.declared.marker.Mark.{Mark as CodeMark}
 use Rattle.pgn_game.proofs.Words.{Kind, Token, Reason, Changed, WriteFault, Fault, Profile, Missing, takes_the_marker, Game, Part, no_part, ◌≡◌, ℕ, ◌+◌, ◌^◌, ◌<◌, ◌≤◌, ◌||◌, ◌&&◌, ◌==◌, not, is_some, bytes_eq, Bool, true, false, List, [], ◌∷◌, ◌++◌, length, take, drop, Option, None, Some, Ok, Err, IfSome, refl, sym, ap, subst, ◌∙◌, append_assoc, append-nil, drop-length, arith, and_parts, not-false, bytes_eq-Decides, Appends-nil, Appends-trans, Appends, Device, TokensRise, tokens_of, coming, Stage, Between, InMovetext, HoldsText, Marker, counting, refusal, is_end, marker_of, torn, gain, text_next, Next, going, whole, next, Read, read, progress_with, IsLastGame, game_in_reader, ReaderState, telling, as_written, known_text, IsStopped, Converter, marker_text, game_of, Mark, is_other, is_changed, HasMarked, HasMatched, Reading, model_mark, changed_reason, OneGame, SameGames, ReadsMore, EndsGame, due_as, part_after, text_of_games as text_of}
-use Rattle.pgn_game.specs.ReaderState as reader_state
-use Rattle.pgn_game.specs.Text.{game_text}
-use Rattle.pgn_game.specs.Readings.{AfterRead, AllRead, ComesNext, EndComes, FirstFails, GameRead, GameWritten, HasCome, HasGiven, MarkerComes, ReadFails, ReadingStops, SecondFails, StandsBetween, StandsIn, at_read, at_token, as_changed}
-use Rattle.pgn_game.specs.Readings as readings
-use Rattle.pgn_game.specs.ConverterSteps.{announcing}
-use Rattle.pgn_game.specs.ConverterCalls.{AreShown, at_end, writing_nothing}
+use Rattle.pgn_game.specs.state.ReaderState as reader_state
+use Rattle.pgn_game.specs.export.Text.{game_text}
+use Rattle.pgn_game.specs.state.Readings.{AfterRead, AllRead, ComesNext, EndComes, FirstFails, GameRead, GameWritten, HasCome, HasGiven, MarkerComes, ReadFails, ReadingStops, SecondFails, StandsBetween, StandsIn, at_read, at_token, as_changed}
+use Rattle.pgn_game.specs.state.Readings as readings
+use Rattle.pgn_game.specs.state.ConverterSteps.{announcing}
+use Rattle.pgn_game.specs.calls.ConverterCalls.{AreShown, at_end, writing_nothing}
 use Rattle.pgn_game.proofs.tokens.AcceptedToConverter.{follows_own, read_as}
 use Rattle.pgn_game.proofs.tokens.BytesWithinLimit.{shown_begins}
 use Rattle.pgn_game.proofs.tokens.MarkerToGame.{game_accepted, has_read_marker, takes, written_at_fault, written_at_marker}

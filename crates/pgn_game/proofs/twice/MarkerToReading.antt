@@ -3,11 +3,11 @@
 use Rattle.pgn_lexer.specs.declared.partial_token.Mode.{Mode}
 use Rattle.pgn_game.specs.declared.marker.Mark.{Mark as CodeMark}
 use Rattle.pgn_game.proofs.Words.{Token, within_limit, InputTooLong, Fault, Profile, ◌≡◌, ℕ, ◌^◌, ◌≤◌, arith, false, true, List, [], ◌∷◌, ◌++◌, length, Option, None, Some, Result, Ok, Err, IfSome, IsStill, CountsDevices, CountsFault, refl, sym, ap, subst, ◌∙◌, append_assoc, append-nil, Consumes-nil, Consumes-trans, Consumes, Stands, inl, takes_the_marker, with_missing, Device, tokens_of, decided, Standing, coming, HasLeft, first, Converter, ReadsMore, as_written, StandsWithin, Reading, games_of}
-use Rattle.pgn_game.specs.ConverterCalls.{AreShown, at_end}
-use Rattle.pgn_game.specs.ConverterSteps.{AfterEndToMarker, EndsToMarker, taking_marker}
-use Rattle.pgn_game.specs.GamesSteps.{AfterToMarker, CountsReading, StopsBefore, UsesAll}
-use Rattle.pgn_game.specs.GamesSteps as games_steps
-use Rattle.pgn_game.specs.Readings.{AfterMarker, HasGiven, ReadingStops, ReadFails, at_read, at_token, StandsIn}
+use Rattle.pgn_game.specs.calls.ConverterCalls.{AreShown, at_end}
+use Rattle.pgn_game.specs.state.ConverterSteps.{AfterEndToMarker, EndsToMarker, taking_marker}
+use Rattle.pgn_game.specs.state.GamesSteps.{AfterToMarker, CountsReading, StopsBefore, UsesAll}
+use Rattle.pgn_game.specs.state.GamesSteps as games_steps
+use Rattle.pgn_game.specs.state.Readings.{AfterMarker, HasGiven, ReadingStops, ReadFails, at_read, at_token, StandsIn}
 use Rattle.pgn_game.proofs.tokens.AcceptedToConverter.{follows_none}
 use Rattle.pgn_game.proofs.tokens.BytesWithinLimit.{all_shown, none_next, shown_begins, shown_by, shown_none}
 use Rattle.pgn_game.proofs.tokens.LastTokens.{IsLeft, glyph, left_in, none, symbol}

@@ -3,18 +3,18 @@ use Rattle.std.proofs.lemmas.Option.{IfSome_then}
 use Rattle.pgn_game.proofs.Words.{Token, Reason, Changed, ReadFault, Fault, Profile, Missing, takes_the_marker, Game, no_part, ◌≡◌, ℕ, ◌+◌, ◌^◌, ◌<◌, ◌≤◌, max, Bool, true, false, List, [], ◌∷◌, ◌++◌, length, take, Option, None, Some, Ok, IfSome, refl, sym, ap, subst, ◌∙◌, append_assoc, append-nil, length-append, arith, IsTrue, map, sum, take-append-add, Appends-nil, Appends-trans, and_parts, not-false, bytes_eq-Decides, Appends, Device, FailsOnce, tokens_of, decided, coming, plies_of, text_next, gain, refusal, whole_plies, play_moves, verdict_in, MostTried, Mark, marks_from, is_other, is_changed, marks_after, Comparison, compared_from, compared, with_mark, torn_before, written_by, earlier_fault, BothSoFar, HasMarked, Reading, changed_reason, model_mark, part_after}
 use Rattle.pgn_game.specs.declared.conversion.Totals.{Totals}
 use Rattle.pgn_game.specs.declared.marker.Mark.{Mark as CodeMark}
-use Rattle.pgn_game.specs.Text.{game_text, text_of, torn}
-use Rattle.pgn_game.specs.Progress.{Next, going, whole, next, Progress, progress_with, progress_after, Read, read, refused as is_refused, totals}
-use Rattle.pgn_game.specs.Progress.{verdict_of}
-use Rattle.pgn_game.specs.Conversion.{Decides, IsTokenPrefix}
-use Rattle.pgn_game.specs.CheckedConversion.{AreConverted, AreRefused, AreTotalled, HasTaken, MatchesAllMarks, FirstStops, SecondStops}
-use Rattle.pgn_game.specs.CheckedConversion.{WriteStops, TwoReadingsFail, TwoReadingsConvert}
-use Rattle.pgn_game.specs.Readings.{AllRead, ComesNext, FirstFails, GameRead, GameWritten, HasCome, HasGiven, ReadFails, SecondFails, StandsIn, WhyFirst, WhySecond, as_changed}
-use Rattle.pgn_game.specs.Readings as readings
+use Rattle.pgn_game.specs.export.Text.{game_text, text_of, torn}
+use Rattle.pgn_game.specs.games.Progress.{Next, going, whole, next, Progress, progress_with, progress_after, Read, read, refused as is_refused, totals}
+use Rattle.pgn_game.specs.games.Progress.{verdict_of}
+use Rattle.pgn_game.specs.calls.Conversion.{Decides, IsTokenPrefix}
+use Rattle.pgn_game.specs.calls.CheckedConversion.{AreConverted, AreRefused, AreTotalled, HasTaken, MatchesAllMarks, FirstStops, SecondStops}
+use Rattle.pgn_game.specs.calls.CheckedConversion.{WriteStops, TwoReadingsFail, TwoReadingsConvert}
+use Rattle.pgn_game.specs.state.Readings.{AllRead, ComesNext, FirstFails, GameRead, GameWritten, HasCome, HasGiven, ReadFails, SecondFails, StandsIn, WhyFirst, WhySecond, as_changed}
+use Rattle.pgn_game.specs.state.Readings as readings
 use Rattle.pgn_game.proofs.EqualReadings.{after_marks, marks_test, after_change, change_test, no_mark}
 use Rattle.pgn_game.proofs.tokens.NextGrows.{next_is}
 use Rattle.pgn_game.proofs.tokens.OneMoreToken.{read-refuses, text_of-snoc}
-use Rattle.pgn_game.specs.ConverterCalls.{AreShown}
+use Rattle.pgn_game.specs.calls.ConverterCalls.{AreShown}
 use Rattle.pgn_game.proofs.tokens.AcceptedToConverter.{in_games}
 use Rattle.pgn_game.proofs.tokens.BytesWithinLimit.{decides_by, shown_begins}
 use Rattle.pgn_game.proofs.twice.GamesOfReadings.{begins}

@@ -4,7 +4,7 @@
 -- are tokens.
 use Rattle.std.proofs.lemmas.Bool.{and_parts}
 use Rattle.pgn_game.proofs.Words.{Token, Profile, takes_the_marker, Game, ◌≡◌, inl, inr, true, ℕ, List, [], ◌∷◌, ◌++◌, bytes_eq, Option, None, Some, IsTrue, refl, sym, ap, ◌∙◌, list_all-append, bytes_eq-Decides, counting, refusal, marker_of, Next, going, whole, next, Progress, progress_with, progress_after, read_from}
-use Rattle.pgn_game.specs.MissingResults.{all_end_with}
+use Rattle.pgn_game.specs.laws.MissingResults.{all_end_with}
 use Rattle.pgn_game.proofs.tokens.OneMoreToken.{by_token, first_passes, goes_on}
 use Rattle.pgn_game.proofs.twice.MarkerCounts.{marker_finishes, refusal_counting}
 

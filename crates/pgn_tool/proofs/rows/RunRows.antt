@@ -1,6 +1,6 @@
 -- Worked rows: what a job writes for a text, how it ends, and what is told.
 use Rattle.pgn_tool.proofs.Words.{◌≡◌, ℕ, List, [], ◌++◌, refl, codes, digits, Full, Reduced, UnexpectedEnd, refusal, roster, verdict, finished_game_line, Job, checking, counting_line, exporting, line, listing, profile_for, status_of, text_for, line_of}
-use Rattle.pgn_game.specs.Chess.{first_position}
+use Rattle.pgn_game.specs.games.Chess.{first_position}
 
 -- the tag section of a game without tag pairs
 abbrev pub head : List ℕ

@@ -1,7 +1,7 @@
 -- Games listed one by one.
 use Rattle.pgn_tool.proofs.Words.{◌≡◌, ℕ, ◌+◌, ◌^◌, ◌≤◌, false, List, [], ◌∷◌, ◌++◌, drop, length, length-take, take-append-drop, Option, None, Some, IfSome, refl, sym, ap, subst, ◌∙◌, append-nil, append_assoc, length-append, arith, Appends, Consumes, IsAtEnd, Appends-trans, Consumes-trans, AppendsFront, Token, tokens_of, InputTooLong, Fault, Game, Read, no_progress, read, HasRead, CountsDevices, Games, HaveRead, within, at_end, NextGame, NoGame, NextStops, ReadsNoGame, IsListed, ListsNoMore, ListStops, game_line, line_just_finished, lines_from, lines_of, list_profile, too_long, unread, Decides, ListedSoFar, Refused, Unwritten, Consumes-whole, Stops, games_before, AreNext}
-use Rattle.pgn_game.specs.ConverterCalls.{AreShown, IsRefused, so_far, within_limit}
-use Rattle.pgn_game.specs.ReaderState.{ReaderState}
+use Rattle.pgn_game.specs.calls.ConverterCalls.{AreShown, IsRefused, so_far, within_limit}
+use Rattle.pgn_game.specs.state.ReaderState.{ReaderState}
 use Rattle.pgn_tool.proofs.runs.PartsOfText.{front_after}
 use Rattle.pgn_tool.proofs.runs.TokensInTwoParts.{read_stops}
 

@@ -2,7 +2,7 @@
 use Rattle.pgn_tool.proofs.Words.{◌≡◌, ℕ, ◌+◌, List, [], ◌++◌, length, Option, None, Some, Result, Ok, Err, ap, subst, sym, codes, decimal, unwrap_or, length-append, arith, option_map, Appends, Appends-trans, take-append-add, take-append-le, AppendsFront, Writes, Profile, exported, FinishedGame, finished_game_line, six_fields, listed_value, result_for}
 use Rattle.chess_rules.specs.declared.position.Parts.{Parts}
 use Rattle.chess_text.specs.Fen.{fen_text}
-use Rattle.pgn_game.specs.Pairs.{value_of}
+use Rattle.pgn_game.specs.games.Pairs.{value_of}
 
 -- a part that is written, and a front of the rest
 pub front_after : (a b c : Option (List ℕ)) (xs ys : List ℕ) → Appends a b xs → AppendsFront b c ys → AppendsFront a c (xs ++ ys)

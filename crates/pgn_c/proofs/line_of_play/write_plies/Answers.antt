@@ -1,5 +1,5 @@
 use Rattle.pgn_c.proofs.Words.{ℕ, ◌+◌, sym, subst, arith}
-use Rattle.pgn_game.specs.LineOfPlay.{line_ahead, ply_of}
+use Rattle.pgn_game.specs.calls.LineOfPlay.{line_ahead, ply_of}
 use Rattle.pgn_c.proofs.PlyLines.{PutSoFar, one_more}
 use Rattle.pgn_c.proofs.line_of_play.write_plies.Goals as goal
 

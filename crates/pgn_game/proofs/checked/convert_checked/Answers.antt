@@ -1,6 +1,6 @@
 use Rattle.pgn_game.proofs.Words.{◌-◌, max, refl, ap, ◌∙◌, arith, err_from_is_err_and, device, Device, Err, IsStill, Ok, one_more, checked_profile}
-use Rattle.pgn_game.specs.GamesSteps.{CountsReading}
-use Rattle.pgn_game.specs.Readings.{WritesGame}
+use Rattle.pgn_game.specs.state.GamesSteps.{CountsReading}
+use Rattle.pgn_game.specs.state.Readings.{WritesGame}
 use Rattle.pgn_game.proofs.putting.SilentReader.{unseen}
 use Rattle.pgn_game.proofs.twice.FailuresOfSteps.{first_counts, second_counts, source_fails}
 use Rattle.pgn_game.proofs.twice.ReadingsToConversion.{both_end, both_more, both_none, first_stops, second_stops}

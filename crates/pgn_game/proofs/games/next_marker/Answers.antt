@@ -1,5 +1,5 @@
 use Rattle.pgn_game.proofs.Words.{ℕ, Ok, Err, refl, ap, ◌∙◌, device, le_refl, le_trans, err_from_is_err_and, games_of, one_more, sink_of}
-use Rattle.pgn_game.specs.GamesSteps.{FeedsRest}
+use Rattle.pgn_game.specs.state.GamesSteps.{FeedsRest}
 use Rattle.pgn_game.proofs.twice.MarkerToReading.{counts_then}
 use Rattle.pgn_game.proofs.tokens.AcceptedToConverter.{follows_own}
 use Rattle.pgn_game.proofs.tokens.GoesToMarker.{keeps_behind, keeps_failing}

@@ -1,7 +1,7 @@
 use Rattle.std.specs.Result.{is_ok}
 use Rattle.pgn_game.proofs.Words.{Reason, ReadFault, WriteFault, Changed, Fault, ◌≡◌, ℕ, Bool, Result, Ok, Err, refl, sym, ap, subst, ◌∙◌, arith, err_from_is_err_and, Device, device, one_more, CountsDevices, CountsReason, CountsFault, CountsNext, games_of, false≢true, sink_of, EndsGame}
-use Rattle.pgn_game.specs.ConverterCalls.{Ends}
-use Rattle.pgn_game.specs.ConverterSteps.{CountsGame}
+use Rattle.pgn_game.specs.calls.ConverterCalls.{Ends}
+use Rattle.pgn_game.specs.state.ConverterSteps.{CountsGame}
 use Rattle.pgn_game.proofs.ReaderFitsInMemory.{fits_alike}
 use Rattle.pgn_game.proofs.tokens.GamesInTurn.{begins, game_read, marker_stops, stops_before, stands_at_end, finished}
 use Rattle.pgn_game.proofs.putting.SilentReader.{none_fails, seen_alike, silence_then}

@@ -1,7 +1,7 @@
 use Rattle.pgn_game.proofs.Words.{Reading, ap, err_from_is_err_and, refl, subst, sym, ◌∙◌, ◌+◌, ◌<◌, ◌^◌, false, None, [], Device, device, Ok, Err, EndsGame, CountsFault, IsStill, bytes_seen}
-use Rattle.pgn_game.specs.ConverterSteps.{IsReady}
-use Rattle.pgn_game.specs.GamesSteps.{CountsReading}
-use Rattle.pgn_game.specs.Readings.{MarkerComes, no_sink}
+use Rattle.pgn_game.specs.state.ConverterSteps.{IsReady}
+use Rattle.pgn_game.specs.state.GamesSteps.{CountsReading}
+use Rattle.pgn_game.specs.state.Readings.{MarkerComes, no_sink}
 use Rattle.pgn_game.proofs.ReaderFitsInMemory.{reading_alike, reading_fits_converter}
 use Rattle.pgn_game.proofs.twice.FailuresOfSteps.{behind_still, no_write, reader_reason, seen_none}
 use Rattle.pgn_game.proofs.twice.GamesOfReadings.{all_read, first_fails, game_read, marker_refused_first}

@@ -1,6 +1,6 @@
 use Rattle.pgn_game.proofs.Words.{Converter, Reading, as_written, ap, bytes_seen, refl, subst, sym, ◌∙◌, device, sink_of, CountsFault, EndsGame, IsStill, KeepsSilence, false, Err, []}
-use Rattle.pgn_game.specs.ConverterSteps.{IsReady}
-use Rattle.pgn_game.specs.Readings.{MarkerComes, ReadsUpToMarker}
+use Rattle.pgn_game.specs.state.ConverterSteps.{IsReady}
+use Rattle.pgn_game.specs.state.Readings.{MarkerComes, ReadsUpToMarker}
 use Rattle.pgn_game.proofs.ReaderFitsInMemory.{reading_fits_converter}
 use Rattle.pgn_game.proofs.putting.SilentReader.{seen_alike, silence_then}
 use Rattle.pgn_game.proofs.twice.FailuresOfSteps.{counts_changed}

@@ -2,7 +2,7 @@ use Rattle.pgn_game.specs.declared.marker.Mark.{Mark}
 use Rattle.pgn_game.specs.declared.converter.FedUpTo.{FedUpTo}
 use Rattle.pgn_game.specs.declared.converter.FedUpTo.TheVariants.{All, Marker as ToMarker}
 use Rattle.pgn_game.proofs.putting.SilentReader.{none_fails, seen_alike, silence_then}
-use Rattle.pgn_game.specs.ConverterSteps.{CountsGame, EndsGame}
+use Rattle.pgn_game.specs.state.ConverterSteps.{CountsGame, EndsGame}
 use Rattle.pgn_game.proofs.Words.{CountsFault, device, Fault, ◌≡◌, ℕ, Result, Ok, arith, ap, le_trans, none-some, refl, same_Some, sym, ◌∙◌, Converter, Err, Standing, err_from_is_err_and, at_token}
 use Rattle.pgn_game.proofs.ReaderFitsInMemory.{fits_alike}
 use Rattle.pgn_game.proofs.tokens.PieceToGame.{reaches, fed_all, fed_game, fed_stops, marker_fails}

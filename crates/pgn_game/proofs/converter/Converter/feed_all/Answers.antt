@@ -1,5 +1,5 @@
 use Rattle.pgn_game.proofs.putting.SilentReader.{seen_alike, silence_kept, silence_then}
-use Rattle.pgn_game.specs.ConverterCalls.{Feeds}
+use Rattle.pgn_game.specs.calls.ConverterCalls.{Feeds}
 use Rattle.pgn_game.proofs.Words.{CountsFault, IsStill, Ok, Err, device, take, ◌-◌, arith, refl, drop, length, ◌∙◌, length-drop, le_refl, take_rest, err_from_is_err_and}
 use Rattle.pgn_game.proofs.ReaderFitsInMemory.{fits_alike}
 use Rattle.pgn_game.proofs.tokens.AcceptedToConverter.{follows_own}

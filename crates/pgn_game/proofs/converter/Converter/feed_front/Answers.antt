@@ -1,5 +1,5 @@
 use Rattle.pgn_game.specs.declared.converter.StepEnd.TheVariants.{Token as Other, Marker as AtMarker}
-use Rattle.pgn_game.specs.ConverterSteps.{Steps}
+use Rattle.pgn_game.specs.state.ConverterSteps.{Steps}
 use Rattle.pgn_game.proofs.Words.{◌≡◌, Ok, None, Some, arith, refl, sym, ap, subst, ◌∙◌, le_refl, length, length-drop, take_rest, waiting, Converter, Reaches}
 use Rattle.pgn_game.proofs.ReaderFitsInMemory.{fits_alike}
 use Rattle.pgn_game.proofs.putting.SilentReader.{seen_alike, silence_kept, silence_then}

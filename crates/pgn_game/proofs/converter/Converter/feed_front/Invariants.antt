@@ -1,5 +1,5 @@
 use Rattle.pgn_game.specs.declared.converter.StepEnd.TheVariants.{Token as Other}
-use Rattle.pgn_game.specs.ConverterSteps.{StepGoes}
+use Rattle.pgn_game.specs.state.ConverterSteps.{StepGoes}
 use Rattle.pgn_game.proofs.Words.{◌≤◌, ◌+◌, ◌-◌, ◌*◌, Ok, Some, length, waiting, sink_of, KeepsSilence, FeedsSoFar}
 use Rattle.pgn_game.proofs.converter.Converter.feed_front.Given as goal
 

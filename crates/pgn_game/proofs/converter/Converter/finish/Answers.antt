@@ -1,7 +1,7 @@
 use Rattle.pgn_game.proofs.putting.SilentReader.{none_fails, seen_alike, silence_kept, silence_then}
-use Rattle.pgn_game.specs.ConverterSteps.{CountsGame, EndsGame, EndsToMarker}
+use Rattle.pgn_game.specs.state.ConverterSteps.{CountsGame, EndsGame, EndsToMarker}
 use Rattle.pgn_game.proofs.Words.{IsTrue, bytes_seen, sink_of, arith, ap, le_refl, le_trans, none-some, refl, same_Some, sym, subst, ◌∙◌, device, Converter, Err, Standing, StaysBetween, err_from_is_err_and, false≢true}
-use Rattle.pgn_game.specs.ConverterSteps.{ReadsToEnd}
+use Rattle.pgn_game.specs.state.ConverterSteps.{ReadsToEnd}
 use Rattle.pgn_game.proofs.ReaderFitsInMemory.{fits_alike, fits_reader}
 use Rattle.pgn_game.proofs.tokens.GoesToMarker.{not_again}
 use Rattle.pgn_game.proofs.tokens.StepsAtEnd.{left_of, none_by_fault}

@@ -1,4 +1,4 @@
-use Rattle.pgn_game.specs.ConverterSteps.{StepsAtEnd}
+use Rattle.pgn_game.specs.state.ConverterSteps.{StepsAtEnd}
 use Rattle.pgn_game.proofs.Words.{Some, arith, refl, ap, ◌∙◌, err_from_is_err_and, waiting, Converter}
 use Rattle.pgn_game.proofs.ReaderFitsInMemory.{fits_alike}
 use Rattle.pgn_game.proofs.putting.SilentReader.{seen_alike, silence_kept, silence_then}

@@ -1,5 +1,5 @@
 use Rattle.pgn_game.proofs.Words.{mode_of_written, ◌≡◌, Some, subst, sym, ap, ◌∙◌, Parts, legal, Movetext}
-use Rattle.pgn_game.specs.Game.{move}
+use Rattle.pgn_game.specs.games.Game.{move}
 use Rattle.pgn_game.proofs.putting.ItemToMovetext.{Advances, adds_put, adds_front, plays_on}
 use Rattle.pgn_game.proofs.movetext.Movetext.put_move.Goals as goal
 

@@ -1,6 +1,6 @@
 use Rattle.pgn_game.proofs.Words.{is_nothing, mode_of_written, seen, Bool, true, Ok, refl, sym, subst, arith, device, Appends-nil, Movetext, WritesItem, CostsToWrite}
 use Rattle.pgn_layout.specs.declared.sink.WriteFault.{WriteFault}
-use Rattle.pgn_game.specs.Game.{move}
+use Rattle.pgn_game.specs.games.Game.{move}
 use Rattle.pgn_game.proofs.putting.ItemToMovetext.{left_out, written_out, not_written, not_silent}
 use Rattle.pgn_game.proofs.movetext.Movetext.write_move.Goals as goal
 

@@ -1,7 +1,7 @@
 use Rattle.pgn_game.proofs.Words.{◌≡◌, ℕ, List, Option, None, Result, Ok, Err, refl, Kind, Reason, ReaderState, TagInMovetext, UnexpectedEnd, NotAMove, marker_of}
 use Rattle.pgn_lexer.specs.Tokens as tokens
-use Rattle.pgn_game.specs.PutResult.{MeetsEntry, TakesEntry, continued, no_marker}
-use Rattle.pgn_game.specs.ReaderState.{ReaderCall}
+use Rattle.pgn_game.specs.state.PutResult.{MeetsEntry, TakesEntry, continued, no_marker}
+use Rattle.pgn_game.specs.state.ReaderState.{ReaderCall}
 use Rattle.pgn_game.specs.declared.annotation.Annotation.TheVariants.{Word, Glyph, CommentOpen, CommentClose}
 use Rattle.pgn_game.proofs.putting.SilentReader.{unused_call}
 use Rattle.pgn_game.proofs.ReaderLemmas.{entry_refused, item_entry, passes_entry}

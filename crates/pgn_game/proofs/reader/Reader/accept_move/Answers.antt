@@ -1,7 +1,7 @@
 use Rattle.pgn_game.proofs.Words.{mode_written, Mode, Option, Ok, More, TakesEntry, Writing, device, symbol, ◌∷◌, [], inl, inr, IsTrue, refl, sym, ap, subst, ◌∙◌, arith, Err, err_from_is_err_and, is_legal, or_parts}
 use Rattle.pgn_game.proofs.Words.{InMovetext, Movetext, ReaderState, may_have_movetext, TriesItem}
 use Rattle.std.proofs.Math.Nat.{le-max_right}
-use Rattle.pgn_game.specs.Game.{move}
+use Rattle.pgn_game.specs.games.Game.{move}
 use Rattle.pgn_game.specs.declared.reason.Reason.TheVariants.{WriteFault}
 use Rattle.pgn_game.proofs.putting.SilentReader.{adds_as, seen_alike, silence_kept, silence_put, silence_then}
 use Rattle.pgn_game.proofs.ReaderLemmas.{text_fits, begins_as, fails_move, most_after, puts_move, puts_unbegun, text_begun}

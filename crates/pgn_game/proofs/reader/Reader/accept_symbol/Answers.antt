@@ -1,6 +1,6 @@
 use Rattle.pgn_game.proofs.Words.{◌≡◌, ◌||◌, ℕ, List, [], Option, None, Some, Result, Err, is_some, true, false, refl, sym, ap, ◌∙◌}
 use Rattle.pgn_game.proofs.Words.{err_from_is_err_and, Device, symbol, Reason, ReaderState, Accepted, Marker, marker_of, is_number, is_score}
-use Rattle.pgn_game.specs.PutResult.{PutsItems, TakesOther}
+use Rattle.pgn_game.specs.state.PutResult.{PutsItems, TakesOther}
 use Rattle.pgn_game.proofs.ReaderLemmas.{reader_alike, number_no_score, number_free, number_leads, number_untried, passes_entry}
 use Rattle.pgn_game.proofs.putting.SilentReader.{unused_call}
 use Rattle.pgn_game.proofs.reader.Reader.accept_symbol.Goals as goal

@@ -1,8 +1,8 @@
 use Rattle.pgn_game.proofs.Words.{mode_written, AreSound, IsSome, None, Stage, Bor, ◌≡◌, ◌&&◌, ◌≤◌, ◌+◌, false, not, Some, IsTrue, bytes_eq, codes, ℕ, length, Bool, true, nat_lt, List, [], Option, IfSome, refl, sym, ap, subst, ◌∙◌, IsSomeAnd, Ok, is_ok, ltb-false, false≢true, escaped, kind_of, TokenKind, ExpectedValue, BadResult, BadFen, TagLineTooLong, AfterName, AfterValue, Part, insert_pair, refusal, next, ReaderState, Agrees, movetext_after_fen, true_from_ne_false}
 use Rattle.std.proofs.lemmas.Bool.{le-ltb}
 use Rattle.pgn_lexer.specs.declared.token.TokenKind.TheVariants.{Str}
-use Rattle.pgn_game.specs.FaultTable.{is_result as is_any_result}
-use Rattle.pgn_game.specs.TokenInMovetext.{fen_position as told}
+use Rattle.pgn_game.specs.games.FaultTable.{is_result as is_any_result}
+use Rattle.pgn_game.specs.state.TokenInMovetext.{fen_position as told}
 use Rattle.pgn_game.proofs.ReaderLemmas.{value_rows, hit, pass, expected_value, value_refusal, value_next, start_fine, start_faults, part_stage, held_at, begun_name, completed, puts_value, to_value, adds_same, comment_in_pair, refused_in_pair, step_in_pair, tags_fit, text_fits}
 use Rattle.pgn_game.proofs.reader.Reader.accept_value.Goals as goal
 

@@ -1,6 +1,6 @@
 use Rattle.pgn_game.proofs.Words.{BeginsText, device, Writing, seen, ◌≤◌, Option, Bor, option_copied, unwrap_or, Marker, ◌≡◌, ℕ, Bool, true, false, not, bytes_eq, List, length, refl, sym, ap, subst, ◌∙◌, arith, codes, is_some, None, Some, Result, Ok, Err, IsFalse, Appends, le-leb, err_from_is_err_and, AppendsFront, Device, one_more, Put, EndGame, text_at, line_at, Kind, Reason, MarkerInVariation, ResultDiffers, Between, value_of, Part, marker_text, depth, TagPairs, levels_of_part, marker_of, result_for, IsOpen, text_refusal, ReaderState, Finished, PutResult, is_outside_the_table, unused}
-use Rattle.pgn_game.specs.PutResult.{TakesMarker}
-use Rattle.pgn_game.specs.ReaderState.{ReaderCall}
+use Rattle.pgn_game.specs.state.PutResult.{TakesMarker}
+use Rattle.pgn_game.specs.state.ReaderState.{ReaderCall}
 use Rattle.pgn_game.proofs.putting.MarkerToReader.{to_game, ends_silent, writes_if_failed}
 use Rattle.pgn_game.proofs.putting.SilentReader.{seen_if, unseen, unused_call, silence_of, writes_some, writes_none}
 use Rattle.pgn_layout.specs.declared.sink.WriteFault.{WriteFault}

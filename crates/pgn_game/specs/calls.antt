@@ -1,0 +1,14 @@
+-- **Definition**: what the public calls promise.
+pub mod Inlet
+pub mod FoundMove
+pub mod Notations
+pub mod LineOfPlay
+pub mod LineWords
+pub mod Tried
+pub mod MostTried
+pub mod ConverterCalls
+pub mod Conversion
+pub mod GamesCalls
+pub mod Checked
+pub mod CheckedConversion
+pub mod Filled

@@ -1,0 +1,141 @@
+-- **Bookkeeping**: the parts of a call of `Games::next`: what is stored on the way, and what is
+-- read up to a marker.
+-- Letters: as in `GamesCalls` and `ConverterSteps`. `left_now` are the bytes that the source has
+-- left, and `now` is the state, at some time during a call.
+use Rattle.std.specs.Prelude.{◌≡◌, ℕ, ◌+◌, ◌^◌, ◌<◌, ◌≤◌, Bool, true, false, List, [], ◌∷◌, ◌++◌, length, drop, Option, None, Some, Result, Ok, Err, IfOk, IfSome, OnOk}
+use Rattle.std.specs.Io.KnownBytes.{Consumes, IsAtEnd, Keeps}
+use Rattle.pgn_layout.specs.Device.{Device, IsStill}
+use Rattle.pgn_lexer.specs.Tokens.{Token}
+use Rattle.pgn_lexer.specs.Decided.{decided}
+use Rattle.pgn_lexer.specs.Stands.{StandsAfter, HasLeft, IsDecided, first}
+use Rattle.pgn_game.specs.declared.reason.Reason.TheVariants.{ReadFault, InputTooLong}
+use Rattle.pgn_game.specs.declared.reason.Fault.{Fault}
+use Rattle.pgn_game.specs.declared.source.ReadFailed.{ReadFailed}
+use Rattle.pgn_game.specs.declared.marker.Mark.{Mark}
+use Rattle.pgn_game.specs.declared.converter.FedUpTo.TheVariants.{All, Marker as ToMarker}
+use Rattle.pgn_game.specs.games.Profile.{Profile}
+use Rattle.pgn_game.specs.calls.ConverterCalls.{Converter, AreNext, CountsFault, KeepsFault, within_limit, HasRead}
+use Rattle.pgn_game.specs.calls.Conversion.{CountsDevices}
+use Rattle.pgn_game.specs.state.ConverterSteps.{NotTaken, FeedsToMarker, IsReady, KeepsRest, Meets, ReadsMore}
+use Rattle.pgn_game.specs.calls.GamesCalls.{CountsNext, Games, ReadsNext, most_left}
+
+-- what a read puts into the empty buffer: bytes, or none at the end of the source (`false`) or if
+-- it fails
+abbrev pub FillResult : Option (List ℕ) → Option (List ℕ) → List ℕ → Result Bool ReadFailed → Type 0
+FillResult left_old left_new new (Ok true) = (0 < length new) × Consumes left_old left_new new
+FillResult left_old left_new new (Ok false) = (new ≡ []) × Consumes left_old left_new [] × IsAtEnd left_new
+FillResult left_old left_new new (Err failed) = Keeps left_old left_new
+
+-- The same for a converter. A failed read is its fault, at the number of bytes used. The rest of it
+-- stays as it was, but no game is just finished.
+abbrev pub MoreResult : Option (List ℕ) → Option (List ℕ) → Converter → Converter → List ℕ → Result Bool Fault → Type 0
+MoreResult left_old left_new old new unused (Ok true) = (new ≡ old) × (0 < length unused) × Consumes left_old left_new unused
+MoreResult left_old left_new old new unused (Ok false) = (new ≡ old) × (unused ≡ []) × Consumes left_old left_new [] × IsAtEnd left_new
+MoreResult left_old left_new old new unused (Err f) = (f ≡ record { at = old.lexer.count; reason = ReadFault }) × (new ≡ record old { just_finished = None; fault = Some f }) × Keeps left_old left_new
+
+-- The bytes not used yet are fed: up to a marker, all of them, or up to a fault.
+abbrev pub RestResult : Games → Games → Result (Option Mark) Fault → Device → Type 0
+RestResult old new (Ok (Some m)) sink = (used : ℕ) × (new.unused ≡ drop used old.unused) × FeedsToMarker old.converter old.unused new.converter (Ok (ToMarker used m)) sink
+RestResult old new (Ok None) sink = (new.unused ≡ []) × FeedsToMarker old.converter old.unused new.converter (Ok All) sink
+RestResult old new (Err f) sink = FeedsToMarker old.converter old.unused new.converter (Err f) sink
+
+-- What `feed_rest` does to a converter and a buffer.
+pub record FeedsRest (old new : Games) (result : Result (Option Mark) Fault) (sink : Device) : Type 0 where
+  pub feeds : RestResult old new result sink
+  pub used : result ≡ Ok None → new.converter.lexer.count ≡ old.converter.lexer.count + length old.unused
+  pub ready : IfOk result (λ marker. IfSome marker (λ m. IsReady new.converter))
+  pub short : new.converter.lexer.count ≤ 2 ^ 62
+  pub keeps : KeepsRest old.converter new.converter false result
+  pub counted : CountsFault result sink
+
+-- The lexer stands after the bytes `used`, and the other bytes that the source gave are not used
+-- yet. The tokens given are those that are decided then; if 2^62 bytes are used, by these alone.
+pub record StandsWithin (u : List ℕ) (games : Games) (given : List Token) : Type 0 where
+  pub used : List ℕ
+  pub bytes : u ≡ used ++ games.unused
+  pub lexer : StandsAfter games.converter.lexer used (first games.unused) given
+  pub at_limit : length used ≡ 2 ^ 62 → given ≡ decided used
+  pub decided : IsDecided used games.unused given
+
+-- What was read since the call began: none of its tokens is a marker that may end a game.
+pub record MoreSoFar (p : Profile) (u : List ℕ) (given : List Token) (left_old left_now : Option (List ℕ)) (now : Games) (before after : Option (List ℕ)) : Type 0 where
+  pub more : List ℕ
+  pub consumed : Consumes left_old left_now more
+  pub tokens : List Token
+  pub stands : StandsWithin (u ++ more) now tokens
+  pub reads : ReadsMore p given tokens now.converter before after
+
+-- A marker was met: it is `token`, after the tokens read. The bytes before place 2^62 decide it.
+pub record MeetsNext (p : Profile) (u : List ℕ) (given : List Token) (left_old left_new : Option (List ℕ)) (m : Mark) (new : Games) (before after : Option (List ℕ)) : Type 0 where
+  pub more : List ℕ
+  pub consumed : Consumes left_old left_new more
+  pub tokens : List Token
+  pub token : Token
+  pub stands : StandsWithin (u ++ more) new (tokens ++ token ∷ [])
+  pub next : AreNext (within_limit (u ++ more)) (tokens ++ token ∷ [])
+  pub meets : Meets p given tokens token m new.converter before after
+
+-- The source has ended, all its bytes are used, and no marker was met.
+pub record UsesAll (p : Profile) (u : List ℕ) (given : List Token) (left_old left_new : Option (List ℕ)) (new : Games) (before after : Option (List ℕ)) : Type 0 where
+  pub so_far : MoreSoFar p u given left_old left_new new before after
+  pub none_left : new.unused ≡ []
+  pub at_end : IsAtEnd left_new
+
+-- All tokens that the bytes u decide were read, by the converter `now`. `new` still has its reader.
+pub record ReadsAllOf (p : Profile) (given : List Token) (u : List ℕ) (new : Converter) (before after : Option (List ℕ)) : Type 0 where
+  pub now : Converter
+  pub same : new.reading ≡ now.reading
+  pub left : HasLeft now.lexer u (decided u)
+  pub reads : ReadsMore p given (decided u) now before after
+
+-- How reading stops before a marker.
+-- - `at_token`: at a token that the bytes before place 2^62 decide.
+-- - `unread`: a read failed.
+-- - `too_long`: the source has given the byte at place 2^62.
+pub data StopsBefore (p : Profile) (u : List ℕ) (given : List Token) (left_old left_new : Option (List ℕ)) (new : Converter) (before after : Option (List ℕ)) : Fault → Type 0 where
+  at_token : (f : Fault) (more : List ℕ) (tokens : List Token) (t : Token) → Consumes left_old left_new more → AreNext (within_limit (u ++ more)) (tokens ++ t ∷ [])
+      → NotTaken p given tokens t f new.reading before after
+      → StopsBefore p u given left_old left_new new before after f
+  unread : (more : List ℕ) → Consumes left_old left_new more → length (u ++ more) ≤ 2 ^ 62 → ReadsAllOf p given (u ++ more) new before after
+      → StopsBefore p u given left_old left_new new before after (record { at = length (u ++ more); reason = ReadFault })
+  too_long : (more front rest : List ℕ) → Consumes left_old left_new more → u ++ more ≡ front ++ rest → length front ≡ 2 ^ 62 → 0 < length rest
+      → ReadsAllOf p given front new before after
+      → StopsBefore p u given left_old left_new new before after (record { at = 2 ^ 62; reason = InputTooLong })
+
+-- What `next_marker` results in: a marker was met, the source has ended, or reading stopped.
+abbrev pub AfterToMarker : Profile → List ℕ → List Token → Option (List ℕ) → Option (List ℕ) → Games → Result (Option Mark) Fault → Option (List ℕ) → Option (List ℕ) → Type 0
+AfterToMarker p u given left_old left_new new (Ok (Some m)) before after = MeetsNext p u given left_old left_new m new before after
+AfterToMarker p u given left_old left_new new (Ok None) before after = UsesAll p u given left_old left_new new before after
+AfterToMarker p u given left_old left_new new (Err f) before after = StopsBefore p u given left_old left_new new.converter before after f
+
+-- What `next_marker` does to a converter and a buffer that have read any bytes of the source.
+abbrev pub ReadsNextMarker : Games → Games → Result (Option Mark) Fault → Device → Device → Type 0
+ReadsNextMarker old new result source sink =
+    (p : Profile) (u : List ℕ) (given : List Token) → StandsWithin u old given → HasRead p old.converter given
+    → AfterToMarker p u given source.before source.after new result sink.before sink.after
+
+-- what was read from the state `old` on, while `next_marker` runs
+abbrev pub ReadsSoFar : Games → Games → Device → Device → Type 0
+ReadsSoFar old now source sink =
+    (p : Profile) (u : List ℕ) (given : List Token) → StandsWithin u old given → HasRead p old.converter given
+    → MoreSoFar p u given source.before source.after now sink.before sink.after
+
+-- If the fault is `ReadFault`, the source counts one failure more. If it is `WriteFault`, the sink
+-- does. Otherwise no count rises.
+abbrev pub CountsReading : {A : Type 0} → Result A Fault → Device → Device → Type 0
+CountsReading (Ok x) source sink = IsStill source × IsStill sink
+CountsReading (Err f) source sink = CountsDevices f.reason source.failures source.failures_after sink.failures sink.failures_after
+
+-- How `next_marker` leaves the rest of the converter, and what it counts.
+pub record GoesToNextMarker (old new : Converter) (result : Result (Option Mark) Fault) (source sink : Device) : Type 0 where
+  pub ready : IfOk result (λ marker. IfSome marker (λ m. IsReady new))
+  pub short : OnOk result (new.lexer.count ≤ 2 ^ 62)
+  pub keeps : KeepsRest old new false result
+  pub counted : CountsReading result source sink
+
+-- What `next_game` does to a converter and a buffer, and what it counts.
+pub record GoesToNextGame (old new : Games) (result : Result Bool Fault) (source sink : Device) : Type 0 where
+  pub reads : ReadsNext old new result source sink
+  pub fewer : result ≡ Ok true → most_left new < most_left old
+  pub fault : KeepsFault new.converter result
+  pub counted : old.converter.fault ≡ None → CountsNext result source sink
