@@ -50,7 +50,7 @@ module _ (law : MissingResults) (mode : Mode) (s : List ℕ) (found : PgnGame) (
   alike =
       let ends : IsTrue (all_end_with (marker_text is.marker) (is.game ∷ [])) =
       ap (λ (b : Bool). b && true) ((bytes_eq-Decides is.game.marker (marker_text is.marker)).1 is.is_marker) in
-      law.by_own_marker (profile_taking mode) (marker_text is.marker) ts refl is.passes
+      law.if_all_end_with_it (profile_taking mode) (marker_text is.marker) ts refl is.passes
       (subst (λ (gs : List Game). IsTrue (all_end_with (marker_text is.marker) gs)) (sym is.one_game) ends)
 
   -- so the text has a game, if it is not too long

@@ -214,9 +214,10 @@ ReadsNext p text from found = NextOf p (text_from text from) (drop from text) fo
 abbrev pub profile_taking : Mode → Profile
 profile_taking mode = checked_profile 64 32 mode
 
--- A game in which a missing Result takes the marker: the first tokens of the text, of which `at` is
--- its marker, are read into it. The bytes before place 2^62 show them. The buffer begins with the
--- export text of the game, and its other bytes are as they were.
+-- A game in which a missing Result takes the marker. The first tokens of the text are read into it
+-- and into no other game, and the last of them, `at`, is its marker. The bytes before place 2^62
+-- show them. The buffer begins with the export text of the game, and its other bytes are as they
+-- were.
 pub record HasGameByMarker (mode : Mode) (s : List ℕ) (before after : List ℕ) (result : PgnGame) : Type 0 where
   pub tokens : List Token
   pub at : Token

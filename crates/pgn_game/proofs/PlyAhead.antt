@@ -7,7 +7,7 @@ use Rattle.pgn_game.specs.declared.notation.Notation.{Notation}
 use Rattle.pgn_game.specs.games.Chess.{text_of_move}
 use Rattle.pgn_game.specs.calls.Notations.{named_in}
 use Rattle.pgn_game.specs.calls.LineOfPlay.{Ahead, Line, NextPly, Word, behind_ply, line_ahead, line_of, no_plies}
-use Rattle.pgn_game.specs.calls.LineWords.{bytes_between, moves_from, word_in}
+use Rattle.pgn_game.specs.state.LineWords.{bytes_between, moves_from, word_in}
 
 abbrev line_by : (n : Notation) (p : Parts) (w : Word) (ws : List Word) → Result Played Reason → Line
 line_by n p w ws r =

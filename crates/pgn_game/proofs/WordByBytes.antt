@@ -3,7 +3,7 @@ use Rattle.pgn_game.proofs.Words.{◌≡◌, ℕ, suc, ◌+◌, ◌-◌, ◌<◌
 use Rattle.std.proofs.lemmas.List.{get_or-drop}
 use Rattle.pgn_lexer.specs.Bytes.{is_space}
 use Rattle.pgn_game.specs.calls.LineOfPlay.{words_behind}
-use Rattle.pgn_game.specs.calls.LineWords.{bytes_between}
+use Rattle.pgn_game.specs.state.LineWords.{bytes_between}
 
 at_other : (at b : ℕ) (w s : List ℕ) → is_space b ≡ false → words_behind at w (b ∷ s) ≡ words_behind at (w ++ b ∷ []) s
 at_other at b w s e = rw e refl

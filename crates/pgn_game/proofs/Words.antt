@@ -43,7 +43,7 @@ pub use Rattle.pgn_game.specs.games.Chess.{is_black_to_move}
 unfoldable pub use Rattle.pgn_game.specs.games.Chess.{first_position, move_of, play, position_of, text_of_move}
 pub use Rattle.pgn_game.specs.games.FaultTable.{Row, fen_fault_field, fen_field, fen_field_of, first_holding, has_other_result, in_name, is_at, is_at_limit, is_comment, is_end, is_many_moves, is_no_form, is_no_move, is_number, is_one_move, is_outside_tag_pairs, is_reduced, is_result, is_score, lacks_fen, levels_of_part, marker_of, position_in, result_for, row, rows, position_if_move}
 unfoldable pub use Rattle.pgn_game.specs.games.FaultTable.{refusal}
-pub use Rattle.pgn_game.specs.calls.Filled.{exported_pairs, filled}
+pub use Rattle.pgn_game.specs.laws.Filled.{exported_pairs, filled}
 pub use Rattle.pgn_game.specs.laws.FixedPoint.{AreExportable, ExportIsKept, ExportIsKeptOfSource, ExportingTwice, FewPairsHaveRoom, FixedPoint, IsExportable, IsWrittenAgain, SameOutput, SameText, SliceIsKept, SourceIsKept, TagSectionFits, TextSpells, counted, games_in}
 pub use Rattle.pgn_game.specs.games.Game.{close_variation, open_variation}
 pub use Rattle.pgn_game.specs.state.ItemResult.{Adds, Annotates, Plays, PutsTokens, TriesItem, WritesItem, after_move_if, item_text, number_due, plies_in}
@@ -51,13 +51,13 @@ pub use Rattle.pgn_game.specs.state.ItemResult.{tokens_due, tokens_if, LeavesSin
 pub use Rattle.pgn_game.specs.games.Levels.{Level, Levels, back_to, depth, first_level, here, last_position, levels_after, levels_of, main_moves, outermost}
 pub use Rattle.pgn_game.specs.games.Levels.{plies_of, replayed, start_of, without_last}
 pub use Rattle.pgn_game.specs.games.Markers.{marker_text, missing_of}
-pub use Rattle.pgn_game.specs.state.Written.{bytes_seen, failures_seen, is_nothing, mode_of_written, mode_unless, seen}
+pub use Rattle.pgn_game.specs.calls.Written.{bytes_seen, failures_seen, is_nothing, mode_of_written, mode_unless, seen}
 pub use Rattle.pgn_game.specs.state.Movetext.{HoldsLineOf, ClosesLevel, FitsLevelStore, HoldsItems, Movetext, StoredLevel, StoredLevels, before_last, code_levels, ends_in_move, inside, level_at, level_of, movetext_after_fen, movetext_from, nearest_first, only_level, places_of, stored_level, stored_levels}
 pub use Rattle.pgn_game.specs.games.Progress.{Next, Progress, Read, at_stage, going, in_text, items_of, move_item, next, next_in, no_progress, output, progress_after, progress_with, read, read_from, refused, totals, verdict, whole, due, verdict_of, written as written_so_far, position_at_fault}
 pub use Rattle.pgn_game.specs.state.PutResult.{BeginsText, Goes, Keeps, PutResult, PutsItems, TakesOutside, TakesToken, at_game_start, gain_to, section_due, section_due_of, CountsMove, EntersMovetext, Finds, FinishesNone, GoesTo, Takes, TakesEntry, TakesUnwritten, counting_probes, unused}
 pub use Rattle.pgn_game.specs.state.ReaderState.{KeepsSilence, Writing, mode_written, silenced, sink_of, telling, Accepted, More, Finished, Agrees, AreSound, CountsWrites, FinishesAtMarker, HoldsPairs, HoldsText, IsBehind, ReaderState, as_written, is_outside_the_table, known_of, known_text, plies_behind, whole_plies, Answers, IsAccepted, IsKnown, IsStopped, Leads, plies_next}
-pub use Rattle.pgn_game.specs.export.SectionLines.{other_line, roster_line, text_by}
-pub use Rattle.pgn_game.specs.export.Spells.{AreDistinct, AreDropped, BeginsBare, IsPair, IsResult, IsSetUp, KeepsTags, Names, Spells, SpellsGame, SpellsGames, SpellsPair, SpellsPairs, SpellsText, StandsFor, by_name, comment_close, comment_open, glyph, level_after_move, move, new_level, next_game, next_pair, no_game, no_more, no_pair, number, pair, period, token, variation, word}
+pub use Rattle.pgn_game.specs.state.SectionLines.{other_line, roster_line, text_by}
+pub use Rattle.pgn_game.specs.games.Spells.{AreDistinct, AreDropped, BeginsBare, IsPair, IsResult, IsSetUp, KeepsTags, Names, Spells, SpellsGame, SpellsGames, SpellsPair, SpellsPairs, SpellsText, StandsFor, by_name, comment_close, comment_open, glyph, level_after_move, move, new_level, next_game, next_pair, no_game, no_more, no_pair, number, pair, period, token, variation, word}
 pub use Rattle.pgn_game.specs.state.StoredPairs.{AllAfter, AllBelow, AreInOrder, FitsPairStore, HasBegun, InOrder, TagPairs, index_of, pair_at, pairs_seen, placed}
 pub use Rattle.pgn_game.specs.export.TagSection.{exported, in_roster, other_pairs, roster_pairs, tag_lines, tag_section, with_set_up}
 unfoldable pub use Rattle.pgn_game.specs.export.TagSection.{roster}

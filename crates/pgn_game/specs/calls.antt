@@ -3,7 +3,6 @@ pub mod Inlet
 pub mod FoundMove
 pub mod Notations
 pub mod LineOfPlay
-pub mod LineWords
 pub mod Tried
 pub mod MostTried
 pub mod ConverterCalls
@@ -11,4 +10,5 @@ pub mod Conversion
 pub mod GamesCalls
 pub mod Checked
 pub mod CheckedConversion
-pub mod Filled
+pub mod Written
+pub mod Size

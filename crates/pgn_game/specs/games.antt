@@ -8,3 +8,4 @@ pub mod Game
 pub mod Levels
 pub mod FaultTable
 pub mod Progress
+pub mod Spells

@@ -9,3 +9,5 @@ pub mod GamesRestart
 pub mod GamesJoined
 pub mod GameEnds
 pub mod MissingResults
+pub mod Filled
+pub mod MovetextLines

@@ -11,8 +11,8 @@ ghost use Rattle.pgn_game.specs.games.Markers.{marker_text};
 ghost use Rattle.pgn_game.specs.state.Readings.{GoesOnAfterGame, HasGiven, ReadsGame, StillGivenNone};
 ghost use Rattle.pgn_game.specs.state.Readings.{ReadsUpToMarker, WritesGame, as_changed, no_sink};
 ghost use Rattle.pgn_game.specs.state.ReaderState.{KeepsSilence, sink_of, whole_plies};
-ghost use Rattle.pgn_game.specs.state.Written.{bytes_seen};
-ghost use Rattle.pgn_game.specs.state.Size.{HoldsTwice};
+ghost use Rattle.pgn_game.specs.calls.Written.{bytes_seen};
+ghost use Rattle.pgn_game.specs.calls.Size.{HoldsTwice};
 
 use crate::conversion::Totals;
 use crate::converter::Converter;

@@ -540,7 +540,7 @@ impl<const T: usize, const L: usize> Converter<T, L> {
 
     /// Writes the tag section of the game just finished, with the empty line behind it (PGN 8.1).
     ///
-    /// A converter that writes nothing writes it too. At any other time nothing is written.
+    /// This writes also after `write_nothing`. At any other time nothing is written.
     ///
     /// # Errors
     ///

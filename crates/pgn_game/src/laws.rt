@@ -4,7 +4,7 @@ ghost use Rattle.pgn_game.specs.laws.GamesJoined as games_joined;
 ghost use Rattle.pgn_game.specs.laws.GameEnds as game_ends;
 ghost use Rattle.pgn_game.specs.laws.GamesRestart as restart;
 ghost use Rattle.pgn_game.specs.laws.MovesAreLegal as legality;
-ghost use Rattle.pgn_game.specs.export.MovetextLines as on_lines;
+ghost use Rattle.pgn_game.specs.laws.MovetextLines as on_lines;
 ghost use Rattle.pgn_game.specs.laws.FixedPoint as fixed;
 ghost use Rattle.pgn_game.specs.laws.UniqueReading as unique;
 ghost use Rattle.pgn_game.specs.laws.EqualReadings as equal;

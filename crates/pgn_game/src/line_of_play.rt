@@ -4,8 +4,8 @@ ghost use Rattle.chess_rules.specs.Legal.{legal};
 ghost use Rattle.pgn_lexer.specs.Bytes.{is_space as is_white_space};
 ghost use Rattle.pgn_game.specs.calls.LineOfPlay as spec;
 ghost use Rattle.pgn_game.specs.calls.LineOfPlay.{NextPly, move_texts};
-ghost use Rattle.pgn_game.specs.calls.LineWords.{FindsFirst, SpaceEnds, WordBegins, WordEnds};
-ghost use Rattle.pgn_game.specs.calls.LineWords.{moves_from, words_from};
+ghost use Rattle.pgn_game.specs.state.LineWords.{FindsFirst, SpaceEnds, WordBegins, WordEnds};
+ghost use Rattle.pgn_game.specs.state.LineWords.{moves_from, words_from};
 
 use crate::notation::{Notation, read_move};
 use crate::reason::Fault;
@@ -58,7 +58,7 @@ pub struct LineOfPlay<'a> {
 impl<'a> Model for LineOfPlay<'a> {
     ghost use Rattle.std.specs.Prelude.{◌≤◌, length};
     ghost use Rattle.pgn_game.specs.calls.LineOfPlay.{Ahead};
-    ghost use Rattle.pgn_game.specs.calls.LineWords.{moves_from};
+    ghost use Rattle.pgn_game.specs.state.LineWords.{moves_from};
 
     ghost Value = { Ahead };
 

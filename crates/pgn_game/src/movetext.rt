@@ -5,7 +5,7 @@ ghost use Rattle.pgn_game.specs.games.Chess.{first_position};
 ghost use Rattle.pgn_game.specs.games.Game as games;
 ghost use Rattle.pgn_game.specs.state.Movetext.{IsDepth, movetext_from, movetext_after_fen};
 ghost use Rattle.pgn_game.specs.state.TokenInMovetext.{ItemFits, model_item};
-ghost use Rattle.pgn_game.specs.state.Written.{mode_of_written};
+ghost use Rattle.pgn_game.specs.calls.Written.{mode_of_written};
 ghost use Rattle.pgn_game.specs.calls.MostTried.{is_written};
 ghost use Rattle.chess_rules.specs.declared.position.Move.{Move as MoveSeen};
 ghost use Rattle.pgn_game.specs.declared.mode.Mode.TheVariants as modes;

@@ -44,7 +44,7 @@ use pgn_lexer::TokenKind;
 use std::marker::Model;
 
 /// The callers of `accept_entry`: the loop of movetext, the step that takes one token whole, and
-/// `accept_copied`.
+/// `accept_copied`. The compiler makes a copy of the code for each, and all do the same.
 pub const MOVETEXT: u8 = 0;
 
 pub const WHOLE: u8 = 1;
@@ -74,7 +74,7 @@ impl<const T: usize, const L: usize> Model for Reader<T, L> {
     ghost use Rattle.std.specs.Prelude.{◌≡◌, ◌-◌, ◌≤◌, option_map};
     ghost use Rattle.pgn_game.specs.games.Markers.{marker_text, missing_of};
     ghost use Rattle.pgn_game.specs.state.ReaderState.{ReaderState, AreSound};
-    ghost use Rattle.pgn_game.specs.state.Written.{is_nothing, mode_of_written, mode_unless};
+    ghost use Rattle.pgn_game.specs.calls.Written.{is_nothing, mode_of_written, mode_unless};
 
     ghost Value = { ReaderState };
 
@@ -662,13 +662,13 @@ impl<const T: usize, const L: usize> Reader<T, L> {
         if self.is_in_movetext() {
             return Ok(());
         }
-        self.write_tags(out)
+        self.enter_movetext(out)
     }
 
     // Writes the tag section, unless nothing is written, and movetext begins. It is not inlined: a
     // game has one.
     #[inline(never)]
-    fn write_tags<W: Sink>(&mut self, out: &mut W) -> Result<(), WriteFault>
+    fn enter_movetext<W: Sink>(&mut self, out: &mut W) -> Result<(), WriteFault>
         requires stage { self.old.stage ≡ AfterTags }
         ensures { ReaderCall W.taken W.failures self.old self.new out.old out.new
             (BeginsText self.old self.new result) }

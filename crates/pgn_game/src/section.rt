@@ -6,7 +6,7 @@ ghost use Rattle.pgn_layout.specs.TagLine.{escaped};
 ghost use Rattle.pgn_game.specs.games.Markers.{missing_of};
 ghost use Rattle.pgn_game.specs.games.Profile.{known_result};
 ghost use Rattle.pgn_game.specs.games.Pairs.{value_of, has_pair};
-ghost use Rattle.pgn_game.specs.export.SectionLines.{text_by, roster_line, other_line};
+ghost use Rattle.pgn_game.specs.state.SectionLines.{text_by, roster_line, other_line};
 ghost use Rattle.pgn_game.specs.state.StoredPairs.{ValueResult};
 ghost use Rattle.pgn_game.specs.export.TagSection.{roster, in_roster, exported, other_pairs, tag_lines, tag_section, with_set_up};
 
@@ -157,7 +157,7 @@ fn write_other<W: Sink>(pair: &TagPair, has_fen: bool, out: &mut W) -> Result<()
     write_tag(pair.name(), pair.value(), out)
 }
 
-#[tactic(auto, unfolding(crate::specs::TagSection::roster))]
+#[tactic(auto, unfolding(crate::specs::export::TagSection::roster))]
 // A name of the roster and its default, by its place in the roster (PGN 8.1.1).
 fn roster_pair(missing_result: MissingResult, index: usize) -> (&'static [u8], &'static [u8])
     requires { index < 7 }

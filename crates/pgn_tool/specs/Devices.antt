@@ -25,7 +25,7 @@ HasRoom {O} sink output old =
     (reserved : O) × (sink.taken reserved ≡ sink.taken old)
     × (sink.failures reserved ≡ sink.failures old) × (output.lacks_memory reserved ≡ false)
 
--- what these devices are written
+-- what is written to these devices
 abbrev pub outputs : {I O F G E : Type 0} → OfSink O → OfOutput O → OfFiles F G → OfSink E
     → Devices I O F E → Devices I O F E → Outputs
 outputs sink output games errors old new = record {

@@ -47,8 +47,9 @@ pub record Reading : Type 0 where
   pub refuses : List ℕ → SystemFault → Bool
 
 -- What a run writes to, before it and after it. `unflushed` are the bytes of standard output that
--- are not flushed, if it reports them. `lacks_memory` says that there was no memory for its buffer,
--- and `has_room` that there was. `files` are the steps with files, if they are reported.
+-- are not flushed before it, and `unflushed_after` those after it, if it reports them.
+-- `lacks_memory` says that there was no memory for its buffer, and `has_room` that there was.
+-- `files` are the steps with files, if they are reported.
 pub record Outputs : Type 1 where
   pub out : Device
   pub unflushed : Option (List ℕ)

@@ -1,5 +1,5 @@
 -- **Definition**: what a run of the program does to the devices of a machine, for the words of its
--- command line.
+-- command line. The letter o is for the outputs of such a machine.
 use Rattle.std.specs.Prelude.{◌≡◌, ℕ, ◌≤◌, Bool, true, false, List, [], ◌∷◌, map, codes, Option, None, Some, Result, Ok, Err, String, Vec, string_bytes}
 use Rattle.std.specs.Global.{Global}
 use Rattle.pgn_layout.specs.Device.{Device, NoneUnflushed}
@@ -172,7 +172,7 @@ EndsUnread NoMemory err status = Reports (codes "out of memory") 3 err status
 abbrev pub EndsFlushed : Outputs → ℕ → Type 0
 EndsFlushed o status = NoneUnflushed o.unflushed → IsFlushed o.out o.unflushed_after status
 
--- what a part of a run does, and how each of them ends
+-- What a part of a run does. The status is at most 3, and standard output is flushed.
 pub record RunsPart (does : Machine → ℕ → Type 0) (m : Machine) (status : ℕ) : Type 0 where
   pub runs : does m status
   pub low : status ≤ 3

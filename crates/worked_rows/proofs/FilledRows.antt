@@ -3,10 +3,10 @@
 use Rattle.worked_rows.proofs.Words.{LexReason, String, ◌≡◌, ℕ, List, [], ◌∷◌, ◌++◌, length, refl, arith, codes, replicate, digits, squares, agreeing, tokens_of, Full, Reduced, Lexical, NotAMove, TooManyTags, Profile, counts_as, Counted, Verdict, refused, totals, output, verdict, first_position, position_of, move_of, text_of_move, play, refusal, Item, Game, Pair, roster}
 use Rattle.pgn_lexer.specs.Tokens as tokens
 use Rattle.pgn_game.specs.declared.reason.Fault.{Fault}
-use Rattle.pgn_game.specs.calls.Filled.{exported_pairs, filled}
+use Rattle.pgn_game.specs.laws.Filled.{exported_pairs, filled}
 use Rattle.pgn_game.specs.laws.FixedPoint.{TagSectionFits, AreExportable, TextSpells, FixedPoint, IsExportable, ExportingTwice, FewPairsHaveRoom}
 use Rattle.pgn_game.specs.games.Game as games
-use Rattle.pgn_game.specs.export.Spells.{Spells, no_pair, no_game, next_game, no_more, new_level}
+use Rattle.pgn_game.specs.games.Spells.{Spells, no_pair, no_game, next_game, no_more, new_level}
 use Rattle.pgn_game.specs.export.Text.{text_of}
 use Rattle.worked_rows.proofs.LegalRows.{moves, e4, e5}
 use Rattle.worked_rows.proofs.MoveRows.{played}

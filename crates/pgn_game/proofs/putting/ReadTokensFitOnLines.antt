@@ -9,7 +9,7 @@ use Rattle.pgn_lexer.specs.Laws.{TokensAreSound}
 use Rattle.pgn_lexer.specs.Sound.{IsWord}
 use Rattle.pgn_game.specs.games.Game as games
 use Rattle.pgn_game.specs.laws.MovesAreLegal.{is_legal_at, plays_legally, MovesAreLegal}
-use Rattle.pgn_game.specs.export.MovetextLines.{AreOnLines, GameIsOnLines, MovetextIsOnLines}
+use Rattle.pgn_game.specs.laws.MovetextLines.{AreOnLines, GameIsOnLines, MovetextIsOnLines}
 use Rattle.pgn_game.proofs.MarkerTexts.{result_marker}
 use Rattle.pgn_game.proofs.tokens.OneMoreToken.{by_token}
 use Rattle.pgn_game.proofs.putting.MarkerToReader.{marker_token}

@@ -1,7 +1,7 @@
 -- White space that is passed, with numbers and periods in movetext.
 use Rattle.pgn_lexer.specs.Tokens.{symbol, period}
 use Rattle.pgn_lexer.specs.WholeTokens.{Passes, is_passed, none, over_space, over_token}
-use Rattle.pgn_game.specs.state.ConverterSteps.{ReadsOn}
+use Rattle.pgn_game.specs.state.ConverterSteps.{StepsOn}
 use Rattle.pgn_game.specs.state.PutResult.{MeetsEntry, PutsItems, TakesEntry, TakesUnlessMarker}
 use Rattle.pgn_lexer.specs.declared.token.TokenKind.TheVariants as token_kinds
 use Rattle.pgn_game.proofs.Words.{length-drop, Bool, Marker, Kind, Token, Standing, waiting, InMovetext, ReaderState, Profile, Converter, Device, Reason, ◌≡◌, ℕ, ◌+◌, ◌*◌, ◌<◌, ◌≤◌, List, [], ◌++◌, length, take, drop, Option, None, Ok, IsTrue, refl, sym, ap, subst, ◌∙◌, arith, inl, Appends-nil, More, kind_of, TokenKind, Result, Accepted, may_have_movetext, TakesToken, Reaches, SoFar, first, StandsAfter, next_at, still, decided}
@@ -120,7 +120,7 @@ module _ (p : Profile) (old : Converter) (u : List ℕ) (given : List Token) (pi
         reads_token p (now l) so.tokens t new old.reading old.is_finished (still_at o 0) here.has_read (takes_passed old.reading t.kind o 0 (at skipped) passed),
       ))
 
-  pub reads_past : {new : Standing} {n : ℕ} → Passes skips old.lexer piece new n → ReadsOn p u given piece (now new) n o o
+  pub reads_past : {new : Standing} {n : ℕ} → Passes skips old.lexer piece new n → StepsOn p u given piece (now new) n o o
   reads_past none = reads_on_none p (now old.lexer) u given piece o here_now
   reads_past (over_space l new m passes within is_white scans waits) =
       let so = so_far_past (over_space l new m passes within is_white scans waits) in

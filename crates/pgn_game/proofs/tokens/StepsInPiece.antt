@@ -3,7 +3,7 @@ use Rattle.std.proofs.Common.{length-take-le, take_all}
 use Rattle.pgn_game.specs.declared.marker.Mark.{Mark}
 use Rattle.pgn_game.specs.declared.converter.StepEnd.TheVariants.{Token as Other, Marker as AtMarker}
 use Rattle.pgn_game.specs.declared.converter.StepEnd.{StepEnd}
-use Rattle.pgn_game.specs.state.ConverterSteps.{AfterSteps, ReadsOn, ReadsPiece, ReadsToMarker, FailsIn}
+use Rattle.pgn_game.specs.state.ConverterSteps.{AfterSteps, StepsOn, ReadsPiece, ReadsToMarker, FailsIn}
 use Rattle.pgn_game.proofs.Words.{InputTooLong, Fault, Profile, take-append-drop, take-take, drop-take, drop-drop, Token, decided, Follows, IsDecided, first, still, Standing, StandsAfter, ReaderState, as_written, Converter, Stands, Reaches, StopsIn, within_limit, too_long, ◌≡◌, ℕ, ◌+◌, ◌-◌, ◌<◌, ◌≤◌, ◌^◌, zero, suc, List, [], ◌∷◌, ◌++◌, length, take, drop, Option, None, Some, refl, sym, ap, subst, ◌∙◌, append_assoc, append-nil, length-append, length-drop, length-take, le_refl, drop_of_length-le, inl, inr, arith, Result, Ok, Err, take-add, AfterStep, next_at, SoFar, EndsAt}
 use Rattle.pgn_game.proofs.tokens.MarkerToGame.{reads_none, reads_more, meets_more, not_taken_more}
 use Rattle.pgn_game.proofs.tokens.AcceptedToConverter.{follows_own, next_in_piece, read_as, still_none}
@@ -95,7 +95,7 @@ module _ (p : Profile) (u : List ℕ) (b : Option ℕ) (given : List Token) (pie
   decided_further used ts h =
       subst (λ xs. IsDecided (u ++ take (at + used) piece) xs ts) (drop-drop used at piece) (rw (further u piece at used) at h)
 
-  pub so_far_on : (used : ℕ) → ReadsOn p (u ++ take at piece) so.tokens (drop at piece) new used c d → SoFar p u b given piece (at + used) new a d
+  pub so_far_on : (used : ℕ) → StepsOn p (u ++ take at piece) so.tokens (drop at piece) new used c d → SoFar p u b given piece (at + used) new a d
   so_far_on used on =
       let more = on.so in
       record {
@@ -159,13 +159,13 @@ module _ (p : Profile) (u : List ℕ) (b : Option ℕ) (given : List Token) (pie
 
 -- no byte was used
 pub reads_on_none : (p : Profile) (old : Converter) (u : List ℕ) (given : List Token) (piece : List ℕ) (o : Option (List ℕ))
-    → Reaches p old u (first piece) given → ReadsOn p u given piece old 0 o o
+    → Reaches p old u (first piece) given → StepsOn p u given piece old 0 o o
 unfolding so_far_none
 reads_on_none p old u given piece o reaches =
     record { so = so_far_none p old u (first piece) given piece o reaches (follows_own piece); decided = inr (refl, refl) }
 
 module _ (p : Profile) (u : List ℕ) (given : List Token) (piece : List ℕ) (at : ℕ) (now : Converter)
-    (a c d : Option (List ℕ)) (on : ReadsOn p u given piece now at a c) (within : at < length piece)
+    (a c d : Option (List ℕ)) (on : StepsOn p u given piece now at a c) (within : at < length piece)
     (new : Converter) (written : as_written new.reading ≡ as_written now.reading) (used : ℕ) where
   -- more tokens
   pub after_steps : (outcome : Result (Option StepEnd) Fault)
@@ -192,7 +192,7 @@ module _ (p : Profile) (u : List ℕ) (given : List Token) (piece : List ℕ) (a
 
 -- one token of it
 pub reads_one : {p : Profile} {u : List ℕ} {given : List Token} {piece : List ℕ} {new : Converter} {used : ℕ} {a c : Option (List ℕ)}
-    → 0 < length piece → AfterStep p u given piece new used (Ok (Some Other)) a c → ReadsOn p u given piece new used a c
+    → 0 < length piece → AfterStep p u given piece new used (Ok (Some Other)) a c → StepsOn p u given piece new used a c
 reads_one {u = u} {given = given} {piece = piece} {new = new} {used = used} some (t, ends, reads) =
     record {
       so = record {

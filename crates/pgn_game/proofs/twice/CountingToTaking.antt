@@ -12,7 +12,7 @@ use Rattle.pgn_game.proofs.exporting.GameTextToGame.{exported_result}
 use Rattle.pgn_game.proofs.exporting.GameToResult.{one_of_four, result_of}
 use Rattle.pgn_game.proofs.tokens.OneMoreToken.{after_test, by_token, read_from-test, goes_on, text_of-snoc}
 use Rattle.pgn_game.proofs.twice.MarkerCounts.{marker_finishes, no_marker_goes, refusal_counting, same_game_text, table_alike}
-use Rattle.pgn_game.proofs.twice.TakingToCounting.{reads_by_own_marker}
+use Rattle.pgn_game.proofs.twice.TakingToCounting.{reads_as_one_marker}
 
 -- One row of the table.
 
@@ -321,6 +321,6 @@ missing_results = record {
         up_to_it = is_read_alike q (marker_text h.marker) (h.front ++ h.token ∷ []) takes h.up_to_it;
         rejected = λ same. is_read_alike q (marker_text h.marker) ts takes (h.rejected (ap (length {A = Game}) same));
       };
-  by_own_marker = λ q text ts takes passes all.
-      is_read_alike q text ts takes (reads_by_own_marker q text no_progress ts takes passes all);
+  if_all_end_with_it = λ q text ts takes passes all.
+      is_read_alike q text ts takes (reads_as_one_marker q text no_progress ts takes passes all);
 }

@@ -29,16 +29,16 @@ marker_is text games g all =
     (rw (list_all-append (λ (g : Game). bytes_eq g.marker text) games (g ∷ [])) at all)).1 in
     (bytes_eq-Decides g.marker text).0 (and_parts (bytes_eq g.marker text) true last).0
 
-pub reads_by_own_marker : (q : Profile) (text : List ℕ) (b : Progress) (ts : List Token) → q.missing_result ≡ takes_the_marker
+pub reads_as_one_marker : (q : Profile) (text : List ℕ) (b : Progress) (ts : List Token) → q.missing_result ≡ takes_the_marker
     → (read_from q b ts).fault ≡ None → IsTrue (all_end_with text (read_from q b ts).progress.games)
     → read_from q b ts ≡ read_from (counting q text) b ts
-reads_by_own_marker q text b [] takes passes all = refl
-reads_by_own_marker q text b (t ∷ ts) takes passes all =
+reads_as_one_marker q text b [] takes passes all = refl
+reads_as_one_marker q text b (t ∷ ts) takes passes all =
     let free = first_passes q b t ts passes in
     let here = goes_on q b t ts free in
     let later = rw here at all in
     let same = by_marker (marker_of t.kind) refl free (end_before q text (progress_after b t) ts later) in
-    here ∙ reads_by_own_marker q text (progress_after b t) ts takes (rw here at passes) later ∙ sym (goes_on (counting q text) b t ts (same ∙ free))
+    here ∙ reads_as_one_marker q text (progress_after b t) ts takes (rw here at passes) later ∙ sym (goes_on (counting q text) b t ts (same ∙ free))
   where
     by_marker : (o : Option (List ℕ)) → marker_of t.kind ≡ o → refusal q b.part t.kind ≡ None
         → IsTrue (all_end_with text (progress_after b t).games) → refusal (counting q text) b.part t.kind ≡ refusal q b.part t.kind

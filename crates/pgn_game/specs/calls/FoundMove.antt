@@ -27,7 +27,8 @@ abbrev pub with_position : Parts → Result Move Reason → Result Played Reason
 with_position p (Ok m) = ok_or (with_next m (legal p m)) IllegalMove
 with_position p (Err reason) = Err reason
 
--- The move that a text names in a position was sought. For it n pairs were tried.
+-- r is the move that a text names in the position p, or why it names none. n pairs were tried to
+-- find it.
 pub record NamesMove (p : Parts) (text : List ℕ) (r : Result Move Reason) (n : ℕ) : Type 0 where
   pub found : with_position p r ≡ found_in p (move_of p text)
   pub legal : IfOk r (λ m. IsTrue (is_legal p m))

@@ -17,7 +17,7 @@ use Rattle.pgn_game.specs.declared.mode.Mode.TheVariants.{Full, Reduced}
 use Rattle.pgn_game.specs.declared.stage.Stage.TheVariants.{InMovetext}
 use Rattle.pgn_game.specs.declared.reason.Reason.{Reason}
 use Rattle.pgn_game.specs.games.Profile.{Profile}
-use Rattle.pgn_game.specs.state.Written.{mode_unless}
+use Rattle.pgn_game.specs.calls.Written.{mode_unless}
 use Rattle.pgn_game.specs.games.Chess.{play}
 use Rattle.pgn_game.specs.games.Game.{Item, move, Part}
 use Rattle.pgn_game.specs.games.Levels.{depth}

@@ -54,13 +54,13 @@ all_end_with text games = list_all (λ (g : Game). bytes_eq g.marker text) games
 -- Tokens that are read by a profile in which a missing Result counts as a text.
 -- - `alike`: if no marker is rejected because it is not the Result, they are read alike.
 -- - `by_its_marker`: if one is, before a game was finished, `IsReadByItsMarker` holds at its place.
--- - `by_own_marker`: if no token is rejected where a missing Result takes the marker, and each game
---   ends with this text, they are read alike.
+-- - `if_all_end_with_it`: if no token is rejected where a missing Result takes the marker, and each
+--   game ends with this text, they are read alike.
 pub record MissingResults : Type 0 where
   pub alike : (p : Profile) (text : List ℕ) (ts : List Token) → p.missing_result ≡ takes_the_marker
       → rejects_marker (read (counting p text) ts).fault ≡ false → IsReadAlike p text ts
   pub by_its_marker : (p : Profile) (text : List ℕ) (ts : List Token) (at : ℕ) → p.missing_result ≡ takes_the_marker
       → (read (counting p text) ts).fault ≡ Some (record { at = at; reason = ResultDiffers })
       → (read (counting p text) ts).progress.games ≡ [] → IsReadByItsMarker p ts at
-  pub by_own_marker : (p : Profile) (text : List ℕ) (ts : List Token) → p.missing_result ≡ takes_the_marker
+  pub if_all_end_with_it : (p : Profile) (text : List ℕ) (ts : List Token) → p.missing_result ≡ takes_the_marker
       → (read p ts).fault ≡ None → IsTrue (all_end_with text (read p ts).progress.games) → IsReadAlike p text ts

@@ -4,7 +4,7 @@ use Rattle.pgn_lexer.specs.TokensOf.{tokens_of}
 use Rattle.pgn_game.specs.games.Profile.{Profile}
 use Rattle.pgn_game.specs.games.Game.{Game}
 use Rattle.pgn_game.specs.games.Progress.{read}
-use Rattle.pgn_game.specs.export.Spells.{Spells}
+use Rattle.pgn_game.specs.games.Spells.{Spells}
 
 -- A text spells games exactly if none of its tokens is rejected, and then those that are read and
 -- no others.

@@ -112,7 +112,7 @@ pub record IsBeforePiece (c : Converter) (piece : List ℕ) : Type 0 where
   pub some : 0 < length piece
   pub short : c.lexer.count + length piece ≤ 2 ^ 62
 
--- Before a marker is taken, movetext may have it, and counts have room for its game.
+-- A marker can be taken: movetext may have it, and counts have room for its game.
 pub record IsReady (c : Converter) : Type 0 where
   pub before : IsBeforeToken c
   pub stage : IsTrue (may_have_movetext c.reading.stage)
@@ -182,7 +182,8 @@ pub record FailsAtEnd (p : Profile) (u : List ℕ) (given : List Token) (f : Fau
   pub cut : tokens_of u ≡ tokens ++ token ∷ rest
   pub fails : NotTaken p given tokens token f new before after
 
--- What a call that finishes no game keeps of a converter, and the fault that it keeps.
+-- What a call that finishes no game keeps of a converter, and the fault that it keeps. No game is
+-- just finished then, and `is_finished` says whether the end of the input was read.
 pub record KeepsRest {A : Type 0} (old new : Converter) (is_finished : Bool) (result : Result A Fault) : Type 0 where
   pub written : as_written new.reading ≡ as_written old.reading
   pub games : new.games ≡ old.games
@@ -203,6 +204,7 @@ AfterStepAtEnd p u given old new (Ok None) before after =
 AfterStepAtEnd p u given old new (Err f) before after =
     (t : Token) × (rest : List Token) × (tokens_of u ≡ given ++ t ∷ rest) × NotTaken p given given t f new.reading before after
 
+-- what it does to a converter that has read the tokens given
 abbrev pub TakesStepAtEnd : Converter → Converter → Result (Option StepEnd) Fault → Device → Type 0
 TakesStepAtEnd old new result sink =
     (p : Profile) (u : List ℕ) (given : List Token) → HasLeft old.lexer u given → HasRead p old given
@@ -250,6 +252,7 @@ abbrev pub AdvancesTo : Standing → Standing → FedUpTo → Type 0
 AdvancesTo old new All = Unit {0}
 AdvancesTo old new (ToMarker used m) = waiting new < 2 * used + waiting old
 
+-- a marker that was met can be taken
 abbrev pub IsReadyAt : Converter → FedUpTo → Type 0
 IsReadyAt new All = Unit {0}
 IsReadyAt new (ToMarker used m) = IsReady new
@@ -350,7 +353,7 @@ FeedsSoFar old piece at now sink =
 
 -- What was read of the piece, of which so many bytes were used. The tokens are decided, or nothing
 -- was read.
-pub record ReadsOn (p : Profile) (u : List ℕ) (given : List Token) (piece : List ℕ) (new : Converter) (used : ℕ) (before after : Option (List ℕ)) : Type 0 where
+pub record StepsOn (p : Profile) (u : List ℕ) (given : List Token) (piece : List ℕ) (new : Converter) (used : ℕ) (before after : Option (List ℕ)) : Type 0 where
   pub so : SoFar p u (first piece) given piece used new before after
   pub decided : IsDecided (u ++ take used piece) (drop used piece) so.tokens ⊎ ((used ≡ 0) × (so.tokens ≡ given))
 
@@ -359,7 +362,7 @@ abbrev pub AfterSteps : Profile → List ℕ → List Token → List ℕ → Con
     → Result (Option StepEnd) Fault → Option (List ℕ) → Option (List ℕ) → Type 0
 AfterSteps p u given piece new used (Ok None) before after =
     (used ≡ length piece) × ReadsPiece p u (first piece) given piece new before after
-AfterSteps p u given piece new used (Ok (Some Other)) before after = ReadsOn p u given piece new used before after
+AfterSteps p u given piece new used (Ok (Some Other)) before after = StepsOn p u given piece new used before after
 AfterSteps p u given piece new used (Ok (Some (AtMarker m))) before after =
     ReadsToMarker p u given piece used m new before after
 AfterSteps p u given piece new used (Err f) before after =
@@ -518,11 +521,11 @@ pub record FaultAtEnd (p : Profile) (given tokens : List Token) (f : Fault) (rea
 
 -- ---- an input that is read twice
 
--- The same converter, but a missing Result takes the marker from now on. Or the next game's marker
--- is announced.
+-- the same converter, but a missing Result takes the marker from now on
 abbrev pub taking_marker : Converter → Converter
 taking_marker c =
     record c { reading = record c.reading { profile = with_missing c.reading.profile takes_the_marker } }
 
+-- the same converter, but the next game's marker is announced
 abbrev pub announcing : Marker → Converter → Converter
 announcing marker c = record c { reading = telling (marker_text marker) c.reading }

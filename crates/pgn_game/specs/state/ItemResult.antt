@@ -18,7 +18,7 @@ use Rattle.pgn_game.specs.export.Text.{is_move, number_before, tokens_at, full_t
 use Rattle.pgn_game.specs.state.Movetext.{Movetext, StoredLevels, HoldsItems, ClosesLevel, level_at}
 use Rattle.pgn_game.specs.calls.MostTried.{CostsToWrite, is_written}
 use Rattle.pgn_game.specs.state.TokenInMovetext.{IsLegal}
-use Rattle.pgn_game.specs.state.Written.{is_nothing, mode_of_written, seen}
+use Rattle.pgn_game.specs.calls.Written.{is_nothing, mode_of_written, seen}
 
 -- Tokens are put on a line one after another: what is written, the line after that, and the
 -- failures. Each has 1 to 79 bytes.
@@ -80,7 +80,7 @@ pub record WritesItem {A E : Type 0} (mode : Option Mode) (i : Item) (text : Mov
 abbrev pub LeavesSink : {S : Type 0} → (silent : Bool) → S → S → Type 0
 LeavesSink silent sink_old sink_new = IsTrue silent → sink_new ≡ sink_old
 
--- A call puts or writes an item as this says, of the sink that contracts see. If nothing is
+-- `Does` holds of the mode that is written and of the sink that contracts see. If nothing is
 -- written, the sink does not change.
 pub record ItemCall {S : Type 0} (written : Written) (taken : S → Option (List ℕ)) (failures : S → ℕ)
     (sink_old sink_new : S) (Does : Option Mode → Device → Type 0) : Type 0 where
@@ -104,7 +104,7 @@ abbrev pub TriesItem : Option Mode → Movetext → Item → ℕ → ℕ → Typ
 TriesItem mode text i old new =
     CostsToWrite (is_written mode (length text.levels.around) i) text.levels.present.present i old new
 
--- so many pairs are tried to write it, which are at most 1,032
+-- the pairs tried to write an item are those that its text costs, and at most 1,032
 pub record TriesToWrite (mode : Option Mode) (text : Movetext) (i : Item) (old new : ℕ) : Type 0 where
   pub tried : TriesItem mode text i old new
   pub rises : (old ≤ new) × (new ≤ old + 1032)

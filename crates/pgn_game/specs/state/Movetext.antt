@@ -61,7 +61,7 @@ pub record FitsLevelStore (most : ℕ) (places : List (Option CodeLevel)) : Type
   pub there : places ≡ places_of (current ∷ around)
   pub room : length places ≤ most
 
--- n variations are open, of at most so many levels
+-- n variations are open, of at most so many levels, with the main line
 pub record IsDepth (most : ℕ) (around : List StoredLevel) (n : ℕ) : Type 0 where
   pub value : n ≡ length around
   pub room : n + 1 ≤ most

@@ -11,7 +11,7 @@ use Rattle.pgn_game.specs.declared.reason.Reason.TheVariants.{WriteFault}
 use Rattle.pgn_game.specs.declared.stage.Stage.{Stage}
 use Rattle.pgn_game.specs.declared.stage.Stage.TheVariants.{Between, AfterLeftBracket, AfterName, InMovetext}
 use Rattle.pgn_game.specs.declared.mode.Mode.{Mode}
-use Rattle.pgn_game.specs.state.Written.{mode_unless, seen}
+use Rattle.pgn_game.specs.calls.Written.{mode_unless, seen}
 use Rattle.pgn_game.specs.games.Profile.{Missing, Profile, counting, counts_as, known_result, takes_the_marker}
 use Rattle.pgn_game.specs.games.Pairs.{has_pair}
 use Rattle.pgn_game.specs.state.StoredPairs.{TagPairs}
@@ -66,7 +66,8 @@ pub record KeepsSilence {S : Type 0} (old new : ReaderState) (sink_old sink_new 
   pub silent : new.writing.is_silent ≡ old.writing.is_silent
   pub untouched : IsTrue old.writing.is_silent → sink_new ≡ sink_old
 
--- A call of the reader takes what this says, of the sink that contracts see. It keeps its silence.
+-- `Takes` holds of the sink that contracts see. The call leaves the reader silent or not, as it
+-- was.
 pub record ReaderCall {S : Type 0} (taken : S → Option (List ℕ)) (failures : S → ℕ)
     (old new : ReaderState) (sink_old sink_new : S) (Takes : Device → Type 0) : Type 0 where
   pub takes : Takes (sink_of old taken failures sink_old sink_new)

@@ -86,14 +86,14 @@ pub record IsFound (ps : List Pair) (name : List ℕ) (n : ℕ) : Type 0 where
   pub value : value_of ps name ≡ Some (pair_at ps n).value
 
 -- no pair has the name, and n come before it
-pub record IsMissing (ps : List Pair) (name : List ℕ) (n : ℕ) : Type 0 where
+pub record IsNewName (ps : List Pair) (name : List ℕ) (n : ℕ) : Type 0 where
   pub new : has_pair ps name ≡ false
   pub place : n ≡ index_of name ps
 
 -- the index of the pair of a name, or as the error how many pairs come before the name
 abbrev pub FindResult : List Pair → List ℕ → Result ℕ ℕ → Type 0
 FindResult ps name (Ok n) = IsFound ps name n
-FindResult ps name (Err n) = IsMissing ps name n
+FindResult ps name (Err n) = IsNewName ps name n
 
 -- the value of a name, if one of the pairs has it; both fit on their line
 pub record ValueResult (ps : List Pair) (name : List ℕ) (r : Option (Bor (List ℕ))) : Type 0 where

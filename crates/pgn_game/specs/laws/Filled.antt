@@ -8,7 +8,7 @@ use Rattle.pgn_game.specs.games.Game.{Item, Game}
 use Rattle.pgn_game.specs.games.Pairs.{Pair}
 use Rattle.pgn_game.specs.export.TagSection.{exported}
 use Rattle.pgn_game.specs.export.Text.{placed_from, written_items}
-use Rattle.pgn_game.specs.export.Spells.{by_name}
+use Rattle.pgn_game.specs.games.Spells.{by_name}
 
 -- The pairs of the tag section. A missing Result is written as the marker of the game. If it counts
 -- as a text, the marker of a game that is read is that text.

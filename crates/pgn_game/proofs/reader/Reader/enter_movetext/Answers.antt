@@ -2,7 +2,7 @@ use Rattle.pgn_game.proofs.Words.{seen, false, ◌≡◌, ℕ, List, sym, ap, Ok
 use Rattle.pgn_layout.specs.declared.sink.WriteFault.{WriteFault}
 use Rattle.pgn_game.proofs.ReaderLemmas.{tags_fit, no_name}
 use Rattle.pgn_game.proofs.putting.SilentReader.{holds_some, seen_if, silence_of}
-use Rattle.pgn_game.proofs.reader.Reader.write_tags.Goals as goal
+use Rattle.pgn_game.proofs.reader.Reader.enter_movetext.Goals as goal
 
 -- The section is that of the reader, whose fields are `held`.
 module _ (old held : ReaderState) (pairs : List Pair) (result : List ℕ) (d : Device) (is : held ≡ old)
