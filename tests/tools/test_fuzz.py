@@ -31,7 +31,7 @@ PLANTED = [
      "byte == b'\"'"),
     ("failing sink", "pgn_layout/src/sink.rs", "out.write_some(&bytes[written..])?",
      "out.write_some(&bytes[written..]).unwrap_or(bytes.len() - written)"),
-    ("checked", "pgn_game/src/checked.rs", "|| mark.at != expected.at", "|| mark.at == told.at"),
+    ("checked", "pgn_game/src/checked.rs", "|| mark.at != expected.at", "|| mark.at == expected.at"),
     ("limits", "pgn_game/src/reader.rs", "Err(Reason::TooDeep)", "Err(Reason::NotAMove)"),
     ("FEN", "chess_text/src/fen.rs", "Buffer::new().format(position.full())",
      "Buffer::new().format(position.half())"),
