@@ -153,7 +153,8 @@ def memory(words, file="/dev/null", at=0):
     with open(file, "rb") as data:
         ran = subprocess.run(words, stdin=data, check=False, stdout=subprocess.DEVNULL,
                              stderr=subprocess.PIPE)
-    return max(map(int, re.findall(rb"^(\d+)$", ran.stderr, re.MULTILINE))) / 1024
+    # pgn-extract ends its count of games with a carriage return alone
+    return max(map(int, re.findall(rb"(?:^|\r)(\d+)$", ran.stderr, re.MULTILINE))) / 1024
 
 
 def same(it):

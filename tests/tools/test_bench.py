@@ -349,6 +349,14 @@ class Tables(unittest.TestCase):
         self.assertEqual(line, "The least that was measured is 132 KiB, and 180 KiB with --checked,")
 
 
+class Memory(unittest.TestCase):
+    """What `time` says of a call, behind what the call itself says."""
+
+    def test_a_call_that_ends_its_words_with_a_carriage_return(self):
+        spent = measure.memory(["sh", "-c", "printf 'Games: 1000\\r' >&2"])
+        self.assertTrue(0.1 < spent < 100, spent)
+
+
 class Builds(Folder, unittest.TestCase):
     """How calls are compared, with small programs in place of those that cargo builds."""
 
