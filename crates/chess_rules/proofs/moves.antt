@@ -1,5 +1,5 @@
 -- Steps of a piece, and the position after a legal move.
-use Rattle.std.proofs.lemmas.Bool.Decides.{nat_tests}
+use Rattle.chess_rules.proofs.Words.{nat_tests}
 use Rattle.chess_rules.proofs.positions.RulesOfPosition.{own_king}
 pub mod BoardAfterMove
 pub mod CellsAfterPut

@@ -270,6 +270,7 @@ impl Board {
     }
 
     // By this call the caller's proof knows how many squares there are. It has no effect.
+    #[tactic(auto, using(crate::proofs::sets::WordsToCells::long_there))]
     pub(crate) fn recall_length(&self)
         ensures { length self.now ≡ 64 }
     {

@@ -66,6 +66,7 @@ fn origin_set(position: &Position, kind: Kind, target: Square) -> Squares
 }
 
 // The squares from which a piece of the kind sees the target if all squares between are empty.
+#[tactic(auto, using(crate::proofs::trying::SetsToPairs::own_places))]
 fn possible_origins(position: &Position, kind: Kind, target: Square) -> Squares
     ensures { Places result (λ s. own position.now kind s && may_see kind s target) }
 {

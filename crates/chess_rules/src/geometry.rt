@@ -49,6 +49,7 @@ pub(crate) fn steep(target: Square) -> Squares
 }
 
 // The other squares on the rank, the file and the diagonals of the target.
+#[tactic(auto, using(crate::proofs::sets::SetsToSquares::places_or))]
 pub(crate) fn aligned(target: Square) -> Squares
     ensures { Places result (λ s. reach.is_aligned s target) }
 {

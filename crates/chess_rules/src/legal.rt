@@ -28,6 +28,7 @@ use crate::step::{is_step_of_kind, kind_of_step};
 /// assert!(try_pair(&next, mv, &mut probes).is_none());
 /// assert_eq!(probes.count(), 2);
 /// ```
+#[tactic(auto, using(crate::proofs::moves::PlainStepAttacks::none_when_not))]
 #[inline(always)]
 pub fn try_pair(position: &Position, mv: Move, probes: &mut Probes) -> Option<Position>
     requires { probes.old + 1 < 2 ^ 32 }
@@ -54,6 +55,7 @@ pub fn position_after(position: &Position, mv: &Move) -> Position
 }
 
 // Whether the move is legal.
+#[tactic(auto, using(crate::proofs::moves::PlainStepAttacks::none_unless_step))]
 #[inline(never)]
 fn allows(position: &Position, mv: &Move) -> bool
     ensures { result ≡ spec.is_legal position.now mv.now }

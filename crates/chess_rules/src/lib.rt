@@ -3,6 +3,7 @@
 //! No call allocates.
 #![tactic(auto)]
 
+mod after;
 mod attack;
 mod board;
 mod candidates;

@@ -9,15 +9,15 @@ ghost use Rattle.chess_rules.specs.Words.{Places, members};
 use crate::attack::{clear_among, seen_from};
 use crate::geometry::{adjacent, aligned, knights_to};
 use crate::legal::try_pair;
-use crate::piece::{Kind, Promotion};
+use crate::piece::{Kind, Promotion, rank_from};
 use crate::position::{Move, Position};
 use crate::probes::Probes;
 use crate::square::Square;
 use crate::squares::Squares;
-use crate::step::rank_from;
 
 // Whether the pair is legal; this counts as one tried. A pawn that reaches the last rank becomes a
 // queen: all four promotions are legal, or none.
+#[tactic(auto, unfolding(crate::proofs::Words::is_legal_pair))]
 fn is_legal_pair(position: &Position, from: Square, to: Square, probes: &mut Probes) -> bool
     requires { probes.old + 1 < 2 ^ 32 }
     ensures found { result ≡ spec.is_legal_pair position.now from to }

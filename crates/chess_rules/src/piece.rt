@@ -1,6 +1,7 @@
 //! Colours, kinds of pieces, and pieces.
 
-ghost use Rattle.std.specs.Prelude.{◌≡◌};
+ghost use Rattle.std.specs.Prelude.{◌≡◌, ◌<◌};
+ghost use Rattle.chess_rules.specs.StepKinds as step_kinds;
 
 /// The two sides. (FIDE Laws 2.2)
 #[derive(Clone, Copy, PartialEq, Eq, Debug)]
@@ -47,4 +48,16 @@ pub enum Promotion {
     Rook,
     Bishop,
     Knight,
+}
+
+// Turns a rank into its distance from the colour's home rank, and such a distance into a rank.
+pub(crate) fn rank_from(colour: Colour, rank: u8) -> u8
+    requires { rank < 8 }
+    ensures value { result ≡ step_kinds.rank_from colour rank }
+    ensures below { result < 8 }
+{
+    match colour {
+        Colour::White => rank,
+        Colour::Black => 7 - rank,
+    }
 }

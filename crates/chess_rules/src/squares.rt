@@ -33,6 +33,7 @@ impl BitAnd for Squares {
 
     ghost bitand_gives = { λ a b r. Bits r (λ i. spec.has a i && spec.has b i) };
 
+    #[tactic(auto, using(crate::proofs::sets::WordsToCells::has_and))]
     fn bitand(self, rhs: Squares) -> Squares {
         Squares::of_bits(self.bits & rhs.bits)
     }
@@ -44,6 +45,7 @@ impl BitOr for Squares {
 
     ghost bitor_gives = { λ a b r. Bits r (λ i. spec.has a i || spec.has b i) };
 
+    #[tactic(auto, using(crate::proofs::sets::WordsToCells::has_or))]
     fn bitor(self, rhs: Squares) -> Squares {
         Squares::of_bits(self.bits | rhs.bits)
     }
@@ -55,6 +57,7 @@ impl Not for Squares {
 
     ghost not_gives = { λ a r. Bits r (λ i. not (spec.has a i)) };
 
+    #[tactic(auto, using(crate::proofs::sets::WordsToCells::has_not))]
     fn not(self) -> Squares {
         Squares::of_bits(!self.bits)
     }
@@ -84,6 +87,7 @@ impl Squares {
     }
 
     // Whether the set has the square.
+    #[tactic(auto, unfolding(crate::proofs::Words::has))]
     pub(crate) fn has(self, square: Square) -> bool
         ensures value { result ≡ spec.has self (cell_of square) }
         ensures inside { cell_of square < 64 }
@@ -102,6 +106,7 @@ impl Squares {
     }
 
     // Whether the set has no square.
+    #[tactic(auto, using(crate::proofs::sets::SetsToSquares::empty_test))]
     pub(crate) fn is_empty(self) -> bool
         ensures { result ≡ not (spec.has_any self) }
     {
@@ -129,6 +134,7 @@ impl Squares {
     }
 
     // How many squares the set has.
+    #[tactic(auto, using(crate::proofs::sets::SetsToSquares::ones_are_members))]
     pub(crate) fn count(self) -> u32
         ensures { result ≡ length (spec.members self) }
     {
@@ -174,6 +180,7 @@ impl Squares {
     }
 
     // Removes and returns the first square, if there is one. Repeated, it returns all in order.
+    #[tactic(auto, using(crate::proofs::sets::SetsToSquares::takes_lowest))]
     pub(crate) fn take_lowest(&mut self) -> Option<Square>
         ensures { Takes result self.old self.new }
     {

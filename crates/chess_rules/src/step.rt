@@ -9,7 +9,7 @@ ghost use Rattle.chess_rules.specs.declared.piece.Kind.TheVariants.{Pawn};
 use crate::attack::{is_attacked, is_clear, possible_attackers};
 use crate::board::Board;
 use crate::geometry::pawns_to;
-use crate::piece::{Colour, Kind, Piece, Promotion};
+use crate::piece::{Colour, Kind, Piece, Promotion, rank_from};
 use crate::position::{Move, Position};
 use crate::square::Square;
 
@@ -24,18 +24,6 @@ pub(crate) enum StepKind {
     ShortCastling,
     // The same, with the rook of the a file.
     LongCastling,
-}
-
-// Turns a rank into its distance from the colour's home rank, and such a distance into a rank.
-pub(crate) fn rank_from(colour: Colour, rank: u8) -> u8
-    requires { rank < 8 }
-    ensures value { result ≡ step_kinds.rank_from colour rank }
-    ensures below { result < 8 }
-{
-    match colour {
-        Colour::White => rank,
-        Colour::Black => 7 - rank,
-    }
 }
 
 // The square that the move crosses, if it is a double step.

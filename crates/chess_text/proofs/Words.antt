@@ -1,10 +1,10 @@
 -- The words that proofs of this crate name, under one path.
-pub use Rattle.std.proofs.Common.{Bool, List, [], add-one, ap, append-nil, append_assoc, ap₂, arith, cond, drop, drop-cons, false, get_or, inl, inr, length, length-append, length-drop, map, nat_le, not, refl, replicate, reverse, rules, set, subst, suc, sym, take, true, zero, ℕ, ◌&&◌, ◌*◌, ◌++◌, ◌+◌, ◌-◌, ◌/◌, ◌<◌, ◌^◌, ◌||◌, ◌∙◌, ◌∷◌, ◌≡◌, ◌≢◌, ◌≤◌, ◌⊎◌}
-pub use Rattle.std.proofs.lemmas.Bool.{and_from, and_left, and_parts, and_right, both_ways, cases_Bool, cases_lt, eq-eqb, eqb-true}
+pub use Rattle.std.proofs.Common.{Bool, List, [], add-one, ap, append-nil, append_assoc, ap₂, arith, cond, drop, drop-cons, false, get_or, inl, inr, length, length-append, length-drop, map, nat_le, not, refl, replicate, reverse, rules, set, subst, suc, sym, take, true, zero, ℕ, ◌&&◌, ◌*◌, ◌++◌, ◌+◌, ◌-◌, ◌/◌, ◌<◌, ◌^◌, ◌||◌, ◌∙◌, ◌∷◌, ◌≡◌, ◌≢◌, ◌≤◌, ◌⊎◌, lit<, pow-suc, ◌%◌}
+pub use Rattle.std.proofs.lemmas.Bool.{and_from, and_left, and_parts, and_right, both_ways, cases_Bool, cases_lt, eq-eqb, eqb-true, cases_eq, leb-true}
 pub use Rattle.std.proofs.lemmas.Bool.{false_from_ne_true, false≢true, lt-ltb, ltb-true, not-false, not-true, or_cases, or_from, or_parts, or_right}
 pub use Rattle.std.proofs.lemmas.Bool.Decides.{nat_tests}
 pub use Rattle.std.proofs.lemmas.Fmt.{decimal_nonempty, digits_decimal, digits_value-decimal, length-decimal-le}
-pub use Rattle.std.proofs.lemmas.List.{append_cancel_left, drop_all, get_or-map, length-map, length-reverse, length-take, map-append, replicate_more, reverse-append, reverse-reverse, take-append-drop, take-replicate, take-take, take_all, take_more, take_more_set, take_rest}
+pub use Rattle.std.proofs.lemmas.List.{append_cancel_left, drop_all, get_or-map, length-map, length-reverse, length-take, map-append, replicate_more, reverse-append, reverse-reverse, take-append-drop, take-replicate, take-take, take_all, take_more, take_more_set, take_rest, ext_get_or, get_or-replicate, get_or-set_other, length-replicate, replicate-append-replicate, take-set, take_at}
 pub use Rattle.std.proofs.lemmas.List.Concat.{flat_map-append}
 pub use Rattle.std.proofs.lemmas.List.Elements.{All-weaker, Contains-append_left, Contains-append_right, filter_map-append, filter_passes}
 pub use Rattle.std.proofs.lemmas.List.Folds.{Any-from_list_any, length-flat_map-take, list_all-append, list_all_at, list_any_at, list_any_more}
@@ -17,11 +17,11 @@ pub use Rattle.std.proofs.lemmas.Slice.Eq.{bytes_eq-Decides}
 pub use Rattle.std.proofs.lemmas.Str.Parse.{IsNumeralModel, digits_value_short, numerals_by_fold}
 unfoldable pub use Rattle.std.specs.Fmt.{digits}
 pub use Rattle.std.specs.Int.{abs_diff}
-pub use Rattle.std.specs.List.{All, Any, Contains, after_first, before_first, cons_option, filter, filter_map, join_with_byte, list_all, list_any}
+pub use Rattle.std.specs.List.{All, Any, Contains, after_first, before_first, cons_option, filter, filter_map, join_with_byte, list_all, list_any, refill}
 pub use Rattle.std.specs.List.{onto_first, position_or_len, prefix_len, range_with_len, slice_split}
 pub use Rattle.std.specs.List.Sorted.{IsPermutation}
 pub use Rattle.std.specs.Option.{ok_or, option_to_list}
-pub use Rattle.std.specs.Prelude.{Err, IfSome, IsTrue, None, Ok, Option, Result, Some, bytes_eq, codes, count_by, decimal, find, flat_map, fold, if◌then◌else◌, is_err, is_none, is_ok, is_some, nat_lt, option_map, slice_index_or, slice_set, sum_by, ◌==◌, ◌↔◌}
+pub use Rattle.std.specs.Prelude.{Err, IfSome, IsTrue, None, Ok, Option, Result, Some, bytes_eq, codes, count_by, decimal, find, flat_map, fold, if◌then◌else◌, is_err, is_none, is_ok, is_some, nat_lt, option_map, slice_index_or, slice_set, sum_by, ◌==◌, ◌↔◌, IfOk}
 pub use Rattle.std.specs.Result.{OnOk}
 pub use Rattle.chess_rules.specs.Attacks.{attacks, cell_attacks, is_ahead, king_attacked}
 pub use Rattle.chess_rules.specs.Board.{Board, at, has_colour, has_piece, is_empty, other, same_colour, same_kind}
@@ -31,7 +31,7 @@ pub use Rattle.chess_rules.specs.Legal.{every_promotion, if_safe, is_check, is_l
 pub use Rattle.chess_rules.specs.Position.{built_unless, initial, is_position, one_king, pawn_on_edge, position_fault, target_fits, target_rank}
 pub use Rattle.chess_rules.specs.Square.{Square, gap, is_adjacent, lines, on_board, same_square, square}
 unfoldable pub use Rattle.chess_rules.specs.Square.{squares}
-pub use Rattle.chess_rules.specs.Step.{Wing, captured_pawn, castles, castles_long, castles_short, crossed, double_rank, home, home_rank, is_advance, is_double_step, is_en_passant, is_pawn_capture, is_pawn_way, long_right, long_wing, own, pawn_rank, short_right, short_wing, step}
+pub use Rattle.chess_rules.specs.Step.{Wing, captured_pawn, castles, castles_long, castles_short, crossed, double_rank, home, home_rank, is_advance, is_double_step, is_en_passant, is_pawn_capture, is_pawn_way, long_right, long_wing, own, pawn_rank, short_right, short_wing, step, after, board_after, carried, castled, en_passant_board, is_on_board, is_pawn_step, is_piece_step, promotion_fits, stand_ready}
 pub use Rattle.chess_rules.specs.declared.piece.Colour.{Colour}
 pub use Rattle.chess_rules.specs.declared.piece.Colour.TheVariants.{Black, White}
 pub use Rattle.chess_rules.specs.declared.piece.Kind.{Kind}
@@ -50,13 +50,13 @@ pub use Rattle.chess_text.specs.Form.{Spells, SpellsBare, SpellsPieceMove, bare_
 pub use Rattle.chess_text.specs.FormOrigins.{LegalOriginsDecide, count_legal, form_move, is_legal_kind, is_step_of_form, kind_of_move, nth_square}
 pub use Rattle.chess_text.specs.FormOrigins.{origin_kind}
 unfoldable pub use Rattle.chess_text.specs.FormOrigins.{origins_of_form}
-pub use Rattle.chess_text.specs.Laws.{CanonicalIsShortest, Names, NoMoveIsRead, ShorterIsAmbiguous, SingleReading, TheOneMoveIsRead}
+pub use Rattle.chess_text.specs.Laws.{CanonicalIsShortest, Names, NoMoveIsRead, ShorterIsAmbiguous, SingleReading, TheOneMoveIsRead, CanonicalFits, FaultIsLowest, FenOnce, FieldsAreSpellings, ReadingIsSpelling}
 pub use Rattle.chess_text.specs.Laws.{TwoMovesAreAmbiguous, disambiguations, text_with}
-pub use Rattle.chess_text.specs.Letter.{file_letter, kinds, letter, piece_letter, rank_digit, square_text}
+pub use Rattle.chess_text.specs.Letter.{file_letter, kinds, letter, piece_letter, rank_digit, square_text, piece_of}
 pub use Rattle.chess_text.specs.MoveOfForm.{agrees, castling_move, describes, form_pairs, hints_fit, is_castling, move_from, move_of_form}
 pub use Rattle.chess_text.specs.MoveOfForm.{moves_to_try, only, piece_move_fits, played, same_promotion, with_next, with_next_position}
 unfoldable pub use Rattle.chess_text.specs.MoveOfForm.{agreeing}
-pub use Rattle.chess_text.specs.Placement.{cells_at, cells_of, is_item, is_placement, is_rank, is_run, is_slash, placement_of, placement_text}
+pub use Rattle.chess_text.specs.Placement.{cells_at, cells_of, is_item, is_placement, is_rank, is_run, is_slash, placement_of, placement_text, one_cell}
 pub use Rattle.chess_text.specs.Placement.{rank_text, ranks, row, run_text}
 pub use Rattle.chess_text.specs.Items.{item}
 pub use Rattle.chess_text.specs.San.{MarkPairs, capture_if, capture_text, castling_text, disambiguated_text, disambiguation, disambiguation_by, disambiguation_pairs, from_square, has_rivals, is_capture, is_rival, kind_pairs, kind_text, king_text, mark, mark_after, on_file, on_rank, pawn_capture, piece_text, promotion_text, rivals, san, unmarked}
@@ -70,3 +70,9 @@ pub use Rattle.chess_text.specs.declared.resolution.Played.{Played}
 pub use Rattle.chess_text.specs.declared.resolution.SanFault.{SanFault}
 pub use Rattle.chess_text.specs.declared.resolution.SanFault.TheVariants.{Ambiguous, NoMove}
 pub use Rattle.std.proofs.lemmas.Option.{cond_some, same_Some}
+pub use Rattle.chess_text.specs.Uci.{UciIsExact, UciTextsDiffer, WrittenUciIsRead, if_legal, move_if, move_of_uci, move_with_text, promotion_named, square_named, uci, uci_promotion}
+pub use Rattle.chess_text.specs.declared.form_origins.OriginKind.TheVariants.{Legal, NoStep, Unsafe}
+pub use Rattle.chess_text.specs.declared.uci.UciFault.{UciFault}
+pub use Rattle.chess_text.specs.declared.uci.UciFault.TheVariants.{IllegalMove, NotAMove}
+pub use Rattle.std.proofs.Math.Seq.{drop-append-add, get_or-append_seam, take-append_seam}
+pub use Rattle.std.proofs.lemmas.Grind.{common_steps, get_or-set_at}

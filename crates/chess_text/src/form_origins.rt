@@ -142,6 +142,7 @@ fn form_move(side: Colour, form: &Form, origin: Square) -> Move
 }
 
 // Whether the form says this of its move, which is a step.
+#[tactic(auto, using(crate::proofs::forms::CastlingMoves::described))]
 fn describes(position: &Position, form: &Form, mv: &Move) -> bool
     requires mv { mv.now ≡ spec.form_move position.now.side form.now mv.now.from }
     requires step { IsTrue (is_some (step position.now mv.now)) }

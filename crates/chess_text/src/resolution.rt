@@ -138,6 +138,7 @@ pub(crate) fn has_own(position: &Position, kind: Kind, square: Square) -> bool
 
 // Whether the step is castling: no other takes a king further than to the next file. (FIDE Laws
 // 3.8)
+#[tactic(auto, using(crate::proofs::forms::CastlingMoves::castling_by_files))]
 pub(crate) fn is_castling(position: &Position, mv: &Move) -> bool
     requires { IsTrue (is_some (step position.now mv.now)) }
     ensures { result ≡ spec.is_castling position.now mv.now }

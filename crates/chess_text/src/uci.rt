@@ -145,6 +145,7 @@ fn move_of(text: &[u8]) -> Option<Move>
 }
 
 // The square with this text.
+#[tactic(auto, using(crate::proofs::names::UciToMove::square_by_bytes))]
 fn square_named(file: u8, rank: u8) -> Option<Square>
     ensures { result ≡ spec.square_named file rank }
 {

@@ -19,24 +19,15 @@ pub record FirstLine (before end : ℕ) (piece s : List ℕ) : Type 0 where
 
 -- one byte before it
 longer : (b before end : ℕ) (u s : List ℕ) → ends_line b (u ++ s) ≡ false → FirstLine (before + 1) end u s → FirstLine before end (b ∷ u) s
-longer b before end u s e h =
-    let n : end - before ≡ suc (end - (before + 1)) = omega (arith, h.above) in
-    record {
-      above = omega (arith, h.above);
-      lines = rw (n, e) (ap (λ (lines : List (List ℕ)). with_first b lines) h.lines);
-    }
+longer b before end u s e h = grind (arith, common_steps)
 
 -- a line of one byte, and of CR LF
 one : (b before end : ℕ) (u s : List ℕ) → ends_line b (u ++ s) ≡ true → end ≡ before + 1 → FirstLine before end (b ∷ u) s
-one b before end u s e k =
-    let n : end - before ≡ 1 = omega arith in
-    record { above = omega arith; lines = rw (n, e) refl }
+one b before end u s e k = grind (arith, common_steps)
 
 -- a single byte at the end of the text
 alone : (b before end : ℕ) → end ≡ before + 1 → FirstLine before end (b ∷ []) []
-alone b before end k =
-    let n : end - before ≡ 1 = omega arith in
-    record { above = omega arith; lines = rw n (elim (ends_line b []) as (λ e. (if e then (b ∷ []) ∷ lines_of [] else with_first b (lines_of [])) ≡ (b ∷ []) ∷ []) [ true ↦ refl | false ↦ refl ]) }
+alone b before end k = grind (arith, common_steps)
 
 -- a CR at the end of the first line
 at_return : (is_last : Bool) (before b : ℕ) (u s : List ℕ) (end : ℕ) → CanFollow is_last s → (b == 10) ≡ false → (b == 13) ≡ true
@@ -56,8 +47,7 @@ last_byte is_last before b s end follow e = grind (arith, common_steps, alone)
 
 first_line : (is_last : Bool) (before b : ℕ) (u s : List ℕ) (end : ℕ) → CanFollow is_last s → line_from is_last before (b ∷ u) ≡ Some end
     → FirstLine before end (b ∷ u) s
-first_line is_last before b [] s end follow e =
-    first_byte is_last before b [] s end follow e (λ n r k. last_byte is_last before b s end follow k)
+first_line is_last before b [] s end follow e = grind (arith, common_steps, first_byte, last_byte)
 first_line is_last before b (c ∷ u) s end follow e =
     first_byte is_last before b (c ∷ u) s end follow e (λ n r k.
     longer b before end (c ∷ u) s (rw (n, r) refl) (first_line is_last (before + 1) c u s end follow k))
@@ -111,13 +101,7 @@ kept g line =
 
 -- a line leaves the game the same
 pub same_behind : (first g new : BadGame) (line : List ℕ) → new ≡ behind_line g line → IsSameGame first g → IsSameGame first new
-same_behind first g new line e h =
-    let k = kept g line in
-    record {
-      begin = ap (λ (m : BadGame). m.begin) e ∙ k.begin ∙ h.begin;
-      fault = ap (λ (m : BadGame). m.fault) e ∙ k.fault ∙ h.fault;
-      ends = ap (λ (m : BadGame). m.ends) e ∙ k.ends ∙ h.ends;
-    }
+same_behind first g new line e h = grind (arith, common_steps, kept)
 
 -- a text in one piece
 pub finds_all : (g new : BadGame) (text : List ℕ) (result : Option ℕ) → FindsPlace g text true result new → result ≡ place_in g (lines_of text)

@@ -1,5 +1,5 @@
 -- What a piece attacks it reaches over empty squares, whatever its kind.
-use Rattle.chess_rules.proofs.Words.{Colour, Kind, King, Queen, Rook, Bishop, Knight, Pawn, Piece, Square, squares, gap, same_square, is_adjacent, is_jump, in_line, on_diagonal, strictly_between, between_on_rank, between_on_file, between_on_diagonal, Board, at, is_empty, has_colour, same_colour, same_kind, is_clear, is_ahead, kind_attacks, cell_attacks, attacks, is_attacked, has_kind, is_aligned, is_near, may_attack, reaches, reaches_from, ◌≡◌, ℕ, ◌<◌, ◌≤◌, Bool, true, false, not, ◌&&◌, ◌||◌, ◌⊎◌, inl, inr, refl, sym, ◌∙◌, ap, arith, Option, None, Some, is_none, is_some, nat_le, list_any, nat_tests, leb-true, or_cases, and_from, other}
+use Rattle.chess_rules.proofs.Words.{Colour, Kind, King, Queen, Rook, Bishop, Knight, Pawn, Piece, Square, squares, gap, same_square, is_adjacent, is_jump, in_line, on_diagonal, strictly_between, between_on_rank, between_on_file, between_on_diagonal, Board, at, is_empty, has_colour, same_colour, same_kind, is_clear, is_ahead, kind_attacks, cell_attacks, attacks, is_attacked, has_kind, is_aligned, is_near, may_attack, reaches, reaches_from, ◌≡◌, ℕ, ◌<◌, ◌≤◌, Bool, true, false, not, ◌&&◌, ◌||◌, ◌⊎◌, inl, inr, refl, sym, ◌∙◌, ap, arith, Option, None, Some, is_none, is_some, nat_le, list_any, nat_tests, leb-true, or_cases, and_from, other, rules, common_steps}
 use Rattle.chess_rules.proofs.sets.AllSquares.{first_true, second_true, all_squares, any_same, implied}
 
 -- a piece is on s, and all squares between s and t are empty
@@ -42,11 +42,7 @@ clear_if b s t h =
 
 pub between_cases : {A : Type 0} (s u t : Square) → strictly_between s u t ≡ true → (between_on_rank s u t ≡ true → A)
     → (between_on_file s u t ≡ true → A) → (between_on_diagonal s u t ≡ true → A) → A
-between_cases s u t h rank file cross =
-    elim (or_cases (between_on_rank s u t) (between_on_file s u t || between_on_diagonal s u t) h) [
-      | inl r ↦ rank r
-      | inr more ↦ elim (or_cases (between_on_file s u t) (between_on_diagonal s u t) more) [ inl f ↦ file f | inr d ↦ cross d ]
-    ]
+between_cases s u t h rank file cross = search (rules, or_cases, between_on_rank, between_on_file, between_on_diagonal, inl, inr)
 
 near_clear : (b : Board) (s t : Square) → gap s.file t.file ≤ 1 → gap s.rank t.rank ≤ 1 → is_clear b s t ≡ true
 near_clear b s t files ranks = clear_if b s t (λ u _ _ h. absurd (between_cases s u t h (on_rank u) (on_file u) (on_cross u)))
@@ -91,11 +87,7 @@ pub ahead_gap : (c : Colour) (a b : ℕ) → is_ahead c a b ≡ true → gap a b
 ahead_gap c a b h = grind arith
 
 pub adjacent_seen : (b : Board) (s t : Square) → is_adjacent s t ≡ true → (is_aligned s t && is_clear b s t) ≡ true
-adjacent_seen b s t h =
-    let steps : (nat_le (gap s.file t.file) 1 && nat_le (gap s.rank t.rank) 1) ≡ true = first_true _ (not (same_square s t)) h in
-    near b s t
-    (leb-true _ _ (first_true (nat_le (gap s.file t.file) 1) _ steps)) (leb-true _ _ (second_true (nat_le (gap s.file t.file) 1) _ steps))
-    (second_true (nat_le (gap s.file t.file) 1 && nat_le (gap s.rank t.rank) 1) _ h)
+adjacent_seen b s t h = grind (arith, common_steps, nat_le, gap, first_true, same_square, near, leb-true, second_true)
 
 pub pawn_seen : (c : Colour) (b : Board) (s t : Square) → reaches Pawn c s t ≡ true → (is_aligned s t && is_clear b s t) ≡ true
 pawn_seen c b s t h = grind (arith, ahead_gap, near, apart_by_file)
@@ -132,27 +124,17 @@ cell_attack_is (Some x) b s t = attack_is x.kind x.colour b s t
 pub reached : (cell : Option Piece) (s t : Square) → (is_aligned s t || is_jump s t) ≡ false → reaches_from cell s t ≡ false
 reached cell s t out = grind (arith, nat_tests)
 
-pub attacker_is : (b : Board) (c : Colour) (s t : Square) → (has_colour c (at b s) && attacks b s t) ≡ (may_attack b c t s && is_clear b s t)
-attacker_is b c s t = ap (λ x. has_colour c (at b s) && x) (cell_attack_is (at b s) b s t)
-    ∙ in_turn (has_colour c (at b s)) (reaches_from (at b s) s t) (is_clear b s t)
-  where
-    in_turn : (x y z : Bool) → (x && (y && z)) ≡ ((x && y) && z)
-    in_turn x y z = grind arith
+module _ (b : Board) (c : Colour) where
+  pub attacker_is : (s t : Square) → (has_colour c (at b s) && attacks b s t) ≡ (may_attack b c t s && is_clear b s t)
+  attacker_is s t = grind (arith, common_steps, has_colour, cell_attack_is, reaches_from, is_clear)
 
-pub attacked_is : (b : Board) (c : Colour) (t : Square) → is_attacked b c t ≡ list_any (λ s. may_attack b c t s && is_clear b s t) squares
-attacked_is b c t =
-    any_same (λ s. has_colour c (at b s) && attacks b s t) (λ s. may_attack b c t s && is_clear b s t) squares (λ s. attacker_is b c s t)
+  pub attacked_is : (t : Square) → is_attacked b c t ≡ list_any (λ s. may_attack b c t s && is_clear b s t) squares
+  attacked_is t =
+      any_same (λ s. has_colour c (at b s) && attacks b s t) (λ s. may_attack b c t s && is_clear b s t) squares (λ s. attacker_is s t)
 
--- of the pieces that may attack, those that see the square do, and those a jump away
-pub seen_attacker : (b : Board) (c : Colour) (t s : Square)
-    → (may_attack b c t s && ((is_aligned s t && is_clear b s t) || is_jump s t)) ≡ (may_attack b c t s && is_clear b s t)
-seen_attacker b c t s =
-    by_tests (has_colour c (at b s)) (reaches_from (at b s) s t) (is_aligned s t) (is_jump s t) (is_clear b s t)
-    (reached (at b s) s t) (jump_clear b s t)
-  where
-    by_tests : (own reaches aligned jump clear : Bool) → ((aligned || jump) ≡ false → reaches ≡ false)
-        → (jump ≡ true → clear ≡ true) → ((own && reaches) && ((aligned && clear) || jump)) ≡ ((own && reaches) && clear)
-    by_tests own reaches aligned jump clear h g = grind (arith, h, g)
+  -- of the pieces that may attack, those that see the square do, and those a jump away
+  pub seen_attacker : (t s : Square) → (may_attack b c t s && ((is_aligned s t && is_clear b s t) || is_jump s t)) ≡ (may_attack b c t s && is_clear b s t)
+  seen_attacker t s = grind (arith, common_steps, has_colour, reaches_from, is_aligned, is_jump, is_clear, reached, jump_clear, reaches)
 
 -- The sets of the code, piece by piece.
 
@@ -161,12 +143,7 @@ pub slider_is : (c : Colour) (cell : Option Piece) (s t : Square)
     && has_colour c cell)
     ≡ ((has_colour c cell && reaches_from cell s t) && not (is_near cell))
 slider_is c None s t = grind arith
-slider_is c (Some x) s t = of x.kind
-  where
-    of : (k : Kind) → (((in_line s t && (same_kind Rook k || same_kind Queen k)) || (on_diagonal s t && (same_kind Bishop k || same_kind Queen k)))
-        && same_colour c x.colour)
-        ≡ ((same_colour c x.colour && reaches k x.colour s t) && not (same_kind King k || (same_kind Knight k || same_kind Pawn k)))
-    of k = grind arith
+slider_is c (Some x) s t = search (rules, in_line, same_kind, on_diagonal, same_colour, reaches)
 
 -- whether a piece of the kind reaches a square that is a jump away, adjacent, and so on
 abbrev reach_of : Kind → Bool → Bool → Bool → Bool → Bool → Bool
@@ -191,10 +168,7 @@ pub attacker_of : (c : Colour) (cell : Option Piece) (s t : Square)
     && has_colour c cell)
     || ((has_colour c cell && reaches_from cell s t) && not (is_near cell)))
     ≡ (has_colour c cell && reaches_from cell s t)
-attacker_of c None s t = no_colour (((is_jump s t && false) || (is_adjacent s t && false)) || (reaches Pawn c s t && false)) false true
-  where
-    no_colour : (n r m : Bool) → ((n && false) || ((false && r) && m)) ≡ false
-    no_colour n r m = grind arith
+attacker_of c None s t = grind (arith, common_steps, is_jump, is_adjacent, reaches)
 attacker_of c (Some x) s t = by_colour (same_colour c x.colour) refl
   where
     by_kind : (k : Kind) (j a p l d : Bool) → (((((j && same_kind Knight k) || (a && same_kind King k)) || (p && same_kind Pawn k)) && true)

@@ -1,7 +1,6 @@
 -- On a line through a square, the nearest piece on either side is the one in view. So at most eight
 -- pieces are in view of a square.
-use Rattle.chess_rules.proofs.Words.{Square, squares, inside, in_line, on_diagonal, strictly_between, Board, at, cell_of, is_empty, is_clear, IsLine, is_steep, square_at, has, Places, ◌≡◌, ◌≢◌, ℕ, ◌<◌, ◌≤◌, Bool, true, not, ◌&&◌, ◌||◌, length, sym, ◌∙◌, ap, ap₂, arith, filter, is_some, nat_lt, false≢true, and_from}
-use Rattle.std.proofs.lemmas.Bool.{ltb-true, ltb-false, not-true}
+use Rattle.chess_rules.proofs.Words.{Square, squares, inside, in_line, on_diagonal, strictly_between, Board, at, cell_of, is_empty, is_clear, IsLine, is_steep, square_at, has, Places, ◌≡◌, ◌≢◌, ℕ, ◌<◌, ◌≤◌, Bool, true, not, ◌&&◌, ◌||◌, length, sym, ◌∙◌, ap, ap₂, arith, filter, is_some, nat_lt, false≢true, and_from, common_steps, ltb-true, ltb-false, not-true}
 use Rattle.chess_rules.proofs.sets.AllSquares.{first_true, second_true, each_square, not_true, cell_of-square_at}
 use Rattle.chess_rules.proofs.sets.SetsToSquares.{at_square, one_kept}
 use Rattle.chess_rules.proofs.trying.FoundLists.{kept_either, kept_more}
@@ -126,10 +125,4 @@ few_in_view b t tf =
 
 pub line_of_set : {line : Square → Bool} {t : Square} {w : ℕ} → t.file < 8
     → t.rank < 8 → IsLine line t → Places w line → IsLine (λ s. has w (cell_of s)) t
-line_of_set {line} {t} {w} tf tr on h =
-    record {
-      apart = at_square w line t h tf tr ∙ on.apart;
-      between = λ s u sf sr uf ur here.
-          on.between s u sf sr uf ur (sym (at_square w line s h sf sr) ∙ here)
-          ∙ ap (λ x. x && inside (cell_of s) (cell_of u) (cell_of t)) (sym (at_square w line u h uf ur));
-    }
+line_of_set {line} {t} {w} tf tr on h = grind (arith, common_steps, apart, at_square, inside, cell_of)

@@ -13,20 +13,21 @@ pub inside_down : (a x b : ℕ) → b < x → x < a → inside a x b ≡ true
 inside_down a x b h g = grind arith
 
 -- what a test of two squares on one diagonal says
-gaps_same : (s t : Square) → on_diagonal s t ≡ true → gap s.file t.file ≡ gap s.rank t.rank
-gaps_same s t h = grind arith
+module _ (s t : Square) where
+  gaps_same : on_diagonal s t ≡ true → gap s.file t.file ≡ gap s.rank t.rank
+  gaps_same h = grind arith
 
-rising_means : (s t : Square) → (on_diagonal s t && is_steep s t) ≡ true → s.file + t.rank ≡ t.file + s.rank
-rising_means s t h = grind arith
+  rising_means : (on_diagonal s t && is_steep s t) ≡ true → s.file + t.rank ≡ t.file + s.rank
+  rising_means h = grind arith
 
-rising_apart : (s t : Square) → (on_diagonal s t && is_steep s t) ≡ true → s.rank ≢ t.rank
-rising_apart s t h e = grind arith
+  rising_apart : (on_diagonal s t && is_steep s t) ≡ true → s.rank ≢ t.rank
+  rising_apart h e = grind arith
 
-falling_means : (s t : Square) → (on_diagonal s t && not (is_steep s t)) ≡ true → s.file + s.rank ≡ t.file + t.rank
-falling_means s t h = grind arith
+  falling_means : (on_diagonal s t && not (is_steep s t)) ≡ true → s.file + s.rank ≡ t.file + t.rank
+  falling_means h = grind arith
 
-falling_apart : (s t : Square) → (on_diagonal s t && not (is_steep s t)) ≡ true → s.rank ≢ t.rank
-falling_apart s t h e = grind arith
+  falling_apart : (on_diagonal s t && not (is_steep s t)) ≡ true → s.rank ≢ t.rank
+  falling_apart h e = grind arith
 
 -- between on a diagonal
 record Between (s u t : Square) : Type 0 where

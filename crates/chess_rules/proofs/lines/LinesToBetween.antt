@@ -1,9 +1,8 @@
 -- The table of the squares between two is made of those of the lines through one.
-use Rattle.chess_rules.proofs.Words.{Square, has, word, Places, square_at, cell_of, inside, in_line, on_diagonal, is_steep, IsLine, strictly_between, ℕ, ◌+◌, ◌-◌, ◌*◌, ◌/◌, ◌%◌, ◌^◌, ◌<◌, ◌≡◌, Bool, true, false, not, ◌&&◌, ◌||◌, get_or, map, refl, sym, ◌∙◌, ap, ap₂, arith, nat_lt, nat_tests, range_with_len, w64, bit_not, if◌then◌else◌, and_from, bit_at_mask_inside, bit_at_mask_below, bit_at_mask_above}
+use Rattle.chess_rules.proofs.Words.{Square, has, word, Places, square_at, cell_of, inside, in_line, on_diagonal, is_steep, IsLine, strictly_between, ℕ, ◌+◌, ◌-◌, ◌*◌, ◌/◌, ◌%◌, ◌^◌, ◌<◌, ◌≡◌, Bool, true, false, not, ◌&&◌, ◌||◌, get_or, map, refl, sym, ◌∙◌, ap, ap₂, arith, nat_lt, nat_tests, range_with_len, w64, bit_not, if◌then◌else◌, and_from, bit_at_mask_inside, bit_at_mask_below, bit_at_mask_above, bit_and, bit_or}
 use Rattle.chess_rules.proofs.sets.TablesOfSquares.{mask, mask_to, numbers, table_at, table_places}
 use Rattle.chess_rules.proofs.sets.WordsToCells.{has_and, has_or, has_not, has_zero, word_fits}
 use Rattle.chess_rules.proofs.lines.LinesThrough.{file_line, rank_line, rising_line, falling_line}
-use Rattle.std.specs.Int.Bits.{bit_and, bit_or}
 use Rattle.chess_rules.specs.declared.tables.TheConstants.{LINES, DIAGONALS, STEEP, BETWEEN}
 
 -- the three tables of lines, each compared with its rule

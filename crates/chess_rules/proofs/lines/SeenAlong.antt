@@ -1,6 +1,5 @@
 -- The squares that are seen from a square: on each line through it, those up to the nearest pieces.
-use Rattle.chess_rules.proofs.Words.{Square, squares, gap, same_square, inside, on_diagonal, between_on_rank, between_on_file, between_on_diagonal, strictly_between, Board, at, cell_of, is_empty, is_clear, is_aligned, IsLine, square_at, Bits, has, IsFrom, IsUpTo, Places, ◌≡◌, ◌≢◌, ℕ, ◌+◌, ◌<◌, ◌≤◌, Bool, true, false, not, ◌&&◌, ◌||◌, ◌⊎◌, inl, inr, List, sym, ◌∙◌, ap, ap₂, arith, is_some, nat_lt, list_all, not-true, and_from, nat_tests, false_from_ne_true}
-use Rattle.std.proofs.lemmas.Bool.{ltb-true, lt-ltb, ltb-false, le-ltb}
+use Rattle.chess_rules.proofs.Words.{Square, squares, gap, same_square, inside, on_diagonal, between_on_rank, between_on_file, between_on_diagonal, strictly_between, Board, at, cell_of, is_empty, is_clear, is_aligned, IsLine, square_at, Bits, has, IsFrom, IsUpTo, Places, ◌≡◌, ◌≢◌, ℕ, ◌+◌, ◌<◌, ◌≤◌, Bool, true, false, not, ◌&&◌, ◌||◌, ◌⊎◌, inl, inr, List, sym, ◌∙◌, ap, ap₂, arith, is_some, nat_lt, list_all, not-true, and_from, nat_tests, false_from_ne_true, common_steps, ltb-true, lt-ltb, ltb-false, le-ltb}
 use Rattle.chess_rules.proofs.sets.AllSquares.{first_true, second_true, same_tests, equal_from, equal_tests, cell_of-square_at}
 use Rattle.chess_rules.proofs.lines.InView.{strict, blocked, clear_when, not_there, on_falling, on_file, on_rank, on_rising, four_lines}
 use Rattle.chess_rules.proofs.lines.LinesThrough.{inside_means, inside_up, inside_down}
@@ -60,16 +59,8 @@ module _ (b : Board) (t : Square) (line occupied up down high low : ℕ) (tf : t
 
   pub seen_places : (seen : ℕ) → ((i : ℕ) → i < 64 → has seen i ≡ (has line i && (has high i && has low i)))
       → Places seen (λ s. has line (cell_of s) && is_clear b s t)
-  seen_places seen all = record {
-    of = λ i h. all i h ∙ (in_turn (has line i) _ (is_clear b (square_at i) t)
-        (λ here. same_tests _ _
-        (λ e. seen_clear i h here (first_true (has high i) _ e) (second_true (has high i) _ e))
-        (λ clear. and_from _ _ (clear_up i h here clear) (clear_down i h here clear)))
-        ∙ ap (λ x. x && is_clear b (square_at i) t) (ap (has line) (sym (cell_of-square_at i))));
-  }
-    where
-      in_turn : (x y z : Bool) → (x ≡ true → y ≡ z) → (x && y) ≡ (x && z)
-      in_turn x y z e = grind (arith, e)
+  seen_places seen all =
+      grind (arith, common_steps, has, is_clear, square_at, same_tests, seen_clear, first_true, second_true, and_from, clear_up, clear_down, cell_of-square_at)
 
 -- The way back is the same.
 
@@ -95,21 +86,11 @@ apart_by s u differ = grind (arith, nat_tests)
 rest_of_diagonal : (s u t : Square) → on_diagonal s t ≡ true → on_diagonal s u ≡ true
     → inside s.file u.file t.file ≡ true → inside s.rank u.rank t.rank ≡ true → on_diagonal t u ≡ true
 rest_of_diagonal s u t whole part files ranks =
-    let wide = gap_rest s.file u.file t.file files in
-    let high = gap_rest s.rank u.rank t.rank ranks in
-    let a : gap s.file t.file ≡ gap s.rank t.rank = equal_from _ _ (first_true _ (not (same_square s t)) whole) in
-    let b : gap s.file u.file ≡ gap s.rank u.rank = equal_from _ _ (first_true _ (not (same_square s u)) part) in
-    and_from _ _ (equal_tests (gap t.file u.file) (gap t.rank u.rank) (omega (arith, wide.0, high.0, a, b))) (apart_by t u wide.1)
+    grind (arith, common_steps, gap_rest, gap, equal_from, first_true, same_square, and_from, equal_tests, apart_by)
 
 diagonal_there : (s u t : Square) → between_on_diagonal s u t ≡ true → between_on_diagonal t u s ≡ true
 diagonal_there s u t h =
-    let lines : (on_diagonal s t && on_diagonal s u) ≡ true = first_true _ (inside s.file u.file t.file && inside s.rank u.rank t.rank) h in
-    let both : (inside s.file u.file t.file && inside s.rank u.rank t.rank) ≡ true = second_true (on_diagonal s t && on_diagonal s u) _ h in
-    let whole : on_diagonal s t ≡ true = first_true (on_diagonal s t) _ lines in
-    let files : inside s.file u.file t.file ≡ true = first_true (inside s.file u.file t.file) _ both in
-    let ranks : inside s.rank u.rank t.rank ≡ true = second_true (inside s.file u.file t.file) _ both in
-    and_from _ _ (and_from _ _ (diagonal_back t s ∙ whole) (rest_of_diagonal s u t whole (second_true (on_diagonal s t) _ lines) files ranks))
-    (and_from _ _ (inside_back t.file u.file s.file ∙ files) (inside_back t.rank u.rank s.rank ∙ ranks))
+    grind (arith, common_steps, on_diagonal, first_true, inside, second_true, and_from, diagonal_back, rest_of_diagonal, inside_back)
 
 between_back : (s u t : Square) → strictly_between s u t ≡ strictly_between t u s
 between_back s u t =
@@ -120,9 +101,7 @@ all_same : (f g : Square → Bool) (xs : List Square) → ((s : Square) → f s 
 all_same f g xs h = grind arith
 
 pub clear_back : (b : Board) (s t : Square) → is_clear b s t ≡ is_clear b t s
-clear_back b s t =
-    all_same (λ u. not (strictly_between s u t) || is_empty b u) (λ u. not (strictly_between t u s) || is_empty b u) squares
-    (λ u. ap (λ x. not x || is_empty b u) (between_back s u t))
+clear_back b s t = grind (arith, common_steps, all_same, strictly_between, is_empty, squares, between_back)
 
 pub aligned_back : (s t : Square) → is_aligned s t ≡ is_aligned t s
 aligned_back s t = grind arith

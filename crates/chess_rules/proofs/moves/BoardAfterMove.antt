@@ -1,6 +1,6 @@
 -- What a move leaves on the board: one king of each colour, where it was or where it moved, and no
 -- pawn on rank 1 or 8.
-use Rattle.chess_rules.proofs.Words.{Colour, King, Piece, Move, Parts, Square, same_square, Board, at, put, kings, has_colour, has_piece, is_pawn, promoted, carried, ◌≡◌, ◌≢◌, ℕ, ◌+◌, Bool, true, false, inl, inr, refl, sym, ◌∙◌, ap, subst, arith, length, cond, Option, None, if◌then◌else◌}
+use Rattle.chess_rules.proofs.Words.{Colour, King, Piece, Move, Parts, Square, same_square, Board, at, put, kings, has_colour, has_piece, is_pawn, promoted, carried, ◌≡◌, ◌≢◌, ℕ, ◌+◌, Bool, true, false, inl, inr, refl, sym, ◌∙◌, ap, subst, arith, length, cond, Option, None, if◌then◌else◌, common_steps}
 use Rattle.chess_rules.proofs.lines.AttackToReach.{squares_same}
 use Rattle.chess_rules.proofs.positions.OneKing.{StandsAt}
 use Rattle.chess_rules.proofs.moves.CellsAfterPut.{OnBoard, at_put, at_put_here, length-put, king_count, kings-put, kings-put_alike, at_moved, on_target, on_origin, on_other}
@@ -131,9 +131,4 @@ put_stays p m b s x stays on free plain =
 -- a square but the target that had no king has none
 pub carried_free : (p : Parts) (m : Move) → Sound p → Lands p m → (u : Square) → OnBoard u → u ≢ m.to
     → ((c : Colour) → has_piece c King (at p.board u) ≡ false) → (c : Colour) → has_piece c King (at (carried p m) u) ≡ false
-carried_free p m sound lands u on apart free c =
-    elim (at_moved p.board m.from m.to u (arriving p m) sound.long lands.on_from lands.on_to on) [
-      | on_target is _ ↦ absurd (apart is)
-      | on_origin _ none ↦ ap (has_piece c King) none
-      | on_other _ _ same ↦ ap (has_piece c King) same ∙ free c
-    ]
+carried_free p m sound lands u on apart free c = grind (arith, common_steps, at_moved, on_target, on_origin, has_piece, on_other)

@@ -1,5 +1,5 @@
 -- What stands where after a piece is put on a square, and how many kings there are then.
-use Rattle.chess_rules.proofs.Words.{Colour, King, Piece, Square, Board, at, put, cell_of, kings, has_piece, ◌≡◌, ◌≢◌, ℕ, ◌+◌, ◌<◌, ◌⊎◌, inl, inr, sym, ◌∙◌, ap, subst, arith, length, length-set, set, get_or, cond, Option, None, get_or-set_same, get_or-set_other, sum_by-set}
+use Rattle.chess_rules.proofs.Words.{Colour, King, Piece, Square, Board, at, put, cell_of, kings, has_piece, ◌≡◌, ◌≢◌, ℕ, ◌+◌, ◌<◌, ◌⊎◌, inl, inr, arith, length, length-set, set, get_or, cond, Option, None, get_or-set_same, get_or-set_other, sum_by-set, common_steps}
 
 pub record OnBoard (s : Square) : Type 0 where
   pub file : s.file < 8
@@ -11,26 +11,14 @@ same_or_not m n = grind arith
 -- a put is seen on its square alone
 pub at_put : (b : Board) (s u : Square) (x : Option Piece) → length b ≡ 64 → OnBoard s → OnBoard u
     → ((u ≡ s) × (at (put b s x) u ≡ x)) ⊎ ((u ≢ s) × (at (put b s x) u ≡ at b u))
-at_put b s u x long on_s on_u =
-    elim (same_or_not (cell_of u) (cell_of s)) [
-      | inl same ↦ inl
-          (square_same same, subst (λ (i : ℕ). get_or (set b (cell_of s) x) i None ≡ x) (sym same) (get_or-set_same b (cell_of s) x None low))
-      | inr differ ↦ inr ((λ e. differ (ap cell_of e)), get_or-set_other b (cell_of s) (cell_of u) x None differ)
-    ]
-  where
-    low : cell_of s < length b
-    low = grind arith
+at_put b s u x long on_s on_u = grind (arith, common_steps, same_or_not, cell_of, inl, get_or, set, get_or-set_same, inr, get_or-set_other)
 
-    square_same : cell_of u ≡ cell_of s → u ≡ s
-    square_same same = grind arith
+module _ (b : Board) (s : Square) (x : Option Piece) where
+  pub at_put_here : length b ≡ 64 → OnBoard s → at (put b s x) s ≡ x
+  at_put_here long on_s = grind (arith, common_steps, get_or-set_same, cell_of)
 
-pub at_put_here : (b : Board) (s : Square) (x : Option Piece) → length b ≡ 64 → OnBoard s → at (put b s x) s ≡ x
-at_put_here b s x long on_s =
-    let f : s.file < 8 = on_s.file in let r : s.rank < 8 = on_s.rank in
-    get_or-set_same b (cell_of s) x None (omega arith)
-
-pub length-put : (b : Board) (s : Square) (x : Option Piece) → length (put b s x) ≡ length b
-length-put b s x = length-set b (cell_of s) x
+  pub length-put : length (put b s x) ≡ length b
+  length-put = length-set b (cell_of s) x
 
 -- the board when a piece has gone from one square to another, where it is `cell`
 abbrev pub moved : Board → Square → Square → Option Piece → Board
@@ -43,26 +31,16 @@ pub data Moved (b : Board) (from to : Square) (cell : Option Piece) (u : Square)
 
 pub at_moved : (b : Board) (from to u : Square) (cell : Option Piece) → length b ≡ 64 → OnBoard from
     → OnBoard to → OnBoard u → Moved b from to cell u
-at_moved b from to u cell long on_from on_to on =
-    elim (at_put (put b from None) to u cell (length-put b from None ∙ long) on_to on) [
-      | inl here ↦ on_target here.0 here.1
-      | inr there ↦ elim (at_put b from u None long on_from on) [
-        | inl gone ↦ on_origin gone.0 (there.1 ∙ gone.1)
-        | inr stayed ↦ on_other there.0 stayed.0 (there.1 ∙ stayed.1)
-      ]
-    ]
+at_moved b from to u cell long on_from on_to on = grind (arith, common_steps, at_put, put, length-put, inl, inr)
 
 -- 1 for the colour's king, else 0
 abbrev pub king_count : Colour → Option Piece → ℕ
 king_count c cell = cond (has_piece c King cell) 1 0
 
-pub kings-put : (c : Colour) (b : Board) (s : Square) (x : Option Piece) → length b ≡ 64
-    → OnBoard s → kings c (put b s x) + king_count c (at b s) ≡ kings c b + king_count c x
-kings-put c b s x long on_s =
-    let f : s.file < 8 = on_s.file in let r : s.rank < 8 = on_s.rank in
-    sum_by-set (king_count c) b (cell_of s) x None (omega arith)
+module _ (c : Colour) (b : Board) (s : Square) (x : Option Piece) where
+  pub kings-put : length b ≡ 64 → OnBoard s → kings c (put b s x) + king_count c (at b s) ≡ kings c b + king_count c x
+  kings-put long on_s = grind (arith, common_steps, sum_by-set, cell_of)
 
--- kings stay as many where as many are put as were there
-pub kings-put_alike : (c : Colour) (b : Board) (s : Square) (x : Option Piece) → length b ≡ 64
-    → OnBoard s → king_count c (at b s) ≡ king_count c x → kings c (put b s x) ≡ kings c b
-kings-put_alike c b s x long on_s alike = grind (arith, kings-put)
+  -- kings stay as many where as many are put as were there
+  pub kings-put_alike : length b ≡ 64 → OnBoard s → king_count c (at b s) ≡ king_count c x → kings c (put b s x) ≡ kings c b
+  kings-put_alike long on_s alike = grind (arith, kings-put)

@@ -1,5 +1,5 @@
 -- A step is of one kind, obeys the rules of that kind, and has its board.
-use Rattle.chess_rules.proofs.Words.{King, Rook, Pawn, Kind, Colour, Piece, Move, Parts, StepKind, Plain, EnPassant, ShortCastling, LongCastling, Square, gap, is_adjacent, attacks, Board, at, cell_of, put, some_piece, is_empty, other, has_colour, has_piece, Wing, own, home, captured_pawn, castles, is_piece_step, is_pawn_way, is_pawn_step, promotion_fits, is_target, is_en_passant, castles_short, castles_long, short_right, long_right, short_wing, long_wing, carried, en_passant_board, castled, board_after, reaches, step_kind, ◌≡◌, ◌≢◌, ℕ, Bool, true, false, not, ◌&&◌, ◌||◌, ◌⊎◌, inl, inr, sym, ◌∙◌, ap, ap₂, arith, nat_lt, ◌==◌, Option, None, Some, is_some, if◌then◌else◌, false≢true, false_from_ne_true, and_from, nat_tests, get_or-set_other, or_right}
+use Rattle.chess_rules.proofs.Words.{King, Rook, Pawn, Kind, Colour, Piece, Move, Parts, StepKind, Plain, EnPassant, ShortCastling, LongCastling, Square, gap, is_adjacent, attacks, Board, at, cell_of, put, some_piece, is_empty, other, has_colour, has_piece, Wing, own, home, captured_pawn, castles, is_piece_step, is_pawn_way, is_pawn_step, promotion_fits, is_target, is_en_passant, castles_short, castles_long, short_right, long_right, short_wing, long_wing, carried, en_passant_board, castled, board_after, reaches, step_kind, ◌≡◌, ◌≢◌, ℕ, Bool, true, false, not, ◌&&◌, ◌||◌, ◌⊎◌, inl, inr, sym, ◌∙◌, ap, arith, nat_lt, ◌==◌, Option, None, Some, is_some, if◌then◌else◌, false≢true, false_from_ne_true, and_from, nat_tests, get_or-set_other, or_right, rules, common_steps}
 use Rattle.chess_rules.proofs.moves.WaysToStep.{PieceStep, PawnStep, Passing, Castles, piece_step_means, pawn_step_means, passing_means, castles_means, way_of, by_piece, by_pawn, by_passing, by_short, by_long, some_of}
 use Rattle.chess_rules.proofs.sets.AllSquares.{first_true, second_true, same_tests, equal_tests}
 use Rattle.chess_rules.proofs.lines.AttackToReach.{kinds_same, colours_same}
@@ -52,20 +52,11 @@ passes_by far short passes e = grind arith
 
 module _ (p : Parts) (m : Move) where
   no_far_pawn : own p Pawn m.from ≡ true → king_goes_far p m ≡ false
-  no_far_pawn pawn =
-      false_from_ne_true (king_goes_far p m)
-      (λ far. cc (one_kind p.side p.side King Pawn (at p.board m.from) (second_true (nat_lt 1 (gap m.from.file m.to.file)) _ far) pawn))
+  no_far_pawn pawn = grind (arith, common_steps, false_from_ne_true, one_kind, second_true, nat_lt, gap)
 
   piece_is_plain : PieceStep p m → step_kind p m ≡ Plain
   unfolding step_kind
-  piece_is_plain h =
-      ap₂ (λ far passes. kind_by far (m.to.file == 6) passes)
-      (false_from_ne_true (king_goes_far p m) (λ far. near far (attacks_as p.side King (at p.board m.from) p.board m.from m.to
-      (second_true (nat_lt 1 (gap m.from.file m.to.file)) _ far) h.hits)))
-      (false_from_ne_true (pawn_passes p m) (λ passes. false≢true (sym h.no_pawn ∙ second_true _ (own p Pawn m.from) (first_true _ _ passes))))
-    where
-      near : king_goes_far p m ≡ true → is_adjacent m.from m.to ≡ true → ⊥
-      near far beside = grind (arith, nat_tests)
+  piece_is_plain h = search (rules, false_from_ne_true, attacks_as, second_true, nat_lt, gap, false≢true, own, first_true, is_adjacent, nat_tests)
 
   -- a pawn that keeps to its rules goes ahead, or finds a piece
   file_or_full : is_pawn_way p m ≡ true → (m.from.file ≡ m.to.file) ⊎ (is_empty p.board m.to ≡ false)
@@ -74,28 +65,11 @@ module _ (p : Parts) (m : Move) where
   pawn_is_plain : PawnStep p m → step_kind p m ≡ Plain
   unfolding step_kind
   pawn_is_plain h =
-      ap₂ (λ far passes. kind_by far (m.to.file == 6) passes) (no_far_pawn h.pawn) (false_from_ne_true (pawn_passes p m) no_passing)
-    where
-      apart : (not (m.from.file == m.to.file) && is_empty p.board m.to) ≡ true → ⊥
-      apart leaves = elim (file_or_full h.way) [
-        | inl same ↦ false≢true (sym (ap not (equal_tests m.from.file m.to.file same)) ∙ first_true _ _ leaves)
-        | inr full ↦ false≢true (sym full ∙ second_true _ _ leaves)
-      ]
-
-      no_passing : pawn_passes p m ≡ true → ⊥
-      no_passing passes = apart (second_true (is_target p.target m.to && own p Pawn m.from) _ passes)
+      grind (arith, common_steps, no_far_pawn, false_from_ne_true, is_empty, file_or_full, inl, false≢true, equal_tests, first_true, inr, second_true, is_target, own)
 
   passing_is_en_passant : Passing p m → step_kind p m ≡ EnPassant
   unfolding step_kind
-  passing_is_en_passant h = ap₂ (λ far passes. kind_by far (m.to.file == 6) passes) (no_far_pawn h.pawn) passes
-    where
-      leaves : (a b : ℕ) → (gap a b == 1) ≡ true → not (a == b) ≡ true
-      leaves a b h = grind arith
-
-      passes : pawn_passes p m ≡ true
-      passes =
-          and_from _ _ (and_from _ _ h.target h.pawn)
-          (and_from _ _ (leaves m.from.file m.to.file (first_true _ _ (pawn_attack p m h.pawn h.hits))) h.empty)
+  passing_is_en_passant h = grind (arith, common_steps, no_far_pawn, gap, and_from, first_true, pawn_attack)
 
   castling_is_short : Castles p m short_wing → step_kind p m ≡ ShortCastling
   unfolding step_kind
@@ -148,9 +122,7 @@ module _ (p : Parts) (m : Move) where
       there LongCastling h = made (inr (inr (inr h)))
 
   pub board_of_step : (k : StepKind) → k ≡ step_kind p m → is_some (board_after p m) ≡ true → board_after p m ≡ Some (board_of k p m)
-  board_of_step k is h =
-      let (b, stepped) = stepped_board h in
-      stepped ∙ ap Some (sym (ap (λ l. board_of l p m) is ∙ (step_of_kind b stepped).board))
+  board_of_step k is h = grind (arith, common_steps, stepped_board, step_of_kind)
 
   -- en passant asks these rules beside what its kind says
   pub passing_rules : EnPassant ≡ step_kind p m → is_some (board_after p m)
@@ -182,8 +154,4 @@ home_apart p a b s is differ e = differ (let f : cell_of (home p a) ≡ cell_of 
 
 pub rook_waits : (p : Parts) (m : Move) (right : Bool) (wing : Wing) → wing.rook ≢ 4 → wing.rook ≢ wing.end
     → castles p m right wing ≡ true → at (carried p m) (home p wing.rook) ≡ some_piece p.side Rook
-rook_waits p m right wing apart differ h =
-    let w = castles_means p m right wing h in
-    get_or-set_other (put p.board m.from None) (cell_of m.to) (cell_of (home p wing.rook)) _ None (home_apart p wing.rook wing.end m.to w.to differ)
-    ∙ (get_or-set_other p.board (cell_of m.from) (cell_of (home p wing.rook)) None None (home_apart p wing.rook 4 m.from w.from apart)
-    ∙ piece_there p.side Rook (at p.board (home p wing.rook)) w.rook)
+rook_waits p m right wing apart differ h = grind (arith, common_steps, castles_means, get_or-set_other, put, cell_of, home, home_apart, piece_there)

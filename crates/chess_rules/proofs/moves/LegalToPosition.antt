@@ -1,6 +1,5 @@
 -- A legal move leaves a position, and the kings where they are said to be.
-use Rattle.chess_rules.proofs.Words.{Colour, King, Move, Parts, Square, on_board, same_square, Board, at, other, has_colour, is_attacked, king_attacked, is_position, target_fits, is_on_board, short_right, long_right, short_wing, long_wing, board_after, after, target_after, half_after, full_after, legal, if_safe, is_legal, king_square, LeavesPosition, ◌≡◌, ℕ, ◌≤◌, Bool, true, false, not, refl, sym, ◌∙◌, ap, subst, arith, nat_lt, Option, None, Some, option_map, if◌then◌else◌, false_from_ne_true, Rights, square, cell_of, keeps, rights_after, has, ◌&&◌}
-use Rattle.std.proofs.lemmas.Bool.{ltb-true}
+use Rattle.chess_rules.proofs.Words.{Colour, King, Move, Parts, Square, on_board, same_square, Board, at, other, has_colour, is_attacked, king_attacked, is_position, target_fits, is_on_board, short_right, long_right, short_wing, long_wing, board_after, after, target_after, half_after, full_after, legal, if_safe, is_legal, king_square, LeavesPosition, ◌≡◌, ℕ, ◌≤◌, Bool, true, false, not, refl, sym, ◌∙◌, ap, subst, arith, nat_lt, Option, None, Some, option_map, if◌then◌else◌, false_from_ne_true, Rights, square, cell_of, keeps, rights_after, has, ◌&&◌, ltb-true}
 use Rattle.chess_rules.proofs.moves.WaysToStep.{piece_step_means, pawn_step_means, passing_means, castles_means, way_of, by_piece, by_pawn, by_passing, by_short, by_long}
 use Rattle.chess_rules.proofs.sets.AllSquares.{first_true, second_true}
 use Rattle.chess_rules.proofs.lines.AttackToReach.{squares_same, other-other}
@@ -77,35 +76,33 @@ pub king_waits : (m : Move) (k : Square) → same_square m.from k ≡ false → 
 king_waits m k apart = grind arith
 
 -- the other king stays where it is
-pub other_king_stays : (p : Parts) (m : Move) (b : Board) → is_position p ≡ true → is_on_board m ≡ true
-    → board_after p m ≡ Some b → king_square (other p.side) p.board ≡ king_square (other p.side) b
-other_king_stays p m b position on h = sym (king_waits m king apart) ∙ king_moves p m b (other p.side) position on h
-  where
-    sound : Sound p
-    sound = sound_from_position p position
+module _ (p : Parts) (m : Move) (b : Board) where
+  pub other_king_stays : is_position p ≡ true → is_on_board m ≡ true → board_after p m ≡ Some b → king_square (other p.side) p.board ≡ king_square (other p.side) b
+  other_king_stays position on h = sym (king_waits m king apart) ∙ king_moves p m b (other p.side) position on h
+    where
+      sound : Sound p
+      sound = sound_from_position p position
 
-    king : Square
-    king = king_square (other p.side) p.board
+      king : Square
+      king = king_square (other p.side) p.board
 
-    apart : same_square m.from king ≡ false
-    apart =
-        false_from_ne_true (same_square m.from king) (λ same.
-        not_both p.side (at p.board king)
-        (subst (λ (s : Square). has_colour p.side (at p.board s) ≡ true) (squares_same m.from king same) (board_stays p m b sound on h).own)
-        (colour_of_piece (other p.side) King (at p.board king) (king_of sound (other p.side)).king))
+      apart : same_square m.from king ≡ false
+      apart =
+          false_from_ne_true (same_square m.from king) (λ same.
+          not_both p.side (at p.board king)
+          (subst (λ (s : Square). has_colour p.side (at p.board s) ≡ true) (squares_same m.from king same) (board_stays p m b sound on h).own)
+          (colour_of_piece (other p.side) King (at p.board king) (king_of sound (other p.side)).king))
 
--- whether a king is attacked is seen from its square
-pub king_seen : (p : Parts) (m : Move) (b : Board) (c : Colour) → is_position p ≡ true → is_on_board m ≡ true
-    → board_after p m ≡ Some b → king_attacked b c ≡ is_attacked b (other c) (king_square c b)
-king_seen p m b c position on h =
-    let stays : Stays p m b = board_stays p m b (sound_from_position p position) on h in
-    king_attacked_there c b stays.long (stays.kings_of c)
+  -- whether a king is attacked is seen from its square
+  pub king_seen : (c : Colour) → is_position p ≡ true → is_on_board m ≡ true → board_after p m ≡ Some b → king_attacked b c ≡ is_attacked b (other c) (king_square c b)
+  king_seen c position on h =
+      let stays : Stays p m b = board_stays p m b (sound_from_position p position) on h in
+      king_attacked_there c b stays.long (stays.kings_of c)
 
--- Legality of a step.
+  -- Legality of a step.
 
-pub legal_when : (p : Parts) (m : Move) (b : Board) → is_on_board m ≡ true → board_after p m ≡ Some b
-    → king_attacked b (other (other p.side)) ≡ false → legal p m ≡ Some (after p m b)
-legal_when p m b on h safe = grind arith
+  pub legal_when : is_on_board m ≡ true → board_after p m ≡ Some b → king_attacked b (other (other p.side)) ≡ false → legal p m ≡ Some (after p m b)
+  legal_when on h safe = grind arith
 
 -- a legal move was a step to some board, and left the king safe
 pub record Legal (p : Parts) (m : Move) (q : Parts) : Type 0 where
@@ -137,19 +134,17 @@ leaves_position p q m position h =
     subst (λ (r : Parts). is_position r ≡ true) l.next
     (position_from_sound (after p m l.board) (after_sound p m l.board (sound_from_position p position) l.on l.stepped l.safe))
 
-pub position_after : (p : Parts) (m : Move) (b : Board) → is_position p ≡ true → is_on_board m ≡ true
-    → board_after p m ≡ Some b → king_attacked b (other (other p.side)) ≡ false → is_position (after p m b) ≡ true
-position_after p m b position on h safe = position_from_sound (after p m b) (after_sound p m b (sound_from_position p position) on h safe)
+module _ (p : Parts) (m : Move) (b : Board) where
+  pub position_after : is_position p ≡ true → is_on_board m ≡ true → board_after p m ≡ Some b → king_attacked b (other (other p.side)) ≡ false → is_position (after p m b) ≡ true
+  position_after position on h safe = position_from_sound (after p m b) (after_sound p m b (sound_from_position p position) on h safe)
 
--- a step is legal exactly if the king is not attacked then, seen from its square
-pub legal_unless_attacked : (p : Parts) (m : Move) (b : Board) (attacked : Bool)
-    → is_position p ≡ true → is_on_board m ≡ true → board_after p m ≡ Some b
-    → attacked ≡ is_attacked b (other p.side) (king_square p.side b) → not attacked ≡ is_legal p m
-legal_unless_attacked p m b attacked position on h e =
-    by_test attacked (ap (king_attacked b) (other-other p.side) ∙ (king_seen p m b p.side position on h ∙ sym e))
-  where
-    by_test : (x : Bool) → king_attacked b (other (other p.side)) ≡ x → not x ≡ is_legal p m
-    by_test x is = grind arith
+  -- a step is legal exactly if the king is not attacked then, seen from its square
+  pub legal_unless_attacked : (attacked : Bool) → is_position p ≡ true → is_on_board m ≡ true → board_after p m ≡ Some b → attacked ≡ is_attacked b (other p.side) (king_square p.side b) → not attacked ≡ is_legal p m
+  legal_unless_attacked attacked position on h e =
+      by_test attacked (ap (king_attacked b) (other-other p.side) ∙ (king_seen p m b p.side position on h ∙ sym e))
+    where
+      by_test : (x : Bool) → king_attacked b (other (other p.side)) ≡ x → not x ≡ is_legal p m
+      by_test x is = grind arith
 
 -- A move that begins and ends on no square of a king or a rook at the start keeps every right.
 

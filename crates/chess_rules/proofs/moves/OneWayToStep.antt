@@ -4,33 +4,33 @@ use Rattle.chess_rules.proofs.moves.WaysToStep.{Castles, castles_means}
 use Rattle.chess_rules.proofs.sets.AllSquares.{first_true, second_true, equal_from}
 use Rattle.chess_rules.proofs.moves.StepsKeepBoard.{pawn_attack}
 
-pub no_pawn_moves : (p : Parts) (m : Move) → is_piece_step p m ≡ true → own p Pawn m.from ≡ true → ⊥
-no_pawn_moves p m h pawn = grind arith
+module _ (p : Parts) (m : Move) where
+  pub no_pawn_moves : is_piece_step p m ≡ true → own p Pawn m.from ≡ true → ⊥
+  no_pawn_moves h pawn = grind arith
 
-pub pawn_of_step : (p : Parts) (m : Move) → is_pawn_step p m ≡ true → own p Pawn m.from ≡ true
-pawn_of_step p m h = first_true (own p Pawn m.from) (is_pawn_way p m && promotion_fits p m) h
+  pub pawn_of_step : is_pawn_step p m ≡ true → own p Pawn m.from ≡ true
+  pawn_of_step h = first_true (own p Pawn m.from) (is_pawn_way p m && promotion_fits p m) h
 
-pub en_passant_stands : (p : Parts) (m : Move) → is_en_passant p m ≡ true
-    → ((own p Pawn m.from && promotion_fits p m) && (is_target p.target m.to && is_empty p.board m.to)) ≡ true
-en_passant_stands p m h = first_true _ (attacks p.board m.from m.to && has_piece (other p.side) Pawn (at p.board (captured_pawn m))) h
+  pub en_passant_stands : is_en_passant p m ≡ true → ((own p Pawn m.from && promotion_fits p m) && (is_target p.target m.to && is_empty p.board m.to)) ≡ true
+  en_passant_stands h = first_true _ (attacks p.board m.from m.to && has_piece (other p.side) Pawn (at p.board (captured_pawn m))) h
 
-pub pawn_of_en_passant : (p : Parts) (m : Move) → is_en_passant p m ≡ true → own p Pawn m.from ≡ true
-pawn_of_en_passant p m h =
-    first_true (own p Pawn m.from) _ (first_true _ (is_target p.target m.to && is_empty p.board m.to) (en_passant_stands p m h))
+  pub pawn_of_en_passant : is_en_passant p m ≡ true → own p Pawn m.from ≡ true
+  pawn_of_en_passant h =
+      first_true (own p Pawn m.from) _ (first_true _ (is_target p.target m.to && is_empty p.board m.to) (en_passant_stands h))
 
-king_is_no_pawn : (p : Parts) (m : Move) (wing : Wing) → Castles p m wing → own p Pawn m.from ≡ true → ⊥
-king_is_no_pawn p m wing h pawn = grind arith
+  king_is_no_pawn : (wing : Wing) → Castles p m wing → own p Pawn m.from ≡ true → ⊥
+  king_is_no_pawn wing h pawn = grind arith
 
--- a pawn that goes ahead keeps its file, and one that captures finds a piece
-pub pawn_steps_apart : (p : Parts) (m : Move) → is_pawn_step p m ≡ true → is_en_passant p m ≡ true → ⊥
-pawn_steps_apart p m h g = grind (arith, or_cases, first_true, second_true, equal_from, en_passant_stands, pawn_attack, pawn_of_en_passant)
+  -- a pawn that goes ahead keeps its file, and one that captures finds a piece
+  pub pawn_steps_apart : is_pawn_step p m ≡ true → is_en_passant p m ≡ true → ⊥
+  pawn_steps_apart h g = grind (arith, or_cases, first_true, second_true, equal_from, en_passant_stands, pawn_attack, pawn_of_en_passant)
 
--- a king steps to a square beside it
-king_steps_apart : (p : Parts) (m : Move) (wing : Wing) → 2 ≤ gap 4 wing.end → is_piece_step p m ≡ true → Castles p m wing → ⊥
-king_steps_apart p m wing far h g = grind arith
+  -- a king steps to a square beside it
+  king_steps_apart : (wing : Wing) → 2 ≤ gap 4 wing.end → is_piece_step p m ≡ true → Castles p m wing → ⊥
+  king_steps_apart wing far h g = grind arith
 
-wings_apart : (p : Parts) (m : Move) → Castles p m short_wing → Castles p m long_wing → ⊥
-wings_apart p m h g = grind arith
+  wings_apart : Castles p m short_wing → Castles p m long_wing → ⊥
+  wings_apart h g = grind arith
 
 one_at_most : (a b c d e : Bool) → (a ≡ true → b ≡ true → ⊥) → (a ≡ true → c ≡ true → ⊥)
     → (a ≡ true → d ≡ true → ⊥) → (a ≡ true → e ≡ true → ⊥)

@@ -1,5 +1,5 @@
 -- A plain step gives an attack only by the piece that moves, or along the line that it leaves.
-use Rattle.chess_rules.proofs.Words.{Colour, Piece, Promotion, Move, Parts, Square, same_square, between_on_rank, between_on_file, between_on_diagonal, strictly_between, squares, Board, at, put, is_empty, other, has_colour, attacks, cell_attacks, is_attacked, is_clear, king_attacked, is_position, is_on_board, promoted, carried, board_after, after, legal, if_safe, is_legal, is_check, is_aligned, is_near, king_square, may_attack, reaches_from, slides, Plain, step_kind, ◌≡◌, Bool, true, false, not, ◌&&◌, ◌||◌, ◌⊎◌, inl, inr, refl, sym, ◌∙◌, ap, ap₂, subst, arith, length, Option, None, Some, is_none, is_some, option_map, if◌then◌else◌, list_any, false≢true, and_from, false_from_ne_true, nat_tests}
+use Rattle.chess_rules.proofs.Words.{Colour, Piece, Promotion, Move, Parts, Square, same_square, between_on_rank, between_on_file, between_on_diagonal, strictly_between, squares, Board, at, put, is_empty, other, has_colour, attacks, cell_attacks, is_attacked, is_clear, king_attacked, is_position, is_on_board, promoted, carried, board_after, after, legal, if_safe, is_legal, is_check, is_aligned, is_near, king_square, may_attack, reaches_from, slides, Plain, step_kind, ◌≡◌, Bool, true, false, not, ◌&&◌, ◌||◌, ◌⊎◌, inl, inr, refl, sym, ◌∙◌, ap, ap₂, subst, arith, length, Option, None, Some, is_none, is_some, option_map, if◌then◌else◌, list_any, false≢true, and_from, false_from_ne_true, nat_tests, common_steps}
 use Rattle.chess_rules.proofs.sets.AllSquares.{first_true, second_true, each_square, all_squares, Passes, some_square, any_square, not_true, implied}
 use Rattle.chess_rules.proofs.lines.AttackToReach.{attacker_is, none_or_all, between_cases, other-other}
 use Rattle.chess_rules.proofs.positions.OneKing.{StandsAt}
@@ -11,18 +11,19 @@ use Rattle.chess_rules.proofs.moves.LegalToPosition.{board_stays, king_moves, ki
 
 -- A square between two lies on a line with the second.
 
-between_on_rank_aligned : (s u t : Square) → between_on_rank s u t ≡ true → is_aligned u t ≡ true
-between_on_rank_aligned s u t h = grind arith
+module _ (s u t : Square) where
+  between_on_rank_aligned : between_on_rank s u t ≡ true → is_aligned u t ≡ true
+  between_on_rank_aligned h = grind arith
 
-between_on_file_aligned : (s u t : Square) → between_on_file s u t ≡ true → is_aligned u t ≡ true
-between_on_file_aligned s u t h = grind arith
+  between_on_file_aligned : between_on_file s u t ≡ true → is_aligned u t ≡ true
+  between_on_file_aligned h = grind arith
 
-between_on_diagonal_aligned : (s u t : Square) → between_on_diagonal s u t ≡ true → is_aligned u t ≡ true
-between_on_diagonal_aligned s u t h = grind (arith, nat_tests)
+  between_on_diagonal_aligned : between_on_diagonal s u t ≡ true → is_aligned u t ≡ true
+  between_on_diagonal_aligned h = grind (arith, nat_tests)
 
-between_aligned : (s u t : Square) → strictly_between s u t ≡ true → is_aligned u t ≡ true
-between_aligned s u t h =
-    between_cases s u t h (between_on_rank_aligned s u t) (between_on_file_aligned s u t) (between_on_diagonal_aligned s u t)
+  between_aligned : strictly_between s u t ≡ true → is_aligned u t ≡ true
+  between_aligned h =
+      between_cases s u t h (between_on_rank_aligned) (between_on_file_aligned) (between_on_diagonal_aligned)
 
 -- A piece that attacks on one board attacks on another where the way is clear too.
 
@@ -63,8 +64,7 @@ module _ (b : Board) (from to k : Square) (cell : Option Piece) (c : Colour)
   attacked_before : (s : Square) → OnBoard s → is_none cell ≡ false → Opens
       → (has_colour c (at b s) && cell_attacks (at b s) (moved b from to cell) s k) ≡ true → (has_colour c (at b s) && attacks b s k) ≡ true
   attacked_before s on full (inl apart) h =
-      and_from _ _ (first_true _ _ h)
-      (cell_still (at b s) (moved b from to cell) b s k (clear_before s full apart) (second_true (has_colour c (at b s)) _ h))
+      grind (arith, common_steps, and_from, first_true, cell_still, moved, clear_before, second_true, has_colour)
   attacked_before s on full (inr none) h =
       sym (no_slide c (at b s) (moved b from to cell) b s k
       (false_from_ne_true (slides b c k s)
@@ -138,9 +138,7 @@ safe_when_plain p m b k position on h plain is calm_before apart unseen =
 pub check_is_seen : (p : Parts) (m : Move) (b : Board) (k : Square)
     → is_position p ≡ true → is_on_board m ≡ true → board_after p m ≡ Some b
     → k ≡ king_square (other p.side) p.board → king_attacked b (other p.side) ≡ is_attacked b p.side k
-check_is_seen p m b k position on h is =
-    king_seen p m b (other p.side) position on h
-    ∙ ap₂ (λ c s. is_attacked b c s) (other-other p.side) (sym (is ∙ other_king_stays p m b position on h))
+check_is_seen p m b k position on h is = grind (arith, common_steps, king_seen, other, is_attacked, other-other, other_king_stays)
 
 -- the other king is not attacked, if the piece that arrives does not attack it, and it sees no
 -- square that is left

@@ -1,5 +1,5 @@
 -- Each of the ways to step leaves the board in order.
-use Rattle.chess_rules.proofs.Words.{Colour, Kind, King, Rook, Pawn, Piece, Promotion, Move, Parts, Square, square, gap, strictly_between, Board, some_piece, at, put, is_empty, other, has_colour, has_piece, is_pawn, is_clear, is_ahead, kind_attacks, cell_attacks, attacks, is_attacked, king_attacked, target_fits, target_rank, own, home, home_rank, pawn_rank, double_rank, last_rank, is_advance, is_double_step, is_pawn_capture, is_pawn_way, is_target, captured_pawn, crossed, Wing, short_wing, long_wing, kind_of, promoted, carried, en_passant_board, castled, ◌≡◌, ◌≢◌, ℕ, ◌<◌, Bool, true, false, not, ◌&&◌, ◌||◌, ◌⊎◌, inl, inr, refl, sym, ◌∙◌, ap, subst, arith, ◌==◌, Option, None, Some, is_none, is_some, if◌then◌else◌, nat_tests, or_cases, and_from, false_from_ne_true}
+use Rattle.chess_rules.proofs.Words.{Colour, Kind, King, Rook, Pawn, Piece, Promotion, Move, Parts, Square, square, gap, strictly_between, Board, some_piece, at, put, is_empty, other, has_colour, has_piece, is_pawn, is_clear, is_ahead, kind_attacks, cell_attacks, attacks, is_attacked, king_attacked, target_fits, target_rank, own, home, home_rank, pawn_rank, double_rank, last_rank, is_advance, is_double_step, is_pawn_capture, is_pawn_way, is_target, captured_pawn, crossed, Wing, short_wing, long_wing, kind_of, promoted, carried, en_passant_board, castled, ◌≡◌, ◌≢◌, ℕ, ◌<◌, true, false, not, ◌&&◌, ◌||◌, ◌⊎◌, inl, inr, refl, sym, ◌∙◌, ap, subst, arith, ◌==◌, Option, None, is_none, is_some, nat_tests, or_cases, and_from, false_from_ne_true, rules, common_steps}
 use Rattle.chess_rules.proofs.moves.WaysToStep.{PieceStep, PawnStep, Passing, Castles}
 use Rattle.chess_rules.proofs.sets.AllSquares.{first_true, second_true, each_square, any_square, equal_tests, not_true}
 use Rattle.chess_rules.proofs.lines.AttackToReach.{kinds_same, colours_same, ahead_gap, other-other}
@@ -9,36 +9,35 @@ use Rattle.chess_rules.proofs.moves.BoardAfterMove.{arriving, Lands, Stays, IsPl
 
 -- Cells.
 
-pub colour_of_piece : (c : Colour) (k : Kind) (cell : Option Piece) → has_piece c k cell ≡ true → has_colour c cell ≡ true
-colour_of_piece c k cell h = grind arith
+module _ (c : Colour) where
+  pub colour_of_piece : (k : Kind) (cell : Option Piece) → has_piece c k cell ≡ true → has_colour c cell ≡ true
+  colour_of_piece k cell h = grind arith
 
-pub not_both : (c : Colour) (cell : Option Piece) → has_colour c cell ≡ true → has_colour (other c) cell ≡ true → ⊥
-not_both c cell h g = grind arith
+  pub not_both : (cell : Option Piece) → has_colour c cell ≡ true → has_colour (other c) cell ≡ true → ⊥
+  not_both cell h g = grind arith
 
--- a cell has pieces of one kind
-pub one_kind : (c d : Colour) (k l : Kind) (cell : Option Piece) → has_piece c k cell ≡ true → has_piece d l cell ≡ true → k ≡ l
-one_kind c d k l cell h g = grind (arith, kinds_same, second_true)
+  -- a cell has pieces of one kind
+  pub one_kind : (d : Colour) (k l : Kind) (cell : Option Piece) → has_piece c k cell ≡ true → has_piece d l cell ≡ true → k ≡ l
+  one_kind d k l cell h g = grind (arith, kinds_same, second_true)
 
-no_king_with : (c d : Colour) (k : Kind) (cell : Option Piece) → (King ≡ k → ⊥)
-    → has_piece d k cell ≡ true → has_piece c King cell ≡ false
-no_king_with c d k cell differ h = grind arith
+  no_king_with : (d : Colour) (k : Kind) (cell : Option Piece) → (King ≡ k → ⊥) → has_piece d k cell ≡ true → has_piece c King cell ≡ false
+  no_king_with d k cell differ h = grind arith
 
-empty_free : (c : Colour) (k : Kind) (cell : Option Piece) → is_none cell ≡ true → has_piece c k cell ≡ false
-empty_free c k cell h = grind arith
+  empty_free : (k : Kind) (cell : Option Piece) → is_none cell ≡ true → has_piece c k cell ≡ false
+  empty_free k cell h = grind arith
 
-no_pawn_but_own : (c : Colour) (cell : Option Piece) → has_colour c cell ≡ true → has_piece c Pawn cell ≡ false → is_pawn cell ≡ false
-no_pawn_but_own c cell h g = grind arith
+  no_pawn_but_own : (cell : Option Piece) → has_colour c cell ≡ true → has_piece c Pawn cell ≡ false → is_pawn cell ≡ false
+  no_pawn_but_own cell h g = grind arith
 
-king_is_no_pawn : (c : Colour) (cell : Option Piece) → has_piece c King cell ≡ true → is_pawn cell ≡ false
-king_is_no_pawn c cell h = grind arith
+  king_is_no_pawn : (cell : Option Piece) → has_piece c King cell ≡ true → is_pawn cell ≡ false
+  king_is_no_pawn cell h = grind arith
 
-promoted_is_no_king : (c d : Colour) (q : Promotion) → has_piece c King (some_piece d (kind_of q)) ≡ false
-promoted_is_no_king c d q = grind arith
+  promoted_is_no_king : (d : Colour) (q : Promotion) → has_piece c King (some_piece d (kind_of q)) ≡ false
+  promoted_is_no_king d q = grind arith
 
--- the piece on a square attacks as its kind and colour do
-pub attacks_as : (c : Colour) (k : Kind) (cell : Option Piece) (b : Board) (s t : Square)
-    → has_piece c k cell ≡ true → cell_attacks cell b s t ≡ true → kind_attacks k c b s t ≡ true
-attacks_as c k cell b s t h g = grind (arith, kinds_same, second_true, colours_same, first_true)
+  -- the piece on a square attacks as its kind and colour do
+  pub attacks_as : (k : Kind) (cell : Option Piece) (b : Board) (s t : Square) → has_piece c k cell ≡ true → cell_attacks cell b s t ≡ true → kind_attacks k c b s t ≡ true
+  attacks_as k cell b s t h g = grind (arith, kinds_same, second_true, colours_same, first_true)
 
 -- The other king is never taken.
 
@@ -59,56 +58,34 @@ free_of : (p : Parts) (t : Square) → has_colour p.side (at p.board t) ≡ fals
     → has_piece (other p.side) King (at p.board t) ≡ false → (c : Colour) → has_piece c King (at p.board t) ≡ false
 free_of p t own theirs c = grind arith
 
-arrives_as : (p : Parts) (m : Move) → is_none m.promotion ≡ true → arriving p m ≡ at p.board m.from
-arrives_as p m h = grind arith
+module _ (p : Parts) (m : Move) where
+  arrives_as : is_none m.promotion ≡ true → arriving p m ≡ at p.board m.from
+  arrives_as h = grind arith
 
--- A king, queen, rook, bishop or knight.
+  -- A king, queen, rook, bishop or knight.
 
-pub piece_lands : (p : Parts) (m : Move) → Sound p → OnBoard m.from → OnBoard m.to → PieceStep p m → Lands p m
-piece_lands p m sound on_from on_to h =
-    record {
-      on_from = on_from;
-      on_to = on_to;
-      own = h.mine;
-      free = free_of p m.to h.free (king_not_taken p m.from m.to sound on_from on_to h.mine h.hits);
-      alike = λ c. ap (has_piece c King) (arrives_as p m h.plain);
-      no_pawn = λ edge. ap is_pawn (arrives_as p m h.plain) ∙ no_pawn_but_own p.side (at p.board m.from) h.mine h.no_pawn;
-    }
+  pub piece_lands : Sound p → OnBoard m.from → OnBoard m.to → PieceStep p m → Lands p m
+  piece_lands sound on_from on_to h = grind (arith, common_steps, own, free_of, king_not_taken, has_piece, arrives_as, is_pawn, no_pawn_but_own)
 
--- A pawn.
+  -- A pawn.
 
-pub pawn_attack : (p : Parts) (m : Move) → own p Pawn m.from ≡ true → attacks p.board m.from m.to ≡ true
-    → ((gap m.from.file m.to.file == 1) && is_ahead p.side m.from.rank m.to.rank) ≡ true
-pawn_attack p m pawn hits = grind arith
+  pub pawn_attack : own p Pawn m.from ≡ true → attacks p.board m.from m.to ≡ true → ((gap m.from.file m.to.file == 1) && is_ahead p.side m.from.rank m.to.rank) ≡ true
+  pawn_attack pawn hits = grind arith
 
 -- one rank ahead, or from the pawns' first rank to that of the double step
 abbrev pub pawn_goes : Parts → Move → Type 0
 pawn_goes p m = (is_ahead p.side m.from.rank m.to.rank ≡ true) ⊎ ((m.from.rank ≡ pawn_rank p.side) × (m.to.rank ≡ double_rank p.side))
 
-pub double_ranks : (p : Parts) (m : Move) → is_double_step p m ≡ true → (m.from.rank ≡ pawn_rank p.side) × (m.to.rank ≡ double_rank p.side)
-double_ranks p m two = grind arith
+module _ (p : Parts) (m : Move) where
+  pub double_ranks : is_double_step p m ≡ true → (m.from.rank ≡ pawn_rank p.side) × (m.to.rank ≡ double_rank p.side)
+  double_ranks two = grind arith
 
-pub way_goes : (p : Parts) (m : Move) → own p Pawn m.from ≡ true → is_pawn_way p m ≡ true → pawn_goes p m
-way_goes p m pawn h = grind (arith, nat_tests)
+  pub way_goes : own p Pawn m.from ≡ true → is_pawn_way p m ≡ true → pawn_goes p m
+  way_goes pawn h = grind (arith, nat_tests)
 
-way_free : (p : Parts) (m : Move) → Sound p → OnBoard m.from → OnBoard m.to → own p Pawn m.from ≡ true
-    → is_pawn_way p m ≡ true → (c : Colour) → has_piece c King (at p.board m.to) ≡ false
-way_free p m sound on_from on_to pawn h =
-    elim (or_cases (is_advance p m) (is_double_step p m || is_pawn_capture p m) h) [
-      | inl one ↦
-          λ c. empty_free c King (at p.board m.to) (second_true ((m.from.file == m.to.file) && is_ahead p.side m.from.rank m.to.rank) _ one)
-      | inr more ↦ elim (or_cases (is_double_step p m) (is_pawn_capture p m) more) [
-        | inl two ↦ λ c. empty_free c King (at p.board m.to) (second_true (is_empty p.board (crossed m)) _
-            (second_true ((m.from.file == m.to.file) && ((m.from.rank == pawn_rank p.side) && (m.to.rank == double_rank p.side))) _ two))
-        | inr takes ↦ by_capture (first_true (attacks p.board m.from m.to) _ takes) (second_true (attacks p.board m.from m.to) _ takes)
-      ]
-    ]
-  where
-    by_capture : attacks p.board m.from m.to ≡ true → has_colour (other p.side) (at p.board m.to) ≡ true
-        → (c : Colour) → has_piece c King (at p.board m.to) ≡ false
-    by_capture hits theirs =
-        free_of p m.to (false_from_ne_true (has_colour p.side (at p.board m.to)) (λ mine. not_both p.side (at p.board m.to) mine theirs))
-        (king_not_taken p m.from m.to sound on_from on_to (colour_of_piece p.side Pawn (at p.board m.from) pawn) hits)
+  way_free : Sound p → OnBoard m.from → OnBoard m.to → own p Pawn m.from ≡ true → is_pawn_way p m ≡ true → (c : Colour) → has_piece c King (at p.board m.to) ≡ false
+  way_free sound on_from on_to pawn h =
+      grind (arith, common_steps, or_cases, is_advance, is_double_step, is_pawn_capture, inl, empty_free, second_true, is_ahead, inr, is_empty, crossed, pawn_rank, double_rank, first_true, attacks, has_colour, other, has_piece, free_of, false_from_ne_true, not_both, king_not_taken, colour_of_piece)
 
 last_of : (c : Colour) (a b : ℕ) → a < 8 → (is_ahead c a b ≡ true) ⊎ ((a ≡ pawn_rank c) × (b ≡ double_rank c))
     → is_edge b ≡ true → b ≡ last_rank c
@@ -116,24 +93,7 @@ last_of c a b low h edge = grind arith
 
 pub pawn_lands : (p : Parts) (m : Move) → Sound p → OnBoard m.from → OnBoard m.to → PawnStep p m → Lands p m
 pawn_lands p m sound on_from on_to h =
-    record {
-      on_from = on_from;
-      on_to = on_to;
-      own = colour_of_piece p.side Pawn (at p.board m.from) h.pawn;
-      free = way_free p m sound on_from on_to h.pawn h.way;
-      alike = λ c. alike_for c m.promotion;
-      no_pawn = λ edge. last_for m.promotion (equal_tests m.to.rank (last_rank p.side)
-          (last_of p.side m.from.rank m.to.rank on_from.rank (way_goes p m h.pawn h.way) edge)) h.fits;
-    }
-  where
-    alike_for : (c : Colour) (q : Option Promotion)
-        → has_piece c King (promoted p.side q (at p.board m.from)) ≡ has_piece c King (at p.board m.from)
-    alike_for c None = refl
-    alike_for c (Some q) = promoted_is_no_king c p.side q ∙ sym (no_king_with c p.side Pawn (at p.board m.from) (λ e. cc) h.pawn)
-
-    last_for : (q : Option Promotion) → (m.to.rank == last_rank p.side) ≡ true
-        → (if m.to.rank == last_rank p.side then is_some q else is_none q) ≡ true → is_pawn (promoted p.side q (at p.board m.from)) ≡ false
-    last_for q last named = grind arith
+    search (rules, own, colour_of_piece, way_free, equal_tests, last_rank, last_of, way_goes, has_piece, promoted, promoted_is_no_king, no_king_with, is_some, is_none, is_pawn)
 
 target_line : (c : Colour) (o : Option Square) (t : Square) → target_fits c o ≡ true → is_target o t ≡ true → t.rank ≡ target_rank c
 target_line c o t fits hits = grind arith
@@ -143,23 +103,7 @@ inner_line c rank h = grind arith
 
 pub passing_lands : (p : Parts) (m : Move) → Sound p → OnBoard m.from → OnBoard m.to → Passing p m → Lands p m
 passing_lands p m sound on_from on_to h =
-    record {
-      on_from = on_from;
-      on_to = on_to;
-      own = colour_of_piece p.side Pawn (at p.board m.from) h.pawn;
-      free = λ c. empty_free c King (at p.board m.to) h.empty;
-      alike = λ c. ap (has_piece c King) (arrives_as p m plain);
-      no_pawn = λ edge. cc (edge, line.1);
-    }
-  where
-    line : ((m.to.rank == last_rank p.side) ≡ false) × (is_edge m.to.rank ≡ false)
-    line = inner_line p.side m.to.rank (target_line p.side p.target m.to sound.target h.target)
-
-    plain : is_none m.promotion ≡ true
-    plain = named (m.to.rank == last_rank p.side) line.0 h.fits
-      where
-        named : (x : Bool) → x ≡ false → (if x then is_some m.promotion else is_none m.promotion) ≡ true → is_none m.promotion ≡ true
-        named x e g = grind arith
+    grind (arith, common_steps, own, colour_of_piece, empty_free, has_piece, arrives_as, last_rank, is_edge, inner_line, target_line, is_none, is_some)
 
 nothing_plain : IsPlain None
 nothing_plain = record { no_king = λ c. refl; no_pawn = refl }
@@ -215,22 +159,13 @@ short_is_wing = grind arith
 pub long_is_wing : IsWing long_wing
 long_is_wing = grind arith
 
-pub castling_ends_empty : (p : Parts) (m : Move) (wing : Wing) → IsWing wing → Castles p m wing → is_empty p.board m.to ≡ true
-castling_ends_empty p m wing is_wing h =
-    subst (λ (s : Square). is_empty p.board s ≡ true) (sym h.to)
-    (between_empty p.board (home p 4) (home p wing.rook) (home p wing.end) h.clear (record { file = is_wing.end_below; rank = home_below p.side })
-    (is_wing.between_end p.side))
+module _ (p : Parts) (m : Move) (wing : Wing) where
+  pub castling_ends_empty : IsWing wing → Castles p m wing → is_empty p.board m.to ≡ true
+  castling_ends_empty is_wing h = grind (arith, common_steps, is_empty, between_empty, home, home_below)
 
-pub castling_lands : (p : Parts) (m : Move) (wing : Wing) → IsWing wing → OnBoard m.from → OnBoard m.to → Castles p m wing → Lands p m
-castling_lands p m wing is_wing on_from on_to h =
-    record {
-      on_from = on_from;
-      on_to = on_to;
-      own = colour_of_piece p.side King (at p.board m.from) h.king;
-      free = λ c. empty_free c King (at p.board m.to) (castling_ends_empty p m wing is_wing h);
-      alike = λ c. ap (has_piece c King) (arrives_as p m h.plain);
-      no_pawn = λ edge. ap is_pawn (arrives_as p m h.plain) ∙ king_is_no_pawn p.side (at p.board m.from) h.king;
-    }
+  pub castling_lands : IsWing wing → OnBoard m.from → OnBoard m.to → Castles p m wing → Lands p m
+  castling_lands is_wing on_from on_to h =
+      grind (arith, common_steps, own, colour_of_piece, empty_free, castling_ends_empty, has_piece, arrives_as, is_pawn, king_is_no_pawn)
 
 pub castling_stays : (p : Parts) (m : Move) (wing : Wing) → Sound p → IsWing wing → OnBoard m.from
     → OnBoard m.to → Castles p m wing → Stays p m (castled p m wing.rook wing.crossing)

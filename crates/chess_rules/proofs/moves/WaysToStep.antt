@@ -1,5 +1,5 @@
 -- The five ways to step: what the rules of each ask, and the board that each leaves.
-use Rattle.chess_rules.proofs.Words.{King, Rook, Pawn, Move, Parts, Board, at, is_empty, other, has_colour, has_piece, is_clear, attacks, own, home, is_piece_step, is_pawn_way, is_pawn_step, promotion_fits, is_en_passant, is_target, captured_pawn, castles, Wing, carried, en_passant_board, castled, ◌≡◌, Bool, true, false, not, ◌&&◌, ◌||◌, refl, arith, None, Some, is_none, if◌then◌else◌, nat_tests, board_after, castles_short, castles_long, is_some, Option}
+use Rattle.chess_rules.proofs.Words.{King, Rook, Pawn, Move, Parts, Board, at, is_empty, other, has_colour, has_piece, is_clear, attacks, own, home, is_piece_step, is_pawn_way, is_pawn_step, promotion_fits, is_en_passant, is_target, captured_pawn, castles, Wing, carried, en_passant_board, castled, ◌≡◌, Bool, true, false, ◌&&◌, ◌||◌, refl, arith, None, Some, is_none, if◌then◌else◌, nat_tests, board_after, castles_short, castles_long, is_some, Option, rules}
 
 -- a king, queen, rook, bishop or knight
 pub record PieceStep (p : Parts) (m : Move) : Type 0 where
@@ -10,13 +10,7 @@ pub record PieceStep (p : Parts) (m : Move) : Type 0 where
   pub free : has_colour p.side (at p.board m.to) ≡ false
 
 pub piece_step_means : (p : Parts) (m : Move) → is_piece_step p m ≡ true → PieceStep p m
-piece_step_means p m h =
-    let (mine, no_pawn, plain, hits, free) = parts _ _ _ _ _ h in
-    record { mine = mine; no_pawn = no_pawn; plain = plain; hits = hits; free = free }
-  where
-    parts : (a b c d e : Bool) → (((a && not b) && c) && (d && not e)) ≡ true
-        → (a ≡ true) × (b ≡ false) × (c ≡ true) × (d ≡ true) × (e ≡ false)
-    parts a b c d e h = grind arith
+piece_step_means p m h = search rules
 
 pub record PawnStep (p : Parts) (m : Move) : Type 0 where
   pub pawn : own p Pawn m.from ≡ true

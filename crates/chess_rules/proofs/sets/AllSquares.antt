@@ -1,7 +1,5 @@
 -- What a test of all 64 squares says of each square.
-use Rattle.chess_rules.proofs.Words.{Square, squares, square_at, cell_of, ◌≡◌, ℕ, suc, ◌<◌, Bool, true, not, ◌&&◌, ◌||◌, inl, inr, List, [], ◌∷◌, length, get_or, map, sym, refl, ◌∙◌, ap, arith, ◌==◌, list_all, range_with_len, list_any, or_cases, get_or-map-range_with_len}
-use Rattle.std.proofs.lemmas.List.Folds.{list_any_at}
-use Rattle.std.proofs.lemmas.List.Sums.{AllPass-from_list_all, list_all-from_AllPass}
+use Rattle.chess_rules.proofs.Words.{Square, squares, square_at, cell_of, ◌≡◌, ℕ, suc, ◌<◌, Bool, true, not, ◌&&◌, ◌||◌, inl, inr, List, [], ◌∷◌, length, get_or, map, sym, refl, ◌∙◌, ap, arith, ◌==◌, list_all, range_with_len, list_any, or_cases, get_or-map-range_with_len, common_steps, list_any_at, AllPass-from_list_all, list_all-from_AllPass}
 
 pub not_true : (x y : Bool) → x ≡ true → (not x || y) ≡ true → y ≡ true
 not_true x y h g = grind arith
@@ -51,10 +49,7 @@ each_square test u h file rank =
     ∙ AllPass-from_list_all test squares h (cell_of u) u (omega (arith, squares_long))
 
 pub all_squares : (test : Square → Bool) → ((u : Square) → u.file < 8 → u.rank < 8 → test u ≡ true) → list_all test squares ≡ true
-all_squares test h =
-    list_all-from_AllPass test squares (λ i d low.
-    let inside : i < 64 = omega (arith, low, squares_long) in
-    ap test (square_in_place i d inside) ∙ h (square_at i) (omega arith) (omega arith))
+all_squares test h = grind (arith, common_steps, list_all-from_AllPass, squares, squares_long, square_in_place, square_at)
 
 -- An element that passes.
 

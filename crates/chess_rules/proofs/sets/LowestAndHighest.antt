@@ -1,6 +1,5 @@
 -- The lowest and the highest place of a set that is not empty.
-use Rattle.chess_rules.proofs.Words.{has, IsHighest, IsLowest, ◌≡◌, ℕ, zero, suc, ◌+◌, ◌-◌, ◌*◌, ◌^◌, ◌<◌, ◌≤◌, pow-suc, w64, sym, ◌∙◌, ap, arith, ◌==◌, bit_at, leading_zeros, trailing_zeros, leading_length, bit_at_above, bit_at-trailing_zeros, HasNone, IsFrom, IsUpTo, true, not, ◌||◌, nat_lt, false≢true}
-use Rattle.std.proofs.lemmas.Bool.{lt-ltb}
+use Rattle.chess_rules.proofs.Words.{has, IsHighest, IsLowest, ◌≡◌, ℕ, zero, suc, ◌+◌, ◌-◌, ◌*◌, ◌^◌, ◌<◌, ◌≤◌, pow-suc, w64, sym, ◌∙◌, ap, arith, ◌==◌, bit_at, leading_zeros, trailing_zeros, leading_length, bit_at_above, bit_at-trailing_zeros, HasNone, IsFrom, IsUpTo, true, not, ◌||◌, nat_lt, false≢true, rules, lt-ltb}
 use Rattle.chess_rules.proofs.sets.WordsToCells.{has_below, has_zero}
 
 pub lowest_place : (n : ℕ) → 0 < n → n < 2 ^ 64 → IsLowest n (trailing_zeros w64 n)
@@ -46,12 +45,7 @@ at_or_before : (i n : ℕ) → (n < i → ⊥) → ((i == n) || nat_lt i n) ≡ 
 at_or_before i n h = grind arith
 
 pub up_to_lowest : (w n r : ℕ) → IsLowest w n → ((i : ℕ) → i < 64 → has r i ≡ ((i == n) || nat_lt i n)) → IsUpTo w r
-up_to_lowest w n r lowest is = record {
-  none = λ i low h j before.
-      let last : (n < i → ⊥) = not_after i n (sym (is i low) ∙ h) in
-      lowest.none j (grind (arith, last));
-  here = λ i low free. is i low ∙ at_or_before i n (λ less. false≢true (sym (free n less) ∙ lowest.here));
-}
+up_to_lowest w n r lowest is = search (rules, not_after, at_or_before, false≢true)
 
 not_before : (i n : ℕ) → not (nat_lt i n) ≡ true → (i < n → ⊥)
 not_before i n h less = grind arith
@@ -60,9 +54,4 @@ at_or_after : (i n : ℕ) → (i < n → ⊥) → not (nat_lt i n) ≡ true
 at_or_after i n h = grind arith
 
 pub highest_onward : (w n r : ℕ) → IsHighest w n → ((i : ℕ) → i < 64 → has r i ≡ not (nat_lt i n)) → IsFrom w r
-highest_onward w n r highest is = record {
-  none = λ i low h j after high.
-      let first : (i < n → ⊥) = not_before i n (sym (is i low) ∙ h) in
-      highest.none j (grind (arith, first)) high;
-  here = λ i low free. is i low ∙ at_or_after i n (λ less. false≢true (sym (free n less highest.inside) ∙ highest.here));
-}
+highest_onward w n r highest is = search (rules, not_before, at_or_after, false≢true)

@@ -1,14 +1,10 @@
 -- The words of a board, made of the lanes of its ranks.
-use Rattle.std.proofs.Common.{drop, replicate}
 use Rattle.std.proofs.Math.Pow.{pow_mono}
 use Rattle.std.proofs.Math.Seq.{drop-cons}
-use Rattle.std.proofs.lemmas.List.{drop-drop, length-drop, length-replicate, length-take-le, replicate-append-replicate, take-append-drop, take_at}
-use Rattle.chess_rules.proofs.Words.{AreWords, Black, Board, Piece, cells, cell_in, coded, diagonal_of, has, has_colour, is_near, straight_of, word, ◌≡◌, ℕ, suc, ◌+◌, ◌*◌, ◌/◌, ◌%◌, ◌^◌, ◌<◌, ◌≤◌, Bool, List, [], ◌∷◌, ◌++◌, get_or, take, length, pow-suc, refl, sym, ◌∙◌, ap, ap₂, append_assoc, arith, length-append, subst, Option, None, if◌then◌else◌, at, lines, square, true, false, Some, map, is_some, ◌==◌, bit_at_lowest, bit_at-suc, nat_tests, get_or-map-range_with_len}
-use Rattle.chess_rules.specs.Words.{lanes_of, words}
+use Rattle.chess_rules.proofs.Words.{AreWords, Black, Board, Piece, cells, cell_in, coded, diagonal_of, has, has_colour, is_near, straight_of, word, ◌≡◌, ℕ, suc, ◌+◌, ◌*◌, ◌/◌, ◌%◌, ◌^◌, ◌<◌, ◌≤◌, Bool, List, [], ◌∷◌, ◌++◌, get_or, take, length, pow-suc, refl, sym, ◌∙◌, ap, ap₂, append_assoc, arith, length-append, subst, Option, None, if◌then◌else◌, at, lines, square, true, false, Some, map, is_some, ◌==◌, bit_at_lowest, bit_at-suc, nat_tests, get_or-map-range_with_len, drop, replicate, drop-drop, length-drop, length-replicate, length-take-le, replicate-append-replicate, take-append-drop, take_at, lanes_of, words, bytes_of_bits, bytes_of_runs, number_of_piece, numbers, word_of_bytes}
 unfoldable use Rattle.chess_rules.specs.Words.{lanes}
 use Rattle.chess_rules.proofs.sets.WordsToCells.{has_word, long_there, same_cells, word_fits}
 use Rattle.chess_rules.specs.declared.board.Board.TheInside.{Inside}
-use Rattle.chess_rules.specs.RankNumbers.{bytes_of_bits, bytes_of_runs, number_of_piece, numbers, word_of_bytes}
 
 -- The lanes of a rank.
 
@@ -154,12 +150,12 @@ next_bit : (bits i : ℕ) → has (bits / 2) i ≡ has bits (suc i)
 unfolding has
 next_bit bits i = ap (λ n. n == 1) (sym (bit_at-suc bits i))
 
-first : (test : Option Piece → Bool) (bits : ℕ) (x : Option Piece) (xs : Board) → Marks test bits (x ∷ xs)
-    → bits % 2 ≡ (if test x then 1 else 0)
-first test bits x xs m = first_bit bits (test x) (m.of 0 (omega arith))
+module _ (test : Option Piece → Bool) (bits : ℕ) (x : Option Piece) (xs : Board) where
+  first : Marks test bits (x ∷ xs) → bits % 2 ≡ (if test x then 1 else 0)
+  first m = first_bit bits (test x) (m.of 0 (omega arith))
 
-rest : (test : Option Piece → Bool) (bits : ℕ) (x : Option Piece) (xs : Board) → Marks test bits (x ∷ xs) → Marks test (bits / 2) xs
-rest test bits x xs m = record { of = λ i low. next_bit bits i ∙ m.of (suc i) (omega arith) }
+  rest : Marks test bits (x ∷ xs) → Marks test (bits / 2) xs
+  rest m = record { of = λ i low. next_bit bits i ∙ m.of (suc i) (omega arith) }
 
 -- the bits of a piece, weighed
 weights : (x : Piece) → (if straight_of (Some x) then 1 else 0) + 2 * (if diagonal_of (Some x) then 1 else 0)

@@ -1,13 +1,11 @@
 -- Sets of squares: what is in a meet or a union, whether a set is empty, and its members in turn.
-use Rattle.chess_rules.proofs.Words.{Square, squares, cell_of, lone, square_at, Bits, has, has_any, HasNone, IsFirst, IsLowest, members, Places, Sets, TakesLowest, ◌≡◌, ℕ, zero, suc, ◌+◌, ◌<◌, ◌≤◌, ◌^◌, Bool, true, false, not, ◌&&◌, ◌||◌, inl, inr, List, [], ◌∷◌, length, map, cond, refl, sym, ◌∙◌, ap, ap₂, subst, w64, arith, ◌==◌, None, Some, filter, if◌then◌else◌, list_any, range_with_len, trailing_zeros, false≢true, word, ◌*◌, same_from_bits_below, get_or-range_with_len, length-range_with_len, false_from_ne_true, not-true}
+use Rattle.chess_rules.proofs.Words.{Square, squares, cell_of, lone, square_at, Bits, has, has_any, HasNone, IsFirst, IsLowest, members, Places, Sets, TakesLowest, ◌≡◌, ℕ, zero, suc, ◌+◌, ◌<◌, ◌≤◌, ◌^◌, Bool, true, false, not, ◌&&◌, ◌||◌, inl, inr, List, [], ◌∷◌, length, map, cond, refl, sym, ◌∙◌, ap, ap₂, subst, w64, arith, ◌==◌, None, Some, filter, if◌then◌else◌, list_any, range_with_len, trailing_zeros, false≢true, word, ◌*◌, same_from_bits_below, get_or-range_with_len, length-range_with_len, false_from_ne_true, not-true, common_steps, ones_cat, add_comm}
 use mathlib.Core.Bool.{and-true}
 use Rattle.chess_rules.proofs.sets.WordsToCells.{has_zero, same_or_apart, has_word, word_fits, same_bit}
 use Rattle.chess_rules.proofs.sets.LowestAndHighest.{lowest_place}
 use Rattle.chess_rules.proofs.sets.AllSquares.{Passes, some_square, any_square, by_places, cell_of-square_at, square_at-cell_of, any_same}
 use Rattle.chess_rules.proofs.trying.FoundLists.{list_any-filter}
 use Rattle.std.specs.Int.Count.{ones}
-use Rattle.std.proofs.lemmas.Nat.{ones_cat}
-use Rattle.std.proofs.Common.{add_comm}
 
 pub places_and : (v w r : ℕ) (p q : Square → Bool) → Bits r (λ i. has v i && has w i)
     → Places v p → Places w q → Places r (λ s. p s && q s)
@@ -23,21 +21,21 @@ places_not w r p rest h = record { of = λ i low. rest.of i low ∙ ap not (h.of
 pub places_same : (w : ℕ) (p q : Square → Bool) → Places w p → ((s : Square) → p s ≡ q s) → Places w q
 places_same w p q h same = record { of = λ i low. h.of i low ∙ same (square_at i) }
 
-pub at_square : (w : ℕ) (test : Square → Bool) (s : Square) → Places w test → s.file < 8 → s.rank < 8 → has w (cell_of s) ≡ test s
-at_square w test s h file rank = grind arith
+module _ (w : ℕ) (test : Square → Bool) where
+  pub at_square : (s : Square) → Places w test → s.file < 8 → s.rank < 8 → has w (cell_of s) ≡ test s
+  at_square s h file rank = grind arith
 
-pub at_place : (w : ℕ) (test : Square → Bool) (s : Square) → Places w test
-    → cell_of s < 64 → square_at (cell_of s) ≡ s → has w (cell_of s) ≡ test s
-at_place w test s h inside again = h.of (cell_of s) inside ∙ ap test again
+  pub at_place : (s : Square) → Places w test → cell_of s < 64 → square_at (cell_of s) ≡ s → has w (cell_of s) ≡ test s
+  at_place s h inside again = h.of (cell_of s) inside ∙ ap test again
 
--- A set is empty exactly if no square passes.
+  -- A set is empty exactly if no square passes.
 
-pub none_passes : (w : ℕ) (test : Square → Bool) → Places w test → w ≡ 0 → list_any test squares ≡ false
-none_passes w test h none =
-    false_from_ne_true (list_any test squares) (λ e.
-    let found : Passes test = some_square test e in
-    false≢true (sym (has_zero (cell_of found.on)) ∙ (ap (λ n. has n (cell_of found.on)) (sym none)
-    ∙ (at_square w test found.on h found.file found.rank ∙ found.holds))))
+  pub none_passes : Places w test → w ≡ 0 → list_any test squares ≡ false
+  none_passes h none =
+      false_from_ne_true (list_any test squares) (λ e.
+      let found : Passes test = some_square test e in
+      false≢true (sym (has_zero (cell_of found.on)) ∙ (ap (λ n. has n (cell_of found.on)) (sym none)
+      ∙ (at_square found.on h found.file found.rank ∙ found.holds))))
 
 pub one_passes : (w : ℕ) (test : Square → Bool) → Places w test → 0 < w → w < 2 ^ 64 → list_any test squares ≡ true
 one_passes w test h some fits =
@@ -56,10 +54,7 @@ itself w = record { of = λ i low. ap (has w) (sym (cell_of-square_at i)) }
 
 pub empty_test : (w : ℕ) → w < 2 ^ 64 → (w == 0) ≡ not (has_any w)
 unfolding has_any
-empty_test w fits = not_again (w == 0) _ (set_test w (λ s. has w (cell_of s)) (itself w) fits)
-  where
-    not_again : (x y : Bool) → not x ≡ y → x ≡ not y
-    not_again x y h = grind arith
+empty_test w fits = grind (arith, common_steps, set_test, has, cell_of, itself)
 
 -- The members in turn.
 
@@ -93,10 +88,7 @@ any_of_set w test h = as_found (λ s. has w (cell_of s)) ∙ (any_member w (λ s
 -- a set of which none is said to be empty
 pub full_when : (w : ℕ) (test : Square → Bool) (empty : Bool) → Places w test
     → empty ≡ not (has_any w) → not empty ≡ list_any test squares
-full_when w test empty h e = ap not e ∙ (twice (has_any w) ∙ any_of_set w test h)
-  where
-    twice : (x : Bool) → not (not x) ≡ x
-    twice x = grind arith
+full_when w test empty h e = grind (arith, common_steps, has_any, any_of_set)
 
 -- nothing is in a set that is empty
 pub none_of_set : (w : ℕ) → not (has_any w) ≡ true → (i : ℕ) → i < 64 → has w i ≡ false
@@ -184,13 +176,7 @@ unfolding members has_any
 lone_first w rest s first sets = ap lone (takes_lowest w rest s first sets).next ∙ lone_after (λ t. has rest (cell_of t)) squares s
 
 pub first_place : (w : ℕ) (s : Square) → 0 < w → w < 2 ^ 64 → s ≡ square_at (trailing_zeros w64 w) → IsFirst w s
-first_place w s some fits is =
-    let lowest : IsLowest w (trailing_zeros w64 w) = lowest_place w some fits in
-    record {
-      file = subst (λ (t : Square). t.file < 8) (sym is) (omega arith);
-      rank = subst (λ (t : Square). t.rank < 8) (sym is) (omega (arith, lowest.inside));
-      place = subst (IsLowest w) (sym (ap cell_of is ∙ cell_of-square_at (trailing_zeros w64 w))) lowest;
-    }
+first_place w s some fits is = grind (arith, common_steps, trailing_zeros, w64, lowest_place, cell_of, cell_of-square_at)
 
 -- At most one square passes, if any two that pass are one.
 

@@ -1,6 +1,5 @@
 -- Words as sets of places, and what the four words of a board say of its cells.
-use Rattle.std.specs.Int.Bits.{bit_and, bit_or}
-use Rattle.chess_rules.proofs.Words.{Colour, White, Black, Kind, King, Queen, Rook, Bishop, Knight, Pawn, Piece, AreWords, cell_in, cells, has, Places, Sets, coded, straight_of, diagonal_of, word, has_kind, is_near, square_at, at, has_colour, has_piece, ◌≡◌, ℕ, zero, suc, ◌+◌, ◌-◌, ◌*◌, ◌^◌, ◌<◌, ◌≢◌, min, max, Bool, true, false, not, ◌&&◌, ◌||◌, ◌⊎◌, List, [], ◌∷◌, get_or, set, length, length-set, pow-suc, refl, subst, sym, ◌∙◌, ap, ap₂, w64, arith, Option, None, ◌==◌, is_some, nat_lt, if◌then◌else◌, bit_at, bit_not, get_or-set_at, get_or-map-range_with_len, length-map-range_with_len, ext_get_or, get_or-set_other, and_le_r, or_lt, bit_at_and, bit_at_or, bit_at_not, bit_at_lowest, bit_at-suc, bit_at-lt, same_from_bits_below, bit_at-pow_same, bit_at-pow_other, bit_at_ones, bit_at_ones_above}
+use Rattle.chess_rules.proofs.Words.{Colour, White, Black, Kind, King, Queen, Rook, Bishop, Knight, Pawn, Piece, AreWords, cell_in, cells, has, Places, Sets, coded, straight_of, diagonal_of, word, has_kind, is_near, square_at, at, has_colour, has_piece, ◌≡◌, ℕ, zero, suc, ◌+◌, ◌-◌, ◌*◌, ◌^◌, ◌<◌, ◌≢◌, min, max, Bool, true, false, not, ◌&&◌, ◌||◌, ◌⊎◌, List, [], ◌∷◌, get_or, set, length, length-set, pow-suc, refl, subst, sym, ◌∙◌, ap, ap₂, w64, arith, Option, None, ◌==◌, is_some, nat_lt, if◌then◌else◌, bit_at, bit_not, get_or-set_at, get_or-map-range_with_len, length-map-range_with_len, ext_get_or, get_or-set_other, and_le_r, or_lt, bit_at_and, bit_at_or, bit_at_not, bit_at_lowest, bit_at-suc, bit_at-lt, same_from_bits_below, bit_at-pow_same, bit_at-pow_other, bit_at_ones, bit_at_ones_above, common_steps, bit_and, bit_or}
 use Rattle.chess_rules.proofs.sets.AllSquares.{cell_of-square_at}
 use Rattle.chess_rules.specs.declared.board.Board.TheInside.{Inside}
 
@@ -99,10 +98,7 @@ piece_is c k cell = grind arith
 pub has_word : {X : Type 0} (test : X → Bool) (xs : List X) (i : ℕ) (d : X) → i < length xs → has (word test xs) i ≡ test (get_or xs i d)
 unfolding has word
 has_word test [] i d low = absurd (omega arith)
-has_word test (x ∷ xs) zero d low = first (test x) (word test xs)
-  where
-    first : (b : Bool) (n : ℕ) → (bit_at ((if b then 1 else 0) + 2 * n) 0 == 1) ≡ b
-    first b n = grind (arith, bit_at_lowest)
+has_word test (x ∷ xs) zero d low = grind (arith, common_steps, word, bit_at, bit_at_lowest)
 has_word test (x ∷ xs) (suc i) d low = next (test x) (word test xs) ∙ has_word test xs i d (omega arith)
   where
     next : (b : Bool) (n : ℕ) → (bit_at ((if b then 1 else 0) + 2 * n) (suc i) == 1) ≡ (bit_at n i == 1)
@@ -138,13 +134,7 @@ word_at : (w : Inside) (test : Option Piece → Bool) (i : ℕ) → i < 64 → h
 word_at w test i low = has_word test (cells w) i None (omega (arith, cells_long w)) ∙ ap test (cell_at w i low)
 
 cell_bits : (w : Inside) (i : ℕ) → i < 64 → AreWords w → BitsOf w i (cell_in w i)
-cell_bits w i low h =
-    record {
-      straight = ap (λ (v : Inside). has v.straight i) (sym h) ∙ word_at w straight_of i low;
-      diagonal = ap (λ (v : Inside). has v.diagonal i) (sym h) ∙ word_at w diagonal_of i low;
-      near = ap (λ (v : Inside). has v.near i) (sym h) ∙ word_at w is_near i low;
-      black = ap (λ (v : Inside). has v.black i) (sym h) ∙ word_at w (has_colour Black) i low;
-    }
+cell_bits w i low h = grind (arith, common_steps, has, word_at, straight_of, diagonal_of, is_near, has_colour)
 
 word_again : (test : Option Piece → Bool) (w : Inside) (n : ℕ) → n < 2 ^ 64
     → ((i : ℕ) → i < 64 → has n i ≡ test (cell_in w i)) → word test (cells w) ≡ n
@@ -153,50 +143,46 @@ word_again test w n fits same =
     (omega (arith, word_fits test (cells w), ap (λ k. 2 ^ k) (cells_long w))) fits
     (λ i low. same_bit (word test (cells w)) n i (word_at w test i low ∙ sym (same i low)))
 
-words_again : (w : Inside) → w.straight < 2 ^ 64 → w.diagonal < 2 ^ 64 → w.near < 2 ^ 64
-    → w.black < 2 ^ 64 → ((i : ℕ) → i < 64 → BitsOf w i (cell_in w i)) → AreWords w
-words_again w s d n b h =
-    ap₂ (λ x y. record { straight = x; diagonal = y; near = word is_near (cells w); black = word (has_colour Black) (cells w) })
-    (word_again straight_of w w.straight s (λ i low. (h i low).straight))
-    (word_again diagonal_of w w.diagonal d (λ i low. (h i low).diagonal))
-    ∙ ap₂ (λ x y. record { straight = w.straight; diagonal = w.diagonal; near = x; black = y })
-    (word_again is_near w w.near n (λ i low. (h i low).near))
-    (word_again (has_colour Black) w w.black b (λ i low. (h i low).black))
+module _ (w : Inside) where
+  words_again : w.straight < 2 ^ 64 → w.diagonal < 2 ^ 64 → w.near < 2 ^ 64 → w.black < 2 ^ 64 → ((i : ℕ) → i < 64 → BitsOf w i (cell_in w i)) → AreWords w
+  words_again s d n b h =
+      ap₂ (λ x y. record { straight = x; diagonal = y; near = word is_near (cells w); black = word (has_colour Black) (cells w) })
+      (word_again straight_of w w.straight s (λ i low. (h i low).straight))
+      (word_again diagonal_of w w.diagonal d (λ i low. (h i low).diagonal))
+      ∙ ap₂ (λ x y. record { straight = w.straight; diagonal = w.diagonal; near = x; black = y })
+      (word_again is_near w w.near n (λ i low. (h i low).near))
+      (word_again (has_colour Black) w w.black b (λ i low. (h i low).black))
 
-pub cell_there : (w : Inside) (b : List (Option Piece)) (i : ℕ) → cells w ≡ b → i < 64 → cell_in w i ≡ get_or b i None
-cell_there w b i is low = sym (cell_at w i low) ∙ ap (λ (c : List (Option Piece)). get_or c i None) is
+  pub cell_there : (b : List (Option Piece)) (i : ℕ) → cells w ≡ b → i < 64 → cell_in w i ≡ get_or b i None
+  cell_there b i is low = sym (cell_at w i low) ∙ ap (λ (c : List (Option Piece)). get_or c i None) is
 
-pub bits_there : (w : Inside) (b : List (Option Piece)) (i : ℕ) → cells w ≡ b → i < 64 → AreWords w → BitsOf w i (get_or b i None)
-bits_there w b i is low h = subst (BitsOf w i) (cell_there w b i is low) (cell_bits w i low h)
+  pub bits_there : (b : List (Option Piece)) (i : ℕ) → cells w ≡ b → i < 64 → AreWords w → BitsOf w i (get_or b i None)
+  bits_there b i is low h = subst (BitsOf w i) (cell_there b i is low) (cell_bits w i low h)
 
-pub square_there : (w : Inside) (b : List (Option Piece)) (i : ℕ) → cells w ≡ b → i < 64 → cell_in w i ≡ at b (square_at i)
-square_there w b i is low = cell_there w b i is low ∙ ap (λ k. get_or b k None) (sym (cell_of-square_at i))
+  pub square_there : (b : List (Option Piece)) (i : ℕ) → cells w ≡ b → i < 64 → cell_in w i ≡ at b (square_at i)
+  square_there b i is low = cell_there b i is low ∙ ap (λ k. get_or b k None) (sym (cell_of-square_at i))
 
-pub marks : (w : Inside) (b : List (Option Piece)) (word : ℕ) (test : Option Piece → Bool) → cells w ≡ b
-    → ((i : ℕ) → i < 64 → has word i ≡ test (cell_in w i)) → Places word (λ s. test (at b s))
-marks w b word test is h = record { of = λ i low. h i low ∙ ap test (square_there w b i is low) }
+  pub marks : (b : List (Option Piece)) (word : ℕ) (test : Option Piece → Bool) → cells w ≡ b → ((i : ℕ) → i < 64 → has word i ≡ test (cell_in w i)) → Places word (λ s. test (at b s))
+  marks b word test is h = record { of = λ i low. h i low ∙ ap test (square_there b i is low) }
 
-pub black_places : (w : Inside) (b : List (Option Piece)) → cells w ≡ b → AreWords w → Places w.black (λ s. has_colour Black (at b s))
-black_places w b is h = marks w b w.black (has_colour Black) is (λ i low. (cell_bits w i low h).black)
+  pub black_places : (b : List (Option Piece)) → cells w ≡ b → AreWords w → Places w.black (λ s. has_colour Black (at b s))
+  black_places b is h = marks b w.black (has_colour Black) is (λ i low. (cell_bits w i low h).black)
 
-pub kind_places : (w : Inside) (b : List (Option Piece)) (k : Kind) (set : ℕ) → cells w ≡ b → AreWords w
-    → ((i : ℕ) → i < 64 → has set i ≡ kind_in k (has w.straight i) (has w.diagonal i) (has w.near i))
-    → Places set (λ s. has_kind k (at b s))
-kind_places w b k set is h e = marks w b set (has_kind k) is (λ i low. e i low ∙ by_bits i (cell_bits w i low h))
-  where
-    by_bits : (i : ℕ) → BitsOf w i (cell_in w i) → kind_in k (has w.straight i) (has w.diagonal i) (has w.near i) ≡ has_kind k (cell_in w i)
-    by_bits i bits = ap₂ (λ x y. kind_in k x y (has w.near i)) bits.straight bits.diagonal
-        ∙ (ap (kind_in k _ _) bits.near ∙ kind_there k (cell_in w i))
+  pub kind_places : (b : List (Option Piece)) (k : Kind) (set : ℕ) → cells w ≡ b → AreWords w → ((i : ℕ) → i < 64 → has set i ≡ kind_in k (has w.straight i) (has w.diagonal i) (has w.near i)) → Places set (λ s. has_kind k (at b s))
+  kind_places b k set is h e = marks b set (has_kind k) is (λ i low. e i low ∙ by_bits i (cell_bits w i low h))
+    where
+      by_bits : (i : ℕ) → BitsOf w i (cell_in w i) → kind_in k (has w.straight i) (has w.diagonal i) (has w.near i) ≡ has_kind k (cell_in w i)
+      by_bits i bits = ap₂ (λ x y. kind_in k x y (has w.near i)) bits.straight bits.diagonal
+          ∙ (ap (kind_in k _ _) bits.near ∙ kind_there k (cell_in w i))
 
--- two boards with the same squares
-pub same_cells : (w : Inside) (b : List (Option Piece)) → length b ≡ 64
-    → ((i : ℕ) → i < 64 → cell_in w i ≡ get_or b i None) → cells w ≡ b
-same_cells w b long h =
-    ext_get_or None (cells w) b (cells_long w ∙ sym long)
-    (λ i low. let below : i < 64 = omega (arith, cells_long w) in cell_at w i below ∙ h i below)
+  -- two boards with the same squares
+  pub same_cells : (b : List (Option Piece)) → length b ≡ 64 → ((i : ℕ) → i < 64 → cell_in w i ≡ get_or b i None) → cells w ≡ b
+  same_cells b long h =
+      ext_get_or None (cells w) b (cells_long w ∙ sym long)
+      (λ i low. let below : i < 64 = omega (arith, cells_long w) in cell_at w i below ∙ h i below)
 
-pub long_there : (w : Inside) (b : List (Option Piece)) → cells w ≡ b → length b ≡ 64
-long_there w b is = ap (λ (c : List (Option Piece)). length c) (sym is) ∙ cells_long w
+  pub long_there : (b : List (Option Piece)) → cells w ≡ b → length b ≡ 64
+  long_there b is = ap (λ (c : List (Option Piece)). length c) (sym is) ∙ cells_long w
 
 -- a square is set, in each word
 module _ (old new : Inside) (k : ℕ) (x : Option Piece) (one two four black : Bool)

@@ -1,5 +1,5 @@
 -- The origin of each step is a candidate, and so is that of each legal move.
-use Rattle.chess_rules.proofs.Words.{Colour, Kind, Pawn, Move, Parts, Square, square, gap, inside, same_square, strictly_between, between_on_rank, Board, at, is_empty, is_clear, is_ahead, kind_attacks, attacks, own, home, home_rank, pawn_rank, double_rank, is_advance, is_double_step, is_pawn_step, crossed, short_right, long_right, short_wing, long_wing, Wing, sees, is_aligned, step, if_safe, is_on_board, board_after, after, CandidatesComplete, StepsFromCandidates, ◌≡◌, ℕ, ◌+◌, ◌/◌, ◌<◌, Bool, true, false, Option, None, Some, option_map, if◌then◌else◌, not, ◌&&◌, ◌||◌, refl, sym, ap₂, subst, arith, ◌==◌, nat_tests, or_cases, or_left, or_right, and_from, King, Knight, Piece, Promotion, squares, is_jump, same_kind, has_colour, has_piece, is_position, is_legal, every_promotion, has_legal_move, king_square, one_move, is_legal_pair, is_king_step, is_untried, has_untried_move, has_king_step, inl, inr, List, [], ◌∷◌, ◌∙◌, filter, list_any, false_from_ne_true}
+use Rattle.chess_rules.proofs.Words.{Colour, Kind, Pawn, Move, Parts, Square, square, gap, inside, same_square, strictly_between, between_on_rank, Board, at, is_empty, is_clear, is_ahead, kind_attacks, attacks, own, home, home_rank, pawn_rank, double_rank, is_advance, is_double_step, is_pawn_step, crossed, short_right, long_right, short_wing, long_wing, Wing, sees, is_aligned, step, if_safe, is_on_board, board_after, after, CandidatesComplete, StepsFromCandidates, ◌≡◌, ℕ, ◌+◌, ◌/◌, ◌<◌, Bool, true, false, Option, None, Some, option_map, if◌then◌else◌, not, ◌&&◌, ◌||◌, refl, sym, ap₂, subst, arith, ◌==◌, nat_tests, or_cases, or_left, or_right, and_from, King, Knight, Piece, Promotion, squares, is_jump, same_kind, has_colour, has_piece, is_position, is_legal, every_promotion, has_legal_move, king_square, one_move, is_legal_pair, is_king_step, is_untried, has_untried_move, has_king_step, inl, inr, List, [], ◌∷◌, ◌∙◌, filter, list_any, false_from_ne_true, rules, common_steps}
 use Rattle.chess_rules.proofs.moves.WaysToStep.{Castles, piece_step_means, passing_means, castles_means, way_of, by_piece, by_pawn, by_passing, by_short, by_long}
 use Rattle.chess_rules.proofs.sets.AllSquares.{first_true, second_true, each_square, equal_from, equal_tests, not_true, same_tests, Passes, some_square, any_square}
 use Rattle.chess_rules.proofs.lines.AttackToReach.{near, ahead_gap, attack_seen, clear_if}
@@ -20,11 +20,7 @@ apart_by_rank : (s t : Square) → 0 < gap s.rank t.rank → not (same_square s 
 apart_by_rank s t h = grind arith
 
 advance_seen : (p : Parts) (m : Move) → is_advance p m ≡ true → sees Pawn p m.from m.to ≡ true
-advance_seen p m h =
-    let way : ((m.from.file == m.to.file) && is_ahead p.side m.from.rank m.to.rank) ≡ true = first_true _ (is_empty p.board m.to) h in
-    let file : m.from.file ≡ m.to.file = equal_from m.from.file m.to.file (first_true (m.from.file == m.to.file) _ way) in
-    let rank : gap m.from.rank m.to.rank ≡ 1 = ahead_gap p.side m.from.rank m.to.rank (second_true (m.from.file == m.to.file) _ way) in
-    near p.board m.from m.to (omega arith) (omega arith) (apart_by_rank m.from m.to (omega arith))
+advance_seen p m h = grind (arith, common_steps, is_ahead, first_true, is_empty, equal_from, gap, ahead_gap, second_true, near, apart_by_rank)
 
 -- what lies between two squares of one file, or of one rank
 
@@ -41,23 +37,7 @@ middle c a b x low high h = grind arith
 -- a pawn's double step is seen: the one square between is empty
 double_seen : (p : Parts) (m : Move) → is_double_step p m ≡ true → sees Pawn p m.from m.to ≡ true
 double_seen p m h =
-    let way : ((m.from.file == m.to.file) && ((m.from.rank == pawn_rank p.side) && (m.to.rank == double_rank p.side))) ≡ true =
-    first_true _ (is_empty p.board (crossed m) && is_empty p.board m.to) h in
-    let free : is_empty p.board (crossed m) ≡ true =
-    first_true (is_empty p.board (crossed m)) (is_empty p.board m.to)
-    (second_true ((m.from.file == m.to.file) && ((m.from.rank == pawn_rank p.side) && (m.to.rank == double_rank p.side))) _ h) in
-    let file : m.from.file ≡ m.to.file = equal_from m.from.file m.to.file (first_true (m.from.file == m.to.file) _ way) in
-    let ranks : (m.from.rank ≡ pawn_rank p.side) × (m.to.rank ≡ double_rank p.side) = double_ranks p m h in
-    let apart : 0 < gap m.from.rank m.to.rank = some_ranks p.side m.from.rank m.to.rank ranks.0 ranks.1 in
-    and_from _ _
-    (or_left _ _ (and_from _ _ (or_right _ _ (equal_tests m.from.file m.to.file file)) (apart_by_rank m.from m.to apart)))
-    (clear_if p.board m.from m.to (λ u _ _ between.
-    let place : (u.file ≡ m.from.file) × (inside m.from.rank u.rank m.to.rank ≡ true) = file_means m.from u m.to file between in
-    subst (λ (v : Square). is_empty p.board v ≡ true)
-    (sym (ap₂ square place.0 (middle p.side m.from.rank m.to.rank u.rank ranks.0 ranks.1 place.1))) free))
-  where
-    some_ranks : (c : Colour) (a b : ℕ) → a ≡ pawn_rank c → b ≡ double_rank c → 0 < gap a b
-    some_ranks c a b low high = grind arith
+    search (rules, pawn_rank, double_rank, first_true, is_empty, crossed, second_true, equal_from, double_ranks, gap, and_from, or_left, or_right, equal_tests, apart_by_rank, clear_if, inside, file_means, square, middle)
 
 -- Castling: the king sees its end over the square that it crosses.
 
@@ -89,39 +69,35 @@ long_way b c h = grind (arith, clear_part, long_part)
 
 -- Each way to step.
 
-sees_pawn : (p : Parts) (k : Kind) (s t : Square) → own p k s ≡ true
-    → own p Pawn s ≡ true → sees Pawn p s t ≡ true → sees k p s t ≡ true
-sees_pawn p k s t h g seen = grind arith
+module _ (p : Parts) where
+  sees_pawn : (k : Kind) (s t : Square) → own p k s ≡ true → own p Pawn s ≡ true → sees Pawn p s t ≡ true → sees k p s t ≡ true
+  sees_pawn k s t h g seen = grind arith
 
-by_attack : (p : Parts) (m : Move) (k : Kind) → own p k m.from ≡ true → attacks p.board m.from m.to ≡ true → sees k p m.from m.to ≡ true
-by_attack p m k h g = seen_by k p.side p m.from m.to (attacks_as p.side k (at p.board m.from) p.board m.from m.to h g)
+  by_attack : (m : Move) (k : Kind) → own p k m.from ≡ true → attacks p.board m.from m.to ≡ true → sees k p m.from m.to ≡ true
+  by_attack m k h g = seen_by k p.side p m.from m.to (attacks_as p.side k (at p.board m.from) p.board m.from m.to h g)
 
-seen_by_pawn : (p : Parts) (m : Move) (k : Kind) → own p k m.from ≡ true → is_pawn_step p m ≡ true → sees k p m.from m.to ≡ true
-seen_by_pawn p m k h g = grind (arith, or_cases, sees_pawn, advance_seen, double_seen, by_attack, first_true, second_true)
+  seen_by_pawn : (m : Move) (k : Kind) → own p k m.from ≡ true → is_pawn_step p m ≡ true → sees k p m.from m.to ≡ true
+  seen_by_pawn m k h g = grind (arith, or_cases, sees_pawn, advance_seen, double_seen, by_attack, first_true, second_true)
 
-by_castling : (p : Parts) (m : Move) (k : Kind) (wing : Wing) → (is_clear p.board (home p 4) (home p wing.rook) ≡ true
-    → (is_aligned (home p 4) (home p wing.end) && is_clear p.board (home p 4) (home p wing.end)) ≡ true)
-    → own p k m.from ≡ true → Castles p m wing → sees k p m.from m.to ≡ true
-by_castling p m k wing way h g = grind arith
+  by_castling : (m : Move) (k : Kind) (wing : Wing) → (is_clear p.board (home p 4) (home p wing.rook) ≡ true → (is_aligned (home p 4) (home p wing.end) && is_clear p.board (home p 4) (home p wing.end)) ≡ true) → own p k m.from ≡ true → Castles p m wing → sees k p m.from m.to ≡ true
+  by_castling m k wing way h g = grind arith
 
-pub step_seen : (p : Parts) (m : Move) (k : Kind) (b : Board) → own p k m.from ≡ true
-    → board_after p m ≡ Some b → sees k p m.from m.to ≡ true
-step_seen p m k b h stepped =
-    elim (way_of p m b stepped) [
-      | by_piece w _ ↦ by_attack p m k h (piece_step_means p m w).hits
-      | by_pawn w _ ↦ seen_by_pawn p m k h w
-      | by_passing w _ ↦ by_attack p m k h (passing_means p m w).hits
-      | by_short w _ ↦
-          by_castling p m k short_wing (short_way p.board p.side) h (castles_means p m (short_right p.side p.rights) short_wing w)
-      | by_long w _ ↦ by_castling p m k long_wing (long_way p.board p.side) h (castles_means p m (long_right p.side p.rights) long_wing w)
-    ]
+  pub step_seen : (m : Move) (k : Kind) (b : Board) → own p k m.from ≡ true → board_after p m ≡ Some b → sees k p m.from m.to ≡ true
+  step_seen m k b h stepped =
+      elim (way_of p m b stepped) [
+        | by_piece w _ ↦ by_attack m k h (piece_step_means p m w).hits
+        | by_pawn w _ ↦ seen_by_pawn m k h w
+        | by_passing w _ ↦ by_attack m k h (passing_means p m w).hits
+        | by_short w _ ↦
+            by_castling m k short_wing (short_way p.board p.side) h (castles_means p m (short_right p.side p.rights) short_wing w)
+        | by_long w _ ↦ by_castling m k long_wing (long_way p.board p.side) h (castles_means p m (long_right p.side p.rights) long_wing w)
+      ]
 
--- what the parts after a step say of it
-board_of : (p : Parts) (m : Move) (q : Parts) (on : Bool) (o : Option Board)
-    → (if on then option_map (after p m) o else None) ≡ Some q → (b : Board) × (o ≡ Some b)
-board_of p m q true None h = cc
-board_of p m q true (Some b) h = (b, refl)
-board_of p m q false o h = cc
+  -- what the parts after a step say of it
+  board_of : (m : Move) (q : Parts) (on : Bool) (o : Option Board) → (if on then option_map (after p m) o else None) ≡ Some q → (b : Board) × (o ≡ Some b)
+  board_of m q true None h = cc
+  board_of m q true (Some b) h = (b, refl)
+  board_of m q false o h = cc
 
 -- a legal move is a step
 step_of : (o : Option Parts) (q : Parts) → if_safe o ≡ Some q → o ≡ Some q

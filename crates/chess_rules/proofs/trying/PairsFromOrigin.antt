@@ -1,5 +1,5 @@
 -- The pairs that are tried, origin by origin, are those that are tried target by target.
-use Rattle.chess_rules.proofs.Words.{King, Knight, Parts, Square, squares, is_jump, at, cell_of, has_colour, own, is_clear, is_aligned, square_at, has, members, Places, Bits, TakesLowest, is_king_step, is_untried, count_untried, ◌≡◌, ℕ, ◌+◌, ◌<◌, Bool, true, false, not, cond, ◌&&◌, ◌||◌, List, [], ◌∷◌, length, refl, sym, ◌∙◌, ap, ap₂, arith, filter, sum_by, sum_by-cons, if◌then◌else◌, ◌==◌}
+use Rattle.chess_rules.proofs.Words.{King, Knight, Parts, Square, squares, is_jump, at, cell_of, has_colour, own, is_clear, is_aligned, square_at, has, members, Places, Bits, TakesLowest, is_king_step, is_untried, count_untried, ◌≡◌, ℕ, ◌+◌, ◌<◌, Bool, true, false, not, cond, ◌&&◌, ◌||◌, List, [], ◌∷◌, length, refl, sym, ◌∙◌, ap, ap₂, arith, filter, sum_by, sum_by-cons, rules, common_steps}
 use Rattle.chess_rules.proofs.sets.AllSquares.{cell_of-square_at, square_at-cell_of}
 use Rattle.chess_rules.proofs.lines.SeenAlong.{clear_back, aligned_back}
 use Rattle.chess_rules.proofs.sets.SetsToSquares.{members_are}
@@ -13,11 +13,7 @@ jump_back s t = grind arith
 
 module _ (p : Parts) (s t : Square) where
   pub knight_pair : own p Knight s ≡ true → is_jump t s ≡ is_untried p t s
-  knight_pair knight = jump_back t s ∙ by_tests (own p Knight s) (is_jump s t) (has_colour p.side (at p.board s)) (is_aligned s t)
-      (not (is_king_step p t && own p King s)) (is_clear p.board s t) knight
-    where
-      by_tests : (n j c a k w : Bool) → n ≡ true → j ≡ ((n && j) || ((((c && not n) && a) && k) && w))
-      by_tests n j c a k w h = grind arith
+  knight_pair knight = search (rules, jump_back, own, is_jump, has_colour, is_aligned, is_king_step, is_clear)
 
   seen_back : (is_aligned t s && is_clear p.board t s) ≡ (is_aligned s t && is_clear p.board s t)
   seen_back = ap₂ (λ x y. x && y) (aligned_back t s) (clear_back p.board t s)
@@ -107,23 +103,14 @@ pub record OriginsLeft (p : Parts) (targets left old now : ℕ) : Type 0 where
 
 pub targets_counted : (p : Parts) (targets : ℕ) (s : Square) {from both : ℕ} → Bits both (λ i. has targets i && has from i)
     → Places from (λ t. is_untried p t s) → length (members both) ≡ count_from p targets s
-targets_counted p targets s {from} {both} meets h =
-    ap length (members_are both (λ t. has targets (cell_of t) && is_untried p t s) (λ i low.
-    meets.of i low ∙ ap₂ (λ x y. x && y) (ap (has targets) (sym (cell_of-square_at i))) (h.of i low)))
+targets_counted p targets s {from} {both} meets h = grind (arith, common_steps, members_are, has, cell_of, is_untried, cell_of-square_at)
 
 pub origins_begin : {p : Parts} {targets own old : ℕ} → Places own (λ s. has_colour p.side (at p.board s)) → OriginsLeft p targets own old old
-origins_begin {p} {targets} {own} {old} h = record {
-  counts = record {
-    counted = ap (λ xs. old + sum_by (count_from p targets) xs) (members_are own (λ s. has_colour p.side (at p.board s)) h.of);
-  };
-  mine = λ i low here. sym (h.of i low) ∙ here;
-}
+origins_begin {p} {targets} {own} {old} h = grind (arith, common_steps, sum_by, members_are, has_colour)
 
 module _ {p : Parts} {targets left rest old now : ℕ} {s : Square} (taken : TakesLowest left rest s) (w : OriginsLeft p targets left old now) where
   pub origin_mine : has_colour p.side (at p.board s) ≡ true
-  origin_mine =
-      ap (λ (u : Square). has_colour p.side (at p.board u)) (sym (square_at-cell_of s taken.file))
-      ∙ w.mine (cell_of s) taken.rest.inside taken.here
+  origin_mine = grind (arith, common_steps, has_colour, square_at-cell_of, cell_of)
 
   -- the count after this origin
   pub origin_counts : now + (count_from p targets s + sum_by (count_from p targets) (members rest))
@@ -131,10 +118,4 @@ module _ {p : Parts} {targets left rest old now : ℕ} {s : Square} (taken : Tak
   origin_counts = next_counts taken w.counts
 
   pub origins_go_on : {later : ℕ} → later ≡ now + count_from p targets s → OriginsLeft p targets rest old later
-  origins_go_on more = record {
-    counts = record { counted = omega (arith, origin_counts, more) };
-    mine = λ i low here. w.mine i low (was_there (has left i) (i == cell_of s) (sym (taken.rest.of i low) ∙ here));
-  }
-    where
-      was_there : (x e : Bool) → (if e then false else x) ≡ true → x ≡ true
-      was_there x e h = grind arith
+  origins_go_on more = grind (arith, common_steps, origin_counts, has, cell_of)

@@ -1,6 +1,6 @@
 -- Whether a pair is legal does not depend on what a pawn becomes: the piece that arrives is no king
 -- and is there, whichever it is.
-use Rattle.chess_rules.proofs.Words.{Colour, King, Rook, Pawn, Piece, Promotion, Move, Parts, Square, squares, strictly_between, Board, at, put, some_piece, is_empty, other, has_colour, has_piece, is_clear, cell_attacks, attacks, is_attacked, king_attacked, is_position, own, home, last_rank, is_on_board, promotion_fits, short_right, long_right, short_wing, long_wing, captured_pawn, kind_of, carried, en_passant_board, castled, board_after, after, legal, is_legal, if_safe, one_move, is_legal_pair, PromotionsAlike, ◌≡◌, ℕ, ◌<◌, Bool, true, false, not, ◌&&◌, ◌||◌, inl, inr, refl, sym, ◌∙◌, ap, ap₂, subst, arith, length, Option, None, Some, is_none, is_some, option_map, ◌==◌, if◌then◌else◌, list_any, list_all, Wing}
+use Rattle.chess_rules.proofs.Words.{Colour, King, Rook, Pawn, Piece, Promotion, Move, Parts, Square, squares, strictly_between, Board, at, put, some_piece, is_empty, other, has_colour, has_piece, is_clear, cell_attacks, attacks, is_attacked, king_attacked, is_position, own, home, last_rank, is_on_board, promotion_fits, short_right, long_right, short_wing, long_wing, captured_pawn, kind_of, carried, en_passant_board, castled, board_after, after, legal, is_legal, if_safe, one_move, is_legal_pair, PromotionsAlike, ◌≡◌, ℕ, ◌<◌, Bool, true, false, not, ◌&&◌, inl, inr, refl, sym, ◌∙◌, ap, arith, length, Option, None, Some, is_none, is_some, option_map, ◌==◌, if◌then◌else◌, list_any, list_all, Wing, rules, common_steps}
 use Rattle.chess_rules.proofs.lines.AttackToReach.{other-other}
 use Rattle.chess_rules.proofs.moves.WaysToStep.{Castles, piece_step_means, pawn_step_means, passing_means, castles_means, way_of, by_piece, by_pawn, by_passing, by_short, by_long, some_of}
 use Rattle.chess_rules.specs.declared.piece.Promotion.TheVariants as promotions
@@ -32,23 +32,7 @@ itself_too c b long = record { left = long; right = long; cells = λ u on. itsel
 
 put_alike : (c : Colour) (b d : Board) (s : Square) (x y : Option Piece) → Alike c b d
     → OnBoard s → CellsAlike c x y → Alike c (put b s x) (put d s y)
-put_alike c b d s x y alike on cells =
-    record {
-      left = length-put b s x ∙ alike.left;
-      right = length-put d s y ∙ alike.right;
-      cells = λ u on_u.
-          elim (at_put b s u x alike.left on on_u) [
-            | inl here ↦ elim (at_put d s u y alike.right on on_u) [
-              | inl too ↦ subst (CellsAlike c _) (sym too.1) (subst (λ (v : Option Piece). CellsAlike c v y) (sym here.1) cells)
-              | inr not_too ↦ absurd (not_too.0 here.0)
-            ]
-            | inr there ↦ elim (at_put d s u y alike.right on on_u) [
-              | inl not_too ↦ absurd (there.0 not_too.0)
-              | inr too ↦ subst (CellsAlike c _) (sym too.1)
-                  (subst (λ (v : Option Piece). CellsAlike c v (at d u)) (sym there.1) (alike.cells u on_u))
-            ]
-          ];
-    }
+put_alike c b d s x y alike on cells = grind (arith, common_steps, length-put, at_put, inl, inr)
 
 any_same : (f g : Square → Bool) → ((u : Square) → OnBoard u → f u ≡ g u) → list_any f squares ≡ list_any g squares
 any_same f g h = same_tests _ _ (λ a. one f g h (some_square f a)) (λ a. one g f (λ u on. sym (h u on)) (some_square g a))
@@ -63,9 +47,7 @@ all_same f g h = same_tests _ _ (λ a. each f g h a) (λ a. each g f (λ u on. s
     each e k same a = all_squares k (λ u file rank. sym (same u (record { file = file; rank = rank })) ∙ each_square e u a file rank)
 
 clear_alike : (c : Colour) (b d : Board) (s t : Square) → Alike c b d → is_clear b s t ≡ is_clear d s t
-clear_alike c b d s t alike =
-    all_same (λ u. not (strictly_between s u t) || is_empty b u) (λ u. not (strictly_between s u t) || is_empty d u)
-    (λ u on. ap (λ v. not (strictly_between s u t) || v) (alike.cells u on).empty)
+clear_alike c b d s t alike = grind (arith, common_steps, all_same, strictly_between, is_empty)
 
 cell_alike : (cell : Option Piece) (b d : Board) (s t : Square)
     → is_clear b s t ≡ is_clear d s t → cell_attacks cell b s t ≡ cell_attacks cell d s t
@@ -89,11 +71,7 @@ attack_alike c b d s t alike on = by_colours (has_colour (other c) (at b s)) ref
     by_colours false e false f = refl
 
 pub king_alike : (c : Colour) (b d : Board) → Alike c b d → king_attacked b c ≡ king_attacked d c
-king_alike c b d alike =
-    any_same (λ k. has_piece c King (at b k) && is_attacked b (other c) k) (λ k. has_piece c King (at d k) && is_attacked d (other c) k)
-    (λ k on. ap₂ (λ x y. x && y) (alike.cells k on).king
-    (any_same (λ s. has_colour (other c) (at b s) && attacks b s k) (λ s. has_colour (other c) (at d s) && attacks d s k)
-    (λ s on_s. attack_alike c b d s k alike on_s)))
+king_alike c b d alike = search (rules, any_same, has_piece, is_attacked, other, has_colour, attacks, attack_alike)
 
 -- What arrives.
 
@@ -105,27 +83,24 @@ men_alike c x y = grind arith
 abbrev promoting : Square → Square → Promotion → Move
 promoting s t x = record { from = s; to = t; promotion = Some x }
 
-carried_alike : (p : Parts) (s t : Square) (x y : Promotion) → length p.board ≡ 64 → OnBoard s
-    → OnBoard t → Alike p.side (carried p (promoting s t x)) (carried p (promoting s t y))
-carried_alike p s t x y long on_s on_t =
-    put_alike p.side (put p.board s None) (put p.board s None) t (some_piece p.side (kind_of x)) (some_piece p.side (kind_of y))
-    (itself_too p.side (put p.board s None) (length-put p.board s None ∙ long)) on_t (men_alike p.side x y)
+module _ (p : Parts) (s t : Square) (x y : Promotion) where
+  carried_alike : length p.board ≡ 64 → OnBoard s → OnBoard t → Alike p.side (carried p (promoting s t x)) (carried p (promoting s t y))
+  carried_alike long on_s on_t =
+      put_alike p.side (put p.board s None) (put p.board s None) t (some_piece p.side (kind_of x)) (some_piece p.side (kind_of y))
+      (itself_too p.side (put p.board s None) (length-put p.board s None ∙ long)) on_t (men_alike p.side x y)
 
-passing_alike : (p : Parts) (s t : Square) (x y : Promotion) → length p.board ≡ 64 → OnBoard s
-    → OnBoard t → Alike p.side (en_passant_board p (promoting s t x)) (en_passant_board p (promoting s t y))
-passing_alike p s t x y long on_s on_t =
-    put_alike p.side (carried p (promoting s t x)) (carried p (promoting s t y)) (captured_pawn (promoting s t x)) None None
-    (carried_alike p s t x y long on_s on_t) (record { file = on_t.file; rank = on_s.rank }) (itself p.side None)
+  passing_alike : length p.board ≡ 64 → OnBoard s → OnBoard t → Alike p.side (en_passant_board p (promoting s t x)) (en_passant_board p (promoting s t y))
+  passing_alike long on_s on_t =
+      put_alike p.side (carried p (promoting s t x)) (carried p (promoting s t y)) (captured_pawn (promoting s t x)) None None
+      (carried_alike long on_s on_t) (record { file = on_t.file; rank = on_s.rank }) (itself p.side None)
 
-castled_alike : (p : Parts) (s t : Square) (x y : Promotion) (rook crossing : ℕ)
-    → length p.board ≡ 64 → OnBoard s → OnBoard t → rook < 8 → crossing < 8
-    → Alike p.side (castled p (promoting s t x) rook crossing) (castled p (promoting s t y) rook crossing)
-castled_alike p s t x y rook crossing long on_s on_t low_rook low_crossing =
-    put_alike p.side (put (carried p (promoting s t x)) (home p rook) None)
-    (put (carried p (promoting s t y)) (home p rook) None) (home p crossing) (some_piece p.side Rook) (some_piece p.side Rook)
-    (put_alike p.side (carried p (promoting s t x)) (carried p (promoting s t y)) (home p rook) None None
-    (carried_alike p s t x y long on_s on_t) (record { file = low_rook; rank = home_below p.side }) (itself p.side None))
-    (record { file = low_crossing; rank = home_below p.side }) (itself p.side (some_piece p.side Rook))
+  castled_alike : (rook crossing : ℕ) → length p.board ≡ 64 → OnBoard s → OnBoard t → rook < 8 → crossing < 8 → Alike p.side (castled p (promoting s t x) rook crossing) (castled p (promoting s t y) rook crossing)
+  castled_alike rook crossing long on_s on_t low_rook low_crossing =
+      put_alike p.side (put (carried p (promoting s t x)) (home p rook) None)
+      (put (carried p (promoting s t y)) (home p rook) None) (home p crossing) (some_piece p.side Rook) (some_piece p.side Rook)
+      (put_alike p.side (carried p (promoting s t x)) (carried p (promoting s t y)) (home p rook) None None
+      (carried_alike long on_s on_t) (record { file = low_rook; rank = home_below p.side }) (itself p.side None))
+      (record { file = low_crossing; rank = home_below p.side }) (itself p.side (some_piece p.side Rook))
 
 -- the mover's king is not attacked on the board
 abbrev leaves_safe : Parts → Board → Bool

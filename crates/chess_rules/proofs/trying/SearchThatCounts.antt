@@ -1,6 +1,6 @@
 -- A search that counts, step by step.
-use Rattle.chess_rules.proofs.Words.{Square, members, HasNone, Counts, ◌≡◌, ℕ, ◌+◌, ◌<◌, ◌≤◌, Bool, true, false, ◌||◌, List, TakesLowest}
-use Rattle.chess_rules.proofs.Words.{◌∷◌, length, sym, ◌∙◌, ap, arith, list_any, sum_by, sum_by-cons}
+use Rattle.chess_rules.proofs.Words.{Square, members, HasNone, Counts, ◌≡◌, ℕ, ◌+◌, ◌<◌, ◌≤◌, Bool, true, false, List, TakesLowest, common_steps}
+use Rattle.chess_rules.proofs.Words.{◌∷◌, length, ◌∙◌, ap, arith, list_any, sum_by, sum_by-cons}
 
 pub counts_exactly : (found : Bool) (old new whole : ℕ) → (found ≡ true → 0 < whole) → new ≡ old + whole → Counts found old new whole
 counts_exactly found old new whole one h = grind arith
@@ -26,10 +26,7 @@ module _ (test : Square → Bool) (whole : List Square) where
 
   pub none_left : (left old now : ℕ) → LeftOf left old now → HasNone left
       → (false ≡ list_any test whole) × Counts false old now (length whole)
-  none_left left old now w none = (
-    ap (list_any test) (sym none.none) ∙ w.same,
-    counts_exactly false old now (length whole) (λ found. cc) (omega (arith, w.counted, ap length none.none)),
-  )
+  none_left left old now w none = grind (arith, common_steps, list_any, counts_exactly)
 
 -- The same, where a member costs some pairs.
 
@@ -49,31 +46,14 @@ module _ {test : Square → Bool} {cost : Square → ℕ} {whole : List Square} 
 
     pub fewer_targets : {hit : Bool} {later : ℕ} → hit ≡ test s → hit ≡ false
         → Counts hit now later (cost s) → TargetsLeft test cost whole rest old later
-    fewer_targets tested misses more =
-        record {
-          rises = omega (arith, w.rises, more.rises);
-          counted = omega (arith, w.counted, next_counted, more.all misses);
-          same = ap (λ v. v || list_any test (members rest)) (sym misses ∙ tested) ∙ (ap (list_any test) (sym taken.next) ∙ w.same);
-        }
+    fewer_targets tested misses more = grind (arith, common_steps, next_counted, list_any, members)
 
     pub target_hit : {hit : Bool} {later : ℕ} → hit ≡ test s → hit ≡ true → Counts hit now later (cost s)
         → (true ≡ list_any test whole) × Counts true old later (sum_by cost whole)
-    target_hit tested passes more = (
-      ap (λ v. v || list_any test (members rest)) (sym passes ∙ tested) ∙ (ap (list_any test) (sym taken.next) ∙ w.same),
-      record {
-        rises = omega (arith, w.rises, more.rises);
-        most = omega (arith, w.counted, next_counted, more.most);
-        all = λ none. cc;
-        some = λ _. omega (arith, w.rises, more.some passes);
-      },
-    )
+    target_hit tested passes more = grind (arith, common_steps, list_any, members, next_counted)
 
   pub no_target : HasNone left → (false ≡ list_any test whole) × Counts false old now (sum_by cost whole)
-  no_target none = (
-    ap (list_any test) (sym none.none) ∙ w.same,
-    counts_exactly false old now (sum_by cost whole) (λ found. cc)
-        (let e : sum_by cost (members left) ≡ 0 = ap (sum_by cost) none.none in omega (arith, w.counted, e)),
-  )
+  no_target none = grind (arith, common_steps, list_any, counts_exactly, sum_by, members)
 
 -- The same, where the members are only counted.
 

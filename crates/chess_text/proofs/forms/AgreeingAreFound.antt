@@ -1,5 +1,5 @@
 -- The moves that agree with a form are those that are found, and none is found twice.
-use Rattle.chess_text.proofs.Words.{◌≡◌, ◌≢◌, ℕ, ◌<◌, inl, inr, Bool, true, false, not, ◌&&◌, List, [], ◌∷◌, map, refl, sym, ◌∙◌, ap, subst, arith, Option, None, Some, Ok, Err, is_some, is_none, nat_lt, flat_map, filter_map, cons_option, list_any, list_any_at, Contains, both_ways, not-true, and_parts, and_from, ltb-true, get_or-range_with_len, length-range_with_len, Contains-append_left, Contains-append_right, Promotion, Move, Parts, Square, square, squares, lines, on_board, same_square, short_wing, long_wing, short_right, long_right, legal, is_legal, Form, Castle, Man, Played, NoMove, Ambiguous, same_promotion, describes, agrees, with_next, played, castling_move, move_from, moves_to_try, agreeing, only, TheOneMoveIsRead, NoMoveIsRead, TwoMovesAreAmbiguous, hints_fit, is_castling, own, Kind}
+use Rattle.chess_text.proofs.Words.{◌≡◌, ◌≢◌, ℕ, ◌<◌, inl, inr, Bool, true, false, not, ◌&&◌, List, [], ◌∷◌, map, refl, sym, ◌∙◌, ap, subst, arith, Option, None, Some, Ok, Err, is_some, is_none, nat_lt, flat_map, filter_map, cons_option, list_any, list_any_at, Contains, both_ways, not-true, and_parts, and_from, ltb-true, get_or-range_with_len, length-range_with_len, Contains-append_left, Contains-append_right, Promotion, Move, Parts, Square, square, squares, lines, on_board, same_square, short_wing, long_wing, short_right, long_right, legal, is_legal, Form, Castle, Man, Played, NoMove, Ambiguous, same_promotion, describes, agrees, with_next, played, castling_move, move_from, moves_to_try, agreeing, only, TheOneMoveIsRead, NoMoveIsRead, TwoMovesAreAmbiguous, hints_fit, is_castling, own, Kind, common_steps}
 use Rattle.chess_text.proofs.forms.CastlingMoves.{stepped, squares_same, castles_ends, legal_next, played_some}
 use Rattle.chess_text.proofs.forms.OnlyElement.{here, only_in, later, element, none_in, in_map, of_map, in_found, found_in}
 use Rattle.chess_text.proofs.forms.PieceForms.{same_square-refl}
@@ -75,10 +75,7 @@ no_promotion x h = grind arith
 
 -- a move is its squares and its promotion
 pub same_move : (n m : Move) → n.from ≡ m.from → n.to ≡ m.to → n.promotion ≡ m.promotion → n ≡ m
-same_move n m a b c =
-    ap (λ s. record { from = s; to = n.to; promotion = n.promotion }) a
-    ∙ ap (λ s. record { from = m.from; to = s; promotion = n.promotion }) b
-    ∙ ap (λ x. record { from = m.from; to = m.to; promotion = x }) c
+same_move n m a b c = grind (arith, common_steps)
 
 five_hold : (a b c d e : Bool) → ((a && b) && ((c && d) && e)) ≡ true → (a ≡ true) × (b ≡ true) × (c ≡ true) × (d ≡ true)
 five_hold a b c d e h = grind arith
@@ -93,9 +90,7 @@ pub record Said (p : Parts) (k : Kind) (file rank : Option ℕ) (to : Square) (p
 pub said : (p : Parts) (k : Kind) (file rank : Option ℕ) (to : Square) (promotion : Option Promotion) (n : Move)
     → describes p (Man k file rank to promotion) n ≡ true → Said p k file rank to promotion n
 said p k file rank to promotion n h =
-    let (stands, hints, there, named) =
-    five_hold (own p k n.from) (hints_fit file rank n.from) (same_square n.to to) (same_promotion n.promotion promotion) (not (is_castling p n)) h in
-    record { stands = stands; hints = hints; there = squares_same n.to to there; named = promotions_same _ _ named }
+    grind (arith, common_steps, five_hold, own, hints_fit, same_square, same_promotion, is_castling, squares_same, promotions_same)
 
 pub is_possible : (p : Parts) (f : Form) (m : Move) → is_legal p m ≡ true → describes p f m ≡ true → Contains (moves_to_try p f) m
 is_possible p (Castle false) m legal h =

@@ -1,6 +1,5 @@
 -- Which steps and legal moves are castling.
-use Rattle.chess_rules.specs.Step.{is_target, after, board_after, carried, castled, en_passant_board, is_on_board, is_pawn_step, is_piece_step, promotion_fits, stand_ready}
-use Rattle.chess_text.proofs.Words.{◌≡◌, ℕ, ◌<◌, ◌≤◌, Bool, true, false, not, ◌&&◌, ◌||◌, inl, inr, refl, sym, ◌∙◌, ap₂, arith, ◌==◌, nat_lt, Option, None, Some, is_none, is_some, option_map, if◌then◌else◌, abs_diff, and_parts, and_from, or_cases, eqb-true, lt-ltb, ltb-true, Colour, King, Pawn, Piece, Move, Parts, Square, square, same_square, is_adjacent, Board, at, has_colour, has_piece, attacks, cell_attacks, own, Kind, home, Wing, short_wing, long_wing, short_right, long_right, is_pawn_way, is_en_passant, captured_pawn, other, castles, castles_short, castles_long, on_board, step, is_legal, if_safe, is_castling, nat_tests, is_empty, [], ap, subst, Ok, Err, cons_option, legal, Castle, Played, NoMove, describes, with_next_position, played, castling_move, agreeing, only, move_of_form, false_from_ne_true}
+use Rattle.chess_text.proofs.Words.{◌≡◌, ℕ, ◌<◌, ◌≤◌, Bool, true, false, not, ◌&&◌, ◌||◌, inl, inr, refl, sym, ◌∙◌, arith, nat_lt, Option, None, Some, is_none, is_some, option_map, if◌then◌else◌, abs_diff, and_parts, and_from, or_cases, eqb-true, lt-ltb, ltb-true, Colour, King, Pawn, Piece, Move, Parts, Square, square, same_square, is_adjacent, Board, at, has_colour, has_piece, attacks, cell_attacks, own, Kind, home, Wing, short_wing, long_wing, short_right, long_right, is_pawn_way, is_en_passant, captured_pawn, other, castles, castles_short, castles_long, on_board, step, is_legal, if_safe, is_castling, nat_tests, is_empty, [], subst, Ok, Err, cons_option, legal, Castle, Played, NoMove, describes, with_next_position, played, castling_move, agreeing, only, move_of_form, false_from_ne_true, rules, common_steps, after, board_after, carried, castled, en_passant_board, is_on_board, is_pawn_step, is_piece_step, promotion_fits, stand_ready}
 
 -- what each way of a step says
 pub data StepWay (p : Parts) (m : Move) : Type 0 where
@@ -25,9 +24,7 @@ four_hold a b c d e h = grind arith
 
 pub passing_parts : (p : Parts) (m : Move) → is_en_passant p m ≡ true → (own p Pawn m.from ≡ true)
     × (attacks p.board m.from m.to ≡ true) × (has_piece (other p.side) Pawn (at p.board (captured_pawn m)) ≡ true)
-passing_parts p m h =
-    let six = six_hold (own p Pawn m.from) _ (is_target p.target m.to) (is_empty p.board m.to) (attacks p.board m.from m.to) _ h in
-    (six.0, six.4, six.5)
+passing_parts p m h = grind (arith, common_steps, six_hold, own, is_empty, attacks)
 
 pub way_of_step : (p : Parts) (m : Move) → is_some (step p m) ≡ true → Stepped p m
 way_of_step p m h = by_on _ refl h
@@ -69,18 +66,16 @@ pub stepped : (p : Parts) (m : Move) → is_legal p m ≡ true → Stepped p m
 stepped p m h = way_of_step p m (legal_is_step p m h)
 
 pub squares_same : (s t : Square) → same_square s t ≡ true → s ≡ t
-squares_same s t h =
-    let both = and_parts (s.file == t.file) (s.rank == t.rank) h in
-    ap₂ square (eqb-true _ _ both.0) (eqb-true _ _ both.1)
+squares_same s t h = grind (arith, common_steps, and_parts, square, eqb-true)
 
 -- a king is no pawn
-pub no_pawn : (c : Colour) (cell : Option Piece) → has_piece c King cell ≡ true → has_piece c Pawn cell ≡ true → ⊥
-no_pawn c cell h g = grind (arith, nat_tests)
+module _ (c : Colour) (cell : Option Piece) where
+  pub no_pawn : has_piece c King cell ≡ true → has_piece c Pawn cell ≡ true → ⊥
+  no_pawn h g = grind (arith, nat_tests)
 
--- a king attacks the squares beside it
-king_attacks : (c : Colour) (cell : Option Piece) (b : Board) (s t : Square)
-    → has_piece c King cell ≡ true → cell_attacks cell b s t ≡ true → is_adjacent s t ≡ true
-king_attacks c cell b s t h g = grind (arith, nat_tests)
+  -- a king attacks the squares beside it
+  king_attacks : (b : Board) (s t : Square) → has_piece c King cell ≡ true → cell_attacks cell b s t ≡ true → is_adjacent s t ≡ true
+  king_attacks b s t h g = grind (arith, nat_tests)
 
 -- as the code asks
 abbrev pub goes_far : Parts → Move → Bool
@@ -89,37 +84,30 @@ goes_far p m = own p King m.from && nat_lt 1 (abs_diff m.from.file m.to.file)
 near_file : (s t : Square) → is_adjacent s t ≡ true → abs_diff s.file t.file ≤ 1
 near_file s t h = grind (arith, nat_tests)
 
-far_is_castling : (p : Parts) (m : Move) → Stepped p m → own p King m.from ≡ true
-    → 1 < abs_diff m.from.file m.to.file → is_castling p m ≡ true
-far_is_castling p m st king far =
-    elim st.way [
-      | piece_goes a b c hits ↦
-          absurd (omega (arith, near_file m.from m.to (king_attacks p.side (at p.board m.from) p.board m.from m.to king hits)))
-      | pawn_goes stands g ↦ absurd (no_pawn p.side (at p.board m.from) king stands)
-      | pawn_passes stands g ↦ absurd (no_pawn p.side (at p.board m.from) king stands)
-      | king_castles g ↦ g
-    ]
+module _ (p : Parts) (m : Move) where
+  far_is_castling : Stepped p m → own p King m.from ≡ true → 1 < abs_diff m.from.file m.to.file → is_castling p m ≡ true
+  far_is_castling st king far =
+      elim st.way [
+        | piece_goes a b c hits ↦
+            absurd (omega (arith, near_file m.from m.to (king_attacks p.side (at p.board m.from) p.board m.from m.to king hits)))
+        | pawn_goes stands g ↦ absurd (no_pawn p.side (at p.board m.from) king stands)
+        | pawn_passes stands g ↦ absurd (no_pawn p.side (at p.board m.from) king stands)
+        | king_castles g ↦ g
+      ]
 
--- where castling leads, and that king and rook are ready
-pub castles_ends : (p : Parts) (m : Move) (right : Bool) (wing : Wing) → castles p m right wing ≡ true
-    → (m.from ≡ home p 4) × (m.to ≡ home p wing.end) × (is_none m.promotion ≡ true) × (stand_ready p wing.rook ≡ true)
-castles_ends p m right wing h =
-    let six =
-    six_hold right (is_none m.promotion) (same_square m.from (home p 4)) (same_square m.to (home p wing.end)) (stand_ready p wing.rook) _ h in
-    (squares_same _ _ six.2, squares_same m.to _ six.3, six.1, six.4)
+  -- where castling leads, and that king and rook are ready
+  pub castles_ends : (right : Bool) (wing : Wing) → castles p m right wing ≡ true → (m.from ≡ home p 4) × (m.to ≡ home p wing.end) × (is_none m.promotion ≡ true) × (stand_ready p wing.rook ≡ true)
+  castles_ends right wing h = grind (arith, common_steps, six_hold, is_none, same_square, home, squares_same)
 
-castles_far : (p : Parts) (m : Move) (right : Bool) (wing : Wing)
-    → 1 < abs_diff 4 wing.end → castles p m right wing ≡ true → goes_far p m ≡ true
-castles_far p m right wing far h =
-    let (from, to, plain, ready) = castles_ends p m right wing h in
-    and_from (own p King _) (nat_lt 1 _) (rw from (and_parts _ _ (and_parts _ _ ready).0).0) (lt-ltb 1 _ (rw from (rw to far)))
+  castles_far : (right : Bool) (wing : Wing) → 1 < abs_diff 4 wing.end → castles p m right wing ≡ true → goes_far p m ≡ true
+  castles_far right wing far h = grind (arith, common_steps, castles_ends, and_from, own, nat_lt, and_parts, lt-ltb)
 
-pub castling_goes_far : (p : Parts) (m : Move) → is_castling p m ≡ true → goes_far p m ≡ true
-castling_goes_far p m h =
-    elim (or_cases (castles_short p m) (castles_long p m) h) [
-      | inl short ↦ castles_far p m (short_right p.side p.rights) short_wing (omega arith) short
-      | inr long ↦ castles_far p m (long_right p.side p.rights) long_wing (omega arith) long
-    ]
+  pub castling_goes_far : is_castling p m ≡ true → goes_far p m ≡ true
+  castling_goes_far h =
+      elim (or_cases (castles_short p m) (castles_long p m) h) [
+        | inl short ↦ castles_far (short_right p.side p.rights) short_wing (omega arith) short
+        | inr long ↦ castles_far (long_right p.side p.rights) long_wing (omega arith) long
+      ]
 
 -- two tests that imply one another
 same_tests : (x y : Bool) → (x ≡ true → y ≡ true) → (y ≡ true → x ≡ true) → x ≡ y
@@ -144,11 +132,7 @@ castling_by_files p m king files steps seen stands count =
 
 -- only a king castles
 pub castles_by_king : (p : Parts) (m : Move) (k : Kind) → own p k m.from ≡ true → (k ≡ King → ⊥) → is_castling p m ≡ false
-castles_by_king p m k stands other =
-    false_from_ne_true _ (λ is. other (two_kinds k p.side (at p.board m.from) stands (and_parts (own p King _) _ (castling_goes_far p m is)).0))
-  where
-    two_kinds : (k : Kind) (c : Colour) (cell : Option Piece) → has_piece c k cell ≡ true → has_piece c King cell ≡ true → k ≡ King
-    two_kinds k c cell h g = grind (arith, nat_tests)
+castles_by_king p m k stands other = search (rules, false_from_ne_true, and_parts, own, castling_goes_far, has_piece, nat_tests)
 
 -- what the code asks, which looks for castling only where the piece is a king
 pub fits_by_kind : (legal fit asked castles : Bool) → legal ≡ true → fit ≡ true → asked ≡ castles → not asked ≡ (legal && (fit && not castles))
@@ -168,12 +152,8 @@ second_alone x y h = grind arith
 
 -- the castling that the form names is the only one to its target
 pub described : (p : Parts) (long : Bool) (m : Move) → m.to ≡ (castling_move p.side long).to → describes p (Castle long) m ≡ is_castling p m
-described p false m to =
-    first_alone (castles_short p m) (castles_long p m)
-    (λ h. let files = ap (λ (s : Square). s.file) (sym to ∙ (castles_ends p m _ _ h).1) in omega arith)
-described p true m to =
-    second_alone (castles_short p m) (castles_long p m)
-    (λ h. let files = ap (λ (s : Square). s.file) (sym to ∙ (castles_ends p m _ _ h).1) in omega arith)
+described p false m to = search (rules, first_alone, castles_short, castles_long, castles_ends)
+described p true m to = grind (arith, common_steps, second_alone, castles_short, castles_long, castles_ends)
 
 reads_one : (p : Parts) (long : Bool) → move_of_form p (Castle long)
     ≡ only (cons_option (played (describes p (Castle long) (castling_move p.side long)) p (castling_move p.side long)) [])

@@ -1,6 +1,6 @@
 -- Whose move a legal move is, and which ones take.
 use mathlib.Core.Bool.{or-false, or-true}
-use Rattle.chess_text.proofs.Words.{◌≡◌, ℕ, List, Bool, true, false, not, ◌||◌, refl, sym, ◌∙◌, ap, arith, ◌==◌, Option, None, Some, is_none, is_some, codes, if◌then◌else◌, ◌++◌, false≢true, and_parts, and_from, nat_tests, Colour, Kind, King, Pawn, Piece, Move, Parts, Square, at, has_colour, has_piece, same_colour, same_kind, is_empty, own, is_en_passant, castles_short, castles_long, is_legal, square_text, is_castling, is_capture, capture_text, castling_text, king_text, has_rivals, or_parts, false_from_ne_true, inl, inr, ◌&&◌, or_cases, eq-eqb, gap, Board, other, attacks, cell_attacks, is_ahead, is_advance, is_double_step, is_pawn_capture, is_pawn_way, captured_pawn, crossed, pawn_rank, double_rank}
+use Rattle.chess_text.proofs.Words.{◌≡◌, ℕ, List, Bool, true, false, not, ◌||◌, refl, sym, ◌∙◌, ap, arith, ◌==◌, Option, None, Some, is_none, is_some, codes, if◌then◌else◌, ◌++◌, false≢true, and_parts, and_from, nat_tests, Colour, Kind, King, Pawn, Piece, Move, Parts, Square, at, has_colour, has_piece, same_colour, same_kind, is_empty, own, is_en_passant, castles_short, castles_long, is_legal, square_text, is_castling, is_capture, capture_text, castling_text, king_text, has_rivals, or_parts, false_from_ne_true, inl, inr, ◌&&◌, or_cases, eq-eqb, gap, Board, other, attacks, cell_attacks, is_ahead, is_advance, is_double_step, is_pawn_capture, is_pawn_way, captured_pawn, crossed, pawn_rank, double_rank, rules, common_steps}
 use Rattle.chess_text.proofs.forms.CastlingMoves.{piece_goes, pawn_goes, pawn_passes, king_castles, passing_parts, stepped, castles_ends, castling_goes_far}
 
 -- The piece that moves is of the side to move.
@@ -9,13 +9,7 @@ coloured : (c : Colour) (k : Kind) (cell : Option Piece) → has_piece c k cell 
 coloured c k cell h = grind arith
 
 pub mover_colour : (p : Parts) (m : Move) → is_legal p m ≡ true → has_colour p.side (at p.board m.from) ≡ true
-mover_colour p m h =
-    elim (stepped p m h).way [
-      | piece_goes stands a b c ↦ stands
-      | pawn_goes stands g ↦ coloured _ Pawn _ stands
-      | pawn_passes stands g ↦ coloured _ Pawn _ stands
-      | king_castles g ↦ coloured _ King _ (and_parts _ _ (castling_goes_far p m g)).0
-    ]
+mover_colour p m h = search (rules, stepped, piece_goes, pawn_goes, coloured, pawn_passes, king_castles, and_parts, castling_goes_far)
 
 -- it stands on the origin
 pub mover_stands : (p : Parts) (m : Move) → is_legal p m ≡ true → at p.board m.from ≡ None → ⊥
@@ -25,9 +19,7 @@ same_kind-refl : (k : Kind) → same_kind k k ≡ true
 same_kind-refl k = grind arith
 
 pub mover : (p : Parts) (m : Move) (x : Piece) → is_legal p m ≡ true → at p.board m.from ≡ Some x → own p x.kind m.from ≡ true
-mover p m x h there =
-    cc (and_from (same_colour p.side x.colour) (same_kind x.kind x.kind)
-    (ap (λ cell. has_colour p.side cell) (sym there) ∙ mover_colour p m h) (same_kind-refl x.kind))
+mover p m x h there = grind (arith, common_steps, and_from, same_colour, same_kind, has_colour, mover_colour, same_kind-refl)
 
 -- a piece of one kind is of no other
 pub other_kind : (c : Colour) (j k : Kind) (cell : Option Piece)
@@ -55,10 +47,7 @@ may_have_rivals k h g = grind arith
 -- as the code asks
 pub something : (p : Parts) (m : Move) (cell : Option Piece) (b : Bool)
     → cell ≡ at p.board m.to → b ≡ is_some cell → b ≡ not (is_empty p.board m.to)
-something p m cell b e f = cc (full cell)
-  where
-    full : (x : Option Piece) → is_some x ≡ not (is_none x)
-    full x = grind arith
+something p m cell b e f = grind (arith, common_steps, is_some, is_none)
 
 -- The king.
 
@@ -105,48 +94,7 @@ full c cell g = grind arith
 
 pub pawn_way : (p : Parts) (m : Move) → is_legal p m ≡ true → own p Pawn m.from ≡ true → PawnWay p m
 pawn_way p m h pawn_stands =
-    elim (stepped p m h).way [
-      | piece_goes a no_pawn b c ↦ absurd (false≢true (sym (ap not pawn_stands) ∙ no_pawn))
-      | pawn_goes stands g ↦ by_way g
-      | pawn_passes stands g ↦ let (own_pawn, goes, taken) = passing_parts p m g in passes (hits goes).0 (hits goes).1 taken g
-      | king_castles g ↦ absurd (no_castle g)
-    ]
-  where
-    hits : attacks p.board m.from m.to ≡ true → (gap m.from.file m.to.file ≡ 1) × (is_ahead p.side m.from.rank m.to.rank ≡ true)
-    hits g = pawn_attack p.side (at p.board m.from) p.board m.from m.to pawn_stands g
-
-    no_castle : is_castling p m ≡ true → ⊥
-    no_castle castles =
-        false≢true (sym (other_kind p.side King Pawn (at p.board m.from) (and_parts (own p King m.from) _ (castling_goes_far p m castles)).0 refl)
-        ∙ pawn_stands)
-
-    by_advance : is_advance p m ≡ true → PawnWay p m
-    by_advance g =
-        let (file, ahead, free) = advance_parts m.from.file m.to.file (is_ahead p.side m.from.rank m.to.rank) (is_empty p.board m.to) g in
-        advances file ahead free
-
-    by_double : is_double_step p m ≡ true → PawnWay p m
-    by_double g =
-        let (file, low, high, over, free) =
-        double_parts m.from.file m.to.file m.from.rank (pawn_rank p.side) m.to.rank
-        (double_rank p.side) (is_empty p.board (crossed m)) (is_empty p.board m.to) g in
-        doubles file low high over free
-
-    by_capture : is_pawn_capture p m ≡ true → PawnWay p m
-    by_capture g =
-        let both = and_parts (attacks p.board m.from m.to) (has_colour (other p.side) (at p.board m.to)) g in
-        let way = hits both.0 in
-        takes way.0 way.1 (full (other p.side) (at p.board m.to) both.1)
-
-    by_way : is_pawn_way p m ≡ true → PawnWay p m
-    by_way g =
-        elim (or_cases (is_advance p m) (is_double_step p m || is_pawn_capture p m) g) [
-          | inl one ↦ by_advance one
-          | inr more ↦ elim (or_cases (is_double_step p m) (is_pawn_capture p m) more) [
-            | inl two ↦ by_double two
-            | inr capture ↦ by_capture capture
-          ]
-        ]
+    search (rules, stepped, piece_goes, false≢true, pawn_goes, pawn_passes, passing_parts, king_castles, attacks, gap, is_ahead, pawn_attack, is_castling, other_kind, and_parts, own, castling_goes_far, is_advance, advance_parts, is_empty, is_double_step, double_parts, pawn_rank, double_rank, crossed, is_pawn_capture, has_colour, other, full, is_pawn_way, or_cases, inl, inr)
 
 pub gap_apart : (a b : ℕ) → a ≡ b → gap a b ≡ 1 → ⊥
 gap_apart a b e h = omega arith

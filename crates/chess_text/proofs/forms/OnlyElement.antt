@@ -7,13 +7,14 @@ use Rattle.std.specs.Option.{is_some}
 pub here : {X : Type 0} (x : X) (xs : List X) → Contains (x ∷ xs) x
 here x xs = (0, omega arith, refl)
 
-pub later : {X : Type 0} (x y : X) (xs : List X) → Contains xs y → Contains (x ∷ xs) y
-later x y xs (k, low, is) = (suc k, omega arith, is)
+module _ {X : Type 0} (x y : X) (xs : List X) where
+  pub later : Contains xs y → Contains (x ∷ xs) y
+  later (k, low, is) = (suc k, omega arith, is)
 
--- an element is the first, or one of the others
-pub element : {X : Type 0} (x y : X) (xs : List X) → Contains (x ∷ xs) y → (x ≡ y) ⊎ Contains xs y
-element x y xs (zero, low, is) = inl is
-element x y xs (suc k, low, is) = inr (k, omega arith, is)
+  -- an element is the first, or one of the others
+  pub element : Contains (x ∷ xs) y → (x ≡ y) ⊎ Contains xs y
+  element (zero, low, is) = inl is
+  element (suc k, low, is) = inr (k, omega arith, is)
 
 pub none_in : {X : Type 0} (y : X) → Contains [] y → ⊥
 none_in y (k, low, is) = omega arith

@@ -1,5 +1,5 @@
 -- What a form of no castling names: all its moves come from candidates.
-use Rattle.chess_text.proofs.Words.{◌≡◌, ℕ, ◌<◌, Bool, true, false, ◌&&◌, List, get_or, refl, Option, None, ◌==◌, length, filter_map, All, IsPermutation, both_ways, and_parts, and_from, eq-eqb, filter_passes, All-weaker, All-permutation, IsPermutation-sym, Kind, Promotion, Parts, Square, squares, same_square, own, legal, is_candidate, candidates, CandidatesComplete, Form, Man, Played, same_promotion, describes, played, move_from, agreeing, only, move_of_form, piece_move_fits, arith, ap, Some, is_some, Move, is_legal, with_next}
+use Rattle.chess_text.proofs.Words.{◌≡◌, ℕ, ◌<◌, Bool, true, false, ◌&&◌, List, get_or, refl, Option, None, ◌==◌, length, filter_map, All, IsPermutation, both_ways, and_parts, and_from, eq-eqb, filter_passes, All-weaker, All-permutation, IsPermutation-sym, Kind, Promotion, Parts, Square, squares, same_square, own, legal, is_candidate, candidates, CandidatesComplete, Form, Man, Played, same_promotion, describes, played, move_from, agreeing, only, move_of_form, piece_move_fits, arith, ap, Some, is_some, Move, is_legal, with_next, common_steps}
 use Rattle.chess_text.proofs.forms.CastlingMoves.{played_unless, legal_next}
 use Rattle.chess_text.proofs.forms.OnlyElement.{filter_map-map, filter_map-filter, only_permuted}
 
@@ -20,9 +20,7 @@ module _ (p : Parts) (k : Kind) (file rank : Option ℕ) (to : Square) (promotio
   -- from a square with such a piece
   pub describes_own : (s : Square) → own p k s ≡ true
       → describes p (Man k file rank to promotion) (move_from to promotion s) ≡ piece_move_fits p file rank (move_from to promotion s)
-  describes_own s stands =
-      rest_of _ _ (same_square to to) (same_promotion promotion promotion) _
-      stands (same_square-refl to) (same_promotion-refl promotion)
+  describes_own s stands = grind (arith, common_steps, rest_of, same_square, same_promotion, same_square-refl, same_promotion-refl)
 
   pub tried_own : (s : Square) → own p k s ≡ true → played (piece_move_fits p file rank (move_from to promotion s)) p (move_from to promotion s)
       ≡ from_square p (Man k file rank to promotion) to promotion s

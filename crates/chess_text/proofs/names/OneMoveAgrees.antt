@@ -1,6 +1,6 @@
 -- The rivals of a move, found among the candidates for its target.
 use mathlib.Core.Bool.{and-true}
-use Rattle.chess_text.proofs.Words.{◌≡◌, ℕ, ◌+◌, ◌<◌, ◌≤◌, Bool, true, false, cond, ◌&&◌, ◌||◌, List, [], ◌∷◌, length, take, get_or, refl, sym, ◌∙◌, ap, ◌==◌, list_any, IsPermutation, and_parts, take_all, list_any_more, list_any-IsPermutation, Kind, Move, Parts, Square, squares, own, legal, sees, candidates, CandidatesComplete, from_square, is_rival, rivals, on_file, on_rank, disambiguation_by, disambiguation, arith, inl, inr, not, and_from, or_cases, IsPermutation-refl, same_square, is_legal, is_candidate, cases_Bool, ◌/◌, ap₂, subst, Option, None, Some, is_none, both_ways, not-true, not-false, eqb-true, nat_tests, Colour, White, Black, King, Pawn, Piece, square, gap, at, has_piece, same_kind, is_empty, other, is_ahead, is_position, captured_pawn, crossed, pawn_rank, double_rank, Wing, castles, castles_short, castles_long, OneKing, hints_fit, describes, agrees, is_capture}
+use Rattle.chess_text.proofs.Words.{◌≡◌, ℕ, ◌+◌, ◌<◌, ◌≤◌, Bool, true, false, cond, ◌&&◌, ◌||◌, List, [], ◌∷◌, length, take, get_or, refl, sym, ◌∙◌, ap, ◌==◌, list_any, IsPermutation, and_parts, take_all, list_any_more, list_any-IsPermutation, Kind, Move, Parts, Square, squares, own, legal, sees, candidates, CandidatesComplete, from_square, is_rival, rivals, on_file, on_rank, disambiguation_by, disambiguation, arith, inl, inr, not, and_from, or_cases, IsPermutation-refl, same_square, is_legal, is_candidate, cases_Bool, ◌/◌, ap₂, subst, Option, None, Some, is_none, both_ways, not-true, not-false, eqb-true, nat_tests, Colour, White, Black, King, Pawn, Piece, square, gap, at, has_piece, same_kind, is_empty, other, is_ahead, is_position, captured_pawn, crossed, pawn_rank, double_rank, Wing, castles, castles_short, castles_long, OneKing, hints_fit, describes, agrees, is_capture, rules, common_steps}
 use Rattle.chess_text.proofs.forms.CastlingMoves.{legal_next, stepped, squares_same, castles_ends}
 use Rattle.std.specs.Prelude.{filter}
 use Rattle.chess_text.proofs.forms.AgreeingAreFound.{in_squares, any_contained, said, same_move, no_promotion}
@@ -48,26 +48,16 @@ pub record Found (p : Parts) (m : Move) (xs : List Square) (n : ℕ) (any file r
   pub file_is : file ≡ seen p m (λ s. s.file == m.from.file) (take n xs)
   pub rank_is : rank ≡ seen p m (λ s. s.rank == m.from.rank) (take n xs)
 
-one_more : (p : Parts) (m : Move) (test : Square → Bool) (xs : List Square) (n : ℕ) (s : Square) (before after rival : Bool)
-    → n < length xs → s ≡ get_or xs n s → rival ≡ is_rival p m s → before ≡ seen p m test (take n xs)
-    → after ≡ (before || (rival && test s)) → after ≡ seen p m test (take (n + 1) xs)
-one_more p m test xs n s before after rival low is e f g = cc (list_any_more _ xs n s low)
+module _ (p : Parts) (m : Move) where
+  one_more : (test : Square → Bool) (xs : List Square) (n : ℕ) (s : Square) (before after rival : Bool) → n < length xs → s ≡ get_or xs n s → rival ≡ is_rival p m s → before ≡ seen p m test (take n xs) → after ≡ (before || (rival && test s)) → after ≡ seen p m test (take (n + 1) xs)
+  one_more test xs n s before after rival low is e f g = cc (list_any_more _ xs n s low)
 
-pub found_more : (p : Parts) (m : Move) (xs : List Square) (n : ℕ) (s : Square) (rival any file rank any' file' rank' : Bool)
-    → n < length xs → s ≡ get_or xs n s → rival ≡ is_rival p m s → Found p m xs n any file rank
-    → any' ≡ (any || rival) → file' ≡ (file || (rival && (s.file == m.from.file))) → rank' ≡ (rank || (rival && (s.rank == m.from.rank)))
-    → Found p m xs (n + 1) any' file' rank'
-found_more p m xs n s rival any file rank any' file' rank' low is e f a b c =
-    record {
-      any_is = one_more p m _ xs n s any any' rival low is e f.any_is (a ∙ ap (λ r. any || r) (sym (and-true rival)));
-      file_is = one_more p m _ xs n s file file' rival low is e f.file_is b;
-      rank_is = one_more p m _ xs n s rank rank' rival low is e f.rank_is c;
-    }
+  pub found_more : (xs : List Square) (n : ℕ) (s : Square) (rival any file rank any' file' rank' : Bool) → n < length xs → s ≡ get_or xs n s → rival ≡ is_rival p m s → Found p m xs n any file rank → any' ≡ (any || rival) → file' ≡ (file || (rival && (s.file == m.from.file))) → rank' ≡ (rank || (rival && (s.rank == m.from.rank))) → Found p m xs (n + 1) any' file' rank'
+  found_more xs n s rival any file rank any' file' rank' low is e f a b c = search (rules, one_more, and-true)
 
--- and in the end
-pub all_found : (p : Parts) (m : Move) (test : Square → Bool) (xs : List Square) (n : ℕ)
-    → length xs ≤ n → seen p m test (take n xs) ≡ seen p m test xs
-all_found p m test xs n h = cc (take_all n xs h)
+  -- and in the end
+  pub all_found : (test : Square → Bool) (xs : List Square) (n : ℕ) → length xs ≤ n → seen p m test (take n xs) ≡ seen p m test xs
+  all_found test xs n h = cc (take_all n xs h)
 
 pub apart_same : (s : Square) (others : List Square) (any file rank : Bool)
     → any ≡ list_any (λ r. true) others → file ≡ on_file s others → rank ≡ on_rank s others
@@ -133,9 +123,7 @@ is_it_rival p m n g to named apart =
 
 pub among_rivals : (p : Parts) (k : Kind) (m n : Move) (test : Square → Bool) → is_legal p n ≡ true
     → own p k n.from ≡ true → is_rival p m n.from ≡ true → test n.from ≡ true → list_any test (rivals p k m) ≡ true
-among_rivals p k m n test g stands rival found =
-    any-filter test _ squares ∙ any_contained _ squares n.from (in_squares _ (stepped p n g).from_on)
-    (and_from _ _ (and_from _ _ stands rival) found)
+among_rivals p k m n test g stands rival found = grind (arith, common_steps, any-filter, squares, any_contained, in_squares, stepped, and_from)
 
 pub turn : (x y : ℕ) → (x == y) ≡ true → (y == x) ≡ true
 turn x y h = grind (arith, nat_tests)
@@ -171,21 +159,19 @@ between White a t e h = let rank = eqb-true t _ h in omega arith
 between Black a t e h = let rank = eqb-true a _ h in omega arith
 
 -- what stands on the square crossed
-no_one : (c : Colour) (cell : Option Piece) → is_none cell ≡ true → has_piece c Pawn cell ≡ true → ⊥
-no_one c cell h g = grind arith
+module _ (c : Colour) (cell : Option Piece) where
+  no_one : is_none cell ≡ true → has_piece c Pawn cell ≡ true → ⊥
+  no_one h g = grind arith
 
-not_both : (c : Colour) (cell : Option Piece) → has_piece c Pawn cell ≡ true → has_piece (other c) Pawn cell ≡ true → ⊥
-not_both c cell h g = grind arith
+  not_both : has_piece c Pawn cell ≡ true → has_piece (other c) Pawn cell ≡ true → ⊥
+  not_both h g = grind arith
 
 -- a pawn does not come to where another one's double step crosses, nor past it
 module _ (p : Parts) (x y : Move) (there : y.to ≡ x.to) (ahead : is_ahead p.side y.from.rank y.to.rank ≡ true)
     (file : x.from.file ≡ x.to.file) (low : x.from.rank ≡ pawn_rank p.side)
     (high : x.to.rank ≡ double_rank p.side) (free : is_empty p.board (crossed x) ≡ true) where
   onto : (f : ℕ) → f ≡ y.to.file → square f y.from.rank ≡ crossed x
-  onto f e =
-      let rank = between p.side y.from.rank x.to.rank high (rw there at ahead) in
-      ap₂ square (e ∙ ap (λ (s : Square). s.file) there ∙ sym file)
-      (sym (ap (λ n. (n + x.to.rank) / 2) low ∙ ap (λ n. (pawn_rank p.side + n) / 2) high ∙ rank))
+  onto f e = grind (arith, common_steps, between, square, pawn_rank)
 
   over : own p Pawn y.from ≡ true → y.from.file ≡ y.to.file → ⊥
   over pawn straight = no_one p.side _ free (subst (λ s. own p Pawn s ≡ true) (onto _ straight) pawn)
@@ -220,10 +206,7 @@ module _ (p : Parts) (m n : Move) (pawn_m : own p Pawn m.from ≡ true) (pawn_n 
   straight_alone (takes g a e) wn file = absurd (gap_apart _ _ file g)
   straight_alone (passes g a e f) wn file = absurd (gap_apart _ _ file g)
   straight_alone (advances s a e) (takes h b f) file = absurd (not_empty f e)
-  straight_alone (advances s a e) (passes h b f g) file =
-      absurd (not_both p.side (at p.board m.from) pawn_m
-      (subst (λ t. has_piece (other p.side) Pawn (at p.board t) ≡ true)
-      (ap₂ square (ap (λ (t : Square). t.file) there ∙ sym s) (same_rank a b)) f))
+  straight_alone (advances s a e) (passes h b f g) file = grind (arith, common_steps, not_both, has_piece, other, square, same_rank)
   straight_alone (advances s a e) (advances t b f) file = ap₂ square (file_of_target t s) (same_rank a b)
   straight_alone (advances s a e) (doubles t b c f g) file = absurd (over p n m (sym there) a t b c f pawn_m s)
   straight_alone (doubles s a b e f) (takes h c g) file = absurd (not_empty g f)

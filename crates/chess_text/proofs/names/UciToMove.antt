@@ -1,11 +1,6 @@
 -- A text in UCI, and the one move whose text it is.
-use Rattle.std.specs.Prelude.{IfOk}
-use Rattle.chess_text.proofs.Words.{◌≡◌, ◌≢◌, ℕ, ◌+◌, Bool, true, false, List, [], ◌∷◌, ◌++◌, inl, inr, refl, sym, ◌∙◌, ap, ap₂, subst, arith, Option, None, Some, Result, Ok, Err, find, bytes_eq, list_all, Contains, bytes_eq-Decides, false≢true, and_parts, and_from, ok_or, is_some, Promotion, Move, Parts, Square, square, squares, on_board, every_promotion, legal, is_legal, Played, with_next, square_text, file_of, rank_of, square_of, nat_tests, same_Some}
+use Rattle.chess_text.proofs.Words.{◌≡◌, ◌≢◌, ℕ, ◌+◌, Bool, true, false, List, [], ◌∷◌, ◌++◌, inl, inr, refl, sym, ◌∙◌, ap, ap₂, subst, arith, Option, None, Some, Result, Ok, Err, find, bytes_eq, list_all, Contains, bytes_eq-Decides, false≢true, and_parts, and_from, ok_or, is_some, Promotion, Move, Parts, Square, square, squares, on_board, every_promotion, legal, is_legal, Played, with_next, square_text, file_of, rank_of, square_of, nat_tests, same_Some, common_steps, IfOk, is_on_board, uci_promotion, uci, square_named, promotion_named, move_if, move_with_text, if_legal, move_of_uci, UciIsExact, WrittenUciIsRead, UciTextsDiffer, UciFault, NotAMove, IllegalMove}
 use Rattle.chess_rules.specs.declared.piece.Promotion.TheVariants.{Queen, Rook, Bishop, Knight}
-use Rattle.chess_rules.specs.Step.{is_on_board}
-use Rattle.chess_text.specs.Uci.{uci_promotion, uci, square_named, promotion_named, move_if, move_with_text, if_legal, move_of_uci, UciIsExact, WrittenUciIsRead, UciTextsDiffer}
-use Rattle.chess_text.specs.declared.uci.UciFault.{UciFault}
-use Rattle.chess_text.specs.declared.uci.UciFault.TheVariants.{NotAMove, IllegalMove}
 use Rattle.chess_text.proofs.forms.AgreeingAreFound.{in_squares}
 use Rattle.chess_text.proofs.forms.CastlingMoves.{stepped}
 use Rattle.chess_text.proofs.forms.FormToSpelling.{found, target_spelled}
@@ -44,10 +39,7 @@ unfolding squares
 all_on_board = refl
 
 square_text_once : (s t : Square) → square_text s ≡ square_text t → s ≡ t
-square_text_once s t h =
-    let file : 97 + s.file ≡ 97 + t.file = cc in
-    let rank : 49 + s.rank ≡ 49 + t.rank = cc in
-    ap₂ square (omega arith) (omega arith)
+square_text_once s t h = grind (arith, common_steps, square)
 
 square_read : (s : Square) → on_board s ≡ true → square_named (97 + s.file) (49 + s.rank) ≡ Some s
 square_read s on =
@@ -56,11 +48,7 @@ square_read s on =
     (λ t e. square_text_once t s (same_bytes (square_text t) (square_text s) e))
 
 square_spelled : (a b : ℕ) (s : Square) → square_named a b ≡ Some s → (a ∷ b ∷ [] ≡ square_text s) × (on_board s ≡ true)
-square_spelled a b s h =
-    let test : Square → Bool = λ t. bytes_eq (square_text t) (a ∷ b ∷ []) in (
-      sym (same_bytes (square_text s) (a ∷ b ∷ []) (found test squares s h)),
-      found_among test on_board squares s all_on_board h,
-    )
+square_spelled a b s h = grind (arith, common_steps, bytes_eq, square_text, same_bytes, found, squares, found_among, on_board, all_on_board)
 
 square_in_form : (s : Square) → on_board s ≡ true → square_of (file_of (97 + s.file)) (rank_of (49 + s.rank)) ≡ Some s
 square_in_form s on = grind (arith, nat_tests)
@@ -102,9 +90,7 @@ promotion_spelled s q h = sym (same_bytes (uci_promotion q) s (found (λ x. byte
 -- The move.
 
 move_read : (m : Move) → is_on_board m ≡ true → move_with_text (uci m) ≡ Some m
-move_read m on =
-    let both = and_parts (on_board m.from) (on_board m.to) on in
-    cc (square_read m.from both.0, square_read m.to both.1, promotion_read m.promotion)
+move_read m on = grind (arith, common_steps, and_parts, on_board, square_read, promotion_read)
 
 move_spelled : (s : List ℕ) (m : Move) → move_with_text s ≡ Some m → (s ≡ uci m) × (is_on_board m ≡ true)
 move_spelled (a ∷ b ∷ c ∷ d ∷ s) m h = by_parts _ _ _ refl refl refl h
@@ -122,20 +108,20 @@ move_spelled s m h = cc
 -- The answer.
 
 -- the move of an answer is legal, and leads to its position
-pub answer_is_legal : (p : Parts) (m : Move) (r : Result Played UciFault) → r ≡ if_legal p (Some m)
-    → IfOk r (λ x. legal p x.mv ≡ Some x.next)
-answer_is_legal p m r is = rw is (by_next _ refl)
-  where
-    by_next : (o : Option Parts) → legal p m ≡ o → IfOk (ok_or (with_next m o) IllegalMove) (λ x. legal p x.mv ≡ Some x.next)
-    by_next None e = tt
-    by_next (Some q) e = e
+module _ (p : Parts) (m : Move) where
+  pub answer_is_legal : (r : Result Played UciFault) → r ≡ if_legal p (Some m) → IfOk r (λ x. legal p x.mv ≡ Some x.next)
+  answer_is_legal r is = rw is (by_next _ refl)
+    where
+      by_next : (o : Option Parts) → legal p m ≡ o → IfOk (ok_or (with_next m o) IllegalMove) (λ x. legal p x.mv ≡ Some x.next)
+      by_next None e = tt
+      by_next (Some q) e = e
 
--- the answer for a move of the board, by its text
-answer_of_text : (p : Parts) (m : Move) → is_on_board m ≡ true → move_of_uci p (uci m) ≡ if_legal p (Some m)
-answer_of_text p m on = ap (if_legal p) (move_read m on)
+  -- the answer for a move of the board, by its text
+  answer_of_text : is_on_board m ≡ true → move_of_uci p (uci m) ≡ if_legal p (Some m)
+  answer_of_text on = ap (if_legal p) (move_read m on)
 
-legal_on_board : (p : Parts) (m : Move) → is_legal p m ≡ true → is_on_board m ≡ true
-legal_on_board p m h = let st = stepped p m h in and_from _ _ st.from_on st.to_on
+  legal_on_board : is_legal p m ≡ true → is_on_board m ≡ true
+  legal_on_board h = let st = stepped p m h in and_from _ _ st.from_on st.to_on
 
 pub written_uci_is_read : WrittenUciIsRead
 written_uci_is_read p q m next =
@@ -148,17 +134,18 @@ uci_texts_differ p m n legal_m legal_n apart same =
     ))
 
 -- what an answer for a move says of the position after it
-played_next : (m : Move) (o : Option Parts) (x : Played) → ok_or (with_next m o) IllegalMove ≡ Ok x → (m ≡ x.mv) × (o ≡ Some x.next)
-played_next m o x h = grind arith
+module _ (m : Move) (o : Option Parts) where
+  played_next : (x : Played) → ok_or (with_next m o) IllegalMove ≡ Ok x → (m ≡ x.mv) × (o ≡ Some x.next)
+  played_next x h = grind arith
 
-illegal_next : (m : Move) (o : Option Parts) → ok_or (with_next m o) IllegalMove ≡ Err IllegalMove → is_some o ≡ false
-illegal_next m o h = grind arith
+  illegal_next : ok_or (with_next m o) IllegalMove ≡ Err IllegalMove → is_some o ≡ false
+  illegal_next h = grind arith
 
-no_next : (m : Move) (o : Option Parts) → is_some o ≡ false → ok_or (with_next m o) IllegalMove ≡ Err IllegalMove
-no_next m o h = grind arith
+  no_next : is_some o ≡ false → ok_or (with_next m o) IllegalMove ≡ Err IllegalMove
+  no_next h = grind arith
 
-a_move_is_named : (m : Move) (o : Option Parts) → ok_or (with_next m o) IllegalMove ≡ Err NotAMove → ⊥
-a_move_is_named m o h = grind arith
+  a_move_is_named : ok_or (with_next m o) IllegalMove ≡ Err NotAMove → ⊥
+  a_move_is_named h = grind arith
 
 -- the text is that of the move
 record Named (s : List ℕ) (m : Move) : Type 0 where

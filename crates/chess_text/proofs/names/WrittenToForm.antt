@@ -1,6 +1,6 @@
 -- The form that the text of a legal move spells.
-use Rattle.chess_text.proofs.Words.{◌||◌, ◌≡◌, ℕ, inl, inr, Bool, true, false, not, [], ◌∷◌, ◌++◌, append-nil, refl, sym, ◌∙◌, ap, ap₂, ◌==◌, Option, None, Some, codes, if◌then◌else◌, list_all, list_any, false≢true, and_parts, and_from, or_cases, eq-eqb, Kind, King, Pawn, Piece, Promotion, Move, Parts, Square, on_board, at, has_colour, same_kind, own, castles_short, castles_long, short_right, long_right, short_wing, long_wing, legal, is_legal, Form, Castle, Man, letter, file_letter, rank_digit, square_text, SpellsBare, Spells, is_among, letter_texts, hint_text, capture_texts, promotion_texts, is_mark, is_form, hints_fit, is_castling, describes, agrees, is_capture, capture_if, capture_text, pawn_capture, promotion_text, king_text, disambiguated_text, kind_text, mark, san, disambiguation_by, rivals, on_file, on_rank, has_rivals, false_from_ne_true, arith, nat_tests}
-use Rattle.chess_text.proofs.forms.CastlingMoves.{piece_goes, pawn_goes, pawn_passes, king_castles, Stepped, stepped, castles_ends, castling_goes_far}
+use Rattle.chess_text.proofs.Words.{◌||◌, ◌≡◌, ℕ, inl, inr, Bool, true, false, not, [], ◌∷◌, ◌++◌, append-nil, refl, sym, ◌∙◌, ap, ap₂, ◌==◌, Option, None, Some, codes, if◌then◌else◌, list_all, list_any, false≢true, and_parts, and_from, or_cases, eq-eqb, Kind, King, Pawn, Piece, Promotion, Move, Parts, Square, on_board, at, has_colour, same_kind, own, castles_short, castles_long, short_right, long_right, short_wing, long_wing, legal, is_legal, Form, Castle, Man, letter, file_letter, rank_digit, square_text, SpellsBare, Spells, is_among, letter_texts, hint_text, capture_texts, promotion_texts, is_mark, is_form, hints_fit, is_castling, describes, agrees, is_capture, capture_if, capture_text, pawn_capture, promotion_text, king_text, disambiguated_text, kind_text, mark, san, disambiguation_by, rivals, on_file, on_rank, has_rivals, false_from_ne_true, arith, nat_tests, rules, common_steps}
+use Rattle.chess_text.proofs.forms.CastlingMoves.{piece_goes, pawn_goes, pawn_passes, king_castles, stepped, castles_ends, castling_goes_far}
 use Rattle.chess_text.proofs.forms.PieceForms.{same_square-refl, same_promotion-refl}
 use Rattle.chess_text.proofs.forms.MoverOfMove.{king_text_by, mover, mover_colour, other_kind}
 use Rattle.chess_text.proofs.forms.AgreeingAreFound.{no_promotion}
@@ -78,10 +78,7 @@ kind_spelled k p m = disambiguated_spelled k p m refl
 
 pub marks_alone : (o : Option Parts) → list_all is_mark (mark o) ≡ true
 marks_alone None = refl
-marks_alone (Some q) = by_tests _ _
-  where
-    by_tests : (a b : Bool) → list_all is_mark (if a then codes "#" else if b then codes "+" else []) ≡ true
-    by_tests a b = grind arith
+marks_alone (Some q) = grind (arith, common_steps, list_all, is_mark, codes)
 
 -- the piece that moves
 pub record Moved (p : Parts) (m : Move) : Type 0 where
@@ -97,14 +94,7 @@ moved p m h = by_cell _ refl (mover_colour p m h)
     by_cell (Some x) e g = record { piece = x; there = e; stands = mover p m x h e }
 
 pub san_spelled : (p : Parts) (m : Move) (v : Moved p m) → Spells (san p m) (written v.piece.kind p m)
-san_spelled p m v =
-    record {
-      bare = kind_text _ p m;
-      marks = mark (legal p m);
-      joined = cc;
-      spells_bare = kind_spelled _ p m;
-      marks_alone = marks_alone _;
-    }
+san_spelled p m v = grind (arith, common_steps, kind_text, mark, legal, kind_spelled, marks_alone)
 
 -- It is a form.
 
@@ -119,44 +109,34 @@ pawn_good : (b : Bool) (m : Move) → on_board m.from ≡ true → on_board m.to
 pawn_good b m h g = grind arith
 
 pub good_form : (k : Kind) (p : Parts) (m : Move) → is_legal p m ≡ true → is_form (written k p m) ≡ true
-good_form k p m h = by_kind k (stepped p m h)
-  where
-    by_kind : (k : Kind) → Stepped p m → is_form (written k p m) ≡ true
-    by_kind King s = king_good _ _ m s.to_on
-    by_kind Pawn s = pawn_good _ m s.from_on s.to_on
-    by_kind k s =
-        hinted_good k m (list_any (λ r. true) (rivals p k m)) (on_file m.from (rivals p k m)) (on_rank m.from (rivals p k m)) s.from_on s.to_on
+good_form k p m h = search (rules, stepped, is_form, king_good, pawn_good, hinted_good, list_any, rivals, on_file, on_rank)
 
 -- The move agrees with it.
 
-pub no_castling : (p : Parts) (m : Move) (k : Kind) → own p k m.from ≡ true → same_kind King k ≡ false → is_castling p m ≡ false
-no_castling p m k h apart =
-    false_from_ne_true _
-    (λ g. false≢true (sym (other_kind _ King k _ (and_parts _ _ (castling_goes_far p m g)).0 apart) ∙ h))
+module _ (p : Parts) (m : Move) (k : Kind) where
+  pub no_castling : own p k m.from ≡ true → same_kind King k ≡ false → is_castling p m ≡ false
+  no_castling h apart = search (rules, false_from_ne_true, false≢true, other_kind, and_parts, castling_goes_far)
 
--- only a pawn is promoted
-pub unpromoted : (p : Parts) (m : Move) (k : Kind) → is_legal p m ≡ true
-    → own p k m.from ≡ true → same_kind k Pawn ≡ false → m.promotion ≡ None
-unpromoted p m k h stands apart =
-    no_promotion _
-    (elim (stepped p m h).way [
-      | piece_goes a b plain c ↦ plain
-      | pawn_goes g way ↦ absurd (no_pawn g)
-      | pawn_passes g way ↦ absurd (no_pawn g)
-      | king_castles g ↦ elim (or_cases (castles_short p m) (castles_long p m) g) [
-        | inl short ↦ (castles_ends p m (short_right p.side p.rights) short_wing short).2
-        | inr long ↦ (castles_ends p m (long_right p.side p.rights) long_wing long).2
-      ]
-    ])
-  where
-    no_pawn : own p Pawn m.from ≡ true → ⊥
-    no_pawn g = false≢true (sym (other_kind _ k Pawn _ stands apart) ∙ g)
+  -- only a pawn is promoted
+  pub unpromoted : is_legal p m ≡ true → own p k m.from ≡ true → same_kind k Pawn ≡ false → m.promotion ≡ None
+  unpromoted h stands apart =
+      no_promotion _
+      (elim (stepped p m h).way [
+        | piece_goes a b plain c ↦ plain
+        | pawn_goes g way ↦ absurd (no_pawn g)
+        | pawn_passes g way ↦ absurd (no_pawn g)
+        | king_castles g ↦ elim (or_cases (castles_short p m) (castles_long p m) g) [
+          | inl short ↦ (castles_ends p m (short_right p.side p.rights) short_wing short).2
+          | inr long ↦ (castles_ends p m (long_right p.side p.rights) long_wing long).2
+        ]
+      ])
+    where
+      no_pawn : own p Pawn m.from ≡ true → ⊥
+      no_pawn g = false≢true (sym (other_kind _ k Pawn _ stands apart) ∙ g)
 
-pub piece_move_described : (p : Parts) (m : Move) (k : Kind) (file rank : Option ℕ) (promotion : Option Promotion)
-    → own p k m.from ≡ true → hints_fit file rank m.from ≡ true → m.promotion ≡ promotion → is_castling p m ≡ false
-    → describes p (Man k file rank m.to promotion) m ≡ true
-piece_move_described p m k file rank promotion stands hints becomes plain =
-    rw (stands, hints, same_square-refl m.to, ← becomes, same_promotion-refl m.promotion, plain) refl
+  pub piece_move_described : (file rank : Option ℕ) (promotion : Option Promotion) → own p k m.from ≡ true → hints_fit file rank m.from ≡ true → m.promotion ≡ promotion → is_castling p m ≡ false → describes p (Man k file rank m.to promotion) m ≡ true
+  piece_move_described file rank promotion stands hints becomes plain =
+      rw (stands, hints, same_square-refl m.to, ← becomes, same_promotion-refl m.promotion, plain) refl
 
 pub itself : (n : ℕ) → (n == n) ≡ true
 itself n = eq-eqb n n refl
@@ -181,14 +161,7 @@ pawn_described p m false stands = piece_move_described p m Pawn None None _ stan
 disambiguated_described : (p : Parts) (m : Move) (k : Kind) → is_legal p m ≡ true → own p k m.from ≡ true
     → same_kind k Pawn ≡ false → same_kind King k ≡ false → describes p (disambiguated_form k p m) m ≡ true
 disambiguated_described p m k h stands a b =
-    let others = rivals p k m in
-    piece_move_described p m k _ _ None stands (own_hints _ (list_any (λ r. true) others) (on_file m.from others) (on_rank m.from others))
-    (unpromoted p m k h stands a) (no_castling p m k stands b)
+    grind (arith, common_steps, rivals, piece_move_described, own_hints, list_any, on_file, on_rank, unpromoted, no_castling)
 
 pub written_agrees : (k : Kind) (p : Parts) (m : Move) → is_legal p m ≡ true → own p k m.from ≡ true → agrees p (written k p m) m ≡ true
-written_agrees k p m h stands = and_from _ _ h (by_kind k stands)
-  where
-    by_kind : (k : Kind) → own p k m.from ≡ true → describes p (written k p m) m ≡ true
-    by_kind King s = king_described p m h s
-    by_kind Pawn s = pawn_described p m _ s
-    by_kind k s = disambiguated_described p m k h s refl refl
+written_agrees k p m h stands = search (rules, and_from, own, describes, king_described, pawn_described, disambiguated_described)

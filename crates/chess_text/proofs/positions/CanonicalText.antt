@@ -1,8 +1,6 @@
 -- The canonical text of a position spells it.
-use Rattle.std.proofs.lemmas.Bool.{leb-true}
-use Rattle.chess_text.proofs.Words.{◌≡◌, ℕ, zero, suc, ◌+◌, ◌-◌, ◌*◌, ◌^◌, ◌<◌, ◌≤◌, ◌==◌, nat_le, Bool, true, false, not, ◌&&◌, List, [], ◌∷◌, ◌++◌, length, get_or, drop, reverse, replicate, drop-cons, add-one, append_assoc, append-nil, refl, sym, ◌∙◌, ap, ap₂, arith, rules, None, Some, decimal, flat_map, map, fold, is_none, if◌then◌else◌, list_all, eqb-true, nat_tests, replicate_more, drop_all, flat_map-append, list_all-append, decimal_nonempty, digits_decimal, digits_value-decimal, IsNumeralModel, numerals_by_fold, White, Black, Kind, King, Colour, Piece, Parts, Kings, PawnOnEdge, KingCapturable, TargetRank, NumberRange, lines, Board, other, king_attacked, is_position, one_king, pawn_on_edge, target_fits, piece_letter, is_run, is_item, is_rank, cells_at, cells_of, run_text, rank_text, row, placement_text, is_digit, value, SpellsBoard, SpellsNumber, Fen, fen_text, length-append, join_with_byte, and_parts, length-decimal-le, append_cancel_left, reverse-append, reverse-reverse, length-reverse, map-append, digits_value_short, side_text, rights_text, target_text}
+use Rattle.chess_text.proofs.Words.{◌≡◌, ℕ, zero, suc, ◌+◌, ◌-◌, ◌*◌, ◌<◌, ◌≤◌, ◌==◌, nat_le, Bool, true, false, not, ◌&&◌, List, [], ◌∷◌, ◌++◌, length, get_or, drop, reverse, replicate, drop-cons, add-one, append_assoc, append-nil, refl, sym, ◌∙◌, ap, arith, rules, None, Some, decimal, flat_map, map, fold, is_none, if◌then◌else◌, list_all, eqb-true, nat_tests, replicate_more, drop_all, flat_map-append, list_all-append, decimal_nonempty, digits_decimal, digits_value-decimal, IsNumeralModel, numerals_by_fold, White, Black, Kind, King, Colour, Piece, Parts, Kings, PawnOnEdge, KingCapturable, TargetRank, NumberRange, lines, Board, other, king_attacked, is_position, one_king, pawn_on_edge, target_fits, piece_letter, is_run, is_item, is_rank, cells_at, cells_of, run_text, rank_text, row, placement_text, is_digit, value, SpellsBoard, SpellsNumber, Fen, fen_text, length-append, join_with_byte, and_parts, length-decimal-le, append_cancel_left, reverse-append, reverse-reverse, length-reverse, map-append, digits_value_short, side_text, rights_text, target_text, common_steps, leb-true, take-append_seam}
 use Rattle.chess_text.proofs.positions.FieldsOfText.{length-number, first_of_two, second_of_two}
-use Rattle.std.proofs.Math.Seq.{take-append_seam}
 use Rattle.chess_text.proofs.positions.BoardToText.{run_is_short}
 use Rattle.chess_text.proofs.positions.ReadingToSpelling.{some_digit}
 
@@ -38,9 +36,7 @@ record RankStands (n : ℕ) (cells : Board) : Type 0 where
   spelled : cells_of (rank_text n cells) ≡ replicate n None ++ cells
 
 rank_stands : (n : ℕ) (cells : Board) → n + length cells ≤ 8 → RankStands n cells
-rank_stands n [] h =
-    let run = run_stands n (omega arith) in
-    record { items = run.items; spelled = run.cells ∙ sym (append-nil _) }
+rank_stands n [] h = grind (arith, common_steps, run_stands, append-nil)
 rank_stands n (None ∷ cells) h =
     let more = rank_stands _ cells (omega arith) in
     record {
@@ -57,10 +53,7 @@ pub rank_spelled : (cells : Board) → length cells ≡ 8 → cells_of (rank_tex
 rank_spelled cells h = (rank_stands 0 cells (omega arith)).spelled
 
 rank_good : (cells : Board) → length cells ≡ 8 → is_rank (rank_text 0 cells) ≡ true
-rank_good cells h =
-    let stands = rank_stands 0 cells (omega arith) in
-    let eight : length (cells_of (rank_text 0 cells)) ≡ 8 = cc in
-    cc
+rank_good cells h = grind (arith, common_steps, rank_stands, cells_of, rank_text)
 
 -- A board: its rows one after another.
 
@@ -104,11 +97,7 @@ in_range n h g = grind (arith, nat_tests)
 
 number_spelled : (n : ℕ) → n ≤ 99999 → SpellsNumber (decimal n) n
 number_spelled n h =
-    let fits : n < 2 ^ 64 = omega arith in
-    record {
-      digits_alone = ap₂ ◌&&◌ (digits_decimal numerals n fits) (in_range (length (decimal n)) (decimal_nonempty n fits) (length-number n h));
-      number = sym (digits_value-decimal numerals n fits);
-    }
+    grind (arith, common_steps, ◌&&◌, digits_decimal, numerals, in_range, decimal, decimal_nonempty, length-number, digits_value-decimal)
 
 -- The whole.
 
@@ -117,33 +106,21 @@ fourth_and_fifth : (a b c d e : Bool) → is_none (if not a then Some Kings else
     → (d ≡ true) × (e ≡ true)
 fourth_and_fifth a b c d e h = grind arith
 
-pub last_rules : (p : Parts) → is_position p ≡ true
-    → (target_fits p.side p.target ≡ true) × ((nat_le p.half 99999 && nat_le p.full 99999) ≡ true)
-last_rules p h =
-    fourth_and_fifth (one_king p.board White && one_king p.board Black) (pawn_on_edge p.board)
-    (king_attacked p.board (other _)) _ _ (second_of_two (length p.board == 64) _ h)
+module _ (p : Parts) where
+  pub last_rules : is_position p ≡ true → (target_fits p.side p.target ≡ true) × ((nat_le p.half 99999 && nat_le p.full 99999) ≡ true)
+  last_rules h = grind (arith, common_steps, fourth_and_fifth, one_king, pawn_on_edge, king_attacked, other, second_of_two)
 
-pub half_low : (p : Parts) → is_position p ≡ true → p.half ≤ 99999
-half_low p h = leb-true _ 99999 (first_of_two _ (nat_le _ 99999) (last_rules p h).1)
+  pub half_low : is_position p ≡ true → p.half ≤ 99999
+  half_low h = leb-true _ 99999 (first_of_two _ (nat_le _ 99999) (last_rules h).1)
 
-pub full_low : (p : Parts) → is_position p ≡ true → p.full ≤ 99999
-full_low p h = leb-true _ 99999 (second_of_two (nat_le _ 99999) _ (last_rules p h).1)
+  pub full_low : is_position p ≡ true → p.full ≤ 99999
+  full_low h = leb-true _ 99999 (second_of_two (nat_le _ 99999) _ (last_rules h).1)
 
-pub long_board : (p : Parts) → is_position p ≡ true → length p.board ≡ 64
-long_board p h = eqb-true _ 64 (first_of_two _ _ h)
+  pub long_board : is_position p ≡ true → length p.board ≡ 64
+  long_board h = eqb-true _ 64 (first_of_two _ _ h)
 
-pub canonical_spells : (p : Parts) → is_position p ≡ true → Fen (fen_text p) p
-canonical_spells p h =
-    record {
-      board = placement_text p.board;
-      half = decimal _;
-      full = decimal _;
-      joined = refl;
-      spells_board = board_spelled _ (long_board p h);
-      spells_half = number_spelled _ (half_low p h);
-      spells_full = number_spelled _ (full_low p h);
-      position = h;
-    }
+  pub canonical_spells : is_position p ≡ true → Fen (fen_text p) p
+  canonical_spells h = search (rules, placement_text, decimal, board_spelled, long_board, number_spelled, half_low, full_low)
 
 -- No text of a position is shorter than the canonical one.
 
@@ -229,14 +206,7 @@ board_is_short s b spells long =
 -- A number, and the whole.
 
 number_is_short : (s : List ℕ) (n : ℕ) → SpellsNumber s n → length (decimal n) ≤ length s
-number_is_short s n spells =
-    let both = and_parts (list_all is_digit s) _ spells.digits_alone in
-    let some = some_digit s n spells in
-    let five : length s ≤ 5 = grind (arith, nat_tests) in
-    let below = digits_value_short numerals s (length s) both.0 (omega arith) in
-    let small = digits_value_short numerals s 5 both.0 five in
-    let number = spells.number in
-    length-decimal-le _ n some (rw number below) (omega arith)
+number_is_short s n spells = search (rules, and_parts, list_all, is_digit, some_digit, nat_tests, digits_value_short, numerals, length-decimal-le)
 
 length_six : (a b c d e f : List ℕ)
     → length (join_with_byte 32 (a ∷ b ∷ c ∷ d ∷ e ∷ f ∷ [])) ≡ length a + length b + length c + length d + length e + length f + 5

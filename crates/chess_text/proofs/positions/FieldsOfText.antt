@@ -1,6 +1,5 @@
 -- The fields of a text, which stand between its spaces.
-use Rattle.std.proofs.Math.Seq.{take-append_seam, drop-append-add}
-use Rattle.chess_text.proofs.Words.{◌≡◌, ℕ, Bool, true, not, ◌&&◌, List, [], ◌∷◌, ◌++◌, length, refl, arith, list_all, before_first, after_first, position_or_len, join_with_byte, is_space, rest, field, ◌≤◌, append_assoc, ◌∙◌, ap, length-append, Option, decimal, length-decimal-le, Colour, Rights, Parts, Square, placement_text, side_text, rights_text, or_dash, right_letter, target_text, fen_text}
+use Rattle.chess_text.proofs.Words.{◌≡◌, ℕ, Bool, true, not, ◌&&◌, List, [], ◌∷◌, ◌++◌, length, refl, arith, list_all, before_first, after_first, position_or_len, join_with_byte, is_space, rest, field, ◌≤◌, append_assoc, ap, length-append, Option, decimal, length-decimal-le, Colour, Rights, Parts, Square, placement_text, side_text, rights_text, or_dash, right_letter, target_text, fen_text, common_steps, take-append_seam, drop-append-add}
 use Rattle.chess_text.proofs.positions.BoardToText.{length-placement_text}
 
 -- no byte of the text passes
@@ -21,13 +20,12 @@ position_past p (x ∷ t) y r h e =
     let more = position_past p t y r (second_of_two (not (p x)) (lacks p t) h) e in
     rw passed (omega arith)
 
-pub before_it : (p : ℕ → Bool) (t : List ℕ) (y : ℕ) (r : List ℕ)
-    → lacks p t ≡ true → p y ≡ true → before_first p (t ++ y ∷ r) ≡ t
-before_it p t y r h e = cc (position_past p t y r h e, take-append_seam t (y ∷ r))
+module _ (p : ℕ → Bool) (t : List ℕ) (y : ℕ) (r : List ℕ) where
+  pub before_it : lacks p t ≡ true → p y ≡ true → before_first p (t ++ y ∷ r) ≡ t
+  before_it h e = cc (position_past p t y r h e, take-append_seam t (y ∷ r))
 
-pub after_it : (p : ℕ → Bool) (t : List ℕ) (y : ℕ) (r : List ℕ)
-    → lacks p t ≡ true → p y ≡ true → after_first p (t ++ y ∷ r) ≡ r
-after_it p t y r h e = cc (position_past p t y r h e, drop-append-add t (y ∷ r) 1)
+  pub after_it : lacks p t ≡ true → p y ≡ true → after_first p (t ++ y ∷ r) ≡ r
+  after_it h e = cc (position_past p t y r h e, drop-append-add t (y ∷ r) 1)
 
 -- the six fields of six texts that are joined
 pub record SixFields (s a b c d e f : List ℕ) : Type 0 where
@@ -41,24 +39,7 @@ pub record SixFields (s a b c d e f : List ℕ) : Type 0 where
 pub six_fields : (a b c d e f : List ℕ) → lacks is_space a ≡ true
     → lacks is_space b ≡ true → lacks is_space c ≡ true → lacks is_space d ≡ true
     → lacks is_space e ≡ true → SixFields (join_with_byte 32 (a ∷ b ∷ c ∷ d ∷ e ∷ f ∷ [])) a b c d e f
-six_fields a b c d e f ha hb hc hd he =
-    let s1 = b ++ 32 ∷ (c ++ 32 ∷ (d ++ 32 ∷ (e ++ 32 ∷ f))) in
-    let s2 = c ++ 32 ∷ (d ++ 32 ∷ (e ++ 32 ∷ f)) in
-    let s3 = d ++ 32 ∷ (e ++ 32 ∷ f) in
-    let s4 = e ++ 32 ∷ f in
-    let s0 = a ++ 32 ∷ s1 in
-    let r1 = after_it _ a 32 s1 ha refl in
-    let r2 : rest 2 s0 ≡ s2 = cc (after_it is_space b 32 s2 hb refl) in
-    let r3 : rest 3 s0 ≡ s3 = cc (after_it is_space c 32 s3 hc refl) in
-    let r4 : rest 4 s0 ≡ s4 = cc (after_it is_space d 32 s4 hd refl) in
-    record {
-      first = before_it _ a 32 s1 ha refl;
-      second = cc (before_it _ b 32 s2 hb refl);
-      third = cc (before_it _ c 32 s3 hc refl);
-      fourth = cc (before_it _ d 32 s4 hd refl);
-      fifth = cc (before_it _ e 32 f he refl);
-      sixth = cc (after_it _ e 32 f he refl);
-    }
+six_fields a b c d e f ha hb hc hd he = grind (arith, common_steps, after_it, rest, is_space, before_it)
 
 -- The six fields of the canonical text, one after another, and how long they are.
 
@@ -75,16 +56,7 @@ length-or_dash : (s : List ℕ) → length s ≤ 4 → length (or_dash s) ≤ 4
 length-or_dash s h = grind arith
 
 length-rights_text : (r : Rights) → length (rights_text r) ≤ 4
-length-rights_text r =
-    length-or_dash _
-    (omega (
-      arith,
-      length-append {A = ℕ},
-      length-held r.white_short 75,
-      length-held r.white_long 81,
-      length-held r.black_short 107,
-      length-held r.black_long 113,
-    ))
+length-rights_text r = grind (arith, common_steps, length-or_dash, length-append, length-held)
 
 pub length-number : (n : ℕ) → n ≤ 99999 → length (decimal n) ≤ 5
 length-number n h = length-decimal-le 5 n (omega arith) (omega arith) (omega arith)
@@ -103,24 +75,11 @@ five_written p board side rights target half e f g h i =
 
 pub length-five : (p : Parts) (text : List ℕ) → FiveWritten p text → p.half ≤ 99999 → length text ≤ 87
 length-five p text five h =
-    omega (
-      arith,
-      ap length five.whole,
-      length-append {A = ℕ},
-      length-placement_text p.board,
-      length-side_text p.side,
-      length-rights_text p.rights,
-      length-target_text p.target,
-      length-number _ h,
-    )
+    grind (arith, common_steps, length-append, length-placement_text, length-side_text, length-rights_text, length-target_text, length-number)
 
 six_joined : (a b c d e f : List ℕ)
     → a ++ 32 ∷ b ++ 32 ∷ c ++ 32 ∷ d ++ 32 ∷ e ++ 32 ∷ f ≡ join_with_byte 32 (a ∷ b ∷ c ∷ d ∷ e ∷ f ∷ [])
-six_joined a b c d e f =
-    append_assoc (a ++ 32 ∷ b ++ 32 ∷ c ++ 32 ∷ d) (32 ∷ e) (32 ∷ f)
-    ∙ append_assoc (a ++ 32 ∷ b ++ 32 ∷ c) (32 ∷ d) (32 ∷ (e ++ 32 ∷ f))
-    ∙ append_assoc (a ++ 32 ∷ b) (32 ∷ c) (32 ∷ (d ++ 32 ∷ (e ++ 32 ∷ f)))
-    ∙ append_assoc a (32 ∷ b) (32 ∷ (c ++ 32 ∷ (d ++ 32 ∷ (e ++ 32 ∷ f))))
+six_joined a b c d e f = grind (arith, common_steps, append_assoc)
 
 pub six_written : (p : Parts) (text : List ℕ) → FiveWritten p text → text ++ 32 ∷ decimal p.full ≡ fen_text p
 six_written p text five = cc (six_joined _ _ _ _ _ _)

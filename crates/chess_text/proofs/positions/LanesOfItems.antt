@@ -1,11 +1,9 @@
 -- The lanes of a rank that is read item by item, and the ranks that are read.
-use Rattle.std.proofs.Common.{◌^◌, pow-suc, zero, suc, ◌≡◌, ℕ, ◌+◌, ◌<◌, List, [], ◌∷◌, ap, ◌∙◌, arith, get_or, map}
 use Rattle.std.proofs.Math.Pow.{pow_mono}
-use Rattle.std.proofs.lemmas.List.{length-replicate, replicate-append-replicate, take_at}
 use Rattle.chess_rules.specs.Reach.{is_near}
 use Rattle.chess_rules.specs.Words.{diagonal_of, lanes_of, straight_of}
 unfoldable use Rattle.chess_rules.specs.Words.{lanes, word}
-use Rattle.chess_text.proofs.Words.{◌≡◌, ℕ, ◌+◌, ◌*◌, ◌<◌, ◌≤◌, Bool, false, List, [], ◌∷◌, ◌++◌, length, take, replicate, refl, sym, ◌∙◌, ap, ap₂, arith, append_assoc, length-append, None, Option, if◌then◌else◌, Board, Piece, Black, has_colour}
+use Rattle.chess_text.proofs.Words.{◌≡◌, ℕ, ◌+◌, ◌*◌, ◌<◌, ◌≤◌, Bool, false, List, [], ◌∷◌, ◌++◌, length, take, replicate, refl, sym, ◌∙◌, ap, ap₂, arith, append_assoc, length-append, None, Option, if◌then◌else◌, Board, Piece, Black, has_colour, common_steps, ◌^◌, pow-suc, zero, suc, get_or, map, length-replicate, replicate-append-replicate, take_at}
 
 pub lanes_nil : lanes [] ≡ 0
 unfolding lanes word
@@ -44,15 +42,7 @@ with_item test (y ∷ b) x none k h =
 
 pub lanes_with_item : (b : Board) (x : Option Piece) (k : ℕ) → lanes (b ++ (x ∷ replicate k None)) ≡ lanes b + lanes_of x * 2 ^ length b
 unfolding lanes
-lanes_with_item b x k =
-    parts (word straight_of (x ∷ [])) (word diagonal_of (x ∷ [])) (word is_near (x ∷ [])) (word (has_colour Black) (x ∷ []))
-    (word straight_of b) (word diagonal_of b) (word is_near b) (word (has_colour Black) b) (2 ^ length b) _ _ _ _
-    (with_item straight_of b x None k refl) (with_item diagonal_of b x None k refl) (with_item is_near b x None k refl) (with_item (has_colour Black) b x None k refl)
-  where
-    parts : (s d n c v w x y p vs wd xn yc : ℕ) → vs ≡ v + p * s → wd ≡ w + p * d → xn ≡ x + p * n → yc ≡ y + p * c
-        → vs + 256 * wd + 65536 * xn + 16777216 * yc
-        ≡ (v + 256 * w + 65536 * x + 16777216 * y) + (s + 256 * d + 65536 * n + 16777216 * c) * p
-    parts s d n c v w x y p vs wd xn yc e f g h = grind arith
+lanes_with_item b x k = grind (arith, common_steps, has_colour, with_item)
 
 -- Every rank goes up by one, where the lowest rank is empty.
 pub ranks_above : (b : Board) (k : ℕ) → length b + k ≡ 56 → take 56 (b ++ replicate (k + 8) None) ≡ b ++ replicate k None

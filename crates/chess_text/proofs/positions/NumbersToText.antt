@@ -1,8 +1,7 @@
 -- The numbers of a rank, written as its text.
-use Rattle.chess_text.proofs.Words.{Option, at, drop, row, square, subst, ◌≡◌, ℕ, zero, suc, ◌+◌, ◌-◌, ◌/◌, ◌<◌, ◌≤◌, List, [], ◌∷◌, ◌++◌, length, append_assoc, append-nil, ap, ap₂, sym, ◌∙◌, arith, length-append, Board, Piece, piece_letter, rank_text, run_text, ◌==◌, false, refl, None, Some, nat_tests, get_or, set, take, take_more_set}
-use Rattle.std.proofs.Common.{◌%◌, length-set}
+use Rattle.chess_text.proofs.Words.{Option, at, drop, row, square, subst, ◌≡◌, ℕ, zero, suc, ◌+◌, ◌-◌, ◌/◌, ◌<◌, ◌≤◌, List, [], ◌∷◌, ◌++◌, length, append_assoc, append-nil, ap, ap₂, sym, ◌∙◌, arith, length-append, Board, Piece, piece_letter, rank_text, run_text, ◌==◌, false, refl, None, Some, nat_tests, get_or, set, take, take_more_set, common_steps, ◌%◌, take-set}
+use Rattle.std.proofs.Common.{length-set}
 use Rattle.chess_rules.specs.RankNumbers.{number_of_piece, numbers, word_of_bytes}
-use Rattle.std.proofs.lemmas.List.{take-set}
 use Rattle.chess_text.proofs.positions.BoardToText.{drop-row}
 
 -- the bytes of the numbers
@@ -38,17 +37,19 @@ some_run n = let some : (n + 1 == 0) ≡ false = grind (arith, nat_tests) in rw 
 
 -- What the lowest byte is.
 
-piece_first : (word : ℕ) (x : Piece) (cells : Board) → word ≡ word_of_bytes (numbers 0 (Some x ∷ cells)) → word % 256 ≡ number_of_piece x
-piece_first word x cells h = omega (arith, h, piece_is_small x)
+module _ (word : ℕ) (x : Piece) (cells : Board) where
+  piece_first : word ≡ word_of_bytes (numbers 0 (Some x ∷ cells)) → word % 256 ≡ number_of_piece x
+  piece_first h = omega (arith, h, piece_is_small x)
 
-piece_rest : (word : ℕ) (x : Piece) (cells : Board) → word ≡ word_of_bytes (numbers 0 (Some x ∷ cells)) → word / 256 ≡ word_of_bytes (numbers 0 cells)
-piece_rest word x cells h = omega (arith, h, piece_is_small x)
+  piece_rest : word ≡ word_of_bytes (numbers 0 (Some x ∷ cells)) → word / 256 ≡ word_of_bytes (numbers 0 cells)
+  piece_rest h = omega (arith, h, piece_is_small x)
 
-run_first : (word n : ℕ) (cells : Board) → n < 8 → word ≡ word_of_bytes (numbers n (None ∷ cells)) → word % 256 ≡ 16 + n
-run_first word n cells low h = omega (arith, h)
+module _ (word n : ℕ) (cells : Board) where
+  run_first : n < 8 → word ≡ word_of_bytes (numbers n (None ∷ cells)) → word % 256 ≡ 16 + n
+  run_first low h = omega (arith, h)
 
-run_rest : (word n : ℕ) (cells : Board) → n < 8 → word ≡ word_of_bytes (numbers n (None ∷ cells)) → word / 256 ≡ word_of_bytes (numbers (n + 1) cells)
-run_rest word n cells low h = omega (arith, h)
+  run_rest : n < 8 → word ≡ word_of_bytes (numbers n (None ∷ cells)) → word / 256 ≡ word_of_bytes (numbers (n + 1) cells)
+  run_rest low h = omega (arith, h)
 
 -- One square more.
 
@@ -72,16 +73,7 @@ module _ (whole : List ℕ) (most : ℕ) (text : List ℕ) (end word : ℕ) (cel
   -- the digit of a run goes behind what is before the run
   end_of_run : (more byte : ℕ) (w : RankWritten whole most text end word (None ∷ cells)) → Step word more byte
       → end + more ≡ length w.before + 1
-  end_of_run more byte w s = by_run w.run refl
-    where
-      first : word % 256 ≡ 16 + w.run
-      first = run_first word w.run cells (omega (arith, w.short)) w.next
-
-      by_run : (n : ℕ) → w.run ≡ n → end + more ≡ length w.before + 1
-      by_run zero e =
-          let none : length (run_text w.run) ≡ 0 = ap (λ k. length (run_text k)) e in
-          omega (arith, w.place, none, s.adds (omega (arith, first, e)))
-      by_run (suc n) e = omega (arith, w.place, digit_long w.run (omega (arith, e)), s.stays (omega (arith, first, e)))
+  end_of_run more byte w s = grind (arith, common_steps, run_first, zero, run_text, suc, digit_long)
 
   empty_written : (more byte : ℕ) → most ≤ 72 → Step word more byte → RankWritten whole most text end word (None ∷ cells)
       → RankWritten whole most (set text (end + more - 1) byte) (end + more) (word / 256) cells

@@ -1,5 +1,5 @@
 -- A text that spells a position is read as that position.
-use Rattle.chess_text.proofs.Words.{◌≡◌, ℕ, ◌+◌, ◌-◌, ◌<◌, ◌==◌, nat_le, Bool, true, false, not, ◌&&◌, List, [], ◌∷◌, length, refl, sym, ◌∙◌, ap, ap₂, arith, Option, None, Some, Ok, list_all, join_with_byte, false≢true, false_from_ne_true, and_parts, is_target, eqb-true, nat_tests, list_all-append, onto_first, ◌++◌, slice_split, slice_split-cons_no, slice_split-cons_yes, length-slice_split, Colour, Rights, Parts, Square, square, Board, target_fits, ranks, is_slash, is_item, is_rank, is_placement, placement_of, side_text, side_of, rights_text, rights_of, target_text, target_of, is_digit, number_of, SpellsBoard, SpellsNumber, Fen, is_space, parts_or_fault, read, not-true}
+use Rattle.chess_text.proofs.Words.{◌≡◌, ℕ, ◌+◌, ◌-◌, ◌<◌, ◌==◌, nat_le, Bool, true, false, not, ◌&&◌, List, [], ◌∷◌, length, refl, sym, ◌∙◌, ap, ap₂, arith, Option, None, Some, Ok, list_all, join_with_byte, false≢true, false_from_ne_true, and_parts, is_target, eqb-true, nat_tests, list_all-append, onto_first, ◌++◌, slice_split, slice_split-cons_no, slice_split-cons_yes, length-slice_split, Colour, Rights, Parts, Square, square, Board, target_fits, ranks, is_slash, is_item, is_rank, is_placement, placement_of, side_text, side_of, rights_text, rights_of, target_text, target_of, is_digit, number_of, SpellsBoard, SpellsNumber, Fen, is_space, parts_or_fault, read, not-true, common_steps}
 use Rattle.chess_text.proofs.positions.CanonicalText.{last_rules}
 use Rattle.chess_text.proofs.positions.FieldsOfText.{lacks, first_of_two, six_fields}
 
@@ -59,11 +59,7 @@ eight_ranks [] e h = absurd (omega arith)
 eight_ranks (s ∷ ss) e h = joined_ranks s ss (ranks_lack 47 refl (s ∷ ss) h)
 
 pub board_read : (s : List ℕ) (b : Board) → SpellsBoard s b → placement_of s ≡ Some b
-board_read s b spells =
-    let same : ranks s ≡ spells.rank_texts = cc (eight_ranks spells.rank_texts spells.eight spells.each) in
-    let eight : length (ranks s) ≡ 8 = cc in
-    let good : is_placement s ≡ true = cc in
-    rw (good, same) (ap Some (sym spells.cells))
+board_read s b spells = grind (arith, common_steps, ranks, eight_ranks, is_placement)
 
 pub board_lacks : (s : List ℕ) (b : Board) → SpellsBoard s b → lacks is_space s ≡ true
 board_lacks s b spells = cc (joined_lacks spells.rank_texts (ranks_lack 32 refl spells.rank_texts spells.each))
@@ -97,10 +93,7 @@ target_read c (Some t) h = rw (text_fits c t h) (ap₂ (λ file rank. Some (Some
 
 target_lacks : (t : Option Square) → lacks is_space (target_text t) ≡ true
 target_lacks None = refl
-target_lacks (Some t) = cc (no_space t.file 97 (omega arith), no_space t.rank 49 (omega arith))
-  where
-    no_space : (n k : ℕ) → 32 < k → not (k + n == 32) ≡ true
-    no_space n k h = grind (arith, nat_tests)
+target_lacks (Some t) = grind (arith, common_steps, nat_tests)
 
 -- Fields 5 and 6.
 

@@ -1,11 +1,7 @@
 -- The board that a text spells, rank by rank from its first one.
-use Rattle.std.proofs.Common.{◌%◌}
-use Rattle.std.proofs.lemmas.List.{length-replicate}
 unfoldable use Rattle.chess_rules.specs.Words.{lanes}
 use Rattle.chess_text.proofs.positions.LanesOfItems.{lanes_fit, lanes_nil, lanes_with_item, ranks_above}
-use Rattle.chess_text.specs.Letter.{piece_of}
-use Rattle.chess_text.specs.Placement.{one_cell}
-use Rattle.chess_text.proofs.Words.{◌^◌, ◌≡◌, ℕ, zero, suc, ◌+◌, ◌-◌, ◌*◌, ◌<◌, ◌≤◌, ◌==◌, Bool, true, false, ◌&&◌, ◌||◌, List, [], ◌∷◌, ◌++◌, length, take, drop, reverse, reverse-append, inl, inr, refl, sym, ◌∙◌, ap, ap₂, subst, arith, append-nil, append_assoc, length-append, None, Some, flat_map, flat_map-append, if◌then◌else◌, list_all, nat_tests, nat_le, nat_lt, false≢true, false_from_ne_true, Board, Piece, Option, ranks, is_item, is_rank, cells_of, placement_of, get_or, drop-cons, drop_all, cases_lt, onto_first, slice_split-cons_no, slice_split-cons_yes, length-slice_split, is_slash, is_space, is_some, before_first, position_or_len, replicate, is_run, cells_at, item}
+use Rattle.chess_text.proofs.Words.{◌^◌, ◌≡◌, ℕ, zero, suc, ◌+◌, ◌-◌, ◌*◌, ◌<◌, ◌≤◌, ◌==◌, Bool, true, false, ◌&&◌, ◌||◌, List, [], ◌∷◌, ◌++◌, length, take, drop, reverse, reverse-append, inl, inr, refl, sym, ◌∙◌, ap, ap₂, subst, arith, append-nil, append_assoc, length-append, None, Some, flat_map, flat_map-append, if◌then◌else◌, list_all, nat_tests, nat_le, nat_lt, false≢true, false_from_ne_true, Board, Piece, Option, ranks, is_item, is_rank, cells_of, placement_of, get_or, drop-cons, drop_all, cases_lt, onto_first, slice_split-cons_no, slice_split-cons_yes, length-slice_split, is_slash, is_space, is_some, before_first, position_or_len, replicate, is_run, cells_at, item, common_steps, ◌%◌, length-replicate, piece_of, one_cell}
 
 -- The reading, byte by byte: `row` has the squares of the rank so far, `done` those of the ranks
 -- above.
@@ -44,9 +40,7 @@ means_if false w None h none some = absurd (false≢true h)
 means_if false w (Some x) h none some = (refl, refl)
 
 pub means : (c : ℕ) → is_item c ≡ true → Means c
-means c h =
-    let (cells, width) = means_if (is_run c) (c - 48) (piece_of c) h (run_none c) (run_some c) in
-    record { cells = cells; width = width }
+means c h = grind (arith, common_steps, means_if, is_run, run_none, run_some)
 
 no_width : (run : Bool) (w : ℕ) (o : Option Piece) → (run || is_some o) ≡ false → width_if run w o ≡ 9
 no_width run w o h = grind arith
@@ -55,11 +49,7 @@ no_item : (c : ℕ) → is_item c ≡ false → (item c).width ≡ 9
 no_item c h = no_width (is_run c) (c - 48) (piece_of c) h
 
 item_by_width : (c : ℕ) → (item c).width ≤ 8 → is_item c ≡ true
-item_by_width c h = by_item (is_item c) refl
-  where
-    by_item : (x : Bool) → is_item c ≡ x → x ≡ true
-    by_item true e = refl
-    by_item false e = absurd (omega (arith, no_item c e))
+item_by_width c h = grind (arith, common_steps, is_item, no_item)
 
 space_is : (c : ℕ) → is_space c ≡ true → c ≡ 32
 space_is c h = grind arith
@@ -90,86 +80,46 @@ before-yes : (c : ℕ) (s : List ℕ) → is_space c ≡ true → before_first i
 before-yes c s h = rw h refl
 
 before-no : (c : ℕ) (s : List ℕ) → is_space c ≡ false → before_first is_space (c ∷ s) ≡ c ∷ before_first is_space s
-before-no c s h =
-    let next : position_or_len is_space (c ∷ s) ≡ suc (position_or_len is_space s) = rw h (omega arith) in
-    ap (λ n. take n (c ∷ s)) next
+before-no c s h = grind (arith, common_steps, position_or_len, is_space, suc)
 
 if_same : {X : Type 0} (a b : Bool) (v w : X) → a ≡ b → v ≡ w → (if a then Some v else None) ≡ (if b then Some w else None)
 if_same a b v w e f = ap₂ (λ x y. if x then Some y else None) e f
 
 at_end : (row done : Board) → finish row done ≡ joined row done ([] ∷ [])
-at_end row done =
-    if_same _ _ _ _ (tests (length row) (length done)) (ap (λ b. b ++ done) (sym (append-nil row)))
-  where
-    tests : (m n : ℕ) → ((m == 8) && (n == 56)) ≡ ((true && (m + 0 == 8)) && (true && (n + 8 * 1 == 64)))
-    tests m n = grind (arith, nat_tests)
+at_end row done = grind (arith, common_steps, if_same, append-nil, nat_tests)
 
 -- the first rank of the text is the last one of the board
 first_last : (rank : List ℕ) (below : List (List ℕ)) → flat_map cells_of (reverse (rank ∷ below)) ≡ flat_map cells_of (reverse below) ++ cells_of rank
-first_last rank below =
-    ap (flat_map cells_of) (reverse-append (rank ∷ []) below) ∙ flat_map-append cells_of (reverse below) (rank ∷ [])
-    ∙ ap (λ b. flat_map cells_of (reverse below) ++ b) (append-nil (cells_of rank))
+first_last rank below = grind (arith, common_steps, flat_map, cells_of, reverse-append, flat_map-append, reverse, append-nil)
 
 nested : {X : Type 0} (a b : Bool) (v : X) → (if a then (if b then Some v else None) else None) ≡ (if a && b then Some v else None)
 nested true b v = refl
 nested false b v = refl
 
 -- a slash
-with_slash : (row done : Board) (texts : List (List ℕ)) → 0 < length texts
-    → (if (length row == 8) && nat_lt (length done) 56 then joined [] (row ++ done) texts else None) ≡ joined row done ([] ∷ texts)
-with_slash row done [] some = absurd (omega arith)
-with_slash row done (rank ∷ below) some =
-    both (length row) (length done) (length (row ++ done)) (length (cells_of rank)) (length below) (list_all is_item rank) (list_all is_rank below) _ _
-    (length-append row done) cells
-  where
-    cells : flat_map cells_of (reverse below) ++ (cells_of rank ++ (row ++ done))
-        ≡ flat_map cells_of (reverse (rank ∷ below)) ++ ((row ++ []) ++ done)
-    cells =
-        ap (λ b. flat_map cells_of (reverse below) ++ (cells_of rank ++ (b ++ done))) (sym (append-nil row))
-        ∙ sym (append_assoc (flat_map cells_of (reverse below)) (cells_of rank) ((row ++ []) ++ done))
-        ∙ ap (λ b. b ++ ((row ++ []) ++ done)) (sym (first_last rank below))
+module _ (row done : Board) where
+  with_slash : (texts : List (List ℕ)) → 0 < length texts → (if (length row == 8) && nat_lt (length done) 56 then joined [] (row ++ done) texts else None) ≡ joined row done ([] ∷ texts)
+  with_slash [] some = absurd (omega arith)
+  with_slash (rank ∷ below) some =
+      grind (arith, common_steps, cells_of, list_all, is_item, is_rank, length-append, flat_map, reverse, append-nil, append_assoc, first_last, nat_lt, suc, nat_tests, nested, if_same)
 
-    tests : (m n mn k l : ℕ) (items good : Bool) → mn ≡ m + n
-        → (((m == 8) && nat_lt n 56) && ((items && (0 + k == 8)) && (good && (mn + 8 * suc l == 64))))
-        ≡ ((true && (m + 0 == 8)) && (((items && (k == 8)) && good) && (n + 8 * suc (suc l) == 64)))
-    tests m n mn k l items good e = grind (arith, nat_tests)
+  -- a digit or a letter
+  with_item : (c : ℕ) (texts : List (List ℕ)) → 0 < length texts → is_item c ≡ true → (if nat_le (length row + (item c).width) 8 then joined (row ++ cells_at c) done texts else None) ≡ joined row done (onto_first c texts)
+  with_item c [] some good = absurd (omega arith)
+  with_item c (rank ∷ below) some good =
+      grind (arith, common_steps, means, nested, nat_le, item, cells_at, if_same, cells_of, is_item, list_all, is_rank, suc, length-append, flat_map, reverse, append_assoc, nat_tests)
 
-    both : (m n mn k l : ℕ) (items good : Bool) (v w : Board) → mn ≡ m + n → v ≡ w
-        → (if (m == 8) && nat_lt n 56 then (if (items && (0 + k == 8)) && (good && (mn + 8 * suc l == 64)) then Some v else None) else None)
-        ≡ (if (true && (m + 0 == 8)) && (((items && (k == 8)) && good) && (n + 8 * suc (suc l) == 64)) then Some w else None)
-    both m n mn k l items good v w e f = nested _ _ v ∙ if_same _ _ v w (tests m n mn k l items good e) f
-
--- a digit or a letter
-with_item : (row done : Board) (c : ℕ) (texts : List (List ℕ)) → 0 < length texts → is_item c ≡ true
-    → (if nat_le (length row + (item c).width) 8 then joined (row ++ cells_at c) done texts else None) ≡ joined row done (onto_first c texts)
-with_item row done c [] some good = absurd (omega arith)
-with_item row done c (rank ∷ below) some good =
-    let means_c = means c good in
-    nested (nat_le (length row + (item c).width) 8) (fit (row ++ cells_at c) done rank below) _
-    ∙ if_same _ _ _ _
-    (tests (length row) (item c).width (length (row ++ cells_at c)) (length (cells_of rank)) (length (cells_at c ++ cells_of rank))
-    (is_item c) (list_all is_item rank) (list_all is_rank below && (length done + 8 * suc (length below) == 64)) good
-    (omega (arith, length-append row (cells_at c), means_c.width)) (omega (arith, length-append (cells_at c) (cells_of rank), means_c.width)))
-    (ap (λ b. flat_map cells_of (reverse below) ++ (b ++ done)) (append_assoc row (cells_at c) (cells_of rank)))
-  where
-    tests : (m w mw k wk : ℕ) (first items rest : Bool) → first ≡ true → mw ≡ m + w → wk ≡ w + k
-        → (nat_le (m + w) 8 && ((items && (mw + k == 8)) && rest)) ≡ (((first && items) && (m + wk == 8)) && rest)
-    tests m w mw k wk first items rest h e f = grind (arith, nat_tests)
-
--- any other byte
-with_other : (row done : Board) (c : ℕ) (texts : List (List ℕ)) → 0 < length texts → is_item c ≡ false
-    → None ≡ joined row done (onto_first c texts)
-with_other row done c [] some bad = absurd (omega arith)
-with_other row done c (rank ∷ below) some bad = rw bad refl
+  -- any other byte
+  with_other : (c : ℕ) (texts : List (List ℕ)) → 0 < length texts → is_item c ≡ false → None ≡ joined row done (onto_first c texts)
+  with_other c [] some bad = absurd (omega arith)
+  with_other c (rank ∷ below) some bad = rw bad refl
 
 some_rank : (s : List ℕ) → 0 < length (ranks s)
 some_rank s = omega (arith, length-slice_split is_slash s)
 
 -- the texts, by the first byte
 split_slash : (c : ℕ) (s : List ℕ) → is_slash c ≡ true → ranks (before_first is_space (c ∷ s)) ≡ [] ∷ ranks (before_first is_space s)
-split_slash c s h =
-    ap ranks (before-no c s (subst (λ (d : ℕ). is_space d ≡ false) (sym (slash_is c h)) refl))
-    ∙ slice_split-cons_yes is_slash c (before_first is_space s) h
+split_slash c s h = grind (arith, common_steps, ranks, before-no, is_space, slash_is, slice_split-cons_yes, is_slash, before_first)
 
 split_other : (c : ℕ) (s : List ℕ) → is_space c ≡ false → is_slash c ≡ false
     → ranks (before_first is_space (c ∷ s)) ≡ onto_first c (ranks (before_first is_space s))
@@ -181,18 +131,8 @@ read_on row done s = joined row done (ranks (before_first is_space s))
 
 pub placement_is : (s : List ℕ) → read_on [] [] s ≡ placement_of (before_first is_space s)
 unfolding read_on
-placement_is s = of_texts (ranks (before_first is_space s)) (some_rank (before_first is_space s))
-  where
-    tests : (k l : ℕ) (items good : Bool)
-        → ((items && (0 + k == 8)) && (good && (0 + 8 * suc l == 64))) ≡ ((suc l == 8) && ((items && (k == 8)) && good))
-    tests k l items good = grind (arith, nat_tests)
-
-    of_texts : (texts : List (List ℕ)) → 0 < length texts
-        → joined [] [] texts ≡ (if (length texts == 8) && list_all is_rank texts then Some (flat_map cells_of (reverse texts)) else None)
-    of_texts [] some = absurd (omega arith)
-    of_texts (rank ∷ below) some =
-        if_same _ _ _ _ (tests (length (cells_of rank)) (length below) (list_all is_item rank) (list_all is_rank below))
-        (ap (λ b. flat_map cells_of (reverse below) ++ b) (append-nil (cells_of rank)) ∙ sym (first_last rank below))
+placement_is s =
+    grind (arith, common_steps, ranks, before_first, is_space, some_rank, suc, nat_tests, list_all, is_rank, flat_map, cells_of, reverse, if_same, is_item, append-nil, first_last)
 
 -- One byte.
 
@@ -213,9 +153,7 @@ module _ (row done : Board) (c : ℕ) (s : List ℕ) where
 
   on_slash : is_slash c ≡ true → length row ≡ 8 → length done < 56 → read_on row done (c ∷ s) ≡ read_on [] (row ++ done) s
   unfolding read_on
-  on_slash h full more =
-      let all : (length row == 8) && nat_lt (length done) 56 ≡ true = grind (arith, nat_tests) in
-      ap (joined row done) (split_slash c s h) ∙ sym (with_slash row done texts some_text) ∙ rw all refl
+  on_slash h full more = grind (arith, common_steps, nat_lt, nat_tests, split_slash, with_slash, some_text)
 
   on_space : is_space c ≡ true → read_on row done (c ∷ s) ≡ finish row done
   unfolding read_on
@@ -252,18 +190,7 @@ pub record ReadSoFar (text : List ℕ) (i : ℕ) (board : Board) (below file lan
   pub no_space : (k : ℕ) → k < i → is_space (get_or text k 0) ≡ false
 
 pub nothing_read : (text : List ℕ) (board : Board) → board ≡ replicate 64 None → ReadSoFar text 0 board 7 0 0
-nothing_read text board h =
-    record {
-      row = [];
-      done = [];
-      cells = h;
-      value = sym lanes_nil;
-      long = refl;
-      narrow = omega arith;
-      left = refl;
-      rest = refl;
-      no_space = λ k low. absurd (omega arith);
-    }
+nothing_read text board h = grind (arith, common_steps, lanes_nil)
 
 module _ {text : List ℕ} {i : ℕ} {board : Board} {below file lanes_read : ℕ} (so_far : ReadSoFar text i board below file lanes_read) where
   -- the board with the rank that is read
@@ -325,10 +252,7 @@ module _ {text : List ℕ} {i : ℕ} {board : Board} {below file lanes_read : �
 
     -- the lanes with a digit or a letter
     lanes_after : file + (item byte).width ≤ 8 → lanes_read + (item byte).lanes * 2 ^ file ≡ lanes (so_far.row ++ cells_at byte)
-    lanes_after fits =
-        ap₂ (λ n k. n + (item byte).lanes * 2 ^ k) so_far.value (sym so_far.long)
-        ∙ sym (ap (λ b. lanes (so_far.row ++ b)) (means byte (is_item_here fits)).cells
-        ∙ lanes_with_item so_far.row (piece_of byte) ((item byte).width - 1))
+    lanes_after fits = grind (arith, common_steps, item, means, is_item_here, lanes_with_item)
 
     long_after : file + (item byte).width ≤ 8 → length (so_far.row ++ cells_at byte) ≡ file + (item byte).width
     long_after fits = omega (arith, length-append so_far.row (cells_at byte), so_far.long, (means byte (is_item_here fits)).width)
@@ -346,19 +270,7 @@ module _ {text : List ℕ} {i : ℕ} {board : Board} {below file lanes_read : �
     pub item_read : file + (item byte).width ≤ 8
         → ReadSoFar text (i + 1) board below (file + (item byte).width) (lanes_read + ((item byte).lanes * 2 ^ file) % 2 ^ 32)
     item_read fits =
-        record {
-          row = so_far.row ++ cells_at byte;
-          done = so_far.done;
-          cells = so_far.cells;
-          value = ap (λ n. lanes_read + n) (shifted fits) ∙ lanes_after fits;
-          long = long_after fits;
-          narrow = fits;
-          left = so_far.left;
-          rest =
-              ap (λ k. read_on (so_far.row ++ cells_at byte) so_far.done (drop k text)) next
-              ∙ sym (on_item so_far.row so_far.done byte (drop (suc i) text) (omega (arith, fits, so_far.long))) ∙ here;
-          no_space = no_space_here (item_no_space byte (is_item_here fits));
-        }
+        grind (arith, common_steps, cells_at, shifted, lanes_after, long_after, next, on_item, suc, here, no_space_here, item_no_space, is_item_here)
 
     -- a slash after eight squares
     pub slash_read : (new : Board) → byte ≡ 47 → file ≡ 8 → 0 < below → new ≡ so_far.row ++ take 56 board → ReadSoFar text (i + 1) new (below - 1) 0 0
@@ -391,16 +303,4 @@ module _ {text : List ℕ} {i : ℕ} {board : Board} {below file lanes_read : �
     -- any other byte
     pub other_read : 8 < file + (item byte).width → ((byte == 47) && ((file == 8) && nat_lt 0 below)) ≡ false
         → ((byte == 32) && ((file == 8) && (below == 0))) ≡ false → placement_of (before_first is_space text) ≡ None
-    other_read wide no_slash no_space =
-        sym (placement_is text) ∙ sym here
-        ∙ on_other so_far.row so_far.done byte (drop (suc i) text) (omega (arith, wide, so_far.long))
-        (slash_tests byte (length so_far.row) (length so_far.done) so_far.long so_far.left no_slash)
-        (space_tests byte (length so_far.row) (length so_far.done) so_far.long so_far.left no_space)
-      where
-        slash_tests : (c m n : ℕ) → m ≡ file → n + 8 * below ≡ 56 → ((c == 47) && ((file == 8) && nat_lt 0 below)) ≡ false
-            → (is_slash c && ((m == 8) && nat_lt n 56)) ≡ false
-        slash_tests c m n e f h = grind (arith, nat_tests)
-
-        space_tests : (c m n : ℕ) → m ≡ file → n + 8 * below ≡ 56 → ((c == 32) && ((file == 8) && (below == 0))) ≡ false
-            → (is_space c && ((m == 8) && (n == 56))) ≡ false
-        space_tests c m n e f h = grind (arith, nat_tests)
+    other_read wide no_slash no_space = grind (arith, common_steps, placement_is, here, on_other, suc, nat_lt, is_slash, nat_tests, is_space)

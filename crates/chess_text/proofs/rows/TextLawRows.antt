@@ -2,8 +2,7 @@
 -- A row that takes a law applies it exactly as it is stated. The rows beside it compute what the
 -- law says there, or show that this is false where one premise is missing.
 use Prim.Native.String.{String}
-use Rattle.chess_text.proofs.Words.{◌≡◌, ◌≢◌, ℕ, ◌≤◌, true, false, List, [], ◌++◌, Option, None, Some, Result, Ok, Err, length, refl, sym, ◌∙◌, subst, arith, codes, slice_index_or, digits, false≢true, Kind, King, Queen, Rook, Knight, Pawn, Move, Parts, squares, is_position, initial, own, is_legal, legal, FenFault, Form, Man, Fen, parts_read, fen_text, form_of, agrees, rivals, disambiguation, has_rivals, san, CanonicalIsShortest, Names, SingleReading, ShorterIsAmbiguous, disambiguations, text_with, same_Some}
-use Rattle.std.proofs.Common.{lit<}
+use Rattle.chess_text.proofs.Words.{◌≡◌, ◌≢◌, ℕ, ◌≤◌, true, false, List, [], ◌++◌, Option, None, Some, Result, Ok, Err, length, refl, sym, ◌∙◌, subst, arith, codes, slice_index_or, digits, false≢true, Kind, King, Queen, Rook, Knight, Pawn, Move, Parts, squares, is_position, initial, own, is_legal, legal, FenFault, Form, Man, Fen, parts_read, fen_text, form_of, agrees, rivals, disambiguation, has_rivals, san, CanonicalIsShortest, Names, SingleReading, ShorterIsAmbiguous, disambiguations, text_with, same_Some, lit<}
 use Rattle.chess_rules.specs.declared.piece.Promotion.TheVariants as promotions
 use Rattle.chess_text.proofs.forms.FormToSpelling.{form_spelled}
 use Rattle.chess_text.proofs.forms.SpellingToForm.{form_read}

@@ -1,11 +1,7 @@
 -- What texts in UCI are read as, and what is written, computed on worked positions.
 use Prim.Native.String.{String}
-use Rattle.chess_rules.specs.Step.{is_on_board}
-use Rattle.chess_text.proofs.Words.{◌≡◌, ◌≢◌, true, false, is_legal, Result, Ok, Err, Some, refl, ap, codes, Move, Parts, squares, FenFault, Played, read}
+use Rattle.chess_text.proofs.Words.{◌≡◌, ◌≢◌, true, false, is_legal, Result, Ok, Err, Some, refl, ap, codes, Move, Parts, squares, FenFault, Played, read, is_on_board, uci, move_of_uci, UciIsExact, UciTextsDiffer, WrittenUciIsRead, UciFault, NotAMove, IllegalMove}
 use Rattle.chess_rules.specs.declared.piece.Promotion.TheVariants.{Queen, Rook, Bishop, Knight}
-use Rattle.chess_text.specs.Uci.{uci, move_of_uci, UciIsExact, UciTextsDiffer, WrittenUciIsRead}
-use Rattle.chess_text.specs.declared.uci.UciFault.{UciFault}
-use Rattle.chess_text.specs.declared.uci.UciFault.TheVariants.{NotAMove, IllegalMove}
 use Rattle.chess_text.proofs.names.TextsToMoves.{another}
 use Rattle.chess_text.proofs.rows.SanRows.{becoming, go}
 use Rattle.chess_text.proofs.rows.TextLawRows.{drawn, knights, queens, c3e2, h4e1, e1c1}

@@ -53,23 +53,24 @@ stray_class b e = stray_of _ _ _ _ _ _ _ _ _ _ _ _ _ _ _ _ _ e
 of_line_end : (P : ℕ → Type 0) (b : ℕ) → is_line_end b ≡ true → P 10 → P 13 → P b
 of_line_end P b e ten thirteen = grind arith
 
-pub line_end_class : (b : ℕ) → is_line_end b ≡ true → class b ≡ LineEnd
-line_end_class b e = of_line_end (λ b. class b ≡ LineEnd) b e refl refl
+module _ (b : ℕ) where
+  pub line_end_class : is_line_end b ≡ true → class b ≡ LineEnd
+  line_end_class e = of_line_end (λ b. class b ≡ LineEnd) b e refl refl
 
-pub blank_class : (b : ℕ) → is_blank b ≡ true → (class b ≡ Space) × (is_line_end b ≡ false)
-blank_class b e = grind (arith, common_steps)
+  pub blank_class : is_blank b ≡ true → (class b ≡ Space) × (is_line_end b ≡ false)
+  blank_class e = grind (arith, common_steps)
 
-pub line_end_comment : (b : ℕ) → is_line_end b ≡ true → comment_class b ≡ CommentClass.LineEnd
-line_end_comment b e = grind arith
+  pub line_end_comment : is_line_end b ≡ true → comment_class b ≡ CommentClass.LineEnd
+  line_end_comment e = grind arith
 
-pub suffix_class : (b : ℕ) → is_suffix b ≡ true → class b ≡ Suffix
-suffix_class b e = grind (arith, eqb-true)
+  pub suffix_class : is_suffix b ≡ true → class b ≡ Suffix
+  suffix_class e = grind (arith, eqb-true)
 
-pub reserved_class : (b : ℕ) → ((b == 60) || (b == 62)) ≡ true → class b ≡ Refused Reserved
-reserved_class b e = grind (arith, eqb-true)
+  pub reserved_class : ((b == 60) || (b == 62)) ≡ true → class b ≡ Refused Reserved
+  reserved_class e = grind (arith, eqb-true)
 
-pub control_class : (b : ℕ) → is_control b ≡ true → class b ≡ Refused ControlByte
-control_class b e = grind (arith, common_steps)
+  pub control_class : is_control b ≡ true → class b ≡ Refused ControlByte
+  control_class e = grind (arith, common_steps)
 
-pub control_comment : (b : ℕ) → is_control b ≡ true → comment_class b ≡ CommentClass.Control
-control_comment b e = grind (arith, common_steps)
+  pub control_comment : is_control b ≡ true → comment_class b ≡ CommentClass.Control
+  control_comment e = grind (arith, common_steps)

@@ -1,5 +1,5 @@
 -- How a text is cut, and its tokens.
-use Rattle.pgn_lexer.proofs.Words.{◌≡◌, ℕ, ◌+◌, ◌<◌, ◌≤◌, Bool, true, false, List, [], ◌∷◌, ◌++◌, length, refl, sym, ap, ◌∙◌, append-nil, append_assoc, arith, length-append, ◌||◌, not, take_while, false≢true, LexReason, ControlByte, BadSuffix, Class, CommentClass, is_line_end, is_space, is_control, is_digit, starts_symbol, continues_symbol, is_suffix, continues_word, Kind, Token, class, comment_class, symbol_at, word_at, glyph_at, suffix_at, Within, begins_class, begins_brace, begins_line, after_class, after_brace, after_line, onto, tokens_from, StopsAt, IsRun, IsSingle, IsSuffix, SpellsToken, Refuses, Where, Cuts, both_true, string_at, reading, with_front, Data, or_cases, and_parts, not-true, common_steps, outside, column, in_suffix, in_escape_line, line, quotes, begins_first, after_first, refused, comment_close, str, glyph, number_of}
+use Rattle.pgn_lexer.proofs.Words.{◌≡◌, ℕ, ◌+◌, ◌<◌, ◌≤◌, Bool, true, false, List, [], ◌∷◌, ◌++◌, length, refl, sym, ap, ◌∙◌, append-nil, append_assoc, arith, length-append, ◌||◌, not, take_while, false≢true, LexReason, ControlByte, BadSuffix, Class, CommentClass, is_line_end, is_space, is_control, is_digit, starts_symbol, continues_symbol, is_suffix, continues_word, Kind, Token, class, comment_class, symbol_at, word_at, glyph_at, suffix_at, Within, begins_class, begins_brace, begins_line, after_class, after_brace, after_line, onto, tokens_from, StopsAt, IsRun, IsSingle, IsSuffix, SpellsToken, Refuses, Where, Cuts, both_true, string_at, reading, with_front, Data, or_cases, and_parts, not-true, common_steps, outside, column, in_suffix, in_escape_line, line, quotes, begins_first, after_first, refused, comment_close, str, glyph, number_of, rules}
 use Rattle.pgn_lexer.specs.Lexes as lexes
 use Rattle.pgn_lexer.proofs.stepping.RunOfBytes.{take_while-true, take_while-false, suffix_goes}
 use Rattle.pgn_lexer.proofs.bytes.ClassToTest.{stray_class, line_end_class, blank_class, line_end_comment, suffix_class, reserved_class}
@@ -47,30 +47,20 @@ suffix_stops at s h1 = grind arith
 from_class : (first : Bool) (at b : ℕ) (s : List ℕ) (c : Class) → class b ≡ c → (c ≡ Class.Percent → ⊥)
     → outer first at (b ∷ s) ≡ onto at (begins_class at c b s) (tokens_from (at + 1) (after_class c) s)
 from_class false at b s c e other = grind arith
-from_class true at b s c e other =
-    ap (λ c. onto at (begins_first at c b s) (tokens_from (at + 1) (after_first c) s)) e ∙ in_column c other
-  where
-    in_column : (c : Class) → (c ≡ Class.Percent → ⊥) → onto at (begins_first at c b s) (tokens_from (at + 1) (after_first c) s)
-        ≡ onto at (begins_class at c b s) (tokens_from (at + 1) (after_class c) s)
-    in_column Class.Percent other = absurd (other refl)
-    in_column c other = refl
+from_class true at b s c e other = grind (arith, common_steps, onto, begins_first, tokens_from, after_first, begins_class, after_class)
 
-space_skips : (first : Bool) (at b : ℕ) (s : List ℕ) → is_space b ≡ true → outer first at (b ∷ s) ≡ outer (is_line_end b) (at + 1) s
-space_skips first at b s e = grind (arith, line_end_class, blank_class)
+module _ (first : Bool) (at : ℕ) where
+  space_skips : (b : ℕ) (s : List ℕ) → is_space b ≡ true → outer first at (b ∷ s) ≡ outer (is_line_end b) (at + 1) s
+  space_skips b s e = grind (arith, line_end_class, blank_class)
 
-symbol_cut : (first : Bool) (at b : ℕ) (run s : List ℕ) → starts_symbol b ≡ true → IsRun continues_symbol run s
-    → outer first at (b ∷ (run ++ s)) ≡ onto at (symbol_at at (b ∷ run)) (tokens_from (at + 1 + length run) outside s)
-symbol_cut first at b run s e long = grind (arith, take_run, skips)
+  symbol_cut : (b : ℕ) (run s : List ℕ) → starts_symbol b ≡ true → IsRun continues_symbol run s → outer first at (b ∷ (run ++ s)) ≡ onto at (symbol_at at (b ∷ run)) (tokens_from (at + 1 + length run) outside s)
+  symbol_cut b run s e long = grind (arith, take_run, skips)
 
-glyph_cut : (first : Bool) (at : ℕ) (run s : List ℕ) → IsRun is_digit run s
-    → outer first at (36 ∷ (run ++ s)) ≡ onto at (glyph_at at run) (tokens_from (at + 1 + length run) outside s)
-glyph_cut first at run s long = grind (arith, take_run, skips)
+  glyph_cut : (run s : List ℕ) → IsRun is_digit run s → outer first at (36 ∷ (run ++ s)) ≡ onto at (glyph_at at run) (tokens_from (at + 1 + length run) outside s)
+  glyph_cut run s long = grind (arith, take_run, skips)
 
-suffix_cut : (first : Bool) (at b : ℕ) (run s : List ℕ) → is_suffix b ≡ true → IsRun is_suffix run s
-    → outer first at (b ∷ (run ++ s)) ≡ onto at (suffix_at at (b ∷ run)) (tokens_from (at + 1 + length run) outside s)
-suffix_cut first at b run s e long =
-    from_class first at b _ _ (suffix_class b e) (λ e. cc)
-    ∙ rw (take_run _ run s long, skips in_suffix outside _ suffix_goes suffix_stops (at + 1) run s long)
+  suffix_cut : (b : ℕ) (run s : List ℕ) → is_suffix b ≡ true → IsRun is_suffix run s → outer first at (b ∷ (run ++ s)) ≡ onto at (suffix_at at (b ∷ run)) (tokens_from (at + 1 + length run) outside s)
+  suffix_cut b run s e long = search (rules, from_class, suffix_class, take_run, skips, in_suffix, outside, suffix_goes, suffix_stops)
 
 escape_line_goes : (at b : ℕ) (s : List ℕ) → not (is_line_end b) ≡ true
     → tokens_from at in_escape_line (b ∷ s) ≡ tokens_from (at + 1) in_escape_line s
@@ -155,8 +145,7 @@ module _ (first : Bool) (at : ℕ) where
 
   spells_is : (run s : List ℕ) (k : Kind) → SpellsToken run s k
       → outer first at (run ++ s) ≡ placed at k ∷ tokens_from (at + length run) outside s
-  spells_is _ _ _ (lexes.symbol b run s e long fits) =
-      symbol_cut first at b run s e long ∙ rw (symbol_fits at (b ∷ run) fits) (moved _ _ _ s (omega arith))
+  spells_is _ _ _ (lexes.symbol b run s e long fits) = grind (arith, common_steps, symbol_cut, symbol_fits, moved)
   spells_is _ _ _ (lexes.string raw text s data' fits) =
       let same : at + 1 + length raw + 1 ≡ at + length (34 ∷ (raw ++ 34 ∷ [])) = omega (arith, length-append raw (34 ∷ [])) in
       ap (λ l. outer first at (34 ∷ l)) (append_assoc raw (34 ∷ []) s) ∙ string_reads raw text _ data' fits

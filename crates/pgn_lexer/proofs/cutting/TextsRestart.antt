@@ -1,5 +1,5 @@
 -- The tokens behind a symbol or an asterisk, and those behind white space.
-use Rattle.pgn_lexer.proofs.Words.{◌≡◌, ℕ, zero, suc, ◌+◌, Bool, true, false, cond, List, [], ◌∷◌, ◌++◌, length, refl, sym, ap, ◌∙◌, arith, append_assoc, subst, length-append, take_while, drop, replicate, None, ◌==◌, if◌then◌else◌, length-replicate, take_while-cons, Class, continues_symbol, Token, EndsAt, Start, LineStart, Outside, PartialToken, StandsAfter, CanBeMarker, TextsRestart, class, Found, gives, stops, symbol_at, Within, after_class, after_run, begins_class, begins_first, begins_after, begins, next, onto, at_end, tokens_from, tokens_of, has_mark, outside, column, in_symbol, after_first, cases_Bool, inl, inr, drop-drop, drop_at}
+use Rattle.pgn_lexer.proofs.Words.{◌≡◌, ℕ, zero, suc, ◌+◌, Bool, true, false, cond, List, [], ◌∷◌, ◌++◌, length, refl, sym, ap, ◌∙◌, arith, append_assoc, subst, length-append, take_while, drop, replicate, None, ◌==◌, if◌then◌else◌, length-replicate, take_while-cons, Class, continues_symbol, Token, EndsAt, Start, LineStart, Outside, PartialToken, StandsAfter, CanBeMarker, TextsRestart, class, Found, gives, stops, symbol_at, Within, after_class, after_run, begins_class, begins_first, begins_after, begins, next, onto, at_end, tokens_from, tokens_of, has_mark, outside, column, in_symbol, after_first, cases_Bool, inl, inr, drop-drop, drop_at, rules}
 use Rattle.pgn_lexer.proofs.stepping.ByteOutside.{other_first}
 use Rattle.pgn_lexer.specs.WhiteSpace.{white_space}
 
@@ -13,9 +13,7 @@ behind_byte : (at : ℕ) (b : ℕ) (bs : List ℕ) (c : Bool)
     → onto at (begins_after c at (class b) b bs) (tokens_from (at + 1) (after_run c in_symbol (class b)) bs)
     ≡ Behind at (b ∷ bs) (take_while continues_symbol (b ∷ bs))
 behind_byte at b bs true run more = grind arith
-behind_byte at b bs false run more =
-    ap (λ n. onto n (begins_class n (class b) b bs) (tokens_from (n + 1) (after_class (class b)) bs)) (omega arith)
-    ∙ ap (Behind at (b ∷ bs)) (sym run)
+behind_byte at b bs false run more = search (rules, onto, begins_class, class, tokens_from, after_class)
 
 behind_run : (at : ℕ) (s : List ℕ) → tokens_from at in_symbol s ≡ Behind at s (take_while continues_symbol s)
 behind_run at [] = ap (λ n. at_end n outside) (omega arith)
@@ -38,40 +36,35 @@ FoundGoesOn at b bs Found.nothing rest = Unit {0}
 FoundGoesOn at b bs (gives k) rest = GoesOn at (b ∷ bs) (record { at = at; kind = k }) rest
 FoundGoesOn at b bs (stops place r) rest = Unit {0}
 
-symbol_goes_on : (at b : ℕ) (bs : List ℕ)
-    → FoundGoesOn at b bs (symbol_at at (b ∷ take_while continues_symbol bs)) (tokens_from (at + 1) in_symbol bs)
-symbol_goes_on at b bs = grind (arith, behind_run)
+module _ (at : ℕ) where
+  symbol_goes_on : (b : ℕ) (bs : List ℕ) → FoundGoesOn at b bs (symbol_at at (b ∷ take_while continues_symbol bs)) (tokens_from (at + 1) in_symbol bs)
+  symbol_goes_on b bs = grind (arith, behind_run)
 
-class_goes_on : (at : ℕ) (c : Class) (b : ℕ) (bs : List ℕ)
-    → FoundGoesOn at b bs (begins_class at c b bs) (tokens_from (at + 1) (after_class c) bs)
-class_goes_on at c b bs = grind (arith, symbol_goes_on)
+  class_goes_on : (c : Class) (b : ℕ) (bs : List ℕ) → FoundGoesOn at b bs (begins_class at c b bs) (tokens_from (at + 1) (after_class c) bs)
+  class_goes_on c b bs = grind (arith, symbol_goes_on)
 
-first_goes_on : (at : ℕ) (c : Class) (b : ℕ) (bs : List ℕ)
-    → FoundGoesOn at b bs (begins_first at c b bs) (tokens_from (at + 1) (after_first c) bs)
-first_goes_on at Class.Percent b bs = tt
-first_goes_on at c b bs = class_goes_on at c b bs
+  first_goes_on : (c : Class) (b : ℕ) (bs : List ℕ) → FoundGoesOn at b bs (begins_first at c b bs) (tokens_from (at + 1) (after_first c) bs)
+  first_goes_on Class.Percent b bs = tt
+  first_goes_on c b bs = class_goes_on c b bs
 
-run_goes_on : (at : ℕ) (goes : Bool) (within : Within) (c : Class) (b : ℕ) (bs : List ℕ)
-    → FoundGoesOn at b bs (begins_after goes at c b bs) (tokens_from (at + 1) (after_run goes within c) bs)
-run_goes_on at goes within c b bs = grind (arith, class_goes_on)
+  run_goes_on : (goes : Bool) (within : Within) (c : Class) (b : ℕ) (bs : List ℕ) → FoundGoesOn at b bs (begins_after goes at c b bs) (tokens_from (at + 1) (after_run goes within c) bs)
+  run_goes_on goes within c b bs = grind (arith, class_goes_on)
 
-begins_goes_on : (at : ℕ) (within : Within) (b : ℕ) (bs : List ℕ)
-    → FoundGoesOn at b bs (begins at within b bs) (tokens_from (at + 1) (next within b) bs)
-begins_goes_on at within b bs = grind (arith, first_goes_on, class_goes_on, run_goes_on)
+  begins_goes_on : (within : Within) (b : ℕ) (bs : List ℕ) → FoundGoesOn at b bs (begins at within b bs) (tokens_from (at + 1) (next within b) bs)
+  begins_goes_on within b bs = grind (arith, first_goes_on, class_goes_on, run_goes_on)
 
-one_before : (at b : ℕ) (bs : List ℕ) (ts : List Token) → AllGoOn (at + 1) bs ts → AllGoOn at (b ∷ bs) ts
-one_before at b bs [] all = tt
-one_before at b bs (t ∷ ts) all = (here, one_before at b bs ts all.1)
-  where
-    here : GoesOn at (b ∷ bs) t ts
-    here behind ends can = let later = all.0 _ ends can in (suc _, omega arith, later.2)
+  one_before : (b : ℕ) (bs : List ℕ) (ts : List Token) → AllGoOn (at + 1) bs ts → AllGoOn at (b ∷ bs) ts
+  one_before b bs [] all = tt
+  one_before b bs (t ∷ ts) all = (here, one_before b bs ts all.1)
+    where
+      here : GoesOn at (b ∷ bs) t ts
+      here behind ends can = let later = all.0 _ ends can in (suc _, omega arith, later.2)
 
-onto_goes_on : (at b : ℕ) (bs : List ℕ) (f : Found) (ts : List Token) → FoundGoesOn at b bs f ts → AllGoOn (at + 1) bs ts
-    → AllGoOn at (b ∷ bs) (onto at f ts)
-onto_goes_on at b bs f ts h1 h2 = grind (arith, one_before)
+  onto_goes_on : (b : ℕ) (bs : List ℕ) (f : Found) (ts : List Token) → FoundGoesOn at b bs f ts → AllGoOn (at + 1) bs ts → AllGoOn at (b ∷ bs) (onto at f ts)
+  onto_goes_on b bs f ts h1 h2 = grind (arith, one_before)
 
-end_goes_on : (at : ℕ) (within : Within) → AllGoOn at [] (at_end at within)
-end_goes_on at within = grind arith
+  end_goes_on : (within : Within) → AllGoOn at [] (at_end at within)
+  end_goes_on within = grind arith
 
 all_go_on : (at : ℕ) (within : Within) (s : List ℕ) → AllGoOn at s (tokens_from at within s)
 all_go_on at within [] = end_goes_on at within

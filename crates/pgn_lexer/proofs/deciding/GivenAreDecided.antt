@@ -20,15 +20,13 @@ pub decided_is : (given : List Token) (u : List ℕ) (comes : List ℕ → List 
 decided_is given u comes tokens = grind (arith, append-nil, common_of-append)
 
 -- what a lexer that goes on gives next is not decided yet
-pub going_none : (place : ℕ) (h : PartialToken) → IsSound place h → HasNotFailed h.mode
-    → common_of (tokens_to_come place h []) (tokens_to_come place h (49 ∷ [])) (tokens_to_come place h (33 ∷ []))
-    (tokens_to_come place h (34 ∷ 34 ∷ [])) (tokens_to_come place h (191 ∷ [])) (tokens_to_come place h (187 ∷ 191 ∷ [])) ≡ []
-going_none place h sound not_failed = grind (arith, common_steps)
+module _ (place : ℕ) (h : PartialToken) where
+  pub going_none : IsSound place h → HasNotFailed h.mode → common_of (tokens_to_come place h []) (tokens_to_come place h (49 ∷ [])) (tokens_to_come place h (33 ∷ [])) (tokens_to_come place h (34 ∷ 34 ∷ [])) (tokens_to_come place h (191 ∷ [])) (tokens_to_come place h (187 ∷ 191 ∷ [])) ≡ []
+  going_none sound not_failed = grind (arith, common_steps)
 
--- of a lexer that goes on, nothing more is decided
-pub going_decides : (place : ℕ) (h : PartialToken) (u : List ℕ) (given : List Token) → IsSound place h → HasNotFailed h.mode
-    → ((s : List ℕ) → tokens_of (u ++ s) ≡ given ++ tokens_to_come place h s) → given ≡ decided u
-going_decides place h u given sound not_failed tokens = grind (arith, decided_is, going_none _ h sound not_failed, append-nil given)
+  -- of a lexer that goes on, nothing more is decided
+  pub going_decides : (u : List ℕ) (given : List Token) → IsSound place h → HasNotFailed h.mode → ((s : List ℕ) → tokens_of (u ++ s) ≡ given ++ tokens_to_come place h s) → given ≡ decided u
+  going_decides u given sound not_failed tokens = grind (arith, decided_is, going_none sound not_failed, append-nil given)
 
 -- and where the same comes whatever follows, all of it is decided
 pub known_decides : (u : List ℕ) (given more : List Token) → ((s : List ℕ) → tokens_of (u ++ s) ≡ given ++ more)

@@ -25,22 +25,19 @@ abbrev line_tokens : ℕ → Bool → ℕ → List ℕ → CommentClass → List
 line_tokens place goes b s c = onto place (begins_line place goes c b s) (tokens_from (place + 1) (after_line c) s)
 
 -- between the words of a comment in braces, and of one that goes to the end of its line
-pub brace_gives : (c : CommentClass) (place b : ℕ) (h : PartialToken) (ended : List Token) (waits : ℕ) → length h.text ≤ 255
-    → Gives (front_by place b ended waits (λ s. brace_tokens place false b s c)) (byte_result.brace place h b c)
-brace_gives c place b h ended waits h1 = grind arith
+module _ (c : CommentClass) (place b : ℕ) where
+  pub brace_gives : (h : PartialToken) (ended : List Token) (waits : ℕ) → length h.text ≤ 255 → Gives (front_by place b ended waits (λ s. brace_tokens place false b s c)) (byte_result.brace place h b c)
+  brace_gives h ended waits h1 = grind arith
 
-pub line_gives : (c : CommentClass) (place b : ℕ) (h : PartialToken) (ended : List Token) (waits : ℕ) → length h.text ≤ 255
-    → Gives (front_by place b ended waits (λ s. line_tokens place false b s c)) (byte_result.line place h b c)
-line_gives c place b h ended waits h1 = grind arith
+  pub line_gives : (h : PartialToken) (ended : List Token) (waits : ℕ) → length h.text ≤ 255 → Gives (front_by place b ended waits (λ s. line_tokens place false b s c)) (byte_result.line place h b c)
+  line_gives h ended waits h1 = grind arith
 
--- where no word goes on, it is the same as where none was
-pub brace_ends : (c : CommentClass) (place b : ℕ) (s : List ℕ) → is_word_class c ≡ false
-    → brace_tokens place true b s c ≡ brace_tokens place false b s c
-brace_ends c place b s h1 = grind arith
+  -- where no word goes on, it is the same as where none was
+  pub brace_ends : (s : List ℕ) → is_word_class c ≡ false → brace_tokens place true b s c ≡ brace_tokens place false b s c
+  brace_ends s h1 = grind arith
 
-pub line_ends : (c : CommentClass) (place b : ℕ) (s : List ℕ) → is_word_class c ≡ false
-    → line_tokens place true b s c ≡ line_tokens place false b s c
-line_ends c place b s h1 = grind arith
+  pub line_ends : (s : List ℕ) → is_word_class c ≡ false → line_tokens place true b s c ≡ line_tokens place false b s c
+  line_ends s h1 = grind arith
 
 module _ (place at b : ℕ) (text : List ℕ) (some : 0 < length text) (fits : length text ≤ 79) (began : place ≡ at + length text) where
   brace_letter : comment_class b ≡ CommentClass.WordByte → continues_word b ≡ true → (d : Bool) → nat_lt (length text) 79 ≡ d

@@ -1,6 +1,5 @@
 -- A byte in a glyph or a suffix.
-use Rattle.pgn_lexer.proofs.Words.{◌≡◌, ℕ, ◌+◌, ◌-◌, ◌*◌, ◌<◌, ◌≤◌, Bool, true, false, List, [], ◌∷◌, ◌++◌, length, refl, ap, ◌∙◌, arith, take_while, nat_le, ◌==◌, if◌then◌else◌, leb-true, leb-false, LoneDollar, GlyphRange, BadSuffix, Used, EndsBefore, is_digit, is_suffix, glyph, gives, stops, number_from, numbered_at, glyph_at, suffix_at, in_glyph, in_suffix, outside, onto, tokens_from, spelling, into, fails, Mode, TokenForm}
-use Rattle.pgn_lexer.specs.declared.partial_token.SuffixRun.{SuffixRun}
+use Rattle.pgn_lexer.proofs.Words.{◌≡◌, ℕ, ◌+◌, ◌-◌, ◌*◌, ◌<◌, ◌≤◌, Bool, true, false, List, [], ◌∷◌, ◌++◌, length, refl, ap, ◌∙◌, arith, take_while, nat_le, ◌==◌, if◌then◌else◌, leb-true, leb-false, LoneDollar, GlyphRange, BadSuffix, Used, EndsBefore, is_digit, is_suffix, glyph, gives, stops, number_from, numbered_at, glyph_at, suffix_at, in_glyph, in_suffix, outside, onto, tokens_from, spelling, into, fails, Mode, TokenForm, rules, SuffixRun}
 use Rattle.pgn_lexer.specs.ByteResult as byte_result
 use Rattle.pgn_lexer.proofs.stepping.RunOfBytes.{take_while-true, glyph_goes, glyph_ends, suffix_goes, suffix_ends, run_grows, run_breaks, run_ends}
 use Rattle.pgn_lexer.proofs.stepping.RunOfBytes.{run_closes}
@@ -67,13 +66,12 @@ dollar_gives place at b text fits began true e =
     }
 dollar_gives place at b text fits began false e = grind arith
 
-second_good : (at b : ℕ) (run : List ℕ) (c : Bool) → (b == 33) ≡ c
-    → suffix_at at (33 ∷ b ∷ run) ≡ suffix_at at (spelling (if c then SuffixRun.VeryGood else SuffixRun.Speculative) ++ run)
-second_good at b run c h1 = grind arith
+module _ (at b : ℕ) (run : List ℕ) (c : Bool) where
+  second_good : (b == 33) ≡ c → suffix_at at (33 ∷ b ∷ run) ≡ suffix_at at (spelling (if c then SuffixRun.VeryGood else SuffixRun.Speculative) ++ run)
+  second_good h1 = grind arith
 
-second_poor : (at b : ℕ) (run : List ℕ) (c : Bool) → (b == 33) ≡ c
-    → suffix_at at (63 ∷ b ∷ run) ≡ suffix_at at (spelling (if c then SuffixRun.Questionable else SuffixRun.VeryPoor) ++ run)
-second_poor at b run c h1 = grind arith
+  second_poor : (b == 33) ≡ c → suffix_at at (63 ∷ b ∷ run) ≡ suffix_at at (spelling (if c then SuffixRun.Questionable else SuffixRun.VeryPoor) ++ run)
+  second_poor h1 = grind arith
 
 module _ (place at b : ℕ) (text : List ℕ) (fits : length text ≤ 255) (began : at < place) where
   more : (run next : SuffixRun) → is_suffix b ≡ true
@@ -91,12 +89,7 @@ module _ (place at b : ℕ) (text : List ℕ) (fits : length text ≤ 255) (bega
 
   too_many : (run : SuffixRun) → is_suffix b ≡ true → ((rest : List ℕ) → suffix_at at (spelling run ++ b ∷ rest) ≡ stops at BadSuffix)
       → GivesIn (Mode.Suffix run) place at b text (λ h. fails h h.at BadSuffix)
-  too_many run e bad =
-      record {
-        sound = omega arith;
-        fails = refl;
-        comes = λ s. run_breaks (suffix_at at) is_suffix at b (spelling run) s (tokens_from place in_suffix (b ∷ s)) at _ e (bad _);
-      }
+  too_many run e bad = search (rules, fails, run_breaks, suffix_at, is_suffix, spelling, tokens_from, in_suffix)
 
   goes_on : (run : SuffixRun) → is_suffix b ≡ true → GivesIn (Mode.Suffix run) place at b text (λ h. byte_result.second_suffix h run b)
   goes_on SuffixRun.Good e = more SuffixRun.Good _ e (λ rest. second_good at b rest _ refl)

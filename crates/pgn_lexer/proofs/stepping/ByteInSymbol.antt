@@ -1,5 +1,5 @@
 -- A byte in a symbol.
-use Rattle.pgn_lexer.proofs.Words.{◌≡◌, ℕ, ◌+◌, ◌<◌, ◌≤◌, Bool, true, false, List, [], ◌∷◌, ◌++◌, length, refl, arith, length-append, take_while, nat_lt, if◌then◌else◌, ltb-true, ltb-false, SymbolTooLong, continues_symbol, symbol, gives, stops, symbol_at, outside, into, grown, fails, EndsBefore, Mode, TokenForm}
+use Rattle.pgn_lexer.proofs.Words.{◌≡◌, ℕ, ◌+◌, ◌<◌, ◌≤◌, Bool, true, false, List, [], ◌∷◌, length, refl, arith, length-append, take_while, nat_lt, if◌then◌else◌, ltb-true, ltb-false, SymbolTooLong, continues_symbol, symbol, gives, stops, symbol_at, outside, into, grown, fails, EndsBefore, Mode, TokenForm, common_steps}
 use Rattle.pgn_lexer.proofs.stepping.RunOfBytes.{symbol_goes, symbol_ends, run_grows, run_breaks, run_ends, run_closes}
 use Rattle.pgn_lexer.proofs.stepping.StepGives.{GivesIn}
 
@@ -20,13 +20,7 @@ symbol_gives place at b text fits some began true e true room =
       comes = λ s. run_grows (symbol_at at) continues_symbol at b text s _ _ e (symbol_goes place b s e);
     }
 symbol_gives place at b text fits some began true e false full =
-    let over : 255 ≤ length text = ltb-false _ _ full in
-    record {
-      sound = omega arith;
-      fails = refl;
-      comes = λ s. run_breaks (symbol_at at) continues_symbol at b text s _ at SymbolTooLong e
-          (symbol_long at (text ++ b ∷ take_while continues_symbol s) (omega (arith, length-append text (b ∷ take_while continues_symbol s))));
-    }
+    grind (arith, common_steps, ltb-false, fails, run_breaks, symbol_at, continues_symbol, symbol_long, take_while, length-append)
 symbol_gives place at b text fits some began false e d _ =
     record {
       sound = omega arith;

@@ -1,10 +1,7 @@
 -- White space that is passed, and what is read behind it, are read in one call.
-use Rattle.pgn_lexer.proofs.Words.{◌≡◌, Bool, true, false, ℕ, zero, suc, ◌+◌, ◌-◌, ◌<◌, ◌≤◌, inl, inr, List, [], ◌∷◌, ◌++◌, length, take, drop, refl, sym, ap, subst, ◌∙◌, append_assoc, arith, drop-cons, get_or, Option, None, LexFault, Token, tokens_of, decided, refusal, Scanned, more, fault, Standing, fault_in_mode, Mode, Follows, still, StandsAfter, EndsNoSooner, Scans, AfterScan, is_run, Passes, ReadsBehind, none, over_space, over_token, false≢true}
+use Rattle.pgn_lexer.proofs.Words.{◌≡◌, Bool, true, false, ℕ, zero, suc, ◌+◌, ◌-◌, ◌<◌, ◌≤◌, inl, inr, List, [], ◌∷◌, ◌++◌, length, take, drop, refl, sym, ap, subst, ◌∙◌, append_assoc, arith, drop-cons, get_or, Option, None, LexFault, Token, tokens_of, decided, refusal, Scanned, more, fault, Standing, fault_in_mode, Mode, Follows, still, StandsAfter, EndsNoSooner, Scans, AfterScan, is_run, Passes, ReadsBehind, none, over_space, over_token, false≢true, rules, common_steps, waiting, coming, Advances, IsDecided, Reads, IsBetween, standing_at}
 use Rattle.pgn_lexer.specs.Scanned.{token}
 use Rattle.pgn_lexer.proofs.deciding.GivenAreDecided.{known_decides}
-use Rattle.pgn_lexer.specs.Standing.{waiting, coming}
-use Rattle.pgn_lexer.specs.Stands.{Advances, IsDecided, Reads}
-use Rattle.pgn_lexer.specs.Runs.{IsBetween, standing_at}
 use Rattle.pgn_lexer.proofs.stepping.WholeRuns.{same_between}
 
 pub passes_count : {skips : Bool} {old : Standing} {piece : List ℕ} {new : Standing} {m : ℕ} → Passes skips old piece new m → new.count ≡ old.count + m
@@ -73,26 +70,10 @@ module _ (l mid new : Standing) (x : ℕ) (rest : List ℕ) (n : ℕ) (space : S
     after (token t) scans =
         let then = scans.carries (u ++ x ∷ []) None given over.1 tt in
         (rw (joined (take n rest)) at then.0, decided_more then.1, no_sooner (is_run t.kind) then.2)
-    after (fault f) scans =
-        let then = scans.carries (u ++ x ∷ []) None given over.1 tt in
-        let comes : (s : List ℕ) → tokens_of (u ++ x ∷ (rest ++ s)) ≡ given ++ refusal f ∷ [] =
-        λ s. sym (ap tokens_of (append_assoc (u ++ x ∷ []) rest s ∙ joined (rest ++ s))) ∙ then.0 s (none_follows s rest) in
-        let all : (s : List ℕ) → tokens_of ((u ++ x ∷ rest) ++ s) ≡ given ++ refusal f ∷ [] = λ s. ap tokens_of (append_assoc u (x ∷ rest) s) ∙ comes s in
-        (λ s goes. all s, λ some. known_decides (u ++ x ∷ rest) given (refusal f ∷ []) all)
+    after (fault f) scans = search (rules, tokens_of, refusal, append_assoc, joined, none_follows, known_decides)
 
   pub scans_over : (seen : Scanned) → Scans mid rest new n seen → Scans l (x ∷ rest) new (suc n) seen
-  scans_over seen scans =
-      record {
-        count = omega (arith, space.count, scans.count);
-        advances = advances seen scans;
-        reads = reads seen scans;
-        carries = λ u b given stands starts. after u b given stands starts seen scans;
-        lengths = scans.lengths;
-        ends = scans.ends;
-        refused = scans.refused;
-        empty = λ h. absurd (omega arith);
-        stays = λ f failed. absurd (omega (arith, (space.stays f failed).0));
-      }
+  scans_over seen scans = grind (arith, common_steps, advances, reads, after)
 
 pub passes_scans : {skips : Bool} {old : Standing} {piece : List ℕ} {mid : Standing} {m : ℕ} → skips ≡ false → Passes skips old piece mid m
     → (new : Standing) (n : ℕ) (seen : Scanned) → Scans mid (drop m piece) new n seen → Scans old piece new (m + n) seen
@@ -123,8 +104,7 @@ module _ (place : ℕ) (mode : Mode) (between : IsBetween mode) (a b : ℕ) (x y
   same s = same_between mode between place a b x y s
 
   stands_alike : {u : List ℕ} {c : Option ℕ} {given : List Token} → StandsAfter this u c given → StandsAfter that u c given
-  stands_alike {given = given} stands =
-      record { count = stands.count; before = stands.before; tokens = λ s goes. stands.tokens s goes ∙ ap (λ l. given ++ l) (same s) }
+  stands_alike {given = given} stands = grind (arith, common_steps, same)
 
   fault_none : (m : Mode) → IsBetween m → (at : ℕ) → fault_in_mode m at ≡ None
   fault_none m h at = grind arith

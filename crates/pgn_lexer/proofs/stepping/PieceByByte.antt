@@ -1,10 +1,7 @@
 -- A run over a piece, byte by byte.
-use Rattle.std.proofs.lemmas.Bool.{true≢false}
-use Rattle.pgn_lexer.specs.ByteResult.{AfterByte, brace, glyph_of, line, second_suffix, symbol, word}
-use Rattle.pgn_lexer.specs.Runs.{comment_mode}
-use Rattle.pgn_lexer.specs.declared.partial_token.SuffixRun.{SuffixRun}
-use Rattle.pgn_lexer.specs.declared.partial_token.Mode.TheVariants.{Dollar, Glyph, LineWord, Suffix}
-use Rattle.pgn_lexer.proofs.Words.{AfterBackslash, is_escaped, ◌≡◌, Bool, ℕ, suc, ◌+◌, ◌-◌, ◌*◌, ◌<◌, ◌≤◌, inl, inr, List, [], ◌∷◌, ◌++◌, length, get_or, take, drop, refl, sym, ap, ◌∙◌, add-one, arith, ◌⊎◌, true, false, Some, take_all, drop-cons, LexFault, Mode, LexReason, Class, CommentClass, StringClass, LineStart, Outside, Symbol, Str, BraceWord, Failed, continues_symbol, is_digit, is_suffix, class, comment_class, string_class, TokenForm, Step, Used, Ends, EndsBefore, Fault, PartialToken, tokens_to_come, token_of, IsSound, HasNotFailed, pending, fault_met, fault_in_mode, begin, begin_line, string, into, after_byte, IsAfterByte, IsOutside, Ran, RunsOut, StoodAt, RunGives, RunsToToken, RunsToFault, used_after, reached_after, common_steps}
+use Rattle.pgn_lexer.specs.ByteResult.{brace, line, symbol, word}
+use Rattle.pgn_lexer.specs.declared.partial_token.Mode.TheVariants.{Dollar, Suffix}
+use Rattle.pgn_lexer.proofs.Words.{AfterBackslash, is_escaped, ◌≡◌, Bool, ℕ, suc, ◌+◌, ◌-◌, ◌*◌, ◌<◌, ◌≤◌, inl, inr, List, [], ◌∷◌, ◌++◌, length, get_or, take, drop, refl, sym, ap, ◌∙◌, add-one, arith, ◌⊎◌, true, false, Some, take_all, drop-cons, LexFault, Mode, LexReason, Class, CommentClass, StringClass, LineStart, Outside, Symbol, Str, BraceWord, Failed, continues_symbol, is_digit, is_suffix, class, comment_class, string_class, TokenForm, Step, Used, Ends, EndsBefore, Fault, PartialToken, tokens_to_come, token_of, IsSound, HasNotFailed, pending, fault_met, fault_in_mode, begin, begin_line, string, into, after_byte, IsAfterByte, IsOutside, Ran, RunsOut, StoodAt, RunGives, RunsToToken, RunsToFault, used_after, reached_after, common_steps, true≢false, AfterByte, glyph_of, second_suffix, comment_mode, SuffixRun, Glyph, LineWord}
 use Rattle.pgn_lexer.proofs.stepping.StepGives.{StepGives, front_of}
 use Rattle.pgn_lexer.proofs.stepping.ByteGives.{step_gives}
 
@@ -18,15 +15,7 @@ ran_none place h piece sound not_failed = grind arith
 -- the whole piece was used, and no token ended in it
 pub ran_out : (place : ℕ) (old : PartialToken) (piece : List ℕ) (new : PartialToken) (used : ℕ) → used ≡ length piece
     → Ran place old piece new used → RunsOut place old piece new used
-ran_out place old piece new used all r =
-    record {
-      all = all;
-      fresh = r.fresh;
-      empty = λ none. r.start (all ∙ none);
-      sound = r.sound;
-      not_failed = r.not_failed;
-      comes = λ s. ap (λ l. tokens_to_come place old (l ++ s)) (sym (take_all used piece (omega (arith, all)))) ∙ r.comes s;
-    }
+ran_out place old piece new used all r = grind (arith, common_steps, tokens_to_come, take_all)
 
 going_on : (m : Mode) (at : ℕ) (f : LexFault) → HasNotFailed m → fault_in_mode m at ≡ Some f → ⊥
 going_on m at f h1 h2 = grind arith
@@ -130,13 +119,12 @@ takes_symbol : (place b : ℕ) (h new : PartialToken) (answer : Step) → h.mode
 unfolding after_byte
 takes_symbol place b h new answer e t = grind arith
 
-pub takes_symbol_byte : (place b : ℕ) (h new : PartialToken) → h.mode ≡ Symbol → continues_symbol b ≡ true → length h.text < 255
-    → new ≡ record { mode = h.mode; at = h.at; text = h.text ++ b ∷ [] } → IsAfterByte (after_byte place h b) new Used
-takes_symbol_byte place b h new e goes room grows = takes_symbol _ b h new _ e (grind arith)
+module _ (place b : ℕ) (h new : PartialToken) where
+  pub takes_symbol_byte : h.mode ≡ Symbol → continues_symbol b ≡ true → length h.text < 255 → new ≡ record { mode = h.mode; at = h.at; text = h.text ++ b ∷ [] } → IsAfterByte (after_byte place h b) new Used
+  takes_symbol_byte e goes room grows = takes_symbol _ b h new _ e (grind arith)
 
-pub takes_symbol_end : (place b : ℕ) (h new : PartialToken) → h.mode ≡ Symbol → continues_symbol b ≡ false
-    → new ≡ record { mode = Outside; at = h.at; text = h.text } → IsAfterByte (after_byte place h b) new (EndsBefore TokenForm.Symbol)
-takes_symbol_end place b h new e ends is = takes_symbol _ b h new _ e (grind arith)
+  pub takes_symbol_end : h.mode ≡ Symbol → continues_symbol b ≡ false → new ≡ record { mode = Outside; at = h.at; text = h.text } → IsAfterByte (after_byte place h b) new (EndsBefore TokenForm.Symbol)
+  takes_symbol_end e ends is = takes_symbol _ b h new _ e (grind arith)
 
 pub takes_outside : (place b : ℕ) (h new : PartialToken) (answer : Step) (c : Class) → IsOutside h.mode → class b ≡ c
     → begin_line place h b c ≡ begin place h b c → IsAfterByte (begin place h b c) new answer → IsAfterByte (after_byte place h b) new answer
@@ -152,13 +140,12 @@ taken_string : (place b : ℕ) (h : PartialToken) (c : StringClass) → h.mode �
 unfolding after_byte
 taken_string place b h c e same = grind arith
 
-pub takes_plain : (place b : ℕ) (h new : PartialToken) → h.mode ≡ Str → string_class b ≡ StringClass.Plain → length h.text < 255
-    → new ≡ record { mode = h.mode; at = h.at; text = h.text ++ b ∷ [] } → IsAfterByte (after_byte place h b) new Used
-takes_plain place b h new e same room grows = rw (taken_string _ b h _ e same) (grind arith)
+module _ (place b : ℕ) (h new : PartialToken) where
+  pub takes_plain : h.mode ≡ Str → string_class b ≡ StringClass.Plain → length h.text < 255 → new ≡ record { mode = h.mode; at = h.at; text = h.text ++ b ∷ [] } → IsAfterByte (after_byte place h b) new Used
+  takes_plain e same room grows = rw (taken_string _ b h _ e same) (grind arith)
 
-pub takes_backslash : (place b : ℕ) (h new : PartialToken) → h.mode ≡ Str → string_class b ≡ StringClass.Backslash → length h.text < 255
-    → new ≡ record { mode = AfterBackslash; at = h.at; text = h.text } → IsAfterByte (after_byte place h b) new Used
-takes_backslash place b h new e same room goes = rw (taken_string _ b h _ e same) (grind arith)
+  pub takes_backslash : h.mode ≡ Str → string_class b ≡ StringClass.Backslash → length h.text < 255 → new ≡ record { mode = AfterBackslash; at = h.at; text = h.text } → IsAfterByte (after_byte place h b) new Used
+  takes_backslash e same room goes = rw (taken_string _ b h _ e same) (grind arith)
 
 escaped_class : (b : ℕ) → is_escaped b ≡ true → (string_class b ≡ StringClass.Quote) ⊎ (string_class b ≡ StringClass.Backslash)
 escaped_class b e = grind arith

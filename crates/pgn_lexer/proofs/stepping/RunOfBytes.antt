@@ -11,29 +11,24 @@ take_while-false p b s e = grind arith
 abbrev run_tokens : Within → ℕ → ℕ → List ℕ → Bool → List Token
 run_tokens within place b s c = onto place (begins_after c place (class b) b s) (tokens_from (place + 1) (after_run c within (class b)) s)
 
-pub symbol_goes : (place b : ℕ) (s : List ℕ) → continues_symbol b ≡ true
-    → tokens_from place in_symbol (b ∷ s) ≡ tokens_from (place + 1) in_symbol s
-symbol_goes place b s e = ap (run_tokens _ _ b s) e
+module _ (place b : ℕ) (s : List ℕ) where
+  pub symbol_goes : continues_symbol b ≡ true → tokens_from place in_symbol (b ∷ s) ≡ tokens_from (place + 1) in_symbol s
+  symbol_goes e = ap (run_tokens _ _ b s) e
 
-pub symbol_ends : (place b : ℕ) (s : List ℕ) → continues_symbol b ≡ false
-    → tokens_from place in_symbol (b ∷ s) ≡ tokens_from place outside (b ∷ s)
-symbol_ends place b s e = ap (run_tokens _ _ b s) e
+  pub symbol_ends : continues_symbol b ≡ false → tokens_from place in_symbol (b ∷ s) ≡ tokens_from place outside (b ∷ s)
+  symbol_ends e = ap (run_tokens _ _ b s) e
 
-pub glyph_goes : (place b : ℕ) (s : List ℕ) → is_digit b ≡ true
-    → tokens_from place in_glyph (b ∷ s) ≡ tokens_from (place + 1) in_glyph s
-glyph_goes place b s e = ap (run_tokens _ _ b s) e
+  pub glyph_goes : is_digit b ≡ true → tokens_from place in_glyph (b ∷ s) ≡ tokens_from (place + 1) in_glyph s
+  glyph_goes e = ap (run_tokens _ _ b s) e
 
-pub glyph_ends : (place b : ℕ) (s : List ℕ) → is_digit b ≡ false
-    → tokens_from place in_glyph (b ∷ s) ≡ tokens_from place outside (b ∷ s)
-glyph_ends place b s e = ap (run_tokens _ _ b s) e
+  pub glyph_ends : is_digit b ≡ false → tokens_from place in_glyph (b ∷ s) ≡ tokens_from place outside (b ∷ s)
+  glyph_ends e = ap (run_tokens _ _ b s) e
 
-pub suffix_goes : (place b : ℕ) (s : List ℕ) → is_suffix b ≡ true
-    → tokens_from place in_suffix (b ∷ s) ≡ tokens_from (place + 1) in_suffix s
-suffix_goes place b s e = ap (run_tokens _ _ b s) e
+  pub suffix_goes : is_suffix b ≡ true → tokens_from place in_suffix (b ∷ s) ≡ tokens_from (place + 1) in_suffix s
+  suffix_goes e = ap (run_tokens _ _ b s) e
 
-pub suffix_ends : (place b : ℕ) (s : List ℕ) → is_suffix b ≡ false
-    → tokens_from place in_suffix (b ∷ s) ≡ tokens_from place outside (b ∷ s)
-suffix_ends place b s e = ap (run_tokens _ _ b s) e
+  pub suffix_ends : is_suffix b ≡ false → tokens_from place in_suffix (b ∷ s) ≡ tokens_from place outside (b ∷ s)
+  suffix_ends e = ap (run_tokens _ _ b s) e
 
 -- A token whose text is a run: `found` says what the whole run comes to, text is the part read.
 module _ (found : List ℕ → Found) (p : ℕ → Bool) (at b : ℕ) (text : List ℕ) where

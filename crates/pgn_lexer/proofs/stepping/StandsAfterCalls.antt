@@ -6,15 +6,15 @@ use Rattle.pgn_lexer.proofs.deciding.CommonTokens.{common_front}
 use Rattle.pgn_lexer.proofs.cutting.PlacesOfTokens.{AllFrom, tokens_from-from, all_from-front, take_before}
 
 -- what may follow the front of a piece
-follows_front : (b : Option ℕ) (piece s : List ℕ) (used : ℕ) → 0 < length piece → Follows b piece → Follows (first (drop used piece)) s
-    → Follows b (take used piece ++ s)
-follows_front b piece s used h1 h2 h3 = grind arith
+module _ (b : Option ℕ) (piece : List ℕ) where
+  follows_front : (s : List ℕ) (used : ℕ) → 0 < length piece → Follows b piece → Follows (first (drop used piece)) s → Follows b (take used piece ++ s)
+  follows_front s used h1 h2 h3 = grind arith
 
-follows_piece : (b : Option ℕ) (piece s : List ℕ) → Follows b piece → Follows (still b piece) s → Follows b (piece ++ s)
-follows_piece b piece s h1 h2 = grind arith
+  follows_piece : (s : List ℕ) → Follows b piece → Follows (still b piece) s → Follows b (piece ++ s)
+  follows_piece s h1 h2 = grind arith
 
-still_none : (b : Option ℕ) (piece : List ℕ) → 0 < length piece → still b piece ≡ None
-still_none b piece h1 = grind arith
+  still_none : 0 < length piece → still b piece ≡ None
+  still_none h1 = grind arith
 
 follows_none : (o : Option ℕ) (s : List ℕ) → o ≡ None → Follows o s
 follows_none o s e = rw e tt

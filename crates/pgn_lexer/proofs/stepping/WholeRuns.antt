@@ -1,21 +1,11 @@
 -- Tokens and white space that lie in a piece as a whole: byte after byte gives the same.
-use Rattle.std.proofs.Math.Seq.{take-suc}
-use Rattle.std.proofs.lemmas.List.{get_or-take, get_or-drop, length-drop}
-use Rattle.std.specs.Prelude.{IsTrue, if◌then◌else◌, ◌==◌}
-use Rattle.std.specs.List.{list_all}
-use Rattle.pgn_lexer.specs.ByteResult.{glyph_of, into, second_suffix}
 use Rattle.pgn_lexer.specs.declared.class.CommentClass.TheVariants as comment_classes
 use Rattle.pgn_lexer.specs.declared.class.Class.TheVariants as classes
 use Rattle.pgn_lexer.specs.declared.class.Single.TheVariants.{Period}
-use Rattle.pgn_lexer.specs.declared.partial_token.SuffixRun.{SuffixRun}
 use Rattle.pgn_lexer.specs.declared.partial_token.SuffixRun.TheVariants as suffix_runs
 use Rattle.pgn_lexer.specs.declared.partial_token.Mode.TheVariants as modes
-use Rattle.pgn_lexer.specs.PartialToken.{kind_in, tokens_to_come_in, pending_in}
-use Rattle.pgn_lexer.specs.Tokens.{end}
 use Rattle.pgn_lexer.specs.Scanned.{token as token_scanned}
-use Rattle.pgn_lexer.specs.Runs.{IsBetween, IsWhole, IsStringIn, comment_mode}
-use Rattle.pgn_lexer.specs.WholeTokens.{Passes, ReadsBehind, is_passed, none, over_space, over_token}
-use Rattle.pgn_lexer.proofs.Words.{◌≡◌, Bool, ℕ, zero, suc, ◌+◌, ◌-◌, ◌*◌, ◌<◌, ◌≤◌, ◌⊎◌, inl, inr, List, [], ◌∷◌, ◌++◌, length, get_or, take, drop, refl, sym, ap, subst, ◌∙◌, add-one, arith, true, false, take_all, length-take-le, Mode, Class, LineEnd, Space, SymbolStart, Alone, LineStart, Outside, Symbol, is_digit, is_suffix, is_space, class, comment_class, symbol, str, glyph, comment_close, word, Token, TokenForm, Step, Ends, Kind, PartialToken, tokens_to_come, token_of, IsSound, HasNotFailed, begin, begin_line, IsOutside, IsAfterByte, after_byte, Ran, RunsOut, RunsToToken, Standing, standing_at, Scans, IsSymbolIn, IsNumberIn, IsWordIn}
+use Rattle.pgn_lexer.proofs.Words.{◌≡◌, Bool, ℕ, zero, suc, ◌+◌, ◌-◌, ◌*◌, ◌<◌, ◌≤◌, ◌⊎◌, inl, inr, List, [], ◌∷◌, ◌++◌, length, get_or, take, drop, refl, sym, ap, subst, ◌∙◌, add-one, arith, true, false, take_all, length-take-le, Mode, Class, LineEnd, Space, SymbolStart, Alone, LineStart, Outside, Symbol, is_digit, is_suffix, is_space, class, comment_class, symbol, str, glyph, comment_close, word, Token, TokenForm, Step, Ends, Kind, PartialToken, tokens_to_come, token_of, IsSound, HasNotFailed, begin, begin_line, IsOutside, IsAfterByte, after_byte, Ran, RunsOut, RunsToToken, Standing, standing_at, Scans, IsSymbolIn, IsNumberIn, IsWordIn, rules, common_steps, take-suc, get_or-take, get_or-drop, length-drop, IsTrue, if◌then◌else◌, ◌==◌, list_all, glyph_of, into, second_suffix, SuffixRun, kind_in, tokens_to_come_in, pending_in, end, IsBetween, IsWhole, IsStringIn, comment_mode, Passes, ReadsBehind, is_passed, none, over_space, over_token}
 use Rattle.pgn_lexer.proofs.bytes.ClassToTest.{ClassSays, class_says}
 use Rattle.pgn_lexer.proofs.stepping.PieceByByte.{ran_none, ran_uses, ran_ends, ran_ends_before, takes_outside, takes_symbol_byte, takes_symbol_end, takes_plain, takes_quote, takes_dollar, takes_digit, takes_glyph_end, takes_second, takes_suffix_end, takes_gap, takes_word_start, takes_close, takes_word_byte, takes_word_end, inside}
 use Rattle.pgn_lexer.proofs.stepping.StandsAfterCalls.{scans_nothing, scans_token}
@@ -50,51 +40,11 @@ module _ (place : ℕ) (old : PartialToken) (piece : List ℕ) (used : ℕ) (m :
   same s = same_between m between (place + used) a b x y s
 
   token_alike : (t : Token) → RunsToToken place old piece t this used → RunsToToken place old piece t that used
-  token_alike t r =
-      record {
-        within = r.within;
-        some = r.some;
-        fresh = r.fresh;
-        sound = sound_between m between (place + used) b y room;
-        not_failed = not_failed_between m between;
-        lengths = r.lengths;
-        ends_at = r.ends_at;
-        before = r.before;
-        advances = r.advances;
-        ends = elim r.ends [
-          | inl e ↦ inl (record {
-            some = e.some;
-            closed = e.closed;
-            last = e.last;
-            is_last = e.is_last;
-            stood = e.stood;
-            comes = λ s. e.comes s ∙ ap (λ l. t ∷ l) (same s);
-          })
-          | inr e ↦ inr (record {
-            runs = e.runs;
-            stood = e.stood;
-            byte = e.byte;
-            more = e.more;
-            next = e.next;
-            within = e.within;
-            settled = λ s. sym (same s) ∙ e.settled s;
-            comes = λ s. e.comes s ∙ ap (λ l. t ∷ l) (same (e.byte ∷ s));
-            at_end = e.at_end ∙ ap (λ l. t ∷ l) (same []);
-          })
-        ];
-      }
+  token_alike t r = search (rules, sound_between, not_failed_between, inl, same, inr)
 
   -- white space that is the whole piece
   out_alike : used ≡ length piece → 0 < used → Ran place old piece this used → RunsOut place old piece that used
-  out_alike all some r =
-      record {
-        all = all;
-        fresh = r.fresh;
-        empty = λ none. absurd (omega arith);
-        sound = sound_between m between (place + used) b y room;
-        not_failed = not_failed_between m between;
-        comes = λ s. ap (λ l. tokens_to_come place old (l ++ s)) (sym (take_all used piece (omega (arith, all)))) ∙ r.comes s ∙ same s;
-      }
+  out_alike all some r = search (rules, sound_between, not_failed_between, tokens_to_come, take_all, same)
 
 -- ---- tokens at the front of a piece
 
@@ -412,11 +362,7 @@ module _ (skips : Bool) (before : Standing) (place : ℕ) (h : PartialToken) (pi
           → begin (place + m + 0) h (get_or one 0 0) c ≡ record { held = holding (place + m) h one mode h.text; step = Step.Used }
           → IsOutside mode → is_space (get_or piece m 0) ≡ true → Passes skips before piece (standing_at (place + (m + 1)) (into_mode h mode)) (m + 1)
       passes_into c mode is same begins into is_white =
-          let new_waits = none_waits mode into in
-          let old_waits = none_waits h.mode outside in
-          space mode (omega arith) is_white
-          (out_alike (place + m) h one 1 mode (outside_between mode into) _ h.at _ h.text room (sym one_long) (omega arith)
-          (first_byte (place + m) h one sound outside c _ (omega (arith, one_long)) (ap class one_here ∙ is) same begins))
+          search (rules, none_waits, space, out_alike, outside_between, one_long, first_byte, sound, class, one_here)
 
       pub passes_line_end : class (get_or piece m 0) ≡ LineEnd → Passes skips before piece (standing_at (place + (m + 1)) (into_mode h LineStart)) (m + 1)
       passes_line_end is = grind (arith, passes_into, white_line_end)
@@ -440,10 +386,7 @@ module _ (skips : Bool) (before : Standing) (place : ℕ) (h : PartialToken) (pi
 
       pub passes_gap : (comment_class (get_or piece m 0) ≡ comment_classes.Space) ⊎ ((comment_class (get_or piece m 0) ≡ comment_classes.LineEnd) × (l ≡ false))
           → Passes skips before piece (standing_at (place + (m + 1)) (into_mode h (comment_mode l))) (m + 1)
-      passes_gap is =
-          space (comment_mode l) (rw in_comment (omega arith)) (gap_is_white l (get_or piece m 0) is)
-          (out_alike (place + m) h one 1 (comment_mode l) (comment_between l) _ h.at _ h.text room (sym one_long) (omega arith)
-          (ran_gap (place + m) h one sound_there l in_comment (omega (arith, one_long)) (rw (sym one_here) at is)))
+      passes_gap is = grind (arith, common_steps, space, gap_is_white, get_or, out_alike, comment_between, one_long, ran_gap, sound_there, one_here)
 
       pub reads_word : (n : ℕ) → IsWordIn rest n
           → ReadsBehind skips before piece (standing_at (place + (m + n)) (into_mode h (comment_mode l))) (m + n) (record { at = place + m; kind = word (take n rest) })

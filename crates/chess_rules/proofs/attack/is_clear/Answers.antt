@@ -1,4 +1,4 @@
-use Rattle.std.proofs.Common.{◌∙◌}
+use Rattle.chess_rules.proofs.Words.{◌∙◌}
 use Rattle.chess_rules.proofs.lines.ClearWays.{clear_by_set}
 use Rattle.chess_rules.proofs.attack.is_clear.Goals as goal
 

@@ -1,5 +1,4 @@
-use Rattle.std.proofs.Common.{refl}
-use Rattle.chess_rules.specs.RankNumbers.{bytes_of_bits}
+use Rattle.chess_rules.proofs.Words.{refl, bytes_of_bits}
 use Rattle.chess_rules.proofs.sets.TablesOfSquares.{table_at}
 use Rattle.chess_rules.proofs.board.bytes_of_bits.Goals as goal
 

@@ -1,6 +1,4 @@
-use Rattle.chess_rules.proofs.Words.{◌≡◌, ◌+◌, ◌-◌, ◌*◌, ◌<◌, ◌^◌, suc, sym, ◌∙◌, ap, ap₂, arith, take}
-use Rattle.std.proofs.Common.{drop}
-use Rattle.std.proofs.lemmas.List.{length-take}
+use Rattle.chess_rules.proofs.Words.{◌≡◌, ◌+◌, ◌-◌, ◌*◌, ◌<◌, ◌^◌, suc, sym, ◌∙◌, ap, ap₂, arith, take, drop, length-take}
 unfoldable use Rattle.chess_rules.specs.Words.{lanes}
 use Rattle.chess_rules.proofs.sets.RanksToWords.{lanes_nil, next_lanes, lanes_fit}
 use Rattle.chess_rules.proofs.board.lanes_of_rank.Goals as goal

@@ -1,4 +1,4 @@
-use Rattle.std.proofs.Common.{◌≡◌, ◌*◌, ◌+◌, ◌-◌, take, drop}
+use Rattle.chess_rules.proofs.Words.{◌≡◌, ◌*◌, ◌+◌, ◌-◌, take, drop}
 use Rattle.chess_rules.specs.Words as words
 use Rattle.chess_rules.proofs.board.lanes_of_rank.Given as goal
 

@@ -1,4 +1,4 @@
-use Rattle.std.proofs.Common.{◌∙◌, ap, not}
+use Rattle.chess_rules.proofs.Words.{◌∙◌, ap, not}
 use Rattle.chess_rules.proofs.trying.SetsToPairs.{one_may_see}
 use Rattle.chess_rules.proofs.candidates.may_have_two_origins.Goals as goal
 

@@ -1,7 +1,5 @@
-use Rattle.chess_text.proofs.Words.{◌≡◌, length, true, ◌&&◌, sym, ◌∙◌, ap, arith, Option, Ok, Err, ◌==◌, is_none}
+use Rattle.chess_text.proofs.Words.{◌≡◌, length, true, ◌&&◌, sym, ◌∙◌, ap, arith, Option, Ok, Err, ◌==◌, is_none, field, rest, parts_or_fault, side_of, rights_of, target_of, number_of}
 use Rattle.chess_text.proofs.Words.{Some, rules, if◌then◌else◌, nat_tests, Parts, built_unless, position_fault, at_field, if_position}
-use Rattle.chess_text.specs.Fen.{field, rest, parts_or_fault}
-use Rattle.chess_text.specs.Field.{side_of, rights_of, target_of, number_of}
 use Rattle.chess_rules.specs.declared.position.PositionFault.{PositionFault}
 use Rattle.chess_text.proofs.fen.read_on_board.Goals as goal
 

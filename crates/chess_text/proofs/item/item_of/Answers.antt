@@ -1,6 +1,5 @@
-use Rattle.std.proofs.Common.{refl}
 unfoldable use Rattle.chess_rules.specs.Words.{lanes, word}
-use Rattle.chess_text.specs.Items.{item}
+use Rattle.chess_text.proofs.Words.{refl, item}
 use Rattle.chess_text.proofs.item.item_of.Goals as goal
 
 pub returns : goal.returns

@@ -1,8 +1,5 @@
 use Rattle.std.proofs.lemmas.List.{length-set}
-use Rattle.std.proofs.Math.Seq.{take-append_seam}
-use Rattle.std.specs.List.{refill}
-use Rattle.std.proofs.Common.{rules}
-use Rattle.chess_text.proofs.Words.{ℕ, [], List, ◌≡◌, ◌++◌, ◌+◌, ◌-◌, length, set, take, drop, refl, sym, subst, arith, take_more_set, ◌∙◌, ap, rank_text, row}
+use Rattle.chess_text.proofs.Words.{ℕ, [], List, ◌≡◌, ◌++◌, ◌+◌, ◌-◌, length, set, take, drop, refl, sym, subst, arith, take_more_set, ◌∙◌, ap, rank_text, row, take-append_seam, refill, rules}
 use Rattle.chess_text.proofs.positions.BoardToText.{WrittenTo, first_rank, next_rank, last_rank_written}
 use Rattle.chess_text.proofs.placement.push_board.Goals as goal
 

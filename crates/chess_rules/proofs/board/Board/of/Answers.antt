@@ -1,7 +1,5 @@
-use Rattle.std.proofs.Common.{drop, replicate}
 use Rattle.std.proofs.Math.ListN.{drop_of_length-le}
-use Rattle.std.proofs.lemmas.List.{length-drop, length-take-le}
-use Rattle.chess_rules.proofs.Words.{◌≡◌, ◌≤◌, ◌-◌, ◌+◌, ◌*◌, ◌++◌, None, length, sym, ◌∙◌, ap, arith, append-nil, take}
+use Rattle.chess_rules.proofs.Words.{◌≡◌, ◌≤◌, ◌-◌, ◌+◌, ◌*◌, ◌++◌, None, length, sym, ◌∙◌, ap, arith, append-nil, take, drop, replicate, length-drop, length-take-le}
 use Rattle.chess_rules.proofs.sets.RanksToWords.{next_rank}
 use Rattle.chess_rules.proofs.board.Board.of.Goals as goal
 

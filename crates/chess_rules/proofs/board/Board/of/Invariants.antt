@@ -1,4 +1,4 @@
-use Rattle.std.proofs.Common.{◌≡◌, ◌*◌, ◌-◌, ◌++◌, drop, replicate, None}
+use Rattle.chess_rules.proofs.Words.{◌≡◌, ◌*◌, ◌-◌, ◌++◌, drop, replicate, None}
 use Rattle.chess_rules.proofs.board.Board.of.Given as goal
 
 -- the ranks above are on the board, and the others are empty

@@ -1,4 +1,4 @@
-use Rattle.std.proofs.Common.{arith}
+use Rattle.chess_rules.proofs.Words.{arith}
 use Rattle.chess_rules.proofs.sets.WordsToCells.{kind_places}
 use Rattle.chess_rules.proofs.board.Board.of_kind.Goals as goal
 

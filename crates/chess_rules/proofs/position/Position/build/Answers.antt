@@ -1,5 +1,4 @@
-use Rattle.chess_rules.proofs.Words.{◌∙◌, ap}
-use Rattle.chess_rules.specs.Position.{built}
+use Rattle.chess_rules.proofs.Words.{◌∙◌, ap, built}
 use Rattle.chess_rules.proofs.position.Position.build.Goals as goal
 
 pub returns : goal.returns

@@ -1,5 +1,5 @@
+use Rattle.chess_rules.proofs.Words.{arith}
 use Rattle.chess_rules.proofs.sets.AllSquares.{cell_of-square_at}
-use Rattle.std.proofs.Common.{arith}
 use Rattle.chess_rules.proofs.sets.WordsToCells.{has_below}
 use Rattle.chess_rules.proofs.squares.Squares.before.Goals as goal
 

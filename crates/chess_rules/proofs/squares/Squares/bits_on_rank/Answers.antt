@@ -1,7 +1,6 @@
-use Rattle.chess_rules.proofs.Words.{ℕ, ◌≡◌, ◌<◌, ◌^◌, ◌*◌, ◌+◌, ◌/◌, ◌∙◌, ap, sym, arith, true, ◌&&◌, and_le_r, shr_and_one, bit_at_ones, div-div-eq-div-mul, pow-add}
+use Rattle.chess_rules.proofs.Words.{ℕ, ◌≡◌, ◌<◌, ◌^◌, ◌*◌, ◌+◌, ◌/◌, ◌∙◌, ap, sym, arith, true, ◌&&◌, and_le_r, shr_and_one, bit_at_ones, div-div-eq-div-mul, pow-add, bit_and, ◌==◌}
 use Rattle.chess_rules.proofs.Words.{has}
 use Rattle.chess_rules.proofs.sets.WordsToCells.{has_and}
-use Rattle.std.specs.Prelude.{bit_and, ◌==◌}
 use Rattle.chess_rules.proofs.squares.Squares.bits_on_rank.Goals as goal
 
 -- a shift moves the bits

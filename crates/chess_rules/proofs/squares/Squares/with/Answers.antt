@@ -1,4 +1,4 @@
-use Rattle.std.proofs.Common.{arith}
+use Rattle.chess_rules.proofs.Words.{arith}
 use Rattle.chess_rules.proofs.sets.WordsToCells.{sets_place, clears_place}
 use Rattle.chess_rules.proofs.squares.Squares.with.Goals as goal
 

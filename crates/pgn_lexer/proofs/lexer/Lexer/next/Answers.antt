@@ -1,7 +1,5 @@
-use Rattle.pgn_lexer.specs.Scanned.{kind_of, token}
-use Rattle.pgn_lexer.proofs.Words.{refl, sym, subst, ◌∙◌, arith, Scans, standing_at}
-use Rattle.std.proofs.lemmas.List.{length-drop, take_rest}
-use Rattle.pgn_lexer.specs.Runs.{IsBetween}
+use Rattle.pgn_lexer.specs.Scanned.{token}
+use Rattle.pgn_lexer.proofs.Words.{refl, sym, subst, ◌∙◌, arith, Scans, standing_at, kind_of, length-drop, take_rest, IsBetween}
 use Rattle.pgn_lexer.proofs.stepping.WholeRuns.{sound_between}
 use Rattle.pgn_lexer.proofs.stepping.PassesToScans.{passes_count, passes_scans, scans_alike, scans_behind}
 use Rattle.pgn_lexer.proofs.lexer.Lexer.next.Goals as goal

@@ -1,5 +1,4 @@
-use Rattle.pgn_lexer.proofs.Words.{inl, inr, sym, subst, ap, ◌∙◌, arith, class, IsOutside, PartialToken}
-use Rattle.std.proofs.lemmas.List.{length-drop, take_rest}
+use Rattle.pgn_lexer.proofs.Words.{inl, inr, sym, subst, ap, ◌∙◌, arith, class, IsOutside, PartialToken, length-drop, take_rest}
 use Rattle.pgn_lexer.proofs.stepping.WholeRuns.{passes_none, passes_line_end, passes_space, passes_period, passes_number}
 use Rattle.pgn_lexer.proofs.partial_token.PartialToken.pass.Goals.{in-LineEnd, in-Space}
 use Rattle.pgn_lexer.proofs.partial_token.PartialToken.pass.Goals as goal

@@ -1,5 +1,4 @@
-use Rattle.pgn_lexer.proofs.Words.{◌+◌, ◌-◌, ◌≡◌, refl, inl, inr, sym, ap, ◌∙◌, arith, LineStart, Outside, PartialToken}
-use Rattle.std.proofs.lemmas.List.{take_rest}
+use Rattle.pgn_lexer.proofs.Words.{◌+◌, ◌-◌, ◌≡◌, refl, inl, inr, sym, ap, ◌∙◌, arith, LineStart, Outside, PartialToken, take_rest}
 use Rattle.pgn_lexer.proofs.stepping.WholeRuns.{passes_none, passes_gap, reads_word, reads_close}
 use Rattle.pgn_lexer.proofs.partial_token.PartialToken.whole_in_comment.Goals as goal
 

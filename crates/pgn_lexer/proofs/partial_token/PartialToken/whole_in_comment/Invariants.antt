@@ -1,5 +1,4 @@
-use Rattle.pgn_lexer.proofs.Words.{◌+◌, ◌-◌, ◌≡◌, ◌≤◌, Bool, length, Passes, standing_at}
-use Rattle.pgn_lexer.specs.Runs.{comment_mode}
+use Rattle.pgn_lexer.proofs.Words.{◌+◌, ◌-◌, ◌≡◌, ◌≤◌, Bool, length, Passes, standing_at, comment_mode}
 use Rattle.pgn_lexer.proofs.partial_token.PartialToken.whole_in_comment.Given as goal
 
 abbrev pub invariant-loop-used : goal.invariant-loop-used

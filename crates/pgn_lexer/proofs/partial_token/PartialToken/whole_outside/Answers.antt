@@ -1,6 +1,4 @@
-use Rattle.pgn_lexer.proofs.Words.{◌+◌, subst, sym, ap, ReadsBehind, standing_at}
-use Rattle.std.proofs.lemmas.List.{take_rest}
-use Rattle.pgn_lexer.specs.Scanned.{kind_of}
+use Rattle.pgn_lexer.proofs.Words.{◌+◌, subst, sym, ap, ReadsBehind, standing_at, take_rest, kind_of}
 use Rattle.pgn_lexer.proofs.stepping.WholeRuns.{into_mode, reads_whole, sound_outside}
 use Rattle.pgn_lexer.proofs.partial_token.PartialToken.whole_outside.Goals as goal
 

@@ -1,5 +1,0 @@
-use Rattle.std.proofs.Common.{arith}
-use Rattle.chess_rules.proofs.board.Board.is_empty.Goals as goal
-
-pub returns : goal.returns
-returns c = grind arith
