@@ -1,6 +1,5 @@
 -- Two equal readings: no token of the second shows a difference, also where one stops early.
-use Rattle.pgn_game.proofs.Words.{◌≡◌, ℕ, Bool, true, false, List, [], ◌∷◌, ◌++◌, inl, inr, Option, None, Some, refl, ap, ◌∙◌, append-nil, ◌==◌, bytes_eq-Decides, tokens_of, RisesTo, TokensRise, Token, Reason, Changed, Fault, Profile, takes_the_marker, Game, Part, refusal, is_end, Next, going, whole, next, Progress, no_progress, progress_after, read, read_from, eqb_tells, arith, rules, Mark, mark_at, marks_from, Comparison, compared_from, compared, written_by, is_other, is_changed, marks_after, written_so_far as written, verdict_of, sym}
-use Rattle.pgn_game.specs.laws.EqualReadings.{EqualReadings}
+use Rattle.pgn_game.proofs.Words.{◌≡◌, ℕ, Bool, true, false, List, [], ◌∷◌, ◌++◌, inl, inr, Option, None, Some, refl, ap, ◌∙◌, append-nil, ◌==◌, bytes_eq-Decides, tokens_of, RisesTo, TokensRise, Token, Reason, Changed, Fault, Profile, takes_the_marker, Game, Part, refusal, is_end, Next, going, whole, next, Progress, no_progress, progress_after, read, read_from, eqb_tells, arith, rules, Mark, mark_at, marks_from, Comparison, compared_from, compared, written_by, is_other, is_changed, marks_after, written_so_far as written, verdict_of, sym, EqualReadings}
 use Rattle.pgn_game.proofs.tokens.OneMoreToken.{by_token}
 use Rattle.pgn_game.proofs.reading.RunsToEnd.{not_end}
 

@@ -1,8 +1,5 @@
 -- Two equal readings: the most pairs tried are those of the second one.
-use Rattle.std.proofs.lemmas.List.{append_cancel_left}
-use Rattle.pgn_game.specs.calls.CheckedConversion.{AreTotalled, HasTaken, MostOfBoth}
-use Rattle.pgn_game.specs.laws.EqualReadings.{EqualTotals}
-use Rattle.pgn_game.proofs.Words.{◌≡◌, ℕ, max, Bool, true, false, List, [], ◌∷◌, ◌++◌, Option, None, Some, refl, sym, ap, subst, ◌∙◌, append-nil, arith, Token, TokensRise, RisesTo, tokens_of, Fault, Profile, takes_the_marker, Game, no_part, Next, going, whole, next, Progress, no_progress, progress_with, progress_after, Read, read, read_from, verdict, verdict_of, Mark, Comparison, compared, compared_from, marks_after, marks_from, is_changed, MostFrom, MostTried, Totals, Device, verdict_in, IsTotalled, IsTrue, play_moves}
+use Rattle.pgn_game.proofs.Words.{◌≡◌, ℕ, max, Bool, true, false, List, [], ◌∷◌, ◌++◌, Option, None, Some, refl, sym, ap, subst, ◌∙◌, append-nil, arith, Token, TokensRise, RisesTo, tokens_of, Fault, Profile, takes_the_marker, Game, no_part, Next, going, whole, next, Progress, no_progress, progress_with, progress_after, Read, read, read_from, verdict, verdict_of, Mark, Comparison, compared, compared_from, marks_after, marks_from, is_changed, MostFrom, MostTried, Totals, Device, verdict_in, IsTotalled, IsTrue, play_moves, append_cancel_left, AreTotalled, HasTaken, MostOfBoth, EqualTotals, common_steps}
 use Rattle.pgn_game.proofs.EqualReadings.{equal_readings, after_change, change_test, compared_same, ends, Same}
 use Rattle.pgn_game.proofs.reading.RunsToEnd.{Runs, kinds, from_read}
 use Rattle.pgn_game.proofs.tokens.NoneBeforeFault.{reads_behind}
@@ -49,11 +46,7 @@ none_behind p b front (t ∷ ts) rises between passes same =
 
 -- a verdict with totals has no fault
 no_fault : (r : Read) (t : Totals) → verdict_of r ≡ verdict_in t → r.fault ≡ None
-no_fault r t is = by_fault r.fault refl
-  where
-    by_fault : (o : Option Fault) → r.fault ≡ o → o ≡ None
-    by_fault None same = refl
-    by_fault (Some f) same = absurd (cc)
+no_fault r t is = grind (arith, common_steps)
 
 module _ (rise : TokensRise) (p : Profile) (s : List ℕ) (t : Totals) (sink : Device) (takes : p.missing_result ≡ takes_the_marker)
     (both : AreTotalled p s s t sink) where
@@ -92,10 +85,7 @@ module _ (rise : TokensRise) (p : Profile) (s : List ℕ) (t : Totals) (sink : D
 
   -- So the second reading's are those of the whole text.
   of_second : MostTried false p ts tried.most_of_second
-  of_second =
-      let all = most_then false p tried.second_tried tried.rest 0 tried.passes none in
-      let same : max tried.most_of_second 0 ≡ tried.most_of_second = omega arith in
-      subst (MostTried false p ts) same (subst (λ us. MostTried false p us (max tried.most_of_second 0)) (sym tried.cut) all)
+  of_second = grind (arith, common_steps, most_then, none, max)
 
   is_second : t.most_probes ≡ tried.most_of_second
   is_second = let fewer = tries_fewer p tried.first_tried of_second passes in omega (arith, fewer, tried.greater)

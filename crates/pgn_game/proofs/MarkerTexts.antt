@@ -1,18 +1,9 @@
 -- The texts of the markers: a result is one of the four, and what holds of each.
-use Rattle.pgn_game.proofs.Words.{◌≡◌, ℕ, ◌+◌, ◌≤◌, Bool, true, false, ◌||◌, List, length, ap, refl, arith, codes, bytes_eq, list_all, bytes_eq-Decides, escaped, in_name, is_number, is_result, is_score, Marker, WhiteWins, BlackWins, Draw, Unknown, marker_text}
+use Rattle.pgn_game.proofs.Words.{◌≡◌, ℕ, ◌+◌, ◌≤◌, Bool, true, false, ◌||◌, List, length, ap, refl, arith, codes, bytes_eq, list_all, bytes_eq-Decides, escaped, in_name, is_number, is_result, is_score, Marker, WhiteWins, BlackWins, Draw, Unknown, marker_text, common_steps}
 
 -- the marker that a result is
 pub result_marker : (s : List ℕ) → is_result s ≡ true → (m : Marker) × (s ≡ marker_text m)
-result_marker s is = by_tests _ _ _ _ refl refl refl refl is
-  where
-    by_tests : (a b c d : Bool) → bytes_eq s (marker_text WhiteWins) ≡ a → bytes_eq s (marker_text BlackWins) ≡ b
-        → bytes_eq s (marker_text Draw) ≡ c → bytes_eq s (marker_text Unknown) ≡ d → (a || b || c || d) ≡ true
-        → (m : Marker) × (s ≡ marker_text m)
-    by_tests true b c d first second third last is = (WhiteWins, (bytes_eq-Decides s _).0 first)
-    by_tests false true c d first second third last is = (BlackWins, (bytes_eq-Decides s _).0 second)
-    by_tests false false true d first second third last is = (Draw, (bytes_eq-Decides s _).0 third)
-    by_tests false false false true first second third last is = (Unknown, (bytes_eq-Decides s _).0 last)
-    by_tests false false false false first second third last is = absurd (cc)
+result_marker s is = grind (arith, common_steps, bytes_eq, marker_text, bytes_eq-Decides)
 
 pub score_marker : (s : List ℕ) → is_score s ≡ true → (m : Marker) × (s ≡ marker_text m)
 score_marker s is = result_marker s (ap (λ (b : Bool). b || bytes_eq s (marker_text Unknown)) is)

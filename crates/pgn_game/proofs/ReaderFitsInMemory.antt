@@ -1,9 +1,7 @@
 -- Where a converter fits in memory, its reader does; where games or a reading fit, their converter
 -- does.
-use Rattle.std.proofs.Common.{rules, arith, ℕ, ◌+◌, ◌<◌, ◌≤◌}
+use Rattle.pgn_game.proofs.Words.{rules, arith, ℕ, ◌+◌, ◌<◌, ◌≤◌, FitsInMemory, RattleType}
 use prog.Memory.{up}
-use Rattle.std.specs.Mem.{FitsInMemory}
-use Rattle.std.specs.Borrow.{RattleType}
 use Rattle.pgn_game.specs.contracts.converter.Converter.{the_row}
 use Rattle.pgn_game.specs.contracts.checked.Reading.{the_row as reading_row}
 use Rattle.pgn_game.specs.contracts.games.Games.{the_row as games_row}
@@ -19,25 +17,26 @@ first a n k m fits = omega (arith, fits, le_up a (n + k))
 pub second : (a n k m : ℕ) → up a (k + n) < m → n < m
 second a n k m fits = omega (arith, fits, le_up a (k + n))
 
-pub fits_reader : (T L : RattleType) → FitsInMemory (the_row T L) → FitsInMemory (reader_row T L)
-fits_reader T L fits = second _ _ _ _ (first _ _ _ _ (first _ _ _ _ (first _ _ _ _ (first _ _ _ _ fits))))
+module _ (T L : RattleType) where
+  pub fits_reader : FitsInMemory (the_row T L) → FitsInMemory (reader_row T L)
+  fits_reader fits = second _ _ _ _ (first _ _ _ _ (first _ _ _ _ (first _ _ _ _ (first _ _ _ _ fits))))
 
--- a converter of the same bounds fits too
-pub fits_alike : (T L : RattleType) → FitsInMemory (the_row T L) → FitsInMemory (the_row T L)
-fits_alike T L fits = fits
+  -- a converter of the same bounds fits too
+  pub fits_alike : FitsInMemory (the_row T L) → FitsInMemory (the_row T L)
+  fits_alike fits = fits
 
--- and so does a reader
-pub reader_alike : (T L : RattleType) → FitsInMemory (reader_row T L) → FitsInMemory (reader_row T L)
-reader_alike T L fits = fits
+  -- and so does a reader
+  pub reader_alike : FitsInMemory (reader_row T L) → FitsInMemory (reader_row T L)
+  reader_alike fits = fits
 
--- where games fit, their converter does
-pub games_fit_converter : (T L : RattleType) → FitsInMemory (games_row T L) → FitsInMemory (the_row T L)
-games_fit_converter T L fits = second _ _ _ _ (first _ _ _ _ fits)
+  -- where games fit, their converter does
+  pub games_fit_converter : FitsInMemory (games_row T L) → FitsInMemory (the_row T L)
+  games_fit_converter fits = second _ _ _ _ (first _ _ _ _ fits)
 
--- and where a reading does
-pub reading_fits_converter : (T L : RattleType) → FitsInMemory (reading_row T L) → FitsInMemory (the_row T L)
-reading_fits_converter T L fits = second _ _ _ _ (first _ _ _ _ (first _ _ _ _ fits))
+  -- and where a reading does
+  pub reading_fits_converter : FitsInMemory (reading_row T L) → FitsInMemory (the_row T L)
+  reading_fits_converter fits = second _ _ _ _ (first _ _ _ _ (first _ _ _ _ fits))
 
--- and another reading
-pub reading_alike : (T L : RattleType) → FitsInMemory (reading_row T L) → FitsInMemory (reading_row T L)
-reading_alike T L fits = fits
+  -- and another reading
+  pub reading_alike : FitsInMemory (reading_row T L) → FitsInMemory (reading_row T L)
+  reading_alike fits = fits

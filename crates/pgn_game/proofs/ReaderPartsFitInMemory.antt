@@ -1,6 +1,5 @@
 -- Where a reader fits in memory, its tag pairs and its movetext do.
-use Rattle.std.specs.Mem.{FitsInMemory}
-use Rattle.std.specs.Borrow.{RattleType}
+use Rattle.pgn_game.proofs.Words.{FitsInMemory, RattleType}
 use Rattle.pgn_game.specs.contracts.reader.Reader.{the_row}
 use Rattle.pgn_game.specs.contracts.tags.TagPairs.{the_row as tags_row}
 use Rattle.pgn_game.specs.contracts.movetext.Movetext.{the_row as text_row}

@@ -1,9 +1,5 @@
 -- A word of a text grows by each byte that is no white space.
-use Rattle.pgn_game.proofs.Words.{◌≡◌, ℕ, suc, ◌+◌, ◌-◌, ◌<◌, ◌≤◌, false, List, [], ◌∷◌, ◌++◌, length, take, drop, get_or, refl, sym, ap, ◌∙◌, subst, arith, drop-cons, take-suc, length-drop}
-use Rattle.std.proofs.lemmas.List.{get_or-drop}
-use Rattle.pgn_lexer.specs.Bytes.{is_space}
-use Rattle.pgn_game.specs.calls.LineOfPlay.{words_behind}
-use Rattle.pgn_game.specs.state.LineWords.{bytes_between}
+use Rattle.pgn_game.proofs.Words.{◌≡◌, ℕ, suc, ◌+◌, ◌-◌, ◌<◌, ◌≤◌, false, List, [], ◌∷◌, ◌++◌, length, take, drop, get_or, refl, sym, ap, ◌∙◌, subst, arith, drop-cons, take-suc, length-drop, get_or-drop, is_space, words_behind, bytes_between, common_steps}
 
 at_other : (at b : ℕ) (w s : List ℕ) → is_space b ≡ false → words_behind at w (b ∷ s) ≡ words_behind at (w ++ b ∷ []) s
 at_other at b w s e = rw e refl
@@ -24,7 +20,4 @@ between_grown s begin end ordered within =
 
 pub word_grown : (s : List ℕ) (begin end : ℕ) → begin ≤ end → end < length s → is_space (get_or s end 0) ≡ false
     → words_behind begin (bytes_between s begin end) (drop end s) ≡ words_behind begin (bytes_between s begin (end + 1)) (drop (end + 1) s)
-word_grown s begin end ordered within e =
-    ap (λ (t : List ℕ). words_behind begin (bytes_between s begin end) t) (byte_at s end within)
-    ∙ at_other begin (get_or s end 0) (bytes_between s begin end) (drop (end + 1) s) e
-    ∙ ap (λ (w : List ℕ). words_behind begin w (drop (end + 1) s)) (between_grown s begin end ordered within)
+word_grown s begin end ordered within e = grind (arith, common_steps, words_behind, bytes_between, byte_at, at_other, get_or, between_grown)

@@ -15,31 +15,31 @@ pub use Rattle.pgn_game.specs.games.Profile.{Profile, Missing, counts_as, takes_
 pub use Rattle.pgn_game.specs.games.Pairs.{Pair, value_of, has_pair, comes_before, insert_pair}
 pub use Rattle.pgn_game.specs.games.Game.{Item, Game, Part, no_part}
 pub use Rattle.std.proofs.Common.{All, Bool, Bor, Err, IfOk, IfSome, IsErr, IsFalse, IsSome, IsSomeAnd, IsTrue, List, None, Ok, OnOk, Option, Result, Some, [], add-one, ap, append-nil, append_assoc, arith, bytes_eq, codes, cond, decimal, drop, eq-eqb, false, filter, fold, get_or, if◌then◌else◌, inl, inr, insert, is_none, is_ok, is_some, le-ltb, le_refl, length, length-append, lit<, lit≤, lt-ltb, map, max, nat_le, nat_lt, not, option_map, refl, rules, set, slice_get, subst, suc, sum, sym, take, true, true≢false, unwrap_or, zero, ℕ, ◌&&◌, ◌++◌, ◌+◌, ◌-◌, ◌<◌, ◌==◌, ◌^◌, ◌||◌, ◌↔◌, ◌∙◌, ◌∷◌, ◌≡◌, ◌≤◌, ◌⊎◌, drop_of_length-le, le_trans, length-drop, length-take, ◌*◌}
-pub use Rattle.std.proofs.ByRecursion.{All-append, All-map, All-weaker, all_kept_by}
+pub use Rattle.std.proofs.ByRecursion.{All-append, All-map, All-weaker, all_kept_by, All-get_or}
 pub use Rattle.std.proofs.KnownBytes.{Appends-nil, Appends-trans, Consumes-kept, Consumes-nil, Consumes-trans}
-pub use Rattle.std.proofs.Math.Seq.{drop-append-add, drop-append_seam, drop-cons, drop-length, take-append-add, take-append_seam, take-suc, take-add}
-pub use Rattle.std.proofs.lemmas.Bool.{and_from, and_parts, and_right, cases_Bool, cases_order, eqb-true, false≢true, le-leb, leb-false, leb-true}
+pub use Rattle.std.proofs.Math.Seq.{drop-append-add, drop-append_seam, drop-cons, drop-length, take-append-add, take-append_seam, take-suc, take-add, get_or-append_seam, set-append_seam, take-nil}
+pub use Rattle.std.proofs.lemmas.Bool.{and_from, and_parts, and_right, cases_Bool, cases_order, eqb-true, false≢true, le-leb, leb-false, leb-true, not-true}
 pub use Rattle.std.proofs.lemmas.Bool.{lt-leb, ltb-false, ltb-true, ne_eqb, not-false, or_cases, or_from, or_parts, or_right, true_from_ne_false}
 pub use Rattle.std.proofs.lemmas.Bool.Decides.{eqb_tells, nat_tests}
-pub use Rattle.std.proofs.lemmas.List.{drop_all, drop_at, length-map, length-set, length-take-le, take-append-drop, take-append-le, take_all, take_at}
+pub use Rattle.std.proofs.lemmas.List.{drop_all, drop_at, length-map, length-set, length-take-le, take-append-drop, take-append-le, take_all, take_at, append_cancel_left, drop-map, get_or-drop, get_or-set_other, get_or-set_same, get_or_append_left, get_or_read, length_push, take-map}
 pub use Rattle.std.proofs.lemmas.List.{take_more_set, drop-append-le, drop-drop, drop-take, map-append, take-take, take_rest}
 pub use Rattle.std.proofs.lemmas.List.Elements.{All-cons, All-head, All-nil, All-tail, filter-append}
 pub use Rattle.std.proofs.lemmas.List.Folds.{list_all-append, list_any-append}
 pub use Rattle.std.proofs.lemmas.List.Sums.{count_by-le-length, fold-append, length-filter, sum-map, sum_by-append, sum_by-cons}
-pub use Rattle.std.proofs.lemmas.Option.{get_or_from_slice_get, none-some, same_Some, slice_get_within}
+pub use Rattle.std.proofs.lemmas.Option.{get_or_from_slice_get, none-some, same_Some, slice_get_within, IfSome_then}
 pub use Rattle.std.proofs.lemmas.Slice.Eq.{bytes_eq-Decides}
-pub use Rattle.std.specs.Io.KnownBytes.{Appends, Consumes}
+pub use Rattle.std.specs.Io.KnownBytes.{Appends, Consumes, IsAtEnd}
 pub use Rattle.std.specs.List.{AllByRecursion, list_all, list_any, refill}
 pub use Rattle.std.specs.Option.{ok_or, option_copied, option_to_list}
-pub use Rattle.chess_rules.specs.Laws.{LeavesPosition}
+pub use Rattle.chess_rules.specs.Laws.{LeavesPosition, FewCandidates}
 pub use Rattle.chess_rules.specs.Legal.{is_legal, legal}
 pub use Rattle.chess_rules.specs.Position.{initial, is_position}
 pub use Rattle.chess_rules.specs.declared.position.Move.{Move}
-pub use Rattle.chess_text.specs.Laws.{ReadingIsSpelling, TheOneMoveIsRead}
+pub use Rattle.chess_text.specs.Laws.{ReadingIsSpelling, TheOneMoveIsRead, ReadingAFormIsSpelling}
 pub use Rattle.chess_text.specs.WrittenMove.{IsMoveSymbol, WrittenMoveIsRead, WrittenMoveIsSymbol, begins_with_letter, is_move_byte}
 pub use Rattle.chess_text.specs.declared.fen.FenFault.{FenFault}
 pub use Rattle.chess_text.specs.declared.resolution.SanFault.TheVariants.{Ambiguous, NoMove}
-pub use Rattle.pgn_game.specs.games.Chess.{is_black_to_move}
+pub use Rattle.pgn_game.specs.games.Chess.{is_black_to_move, text_of_move}
 unfoldable pub use Rattle.pgn_game.specs.games.Chess.{first_position, move_of, play, position_of, text_of_move}
 pub use Rattle.pgn_game.specs.games.FaultTable.{Row, fen_fault_field, fen_field, fen_field_of, first_holding, has_other_result, in_name, is_at, is_at_limit, is_comment, is_end, is_many_moves, is_no_form, is_no_move, is_number, is_one_move, is_outside_tag_pairs, is_reduced, is_result, is_score, lacks_fen, levels_of_part, marker_of, position_in, result_for, row, rows, position_if_move}
 unfoldable pub use Rattle.pgn_game.specs.games.FaultTable.{refusal}
@@ -54,8 +54,8 @@ pub use Rattle.pgn_game.specs.games.Markers.{marker_text, missing_of}
 pub use Rattle.pgn_game.specs.calls.Written.{bytes_seen, failures_seen, is_nothing, mode_of_written, mode_unless, seen}
 pub use Rattle.pgn_game.specs.state.Movetext.{HoldsLineOf, ClosesLevel, FitsLevelStore, HoldsItems, Movetext, StoredLevel, StoredLevels, before_last, code_levels, ends_in_move, inside, level_at, level_of, movetext_after_fen, movetext_from, nearest_first, only_level, places_of, stored_level, stored_levels}
 pub use Rattle.pgn_game.specs.games.Progress.{Next, Progress, Read, at_stage, going, in_text, items_of, move_item, next, next_in, no_progress, output, progress_after, progress_with, read, read_from, refused, totals, verdict, whole, due, verdict_of, written as written_so_far, position_at_fault}
-pub use Rattle.pgn_game.specs.state.PutResult.{BeginsText, Goes, Keeps, PutResult, PutsItems, TakesOutside, TakesToken, at_game_start, gain_to, section_due, section_due_of, CountsMove, EntersMovetext, Finds, FinishesNone, GoesTo, Takes, TakesEntry, TakesUnwritten, counting_probes, unused}
-pub use Rattle.pgn_game.specs.state.ReaderState.{KeepsSilence, Writing, mode_written, silenced, sink_of, telling, Accepted, More, Finished, Agrees, AreSound, CountsWrites, FinishesAtMarker, HoldsPairs, HoldsText, IsBehind, ReaderState, as_written, is_outside_the_table, known_of, known_text, plies_behind, whole_plies, Answers, IsAccepted, IsKnown, IsStopped, Leads, plies_next}
+pub use Rattle.pgn_game.specs.state.PutResult.{BeginsText, Goes, Keeps, PutResult, PutsItems, TakesOutside, TakesToken, at_game_start, gain_to, section_due, section_due_of, CountsMove, EntersMovetext, Finds, FinishesNone, GoesTo, Takes, TakesEntry, TakesUnwritten, counting_probes, unused, MeetsEntry, MeetsMarker, TakesMarker, TakesOther, TakesUnlessMarker, continued, no_marker}
+pub use Rattle.pgn_game.specs.state.ReaderState.{KeepsSilence, Writing, mode_written, silenced, sink_of, telling, Accepted, More, Finished, Agrees, AreSound, CountsWrites, FinishesAtMarker, HoldsPairs, HoldsText, IsBehind, ReaderState, as_written, is_outside_the_table, known_of, known_text, plies_behind, whole_plies, Answers, IsAccepted, IsKnown, IsStopped, Leads, plies_next, ReaderCall}
 pub use Rattle.pgn_game.specs.state.SectionLines.{other_line, roster_line, text_by}
 pub use Rattle.pgn_game.specs.games.Spells.{AreDistinct, AreDropped, BeginsBare, IsPair, IsResult, IsSetUp, KeepsTags, Names, Spells, SpellsGame, SpellsGames, SpellsPair, SpellsPairs, SpellsText, StandsFor, by_name, comment_close, comment_open, glyph, level_after_move, move, new_level, next_game, next_pair, no_game, no_more, no_pair, number, pair, period, token, variation, word}
 pub use Rattle.pgn_game.specs.state.StoredPairs.{AllAfter, AllBelow, AreInOrder, FitsPairStore, HasBegun, InOrder, TagPairs, index_of, pair_at, pairs_seen, placed}
@@ -67,42 +67,42 @@ pub use Rattle.pgn_game.specs.state.TokenInMovetext.{IsEntry, IsOpen, ItemFits, 
 pub use Rattle.pgn_game.specs.state.TokenInMovetext.{text_refusal, with_items}
 pub use Rattle.pgn_game.specs.declared.marker.Marker.{Marker}
 pub use Rattle.pgn_game.specs.declared.marker.Marker.TheVariants.{BlackWins, Draw, Unknown, WhiteWins}
-pub use Rattle.pgn_layout.specs.Device.{AppendsFront, Counts, Device, Writes, WritesText, device, one_more, FailsOnce, IsStill}
+pub use Rattle.pgn_layout.specs.Device.{AppendsFront, Counts, Device, Writes, WritesText, device, one_more, FailsOnce, IsStill, nowhere}
 pub use Rattle.pgn_layout.specs.Layout.{EndGame, Put, ended, laid_from, line_at, line_put, text_at, text_put}
 pub use Rattle.pgn_layout.specs.Lines.{IsToken, full_lines, has_room, last_line, lines_from, lines_of, text_of}
 pub use Rattle.pgn_layout.specs.TagLine.{escape_of, escaped, needs_escape, tag_line}
 pub use Rattle.pgn_lexer.specs.Bytes.{continues_symbol, is_space, starts_symbol}
-pub use Rattle.pgn_lexer.specs.Laws.{IsLast, KindsAreReadBack, NumbersAreSymbols, RisesTo, TokensAreSound, TokensRise, TextsRestart, CanBeMarker}
+pub use Rattle.pgn_lexer.specs.Laws.{IsLast, KindsAreReadBack, NumbersAreSymbols, RisesTo, TokensAreSound, TokensRise, TextsRestart, CanBeMarker, DecidedIsPrefix}
 pub use Rattle.pgn_lexer.specs.Laws.{BeginsWithToken, SymbolsStandInText}
-pub use Rattle.pgn_lexer.specs.Scanned.{kind_of}
-pub use Rattle.pgn_lexer.specs.Sound.{CommentsClose, IsData, IsSoundKind, IsSymbol, begins_with}
+pub use Rattle.pgn_lexer.specs.Scanned.{kind_of, fault, more}
+pub use Rattle.pgn_lexer.specs.Sound.{CommentsClose, IsData, IsSoundKind, IsSymbol, begins_with, IsWord}
 pub use Rattle.pgn_lexer.specs.Tokens.{asterisk, left_bracket, right_bracket, str, symbol}
-pub use Rattle.pgn_lexer.specs.TokensOf.{tokens_of, onto}
+pub use Rattle.pgn_lexer.specs.TokensOf.{tokens_of, onto, Within, begins, begins_after, begins_class, begins_first, column, has_mark}
 pub use Rattle.pgn_lexer.specs.Written.{AreEnded, IsEndedBy, IsPiece, IsReadable, Piece, kinds_in, text_of_pieces, written}
 pub use Rattle.pgn_lexer.specs.declared.token.TokenKind.{TokenKind}
 pub use Rattle.chess_text.specs.MoveOfForm.{form_pairs, move_of_form, with_next}
 pub use Rattle.chess_text.specs.declared.form.Form.{Form}
-pub use Rattle.pgn_game.specs.calls.FoundMove.{found_in}
+pub use Rattle.pgn_game.specs.calls.FoundMove.{found_in, NamesMove}
 pub use Rattle.pgn_game.specs.laws.Laws.{IsPrefix, DueGrows}
 unfoldable pub use Rattle.pgn_game.specs.calls.Tried.{Costs}
 pub use Rattle.std.proofs.lemmas.Result.{err_from_is_err_and}
-pub use Rattle.pgn_game.specs.calls.Tried.{CostsAnswer, CostsForm}
-pub use Rattle.pgn_game.specs.calls.ConverterCalls.{NoWriteFails, StillStands, writing_nothing, AreNext, within_limit, Converter, CountsFault, CountsMissingAs, CountsReason, FedAll, FedFault, FedGame, FedToFault, FedWhole, FinishedGame, HasRead, IsSound, ReadsUpTo, Stands, StopsIn, at_token, counting_missing_as, finished_game_of, finished_game_plies, game_in_reader_if, play_moves, profile_of, too_long, AfterFinish, Finishes, FinishesToFault, game_in_reader, Stops, unwritten, StopsWriting, games_before, position_at_stop, ProbesAtStop, has_played_move, reported_position, refused as refused_stop, IsLast as IsLastGame}
+pub use Rattle.pgn_game.specs.calls.Tried.{CostsAnswer, CostsForm, Costs}
+pub use Rattle.pgn_game.specs.calls.ConverterCalls.{NoWriteFails, StillStands, writing_nothing, AreNext, within_limit, Converter, CountsFault, CountsMissingAs, CountsReason, FedAll, FedFault, FedGame, FedToFault, FedWhole, FinishedGame, HasRead, IsSound, ReadsUpTo, Stands, StopsIn, at_token, counting_missing_as, finished_game_of, finished_game_plies, game_in_reader_if, play_moves, profile_of, too_long, AfterFinish, Finishes, FinishesToFault, game_in_reader, Stops, unwritten, StopsWriting, games_before, position_at_stop, ProbesAtStop, has_played_move, reported_position, refused as refused_stop, IsLast as IsLastGame, Again, AreShown, Ends, Feeds, IsRefused, ReadsByMarker, reading_by_marker, so_far}
 pub use Rattle.pgn_lexer.specs.Standing.{Standing, coming, waiting}
-pub use Rattle.pgn_lexer.specs.Stands.{AfterScan, FinishGivesToken, Follows, HasLeft, IsDecided, IsNext, StandsAfter, first, still}
-pub use Rattle.pgn_game.specs.state.Readings.{BothSoFar, HasMarked, HasMatched, Reading, changed_reason, model_mark}
-pub use Rattle.pgn_game.specs.calls.MostTried.{CostsIf, CostsToAdd, CostsToFind, CostsToWrite, MostFrom, MostTried, Raises, Tries}
+pub use Rattle.pgn_lexer.specs.Stands.{AfterScan, FinishGivesToken, Follows, HasLeft, IsDecided, IsNext, StandsAfter, first, still, Scans}
+pub use Rattle.pgn_game.specs.state.Readings.{BothSoFar, HasMarked, HasMatched, Reading, changed_reason, model_mark, AfterMarker, AfterRead, AllRead, ComesNext, EndComes, FirstFails, GameRead, GameWritten, HasCome, HasGiven, MarkerComes, ReadFails, ReadingStops, ReadsUpToMarker, SecondFails, StandsBetween, StandsIn, WhyFirst, WhySecond, WritesGame, as_changed, at_read, no_sink}
+pub use Rattle.pgn_game.specs.calls.MostTried.{CostsIf, CostsToAdd, CostsToFind, CostsToWrite, MostFrom, MostTried, Raises, Tries, CostsUnlessRefused, is_sought}
 pub use Rattle.pgn_game.specs.calls.MostTried.{TriesUnwritten, added, is_written, none}
-pub use Rattle.pgn_game.specs.calls.GamesCalls.{AfterNext, CountsNext, Games, HasReadAll, HaveRead, NextGame, NextStops, NoGame, ReadSoFar, at_end}
+pub use Rattle.pgn_game.specs.calls.GamesCalls.{AfterNext, CountsNext, Games, HasReadAll, HaveRead, NextGame, NextStops, NoGame, ReadSoFar, at_end, ReadsNext, ReadsNoGame, StillReadNone}
 pub use Rattle.pgn_game.specs.calls.GamesCalls.{games_of, most_left, within}
 pub use Rattle.pgn_game.specs.export.Due.{Gains, gain, text_next}
-pub use Rattle.pgn_game.specs.state.ConverterSteps.{AfterStep, AfterStepAtEnd, AllSoFar, AtEndSoFar, EndsGame, EndsWithin, FaultAtEnd, FeedsAllSoFar, FeedsSoFar, FinishesSoFar, GainsAs, IsGoing, Meets, NotTaken, OneGame, Reaches, ReadsMore, SameGames, SoFar, StaysBetween, due_as, ended_by, fault_of, next_at, outcome_at, part_after}
+pub use Rattle.pgn_game.specs.state.ConverterSteps.{AfterStep, AfterStepAtEnd, AllSoFar, AtEndSoFar, EndsGame, EndsWithin, FaultAtEnd, FeedsAllSoFar, FeedsSoFar, FinishesSoFar, GainsAs, IsGoing, Meets, NotTaken, OneGame, Reaches, ReadsMore, SameGames, SoFar, StaysBetween, due_as, ended_by, fault_of, next_at, outcome_at, part_after, AfterEndToMarker, AfterSteps, CountsGame, EndsSoFar, EndsToMarker, FailsAtEnd, FailsIn, GoesToMarker, IsBeforePiece, IsBeforeToken, IsReady, IsReadyAfter, KeepsRest, LeftSoFar, ReadsPiece, ReadsToEnd, ReadsToLeftMarker, ReadsToMarker, StepAdvances, StepAtEndAdvances, StepGoes, Steps, StepsAtEnd, StepsOn, TakesSteps, announcing, is_ended, taking_marker, used_to}
 pub use Rattle.pgn_game.specs.calls.Checked.{Comparison, Mark, checked_profile, compared, compared_from, earlier_fault, is_changed, is_other, mark_at}
 pub use Rattle.pgn_game.specs.calls.Checked.{marks, marks_after, marks_from, torn_before, with_mark, written_by}
 pub use Rattle.pgn_lexer.specs.Decided.{decided}
-pub use Rattle.pgn_game.specs.calls.Conversion.{AfterConversion, AfterEnd, AfterSlice, CountsDevices, Fails, FailsOn, IsConverted, IsTotalled, MostProbes}
+pub use Rattle.pgn_game.specs.calls.Conversion.{AfterConversion, AfterEnd, AfterSlice, CountsDevices, Fails, FailsOn, IsConverted, IsTotalled, MostProbes, CountsResult, CountsSink, CountsWriting, Decides, IsTokenPrefix}
 pub use Rattle.pgn_game.specs.calls.Conversion.{ReadsNoMore, verdict_in}
-pub use Rattle.pgn_game.specs.state.GamesSteps.{FillResult, MoreResult, MoreSoFar, ReadsSoFar, StandsWithin}
+pub use Rattle.pgn_game.specs.state.GamesSteps.{FillResult, MoreResult, MoreSoFar, ReadsSoFar, StandsWithin, AfterToMarker, CountsReading, FeedsRest, MeetsNext, ReadsAllOf, StopsBefore, UsesAll}
 pub use Rattle.pgn_game.specs.laws.GamesRestart.{FinishesGame, GamesRestart, counting_also, games_read}
 pub use Rattle.pgn_game.specs.declared.conversion.Totals.{Totals}
 pub use Rattle.pgn_lexer.specs.declared.token.LexFault.{LexFault}
@@ -111,4 +111,24 @@ pub use Rattle.pgn_game.specs.declared.annotation.Annotation.{Annotation}
 pub use Rattle.pgn_lexer.specs.PartialToken.{pending_in, tokens_to_come_in}
 pub use Rattle.pgn_lexer.specs.declared.token.LexReason.{LexReason}
 pub use Rattle.pgn_lexer.specs.declared.token.LexReason.TheVariants.{SymbolTooLong, WordTooLong, GlyphRange}
-pub use Rattle.pgn_lexer.specs.Spelling.{gives, stops}
+pub use Rattle.pgn_lexer.specs.Spelling.{gives, stops, Found}
+pub use Rattle.chess_text.specs.Form.{form_of}
+pub use Rattle.chess_text.specs.San.{MarkPairs, disambiguation_pairs, san}
+pub use Rattle.pgn_game.specs.calls.CheckedConversion.{AreConverted, AreRefused, AreTotalled, CountsThree, FirstStops, HasTaken, MatchesAllMarks, MostOfBoth, SecondStops, TwoReadingsConvert, TwoReadingsFail, WriteStops}
+pub use Rattle.pgn_game.specs.calls.LineOfPlay.{Ahead, NextPly, behind_ply, line_ahead, line_of, no_plies, words_behind}
+pub use Rattle.pgn_game.specs.declared.annotation.Annotation.TheVariants.{Close, CommentClose, CommentOpen, Open}
+pub use Rattle.pgn_game.specs.declared.converter.FedUpTo.{FedUpTo}
+pub use Rattle.pgn_game.specs.declared.converter.StepEnd.{StepEnd}
+pub use Rattle.pgn_game.specs.declared.mode.Written.{Written}
+pub use Rattle.pgn_game.specs.laws.EqualReadings.{AreWritten, AreWrittenWithin, EqualReadings, EqualTotals, InterruptedReadings}
+pub use Rattle.pgn_game.specs.laws.MissingResults.{IsReadAlike, MissingResults, all_end_with, is_about_result, rejects_marker}
+pub use Rattle.pgn_game.specs.laws.MovesAreLegal.{MovesAreLegal, is_legal_at, plays_legally}
+pub use Rattle.pgn_game.specs.state.LineWords.{bytes_between, moves_from, word_in, words_from}
+pub use Rattle.pgn_layout.specs.Laws.{LinesOfKeepTokens, TokensDetermineLines}
+pub use Rattle.pgn_lexer.specs.WholeTokens.{Passes, ReadsBehind, is_passed, over_space, over_token}
+pub use Rattle.pgn_lexer.specs.declared.token.TokenKind.TheVariants.{Str}
+pub use Rattle.std.proofs.Math.Nat.{le-max_left, le-max_right}
+pub use Rattle.std.specs.Borrow.{RattleType}
+pub use Rattle.std.specs.Mem.{FitsInMemory}
+pub use Rattle.std.specs.Result.{IsOk}
+pub use Rattle.std.proofs.lemmas.Grind.{common_steps}

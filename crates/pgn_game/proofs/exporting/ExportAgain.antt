@@ -1,6 +1,6 @@
 -- An export text is read as its games with their defaults filled in, so it is written again as it
 -- is.
-use Rattle.pgn_game.proofs.Words.{◌≡◌, ℕ, ◌+◌, ◌≤◌, ◌^◌, inl, inr, Bool, true, false, List, [], ◌∷◌, ◌++◌, length, map, refl, sym, ap, subst, ◌∙◌, arith, length-append, append-nil, Option, None, Some, sum, IfSome, Err, filter, Consumes, length-map, length-filter, count_by-le-length, IsLast, RisesTo, TokensRise, tokens_of, Kind, Token, Fault, Between, Game, Part, Mode, Pair, Profile, Progress, progress_after, read_from, output, verdict, refused as is_refused, totals, refusal, is_end, filled, AreExportable, SameText, counted, IsWrittenAgain, SliceIsKept, SourceIsKept, FixedPoint, ExportIsKept, ExportIsKeptOfSource, games_in, IsExportable, ExportingTwice, SameOutput, FewPairsHaveRoom, plies_of, roster, roster_pairs, with_set_up, exported, Spells, FailsOn, Fails, Totals, text_of_games as text_of, rules, Ok, read}
+use Rattle.pgn_game.proofs.Words.{◌≡◌, ℕ, ◌+◌, ◌≤◌, ◌^◌, inl, inr, Bool, true, false, List, [], ◌∷◌, ◌++◌, length, map, refl, sym, ap, subst, ◌∙◌, arith, length-append, append-nil, Option, None, Some, sum, IfSome, Err, filter, Consumes, length-map, length-filter, count_by-le-length, IsLast, RisesTo, TokensRise, tokens_of, Kind, Token, Fault, Between, Game, Part, Mode, Pair, Profile, Progress, progress_after, read_from, output, verdict, refused as is_refused, totals, refusal, is_end, filled, AreExportable, SameText, counted, IsWrittenAgain, SliceIsKept, SourceIsKept, FixedPoint, ExportIsKept, ExportIsKeptOfSource, games_in, IsExportable, ExportingTwice, SameOutput, FewPairsHaveRoom, plies_of, roster, roster_pairs, with_set_up, exported, Spells, FailsOn, Fails, Totals, text_of_games as text_of, rules, Ok, read, common_steps}
 use Rattle.pgn_game.specs.calls.Conversion as conversion
 use Rattle.pgn_game.proofs.exporting.ExportToGames.{ExportedGames}
 use Rattle.pgn_game.proofs.reading.PairsInTurn.{length-insert}
@@ -71,13 +71,7 @@ module _ (unique : UniqueReading) (rise : TokensRise)
     (exported_games : (p : Profile) (gs : List Game) → AreExportable p gs → ExportedGames p gs) where
   -- the games that the text spells are the only ones
   pub same_text : SameText
-  same_text p gs hs h k = (
-    λ e.
-        let one = ((unique p (text_of p gs) _).0 (exported_games p gs h).spells).1 in
-        let other = ((unique p (text_of p hs) _).0 (exported_games p hs k).spells).1 in
-        sym one ∙ ap (λ s. (read p (tokens_of s)).progress.games) e ∙ other,
-    λ e. sym (exported_games p gs h).again ∙ ap (text_of p) e ∙ (exported_games p hs k).again,
-  )
+  same_text p gs hs h k = grind (arith, common_steps, text_of, read, tokens_of)
 
   counted_again : (p : Profile) (gs : List Game) → AreExportable p gs → counted (map (filled p.mode) gs) ≡ counted gs
   counted_again p gs h = search (rules, length-map)
@@ -96,10 +90,7 @@ slice_is_kept fixed p gs (Ok t) before after h short done =
 slice_is_kept fixed p gs (Err f) before after h short fails = slice_fails p _ gs f before after (fixed p gs h).1 short fails
 
 pub source_is_kept : FixedPoint → ExportIsKeptOfSource
-source_is_kept fixed p gs (Ok t) left_old left_new before after h short left done =
-    let f = fixed p gs h in
-    written_again false p (text_of p gs) gs t before after f.0 f.1
-    (some_text _ _ _ left done)
+source_is_kept fixed p gs (Ok t) left_old left_new before after h short left done = grind (arith, common_steps, written_again, text_of, some_text)
 source_is_kept fixed p gs (Err f) left_old left_new before after h short left fails =
     source_fails p _ gs f _ _ before after (fixed p gs h).1 short left fails
 

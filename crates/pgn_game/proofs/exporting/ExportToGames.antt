@@ -1,7 +1,6 @@
 -- The export text of games that some text spells: it spells them with their defaults filled in, and
 -- these have the same text.
-use Rattle.pgn_game.proofs.Words.{◌≡◌, ℕ, false, List, [], ◌∷◌, ◌++◌, map, refl, sym, ap, subst, ◌∙◌, append_assoc, append-nil, Some, codes, All-append, All-map, AllByRecursion, ReadingIsSpelling, lines_of, text_of as text_of_lines, KindsAreReadBack, TokensAreSound, IsSoundKind, CommentsClose, tokens_of, written, AreEnded, IsReadable, marker_of, exported_pairs, filled, TagSectionFits, AreExportable, TextSpells, Kind, Game, value_of, Profile, start_of, plies_of, Spells, by_name, IsResult, SpellsGame, SpellsGames, no_game, next_game, tag_lines, tokens_out, game_text, arith, rules, text_of_games as text_of}
-use Rattle.pgn_layout.specs.Laws.{LinesOfKeepTokens}
+use Rattle.pgn_game.proofs.Words.{◌≡◌, ℕ, false, List, [], ◌∷◌, ◌++◌, map, refl, sym, ap, subst, ◌∙◌, append_assoc, append-nil, Some, codes, All-append, All-map, AllByRecursion, ReadingIsSpelling, lines_of, text_of as text_of_lines, KindsAreReadBack, TokensAreSound, IsSoundKind, CommentsClose, tokens_of, written, AreEnded, IsReadable, marker_of, exported_pairs, filled, TagSectionFits, AreExportable, TextSpells, Kind, Game, value_of, Profile, start_of, plies_of, Spells, by_name, IsResult, SpellsGame, SpellsGames, no_game, next_game, tag_lines, tokens_out, game_text, arith, rules, text_of_games as text_of, LinesOfKeepTokens}
 use Rattle.pgn_lexer.specs.Tokens as tokens
 use Rattle.pgn_game.proofs.AllOfJoined.{all_front, all_behind}
 use Rattle.pgn_game.proofs.exporting.GameTextToGame.{ExportedPairs, exported_of, exported_result, given_result, some_exported, start_is_position}

@@ -1,5 +1,5 @@
 -- What is known of a game that a text spells: its tokens are sound, and its comments close.
-use Rattle.pgn_game.proofs.Words.{◌≡◌, ℕ, Bool, true, false, List, [], ◌∷◌, ◌++◌, refl, ap, append_assoc, Some, codes, AllByRecursion, list_all, All-append, and_parts, IsSoundKind, CommentsClose, written, is_comment, is_result, marker_of, Parts, Kind, Item, Game, Pair, value_of, Profile, Level, start_of, AreDropped, SpellsPair, pair, SpellsPairs, no_pair, next_pair, KeepsTags, by_name, IsSetUp, SpellsText, no_more, token, move, variation, StandsFor, number, new_level, BeginsBare, IsResult, SpellsGame, arith, rules, false≢true}
+use Rattle.pgn_game.proofs.Words.{◌≡◌, ℕ, Bool, true, false, List, [], ◌∷◌, ◌++◌, refl, ap, append_assoc, Some, codes, AllByRecursion, list_all, All-append, and_parts, IsSoundKind, CommentsClose, written, is_comment, is_result, marker_of, Parts, Kind, Item, Game, Pair, value_of, Profile, Level, start_of, AreDropped, SpellsPair, pair, SpellsPairs, no_pair, next_pair, KeepsTags, by_name, IsSetUp, SpellsText, no_more, token, move, variation, StandsFor, number, new_level, BeginsBare, IsResult, SpellsGame, arith, rules, false≢true, common_steps}
 use Rattle.pgn_lexer.specs.Tokens as tokens
 use Rattle.pgn_game.proofs.AllOfJoined.{all_front, all_behind}
 use Rattle.pgn_game.proofs.refusals.RefusalsInMovetext.{score_of}
@@ -28,9 +28,7 @@ around_token _ true ks on h = absurd h
 
 pub plain : (k : Kind) (c : Bool) (ks : List Kind) → GoesOn k → is_comment k ≡ false → CommentsClose c (k ∷ ks)
     → (c ≡ false) × CommentsClose false ks
-plain k c ks on is h =
-    let a = around_token k c ks on h in
-    let none = a.2 is in (none.0, rw none.1 at a.1)
+plain k c ks on is h = grind (arith, common_steps, around_token)
 
 behind : (xs : List Kind) (c : Bool) (ks : List Kind) → AllByRecursion GoesOn xs → CommentsClose c (xs ++ ks) → Closes ks
 behind [] c ks on h = (c, h)
@@ -73,20 +71,18 @@ text_goes_on (move deep l s x ks items names rest) = (tt, text_goes_on rest)
 text_goes_on (variation deep l ks js items more holds room inner rest) =
     let all = All-append GoesOn ks _ (text_goes_on inner) (tt, text_goes_on rest) in (tt, all)
 
-marker_goes_on : (k : Kind) {marker : List ℕ} → marker_of k ≡ Some marker → GoesOn k × (is_comment k ≡ false)
-marker_goes_on k is = grind arith
+module _ (k : Kind) {marker : List ℕ} where
+  marker_goes_on : marker_of k ≡ Some marker → GoesOn k × (is_comment k ≡ false)
+  marker_goes_on is = grind arith
 
-marker_plain : (k : Kind) {marker : List ℕ} (c : Bool) (ks : List Kind) → marker_of k ≡ Some marker
-    → CommentsClose c (k ∷ ks) → (c ≡ false) × CommentsClose false ks
-marker_plain k c ks is h = let on = marker_goes_on k is in plain k c ks on.0 on.1 h
+  marker_plain : (c : Bool) (ks : List Kind) → marker_of k ≡ Some marker → CommentsClose c (k ∷ ks) → (c ≡ false) × CommentsClose false ks
+  marker_plain c ks is h = let on = marker_goes_on is in plain k c ks on.0 on.1 h
 
-pub marker_closed : (k : Kind) {marker : List ℕ} (ks : List Kind) → marker_of k ≡ Some marker → CommentsClose false ks
-    → CommentsClose false (k ∷ ks)
-marker_closed k ks is h = search rules
+  pub marker_closed : (ks : List Kind) → marker_of k ≡ Some marker → CommentsClose false ks → CommentsClose false (k ∷ ks)
+  marker_closed ks is h = search rules
 
-pub marker_opens : (k : Kind) {marker : List ℕ} (c : Bool) (ks ls : List Kind) → marker_of k ≡ Some marker
-    → CommentsClose c (k ∷ ks) → CommentsClose false ls → CommentsClose c (k ∷ ls)
-marker_opens k c ks ls is h more = rw ((marker_plain k c ks is h).0) (marker_closed k ls is more)
+  pub marker_opens : (c : Bool) (ks ls : List Kind) → marker_of k ≡ Some marker → CommentsClose c (k ∷ ks) → CommentsClose false ls → CommentsClose c (k ∷ ls)
+  marker_opens c ks ls is h more = rw ((marker_plain c ks is h).0) (marker_closed ls is more)
 
 -- no comment is open where movetext begins
 bare_text : (ks : List Kind) (c : Bool) (k : Kind) {marker : List ℕ} (ls : List Kind) → AllByRecursion GoesOn ks → BeginsBare ks
@@ -97,9 +93,7 @@ before_text : {tags : List Kind} (text : List Kind) {given : List Pair} (c : Boo
     → SpellsPairs tags given → (given ≡ [] → BeginsBare text) → AllByRecursion GoesOn text → marker_of k ≡ Some marker
     → CommentsClose c (tags ++ (text ++ k ∷ ls)) → CommentsClose false (text ++ k ∷ ls)
 before_text text c k ls no_pair bare on is h = bare_text text c k ls on (bare refl) is h
-before_text text c k ls (next_pair ks js q qs one rest) bare on is h =
-    behind_pairs (text ++ k ∷ ls) rest
-    (behind_pair c (js ++ (text ++ k ∷ ls)) one (rw (append_assoc ks js (text ++ k ∷ ls)) at h))
+before_text text c k ls (next_pair ks js q qs one rest) bare on is h = grind (arith, common_steps, behind_pairs, behind_pair, append_assoc)
 
 sound_pair : {ks : List Kind} {q : Pair} → SpellsPair ks q → AllByRecursion IsSoundKind ks → IsSoundPair q
 sound_pair h2 sound = search (rules, all_behind)
@@ -109,14 +103,15 @@ sound_pairs _ _ no_pair sound = tt
 sound_pairs _ _ (next_pair ks js q qs one rest) sound = (sound_pair one (all_front _ ks js sound), sound_pairs js qs rest (all_behind _ ks js sound))
 
 -- Markers.
-pub marker_is_result : (k : Kind) {marker : List ℕ} → marker_of k ≡ Some marker → is_result marker ≡ true
-marker_is_result k is = grind (arith, score_of)
+module _ (k : Kind) {marker : List ℕ} where
+  pub marker_is_result : marker_of k ≡ Some marker → is_result marker ≡ true
+  marker_is_result is = grind (arith, score_of)
 
-pub marker_written : (k : Kind) {marker : List ℕ} → marker_of k ≡ Some marker → written k ≡ marker
-marker_written k is = grind (arith, score_of)
+  pub marker_written : marker_of k ≡ Some marker → written k ≡ marker
+  marker_written is = grind (arith, score_of)
 
-pub marker_writable : (k : Kind) {marker : List ℕ} → marker_of k ≡ Some marker → IsSoundKind k → IsWritable k
-marker_writable k is sound = search rules
+  pub marker_writable : marker_of k ≡ Some marker → IsSoundKind k → IsWritable k
+  marker_writable is sound = search rules
 
 pub record SoundGame (p : Profile) (g : Game) : Type 0 where
   pub given : List Pair

@@ -96,15 +96,15 @@ set_up_picked : {b c : Bool} (ps : List Pair) (name : List ℕ) → has_pair ps 
     → value_of (with_set_up ps) name ≡ pick (b && c) (codes "1") (value_of ps name)
 set_up_picked ps name some is = cc (set_up_values ps name, some, is, bytes_eq-sym (codes "SetUp") name)
 
-pub set_up_one : (ps : List Pair) (name : List ℕ) → bytes_eq name (codes "SetUp") ≡ true
-    → has_pair ps (codes "FEN") ≡ true → value_of (with_set_up ps) name ≡ Some (codes "1")
-set_up_one ps name is some = set_up_picked ps name some is
+module _ (ps : List Pair) (name : List ℕ) where
+  pub set_up_one : bytes_eq name (codes "SetUp") ≡ true → has_pair ps (codes "FEN") ≡ true → value_of (with_set_up ps) name ≡ Some (codes "1")
+  set_up_one is some = set_up_picked ps name some is
 
-pub no_fen : (ps : List Pair) (name : List ℕ) → has_pair ps (codes "FEN") ≡ false → value_of (with_set_up ps) name ≡ value_of ps name
-no_fen ps name none = cc
+  pub no_fen : has_pair ps (codes "FEN") ≡ false → value_of (with_set_up ps) name ≡ value_of ps name
+  no_fen none = cc
 
-pub no_set_up : (ps : List Pair) (name : List ℕ) → bytes_eq name (codes "SetUp") ≡ false → value_of (with_set_up ps) name ≡ value_of ps name
-no_set_up ps name e = cc (set_up_picked {b = (has_pair ps (codes "FEN"))} ps name refl e, and_right (has_pair ps (codes "FEN")) false refl)
+  pub no_set_up : bytes_eq name (codes "SetUp") ≡ false → value_of (with_set_up ps) name ≡ value_of ps name
+  no_set_up e = cc (set_up_picked {b = (has_pair ps (codes "FEN"))} ps name refl e, and_right (has_pair ps (codes "FEN")) false refl)
 
 -- What a name has in the section: in full mode the value of another name is that with SetUp.
 pub other_value : (ps : List Pair) (n : List ℕ)
@@ -121,13 +121,13 @@ pub exported_known : (mode : Mode) (m : List ℕ) (ps : List Pair) (n : List ℕ
 exported_known Full m ps n e = full_value m ps n e
 exported_known Reduced m ps n e = reduced_value m ps n e
 
-pub exported_other : (m : List ℕ) (ps : List Pair) (n : List ℕ) → in_roster n ≡ false
-    → value_of (exported Full m ps) n ≡ value_of (with_set_up ps) n
-exported_other m ps n e = cc (full_value m ps n (not_of_roster m n e), other_value ps n)
+module _ (m : List ℕ) (ps : List Pair) (n : List ℕ) where
+  pub exported_other : in_roster n ≡ false → value_of (exported Full m ps) n ≡ value_of (with_set_up ps) n
+  exported_other e = cc (full_value m ps n (not_of_roster m n e), other_value ps n)
 
--- and it has none in reduced mode, where the roster has it not
-pub exported_none : (m : List ℕ) (ps : List Pair) (n : List ℕ) → value_of (roster m) n ≡ None → value_of (exported Reduced m ps) n ≡ None
-exported_none m ps n e = reduced_value m ps n e
+  -- and it has none in reduced mode, where the roster has it not
+  pub exported_none : value_of (roster m) n ≡ None → value_of (exported Reduced m ps) n ≡ None
+  exported_none e = reduced_value m ps n e
 
 pub no_set_up_of : (m : List ℕ) → value_of (roster m) (codes "SetUp") ≡ None
 unfolding roster

@@ -64,17 +64,16 @@ pub others_with_fen : (ps : List Pair) → has_pair ps (codes "FEN") ≡ true
     → lines_about (index_of (codes "SetUp") ps) ps ≡ tag_lines (other_pairs (with_set_up ps))
 others_with_fen ps some = set_up_lines ps ∙ ap (λ b. tag_lines (other_pairs (set_up_if b ps))) (sym some)
 
-pub reduced_section : (result : List ℕ) (ps : List Pair) → text_by (roster_line ps) (roster result) ++ 10 ∷ [] ≡ tag_section Reduced result ps
-reduced_section result ps = rw (roster_lines ps (roster result))
+module _ (result : List ℕ) where
+  pub reduced_section : (ps : List Pair) → text_by (roster_line ps) (roster result) ++ 10 ∷ [] ≡ tag_section Reduced result ps
+  reduced_section ps = rw (roster_lines ps (roster result))
 
-pub full_section : (result : List ℕ) (ps : List Pair)
-    → (text_by (roster_line ps) (roster result) ++ tag_lines (other_pairs (with_set_up ps))) ++ 10 ∷ [] ≡ tag_section Full result ps
-full_section result ps = grind (arith, tag_lines-append, roster_lines)
+  pub full_section : (ps : List Pair) → (text_by (roster_line ps) (roster result) ++ tag_lines (other_pairs (with_set_up ps))) ++ 10 ∷ [] ≡ tag_section Full result ps
+  full_section ps = grind (arith, tag_lines-append, roster_lines)
 
-pub roster_first : (result : List ℕ) (mode : Mode) (ps : List Pair)
-    → (rest : List ℕ) × (tag_section mode result ps ≡ text_by (roster_line ps) (roster result) ++ rest)
-roster_first result Reduced ps = (10 ∷ [], sym (reduced_section result ps))
-roster_first result Full ps = (
-  tag_lines (other_pairs (with_set_up ps)) ++ 10 ∷ [],
-  sym (full_section result ps) ∙ append_assoc (text_by (roster_line ps) (roster result)) (tag_lines (other_pairs (with_set_up ps))) (10 ∷ []),
-)
+  pub roster_first : (mode : Mode) (ps : List Pair) → (rest : List ℕ) × (tag_section mode result ps ≡ text_by (roster_line ps) (roster result) ++ rest)
+  roster_first Reduced ps = (10 ∷ [], sym (reduced_section ps))
+  roster_first Full ps = (
+    tag_lines (other_pairs (with_set_up ps)) ++ 10 ∷ [],
+    sym (full_section ps) ∙ append_assoc (text_by (roster_line ps) (roster result)) (tag_lines (other_pairs (with_set_up ps))) (10 ∷ []),
+  )

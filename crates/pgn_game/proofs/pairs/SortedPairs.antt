@@ -1,6 +1,5 @@
 -- The order of names, and places in it.
-use Rattle.pgn_game.proofs.Words.{◌≡◌, ℕ, suc, zero, ◌+◌, ◌<◌, ◌≤◌, Bool, true, false, List, [], ◌∷◌, length, refl, sym, ap, ◌∙◌, arith, None, Some, insert, take, drop, get_or, bytes_eq, false≢true, AllByRecursion, subst, Pair, has_pair, value_of, comes_before, insert_pair, AllAfter, InOrder, index_of, nat_tests}
-use Rattle.std.proofs.ByRecursion.{All-get_or}
+use Rattle.pgn_game.proofs.Words.{◌≡◌, ℕ, suc, zero, ◌+◌, ◌<◌, ◌≤◌, Bool, true, false, List, [], ◌∷◌, length, refl, sym, ap, ◌∙◌, arith, None, Some, insert, take, drop, get_or, bytes_eq, false≢true, AllByRecursion, subst, Pair, has_pair, value_of, comes_before, insert_pair, AllAfter, InOrder, index_of, nat_tests, All-get_or, common_steps}
 use Rattle.std.specs.Ordering.{nat_cmp, is_lt, is_some_and}
 use Rattle.std.specs.Cmp.Lexicographic.{slice_partial_cmp}
 use Rattle.std.proofs.lemmas.Cmp.{same_from_slice_cmp_tested}
@@ -49,78 +48,71 @@ order-drop (p ∷ ps) (suc k) h = order-drop ps k h.1
 abbrev index_if : Bool → ℕ → ℕ
 index_if b n = elim b [ true ↦ 0 | false ↦ 1 + n ]
 
-pub index_of-le : (name : List ℕ) (ps : List Pair) → index_of name ps ≤ length ps
-index_of-le name [] = omega arith
-index_of-le name (q ∷ qs) =
-    let rest = index_of-le name qs in
-    elim (comes_before name q.name) as (λ b. index_if b (index_of name qs) ≤ length (q ∷ qs)) [ true ↦ omega arith | false ↦ omega arith ]
+module _ (name : List ℕ) where
+  pub index_of-le : (ps : List Pair) → index_of name ps ≤ length ps
+  index_of-le [] = omega arith
+  index_of-le (q ∷ qs) =
+      let rest = index_of-le qs in
+      elim (comes_before name q.name) as (λ b. index_if b (index_of name qs) ≤ length (q ∷ qs)) [ true ↦ omega arith | false ↦ omega arith ]
 
--- it is at most that of a pair with a later name
-pub index-before : (name : List ℕ) (ps : List Pair) (k : ℕ) {p : Pair} → k < length ps → p ≡ get_or ps k p
-    → comes_before name p.name ≡ true → index_of name ps ≤ k
-index-before name [] k l e later = absurd (omega arith)
-index-before name (q ∷ qs) zero l e later =
-    let here : comes_before name q.name ≡ true = ap (λ (r : Pair). comes_before name r.name) (sym e) ∙ later in
-    rw (here, index_of) (omega arith)
-index-before name (q ∷ qs) (suc k) l e later =
-    let rest = index-before name qs k (omega arith) e later in
-    elim (comes_before name q.name) as (λ b. index_if b (index_of name qs) ≤ suc k) [ true ↦ omega arith | false ↦ omega arith ]
+  -- it is at most that of a pair with a later name
+  pub index-before : (ps : List Pair) (k : ℕ) {p : Pair} → k < length ps → p ≡ get_or ps k p → comes_before name p.name ≡ true → index_of name ps ≤ k
+  index-before [] k l e later = absurd (omega arith)
+  index-before (q ∷ qs) zero l e later = grind (arith, common_steps, comes_before, index_of)
+  index-before (q ∷ qs) (suc k) l e later =
+      let rest = index-before qs k (omega arith) e later in
+      elim (comes_before name q.name) as (λ b. index_if b (index_of name qs) ≤ suc k) [ true ↦ omega arith | false ↦ omega arith ]
 
--- and above that of a pair with no later name
-pub index-behind : (name : List ℕ) (ps : List Pair) (k : ℕ) {p : Pair} → InOrder ps → k < length ps → p ≡ get_or ps k p
-    → comes_before name p.name ≡ false → k < index_of name ps
-index-behind name [] k h l e early = absurd (omega arith)
-index-behind name (q ∷ qs) zero h l e early =
-    let here : comes_before name q.name ≡ false = ap (λ (r : Pair). comes_before name r.name) (sym e) ∙ early in
-    rw (here, index_of) (omega arith)
-index-behind name (q ∷ qs) (suc k) {p} h l e early =
-    by_test (index-behind name qs k h.1 (omega arith) e early) _ refl
-  where
-    by_test : k < index_of name qs → (b : Bool) → comes_before name q.name ≡ b → suc k < index_if b (index_of name qs)
-    by_test rest true first =
-        let after = All-get_or (λ r. comes_before q.name r.name ≡ true) qs k p (omega arith) h.0 in
-        absurd (false≢true (sym early ∙ before-trans name q.name p.name first (subst (λ r. comes_before q.name r.name ≡ true) (sym e) after)))
-    by_test rest false later = omega arith
+  -- and above that of a pair with no later name
+  pub index-behind : (ps : List Pair) (k : ℕ) {p : Pair} → InOrder ps → k < length ps → p ≡ get_or ps k p → comes_before name p.name ≡ false → k < index_of name ps
+  index-behind [] k h l e early = absurd (omega arith)
+  index-behind (q ∷ qs) zero h l e early = grind (arith, common_steps, comes_before, index_of)
+  index-behind (q ∷ qs) (suc k) {p} h l e early =
+      by_test (index-behind qs k h.1 (omega arith) e early) _ refl
+    where
+      by_test : k < index_of name qs → (b : Bool) → comes_before name q.name ≡ b → suc k < index_if b (index_of name qs)
+      by_test rest true first =
+          let after = All-get_or (λ r. comes_before q.name r.name ≡ true) qs k p (omega arith) h.0 in
+          absurd (false≢true (sym early ∙ before-trans name q.name p.name first (subst (λ r. comes_before q.name r.name ≡ true) (sym e) after)))
+      by_test rest false later = omega arith
 
--- a name that comes before all has index 0
-index-first : (name : List ℕ) (qs : List Pair) → AllAfter name qs → index_of name qs ≡ 0
-index-first name [] h = refl
-index-first name (q ∷ qs) h = cc (h.0)
+  -- a name that comes before all has index 0
+  index-first : (qs : List Pair) → AllAfter name qs → index_of name qs ≡ 0
+  index-first [] h = refl
+  index-first (q ∷ qs) h = cc (h.0)
 
--- no pair has a name of index 0
-pub new-first : (name : List ℕ) (ps : List Pair) → InOrder ps → index_of name ps ≡ 0 → has_pair ps name ≡ false
-new-first name [] h e = refl
-new-first name (q ∷ qs) h e = by_test _ refl e
-  where
-    by_test : (b : Bool) → comes_before name q.name ≡ b → index_if b (index_of name qs) ≡ 0 → has_pair (q ∷ qs) name ≡ false
-    by_test true first is = absent-pair name (q ∷ qs) (first, further_after name q.name qs first h.0)
-    by_test false later is = absurd (omega arith)
+  -- no pair has a name of index 0
+  pub new-first : (ps : List Pair) → InOrder ps → index_of name ps ≡ 0 → has_pair ps name ≡ false
+  new-first [] h e = refl
+  new-first (q ∷ qs) h e = by_test _ refl e
+    where
+      by_test : (b : Bool) → comes_before name q.name ≡ b → index_if b (index_of name qs) ≡ 0 → has_pair (q ∷ qs) name ≡ false
+      by_test true first is = absent-pair name (q ∷ qs) (first, further_after name q.name qs first h.0)
+      by_test false later is = absurd (omega arith)
 
--- a name that some pair has is not that of a pair before all of them
-other-name : (name : List ℕ) (q : Pair) (qs : List Pair) (k : ℕ) (b : Bool) → AllAfter q.name qs → index_of name qs ≡ suc k
-    → bytes_eq q.name name ≡ b → b ≡ false
-other-name name q qs k false h is e = refl
-other-name name q qs k true h is e =
-    let first : index_of name qs ≡ 0 = index-first name qs (subst (λ n. AllAfter n qs) (bytes_eq-true _ _ e) h) in
-    absurd (omega arith)
+  -- a name that some pair has is not that of a pair before all of them
+  other-name : (q : Pair) (qs : List Pair) (k : ℕ) (b : Bool) → AllAfter q.name qs → index_of name qs ≡ suc k → bytes_eq q.name name ≡ b → b ≡ false
+  other-name q qs k false h is e = refl
+  other-name q qs k true h is e =
+      let first : index_of name qs ≡ 0 = index-first qs (subst (λ n. AllAfter n qs) (bytes_eq-true _ _ e) h) in
+      absurd (omega arith)
 
--- the last pair before the index of a name has this name, or none has it
-pub value-behind : (name : List ℕ) (ps : List Pair) (k : ℕ) {p : Pair} → InOrder ps → index_of name ps ≡ suc k → p ≡ get_or ps k p
-    → value_of ps name ≡ pick (bytes_eq p.name name) p.value None
-value-behind name [] k h is e = absurd (omega arith)
-value-behind name (q ∷ qs) zero {p} h is e = by_test _ refl is
-  where
-    by_test : (b : Bool) → comes_before name q.name ≡ b → index_if b (index_of name qs) ≡ 1
-        → value_of (q ∷ qs) name ≡ pick (bytes_eq p.name name) p.value None
-    by_test true first is = absurd (omega arith)
-    by_test false later is = cc (value_of-cons q qs name, no_value _ (new-first name qs h.1 (omega arith)), e)
-value-behind name (q ∷ qs) (suc k) {p} h is e = by_test (λ at. value-behind name qs k h.1 at e) _ refl is
-  where
-    by_test : (index_of name qs ≡ suc k → value_of qs name ≡ pick (bytes_eq p.name name) p.value None) → (b : Bool)
-        → comes_before name q.name ≡ b → index_if b (index_of name qs) ≡ suc (suc k)
-        → value_of (q ∷ qs) name ≡ pick (bytes_eq p.name name) p.value None
-    by_test rest true first is = absurd (omega arith)
-    by_test rest false later is =
-        let at : index_of name qs ≡ suc k = omega arith in
-        let other = other-name name q qs k (bytes_eq q.name name) h.0 at refl in
-        rw (value_of-cons q qs name, other) (rest at)
+  -- the last pair before the index of a name has this name, or none has it
+  pub value-behind : (ps : List Pair) (k : ℕ) {p : Pair} → InOrder ps → index_of name ps ≡ suc k → p ≡ get_or ps k p → value_of ps name ≡ pick (bytes_eq p.name name) p.value None
+  value-behind [] k h is e = absurd (omega arith)
+  value-behind (q ∷ qs) zero {p} h is e = by_test _ refl is
+    where
+      by_test : (b : Bool) → comes_before name q.name ≡ b → index_if b (index_of name qs) ≡ 1
+          → value_of (q ∷ qs) name ≡ pick (bytes_eq p.name name) p.value None
+      by_test true first is = absurd (omega arith)
+      by_test false later is = cc (value_of-cons q qs name, no_value _ (new-first qs h.1 (omega arith)), e)
+  value-behind (q ∷ qs) (suc k) {p} h is e = by_test (λ at. value-behind qs k h.1 at e) _ refl is
+    where
+      by_test : (index_of name qs ≡ suc k → value_of qs name ≡ pick (bytes_eq p.name name) p.value None) → (b : Bool)
+          → comes_before name q.name ≡ b → index_if b (index_of name qs) ≡ suc (suc k)
+          → value_of (q ∷ qs) name ≡ pick (bytes_eq p.name name) p.value None
+      by_test rest true first is = absurd (omega arith)
+      by_test rest false later is =
+          let at : index_of name qs ≡ suc k = omega arith in
+          let other = other-name q qs k (bytes_eq q.name name) h.0 at refl in
+          rw (value_of-cons q qs name, other) (rest at)

@@ -1,6 +1,5 @@
 -- Pairs that are stored in another order.
-use Rattle.pgn_game.proofs.Words.{◌≡◌, IfSome, IsSomeAnd, length-map, length-set, refill, take-append_seam, subst, insert_pair, IsSome, ℕ, suc, zero, ◌+◌, ◌<◌, ◌≤◌, Bool, true, false, List, [], ◌∷◌, ◌++◌, length, refl, sym, ap, ◌∙◌, arith, Option, None, Some, insert, take, drop, get_or, set, map-append, Pair, has_pair, TagPairs, AllBelow, AreInOrder, FitsPairStore, HasBegun, InOrder, index_of, pair_at, placed, pairs_seen}
-use Rattle.std.proofs.lemmas.List.{get_or-set_other, get_or-set_same, get_or_append_left, get_or_read, length_push, take-map, drop-map}
+use Rattle.pgn_game.proofs.Words.{◌≡◌, IfSome, IsSomeAnd, length-map, length-set, refill, take-append_seam, subst, insert_pair, IsSome, ℕ, suc, zero, ◌+◌, ◌<◌, ◌≤◌, Bool, true, false, List, [], ◌∷◌, ◌++◌, length, refl, sym, ap, ◌∙◌, arith, Option, None, Some, insert, take, drop, get_or, set, map-append, Pair, has_pair, TagPairs, AllBelow, AreInOrder, FitsPairStore, HasBegun, InOrder, index_of, pair_at, placed, pairs_seen, get_or-set_other, get_or-set_same, get_or_append_left, get_or_read, length_push, take-map, drop-map, common_steps}
 use Rattle.std.proofs.lemmas.List.Edits.{length-insert}
 use Rattle.pgn_game.proofs.pairs.NameOrder.{order-insert}
 use Rattle.pgn_game.proofs.pairs.SortedPairs.{index_of-le, insert-place, all-take, all-drop, order-take, order-drop}
@@ -35,17 +34,18 @@ below-more [] h l = tt
 below-more (i ∷ is) h l = (omega (arith, h.0), below-more is h.1 l)
 
 -- a part of pairs in order is in order
-pub in_order-take : (ps : List Pair) (order : List ℕ) (k : ℕ) → AreInOrder ps order → AreInOrder ps (take k order)
-in_order-take ps order k h = record {
-  within = all-take (λ i. i < length ps) order k h.within;
-  in_order = rw (← take-map (pair_at ps) k order) (order-take (placed ps order) k h.in_order);
-}
+module _ (ps : List Pair) (order : List ℕ) (k : ℕ) where
+  pub in_order-take : AreInOrder ps order → AreInOrder ps (take k order)
+  in_order-take h = record {
+    within = all-take (λ i. i < length ps) order k h.within;
+    in_order = rw (← take-map (pair_at ps) k order) (order-take (placed ps order) k h.in_order);
+  }
 
-pub in_order-drop : (ps : List Pair) (order : List ℕ) (k : ℕ) → AreInOrder ps order → AreInOrder ps (drop k order)
-in_order-drop ps order k h = record {
-  within = all-drop (λ i. i < length ps) order k h.within;
-  in_order = rw (← drop-map (pair_at ps) k order) (order-drop (placed ps order) k h.in_order);
-}
+  pub in_order-drop : AreInOrder ps order → AreInOrder ps (drop k order)
+  in_order-drop h = record {
+    within = all-drop (λ i. i < length ps) order k h.within;
+    in_order = rw (← drop-map (pair_at ps) k order) (order-drop (placed ps order) k h.in_order);
+  }
 
 -- What is seen where no pair has begun, and where one has.
 abbrev seen : List Pair → Option (List ℕ) → TagPairs
@@ -58,13 +58,12 @@ all-held : (held : List Pair) (p : Pair) (b : Bool) {t : TagPairs} → pairs_see
 all-held held p false e none = ap (λ (s : TagPairs). s.held) e
 all-held held p true e none = absurd (cc)
 
-pub stored-held : (ps : List Pair) (order : List ℕ) (b : Bool) {t : TagPairs} → seen_of ps order b ≡ t → t.pending_name ≡ None
-    → placed ps order ≡ t.held
-stored-held ps order b e none = all-held (placed ps order) (pair_at ps (length order)) b e none
+module _ (ps : List Pair) (order : List ℕ) (b : Bool) {t : TagPairs} where
+  pub stored-held : seen_of ps order b ≡ t → t.pending_name ≡ None → placed ps order ≡ t.held
+  stored-held e none = all-held (placed ps order) (pair_at ps (length order)) b e none
 
-pub held-count : (ps : List Pair) (order : List ℕ) (b : Bool) {t : TagPairs} → seen_of ps order b ≡ t
-    → t.pending_name ≡ None → length t.held ≡ length order
-held-count ps order b e none = ap (length {A = Pair}) (sym (stored-held ps order b e none)) ∙ length-map order (pair_at ps)
+  pub held-count : seen_of ps order b ≡ t → t.pending_name ≡ None → length t.held ≡ length order
+  held-count e none = ap (length {A = Pair}) (sym (stored-held e none)) ∙ length-map order (pair_at ps)
 
 abbrev IsBegun : List Pair → Pair → Bool → TagPairs → Type 0
 IsBegun held p b t = (b ≡ true) × (t ≡ seen held (Some p.name))
@@ -99,53 +98,26 @@ place-of-old same first place room = record { same = same; first = first; place 
 pub place-of-new : {most : ℕ} (ps more : List Pair) {order : List ℕ} {held : List Pair} (p : Pair) → more ≡ ps ++ p ∷ []
     → placed ps order ≡ held → AllBelow (length order) order → length order ≡ length ps → length ps < most
     → HasPlace most more order held
-place-of-new ps more {order} p is same first all room =
-    let long : length more ≡ length ps + 1 = ap (length {A = Pair}) is ∙ length_push ps p in record {
-      same = rw is (placed-push ps p order (subst (λ n. AllBelow n order) all first) ∙ same);
-      first = first;
-      place = omega arith;
-      room = omega arith;
-    }
+place-of-new ps more {order} p is same first all room = grind (arith, common_steps, length_push, placed-push)
 
 -- a pair is written there
 pub begun-seen : {most : ℕ} {ps : List Pair} {order : List ℕ} {held : List Pair} {n : ℕ} (p : Pair)
     → HasPlace most ps order held → n ≡ length order
     → seen (placed (refill (length ps) ps (set ps n p)) order) (Some (pair_at (refill (length ps) ps (set ps n p)) (length order)).name)
     ≡ seen held (Some p.name)
-begun-seen {ps} {order} {n} p has at =
-    let below : AllBelow n order = subst (λ m. AllBelow m order) (sym at) has.first in
-    let here : pair_at (set ps n p) (length order) ≡ p = ap (pair_at (set ps n p)) (sym at) ∙ get_or-set_same ps n p empty (omega (arith, has.place)) in
-    cc (written ps n p, placed-set ps n p order below, has.same, here)
+begun-seen {ps} {order} {n} p has at = grind (arith, common_steps, pair_at, set, get_or-set_same, written, placed-set)
 
 pub begun-stored : {most : ℕ} {ps : List Pair} {order : List ℕ} {held : List Pair} {n : ℕ} (p : Pair) (place : ℕ)
     → HasPlace most ps order held → n ≡ length order → InOrder held → has_pair held p.name ≡ false → place ≡ index_of p.name held
     → FitsPairStore most (refill (length ps) ps (set ps n p)) order place true
 begun-stored {most} {ps} {order} {n} p place has at sorted new index =
-    let below : AllBelow n order = subst (λ m. AllBelow m order) (sym at) has.first in
-    let here : pair_at (set ps n p) (length order) ≡ p = ap (pair_at (set ps n p)) (sym at) ∙ get_or-set_same ps n p empty (omega (arith, has.place)) in
-    let same = placed-set ps n p order below ∙ has.same in
-    let long = length-set ps n p in
-    rw (written ps n p)
-    (record {
-      room = omega (arith, has.room);
-      within = omega (arith, has.place);
-      first = has.first;
-      in_order = subst InOrder (sym same) sorted;
-      begun = λ _. record {
-        within = omega (arith, has.place);
-        new = rw (same, here) new;
-        index = rw (same, here) index;
-      };
-    })
+    grind (arith, common_steps, pair_at, set, get_or-set_same, placed-set, length-set, written)
 
 -- Its value comes, and its place goes into the order.
 pub place-within : {most : ℕ} {ps : List Pair} {order : List ℕ} {place : ℕ} {b : Bool} {t : TagPairs}
     → FitsPairStore most ps order place b → seen_of ps order b ≡ t → IsSome t.pending_name
     → (place ≤ length order) × (length order < most)
-place-within {ps} {order} {b} fits view some =
-    let begun = fits.begun (stored-begun ps order b view some).0 in
-    let low = index_of-le (pair_at ps (length order)).name (placed ps order) in
-    (omega (arith, low, begun.index, length-map order (pair_at ps)), omega (arith, begun.within, fits.room))
+place-within {ps} {order} {b} fits view some = grind (arith, common_steps, stored-begun, index_of-le, pair_at, placed, length-map)
 
 -- the pairs with the new one at its place
 record IsPut (ps : List Pair) (order : List ℕ) (place n : ℕ) (q : Pair) : Type 0 where
@@ -176,35 +148,13 @@ module _ {most : ℕ} {ps : List Pair} {order : List ℕ} {place : ℕ} {b : Boo
 
   is-put : (q : Pair) → q.name ≡ p.name → IsPut ps order place n q
   is-put q same =
-      let name : q.name ≡ (pair_at ps (length order)).name = same ∙ ap (λ (r : Pair). r.name) here in
-      let below : AllBelow n order = subst (λ m. AllBelow m order) (sym at) fits.first in
-      let there : pair_at (set ps n q) n ≡ q = get_or-set_same ps n q empty (omega (arith, at, store.within)) in
-      let index : place ≡ index_of q.name (placed ps order) = store.index ∙ ap (λ m. index_of m (placed ps order)) (sym name) in record {
-        name = name;
-        pairs = placed-insert (set ps n q) order place n ∙ ap (λ l. insert l place (pair_at (set ps n q) n)) (placed-set ps n q order below)
-            ∙ ap (insert (placed ps order) place) there ∙ ap (λ k. insert (placed ps order) k q) index ∙ insert-place q (placed ps order);
-        new = ap (has_pair (placed ps order)) name ∙ store.new;
-      }
+      grind (arith, common_steps, pair_at, here, set, get_or-set_same, index_of, placed, placed-insert, insert, placed-set, insert-place, has_pair)
 
   pub completed-seen : (q : Pair) (value : List ℕ) (more : List ℕ) → q ≡ named p.name value → more ≡ insert order place n
       → IfSome t.pending_name (λ name. seen (placed (refill (length ps) ps (set ps n q)) more) None ≡ seen (insert_pair (named name value) t.held) None)
-  completed-seen q value more new is_more =
-      let put = is-put q (ap (λ (r : Pair). r.name) new) in
-      let all : q ≡ named (pair_at ps (length order)).name value = new ∙ ap (λ (r : Pair). named r.name value) here in
-      rw begun.1 (cc (written ps n q, is_more, put.pairs, all))
+  completed-seen q value more new is_more = grind (arith, common_steps, is-put, pair_at, here, written)
 
   pub completed-stored : (q : Pair) (value : List ℕ) (more : List ℕ) → q ≡ named p.name value → more ≡ insert order place n
       → FitsPairStore most (refill (length ps) ps (set ps n q)) more place false
   completed-stored q value more new is_more =
-      let put = is-put q (ap (λ (r : Pair). r.name) new) in
-      let long = length-set ps n q in
-      let count : length more ≡ length order + 1 =
-      ap (length {A = ℕ}) is_more ∙ length-insert order place n (place-within fits view some).0 in
-      rw (written ps n q)
-      (record {
-        room = omega (arith, fits.room);
-        within = omega (arith, store.within);
-        first = rw (count, is_more) (below-insert order place n (below-more order fits.first (omega arith)) (omega arith));
-        in_order = rw (is_more, put.pairs) (order-insert q (placed ps order) put.new fits.in_order);
-        begun = λ e. absurd (cc);
-      })
+      grind (arith, common_steps, is-put, length-set, length-insert, place-within, written, below-insert, below-more, order-insert, placed, begun)

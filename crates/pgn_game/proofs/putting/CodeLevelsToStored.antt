@@ -1,8 +1,7 @@
 -- The levels as they are kept and as contracts see them: kept with the main line first, seen with
 -- the nearest first.
-use Rattle.pgn_game.proofs.Words.{◌≡◌, ℕ, ◌+◌, ◌-◌, ◌<◌, ◌≤◌, List, [], ◌∷◌, ◌++◌, length, length-map, map, refl, sym, ap, ◌∙◌, arith, length-append, get_or, set, take, refill, take-append_seam, Option, None, Some, IfSome, Parts}
+use Rattle.pgn_game.proofs.Words.{◌≡◌, ℕ, ◌+◌, ◌-◌, ◌<◌, ◌≤◌, List, [], ◌∷◌, ◌++◌, length, length-map, map, refl, sym, ap, ◌∙◌, arith, length-append, get_or, set, take, refill, take-append_seam, Option, None, Some, IfSome, Parts, get_or-append_seam, set-append_seam, common_steps}
 use Rattle.pgn_game.proofs.Words.{StoredLevel, StoredLevels, inside, code_levels, nearest_first, places_of, level_at, level_of, FitsLevelStore, ClosesLevel}
-use Rattle.std.proofs.Math.Seq.{get_or-append_seam, set-append_seam}
 use Rattle.pgn_game.proofs.pairs.StoredPlaces.{written}
 use Rattle.pgn_game.specs.declared.levels.Level.{Level as CodeLevel}
 
@@ -38,9 +37,7 @@ module _ {most : ℕ} {places : List (Option CodeLevel)} (fits : FitsLevelStore 
 
   -- the last place is of the current level
   last_at : (d : Option CodeLevel) → get_or places (length places - 1) d ≡ Some fits.current
-  last_at d =
-      ap (λ (i : ℕ). get_or places i d) last ∙ ap (λ (ps : List (Option CodeLevel)). get_or ps (length front) d) fits.there
-      ∙ get_or-append_seam front (Some fits.current) [] d
+  last_at d = grind (arith, common_steps, get_or, last, get_or-append_seam)
 
   -- without the last place, and with one more
   pub popped : (rest : List (Option CodeLevel)) → rest ≡ take (length places - 1) places → rest ≡ front
@@ -55,30 +52,15 @@ module _ {most : ℕ} {places : List (Option CodeLevel)} (fits : FitsLevelStore 
     held = sym is ∙ ap code_levels fits.there ∙ seen fits.current fits.around
 
     pub depth-held : length ls.around + 1 ≡ length places
-    depth-held =
-        omega (
-          arith,
-          ap (λ (ls : StoredLevels). length ls.around) held,
-          length-map fits.around level_of,
-          ap (length {A = Option CodeLevel}) fits.there,
-          length-places (fits.current ∷ fits.around),
-        )
+    depth-held = grind (arith, common_steps, held, length-map, level_of, length-places)
 
     pub current_at : (l : CodeLevel) (d : Option CodeLevel) → get_or places (length places - 1) d ≡ Some l → level_of l ≡ ls.present
-    current_at l d at =
-        let some : Some l ≡ Some fits.current = sym at ∙ last_at d in
-        let same : l ≡ fits.current = cc in
-        ap level_of same ∙ sym (ap (λ (ls : StoredLevels). ls.present) held)
+    current_at l d at = grind (arith, common_steps, last_at, level_of, held)
 
     -- another current level is written in its place
     pub plays : (l : CodeLevel) → code_levels (refill (length places) places (set places (length places - 1) (Some l)))
         ≡ record { present = level_of l; around = ls.around }
-    plays l =
-        ap code_levels (written places (length places - 1) (Some l)
-        ∙ ap (λ (i : ℕ). set places i (Some l)) last ∙ ap (λ (ps : List (Option CodeLevel)). set ps (length front) (Some l)) fits.there
-        ∙ set-append_seam front (Some fits.current) [] (Some l))
-        ∙ seen l fits.around
-        ∙ sym (ap (λ (ls : StoredLevels). record { present = level_of l; around = ls.around }) held)
+    plays l = grind (arith, common_steps, code_levels, written, set, last, set-append_seam, seen, level_of, held)
 
     -- one more has the current one around it
     pub opened : (more : List (Option CodeLevel)) (l : CodeLevel) → more ≡ places ++ Some l ∷ []

@@ -1,11 +1,8 @@
 -- What an item adds to the movetext that is held.
-use Rattle.pgn_game.proofs.Words.{◌≡◌, ℕ, ◌+◌, ◌<◌, ◌≤◌, Bool, true, false, List, [], ◌∷◌, ◌++◌, map, length, Option, None, Some, refl, sym, ap, subst, ◌∙◌, append_assoc, append-nil, arith, All, ◌==◌, IsTrue, is_some, IfSome, Result, Ok, Err, IsErr, Appends, All-nil, All-cons, All-head, All-tail, length-map, drop-append_seam, Move, legal, Device, IsToken, lines_of, full_lines, last_line, text_of as text_of_lines, Put, laid_from, text_put, line_put, Parts, Played, Mode, play, text_of_move, Item, open_variation, close_variation, Level as ModelLevel, Levels as ModelLevels, levels_after, levels_of, depth, here, outermost, main_moves, Placed, is_move, tokens_out, StoredLevels, Movetext, level_at, ClosesLevel, before_last, stored_level, stored_levels, ends_in_move, HoldsItems, HoldsLineOf, seen, is_nothing, mode_of_written, ItemFits, model_item, PutsTokens, Annotates, Plays, is_written, tokens_due, tokens_if, after_move_if, plies_in, item_text, Adds, WritesItem, rules}
+use Rattle.pgn_game.proofs.Words.{◌≡◌, ℕ, ◌+◌, ◌<◌, ◌≤◌, Bool, true, false, List, [], ◌∷◌, ◌++◌, map, length, Option, None, Some, refl, sym, ap, subst, ◌∙◌, append_assoc, append-nil, arith, All, ◌==◌, IsTrue, is_some, IfSome, Result, Ok, Err, IsErr, Appends, All-nil, All-cons, All-head, All-tail, length-map, drop-append_seam, Move, legal, Device, IsToken, lines_of, full_lines, last_line, text_of as text_of_lines, Put, laid_from, text_put, line_put, Parts, Played, Mode, play, text_of_move, Item, open_variation, close_variation, Level as ModelLevel, Levels as ModelLevels, levels_after, levels_of, depth, here, outermost, main_moves, Placed, is_move, tokens_out, StoredLevels, Movetext, level_at, ClosesLevel, before_last, stored_level, stored_levels, ends_in_move, HoldsItems, HoldsLineOf, seen, is_nothing, mode_of_written, ItemFits, model_item, PutsTokens, Annotates, Plays, is_written, tokens_due, tokens_if, after_move_if, plies_in, item_text, Adds, WritesItem, rules, san, MarkPairs, disambiguation_pairs, Annotation, Written, common_steps}
 use Rattle.std.proofs.lemmas.List.Elements.{All-append}
 use Rattle.std.proofs.Math.Dec.{eqb-suc-zero}
-use Rattle.chess_text.specs.San.{san, MarkPairs, disambiguation_pairs}
 use Rattle.pgn_layout.specs.declared.sink.WriteFault.{WriteFault}
-use Rattle.pgn_game.specs.declared.annotation.Annotation.{Annotation}
-use Rattle.pgn_game.specs.declared.mode.Written.{Written}
 use Rattle.pgn_game.specs.games.Game.{move}
 use Rattle.pgn_game.proofs.reading.MovetextTokens.{levels_more}
 use Rattle.pgn_game.proofs.putting.WritesInTurn.{front_of_more, Writes-append}
@@ -48,10 +45,7 @@ plies_by : (i : Item) (present : ModelLevel) (around : List ModelLevel)
     → length (main_of (levels_after (record { present = present; around = around }) i))
     ≡ length (main_of (record { present = present; around = around })) + plies_in i (length around)
 plies_by (move m) present [] = omega arith
-plies_by (move m) present (l ∷ around) =
-    let n = length (main_of (record { present = present; around = l ∷ around })) in
-    let none_more : n ≡ n + 0 = omega arith in
-    cc (eqb-suc-zero _)
+plies_by (move m) present (l ∷ around) = grind (arith, common_steps, eqb-suc-zero)
 plies_by close_variation present [] = omega arith
 plies_by close_variation present (l ∷ around) = omega arith
 plies_by _ present around = omega arith
@@ -87,23 +81,14 @@ module _ (mode : Mode) (start : Parts) (items : List Item) (i : Item) (text : Mo
   ends_are = grind (arith, behind_is)
 
 -- The levels that an item leads to.
-opened : (start : Parts) (trail : List Move) (holds : Bool) (around : List ModelLevel) (new : StoredLevels)
-    → IsTrue (is_some (before_last start (record { trail = trail; has_own_move = holds })))
-    → IfSome (before_last start (record { trail = trail; has_own_move = holds }))
-    (λ s. new ≡ record {
-      present = level_at s;
-      around = stored_level start (record { trail = trail; has_own_move = holds }) ∷ map (stored_level start) around;
-    })
-    → new ≡ stored_levels start
-    (levels_after (record { present = record { trail = trail; has_own_move = holds }; around = around }) open_variation)
-opened start trail true around new some h = h
-opened start trail false around new some h = absurd (cc)
+module _ (start : Parts) where
+  opened : (trail : List Move) (holds : Bool) (around : List ModelLevel) (new : StoredLevels) → IsTrue (is_some (before_last start (record { trail = trail; has_own_move = holds }))) → IfSome (before_last start (record { trail = trail; has_own_move = holds })) (λ s. new ≡ record { present = level_at s; around = stored_level start (record { trail = trail; has_own_move = holds }) ∷ map (stored_level start) around }) → new ≡ stored_levels start (levels_after (record { present = record { trail = trail; has_own_move = holds }; around = around }) open_variation)
+  opened trail true around new some h = h
+  opened trail false around new some h = absurd (cc)
 
-closed : (start : Parts) (present : ModelLevel) (around : List ModelLevel) (new : StoredLevels) → 0 < length (map (stored_level start) around)
-    → ClosesLevel (map (stored_level start) around) new
-    → new ≡ stored_levels start (levels_after (record { present = present; around = around }) close_variation)
-closed start present [] new some h = absurd (omega arith)
-closed start present (l ∷ around) new some h = h
+  closed : (present : ModelLevel) (around : List ModelLevel) (new : StoredLevels) → 0 < length (map (stored_level start) around) → ClosesLevel (map (stored_level start) around) new → new ≡ stored_levels start (levels_after (record { present = present; around = around }) close_variation)
+  closed present [] new some h = absurd (omega arith)
+  closed present (l ∷ around) new some h = h
 
 -- a legal move leads to the position after it
 played_is : (p : Parts) (m : Move) (next : Parts) → legal p m ≡ Some next → next ≡ play p m
@@ -183,12 +168,7 @@ module _ (mode : Option Mode) (i : Item) (text : Movetext) (line new_line : List
 
   held_then : (start : Parts) (items : List Item) (new : Movetext) → HoldsItems mode start items text line → All IsToken (us mode)
       → new_line ≡ (laid_from line (map Put (us mode))).line → Advances i (between mode) new → HoldsItems mode start (items ++ i ∷ []) new new_line
-  held_then start items new holds each held on =
-      record {
-        levels = cc (on.levels start (levels_of items) holds.levels, levels_more items i);
-        plies = cc (on.plies, same_depth mode start items text line holds, holds.plies, plies-snoc items i);
-        held = line_then mode start items new holds each held on;
-      }
+  held_then start items new holds each held on = grind (arith, common_steps, levels_of, levels_more, same_depth, plies-snoc, line_then)
 
   pub adds_put : (new : Movetext) → PutsTokens {A = Unit} {E = WriteFault} (us mode) line new_line (Ok tt) d
       → Advances i (between mode) new → Adds {A = Unit} {E = WriteFault} mode i text line new new_line (Ok tt) d
@@ -218,10 +198,7 @@ left_out mode i text line d none nothing counted = search (rules, All-nil)
 pub written_out : (w : Written) (i : Item) (text : Movetext) (line new_line : List ℕ) (d : Device)
     → is_written (mode_of_written w) (length text.levels.around) i ≡ true → PutsTokens {A = Unit} {E = WriteFault} (tokens_due text i) line new_line (Ok tt) d
     → WritesItem {A = Unit} {E = WriteFault} (mode_of_written w) i text line (record text { is_after_move = is_move i }) new_line (Ok tt) (seen (is_nothing w) d)
-written_out w i text line new_line d is puts = record {
-  puts = rw (is, not_silent w (length text.levels.around) i is) puts;
-  ends = cc;
-}
+written_out w i text line new_line d is puts = grind (arith, common_steps, not_silent)
 
 out_of_line : {A E : Type 0} (mode : Option Mode) (i : Item) (text : Movetext)
     (line new_line : List ℕ) (e : E) (result : Result Unit WriteFault) (d : Device)
@@ -273,12 +250,7 @@ pub puts_fail : {A B E F : Type 0} (xs ys : List (List ℕ)) (line new_line then
     (e : E) (result : Result B F) (d : Device) → All IsToken ys
     → PutsTokens {A = A} {E = E} xs line new_line (Err e) d → IsErr result → PutsTokens (xs ++ ys) line then_line result d
 puts_fail xs ys line new_line then_line e (Ok x) d each first err = absurd (cc)
-puts_fail xs ys line new_line then_line e (Err f) d each first err = record {
-  text = rw (laid-written line xs ys) (front_of_more _ _ _ _ first.text);
-  held = tt;
-  each = All-append IsToken xs ys first.each each;
-  counted = first.counted;
-}
+puts_fail xs ys line new_line then_line e (Err f) d each first err = grind (arith, common_steps, laid-written, front_of_more)
 
 -- The text that is written for a move is the one of the definitions, and a token.
 pub is_text : (p q : Parts) (m : Move) (s : List ℕ) → s ≡ san q m → q ≡ p → s ≡ text_of_move p m

@@ -1,6 +1,5 @@
 -- What putting a token of movetext adds to what stands written of its game, and to the reader.
-use Rattle.pgn_game.proofs.Words.{◌≡◌, max, ℕ, ◌+◌, ◌<◌, ◌≤◌, true, false, List, [], ◌∷◌, ◌++◌, length, drop, Option, None, Result, refl, sym, ap, subst, ◌∙◌, append-nil, length-append, arith, IsTrue, Ok, Err, list_any-append, drop-append-add, drop-length, Appends-trans, Appends, Move, AppendsFront, Device, one_more, Parts, Mode, Full, Reduced, Stage, Between, AfterTags, InMovetext, Pair, Item, Part, More, is_at, start_of, tag_section, is_move, full_text, torn_at, has_move, Next, going, Movetext, HoldsItems, ReaderState, Agrees, bytes_seen, mode_unless, mode_written, item_text, Bool, Some, as_written, known_of, whole_plies, IsOpen, may_have_movetext, with_items, Adds, BeginsText, Goes, Keeps, PutResult, PutsItems, gain_to, section_due, section_due_of, rules}
-use Rattle.std.proofs.Math.Nat.{le-max_left}
+use Rattle.pgn_game.proofs.Words.{◌≡◌, max, ℕ, ◌+◌, ◌<◌, ◌≤◌, true, false, List, [], ◌∷◌, ◌++◌, length, drop, Option, None, Result, refl, sym, ap, subst, ◌∙◌, append-nil, length-append, arith, IsTrue, Ok, Err, list_any-append, drop-append-add, drop-length, Appends-trans, Appends, Move, AppendsFront, Device, one_more, Parts, Mode, Full, Reduced, Stage, Between, AfterTags, InMovetext, Pair, Item, Part, More, is_at, start_of, tag_section, is_move, full_text, torn_at, has_move, Next, going, Movetext, HoldsItems, ReaderState, Agrees, bytes_seen, mode_unless, mode_written, item_text, Bool, Some, as_written, known_of, whole_plies, IsOpen, may_have_movetext, with_items, Adds, BeginsText, Goes, Keeps, PutResult, PutsItems, gain_to, section_due, section_due_of, rules, le-max_left, common_steps}
 use Rattle.pgn_layout.specs.declared.sink.WriteFault.{WriteFault}
 use Rattle.pgn_game.specs.declared.reason.Reason.TheVariants as reasons
 use Rattle.pgn_game.specs.games.Game.{move}
@@ -24,28 +23,23 @@ pub gain_at : (mode : Mode) (result : List ℕ) (stage : Stage) (ps : List Pair)
 gain_at mode result stage ps name items lines at fresh = grind (arith, length-append, drop-append-add, no_text)
 
 -- the stage of a part is the reader's
-pub open_stage : (old : ReaderState) (part : Part) → IsOpen old part
-    → IsTrue (may_have_movetext old.stage) → IsTrue (may_have_movetext part.stage)
-open_stage old part is at = rw is.stage at at
+module _ (old : ReaderState) (part : Part) where
+  pub open_stage : IsOpen old part → IsTrue (may_have_movetext old.stage) → IsTrue (may_have_movetext part.stage)
+  open_stage is at = rw is.stage at at
 
--- what is due of the section is the part's
-pub section_is : (old : ReaderState) (part : Part) → IsOpen old part
-    → section_due_of old ≡ section_due part.stage old.profile.mode (known_of old) part.pairs
-section_is old part is =
-    let result = known_of old in
-    cc
+  -- what is due of the section is the part's
+  pub section_is : IsOpen old part → section_due_of old ≡ section_due part.stage old.profile.mode (known_of old) part.pairs
+  section_is is = grind (arith, common_steps, known_of)
 
--- What items add: the tag section, where movetext begins, and what they add to the full lines.
-pub gain_is : (old : ReaderState) (part : Part) (more : List Item) → IsTrue (may_have_movetext old.stage) → IsOpen old part
-    → section_due_of old ++ lines_gain old.profile.mode part.pairs part.items more
-    ≡ gain_to (as_written old) part (going (with_items part more))
-gain_is old part more at is =
-    let p = old.profile in
-    cc (
-      section_is old part is,
-      gain_at p.mode (known_of old) part.stage part.pairs part.name part.items
-          (full_text p.mode (start_of part.pairs) (part.items ++ more)) (open_stage old part is at) (λ e. is.fresh (is.stage ∙ e)),
-    )
+  -- What items add: the tag section, where movetext begins, and what they add to the full lines.
+  pub gain_is : (more : List Item) → IsTrue (may_have_movetext old.stage) → IsOpen old part → section_due_of old ++ lines_gain old.profile.mode part.pairs part.items more ≡ gain_to (as_written old) part (going (with_items part more))
+  gain_is more at is =
+      let p = old.profile in
+      cc (
+        section_is is,
+        gain_at p.mode (known_of old) part.stage part.pairs part.name part.items
+            (full_text p.mode (start_of part.pairs) (part.items ++ more)) (open_stage is at) (λ e. is.fresh (is.stage ∙ e)),
+      )
 
 -- The section was written: so it is said of the reader as its fields make it.
 pub begins_as : (old begun held : ReaderState) (d : Device) → held ≡ begun → BeginsText {A = Unit {0}} {E = WriteFault} old begun (Ok tt) d
@@ -58,12 +52,7 @@ plies_before old at = grind arith
 
 -- writing the section leaves what each call leaves
 pub keeps_begun : {A E : Type 0} {old new : ReaderState} {r : Result A E} {d : Device} → BeginsText old new r d → Keeps old new
-keeps_begun begins = record {
-  profile = begins.profile;
-  writing = begins.writing;
-  plies = omega (arith, begins.earlier, begins.plies);
-  probes = omega (arith, begins.probes);
-}
+keeps_begun begins = grind (arith, common_steps)
 
 -- a put that failed, and one after which the game goes on
 module _ (old new : ReaderState) (IsOf : Part → Type 0) (to : Part → Next) (d : Device) (keeps : Keeps old new) where
@@ -159,12 +148,7 @@ module _ (old begun new : ReaderState) (i : Item) (x y z : Option (List ℕ)) (n
   c = bytes_seen old.writing.is_silent z
 
   kept : new.text.plies ≤ begun.text.plies + 1 → Keeps old new
-  kept plies = record {
-    profile = next.profile ∙ begins.profile;
-    writing = next.writing ∙ begins.writing;
-    plies = omega (arith, next.earlier, begins.earlier, begins.plies);
-    probes = omega (arith, next.probes, begins.probes);
-  }
+  kept plies = grind (arith, common_steps)
 
   same_mode : mode_written begun ≡ mode_written old
   same_mode = ap mode_written begins.begun
@@ -197,10 +181,7 @@ module _ (old begun new : ReaderState) (i : Item) (x y z : Option (List ℕ)) (n
 -- Items could not be put, since the section could not be written.
 pub puts_unbegun : (old new : ReaderState) (more : List Item) (f : WriteFault) (d : Device) → IsTrue (may_have_movetext old.stage)
     → BeginsText {A = Unit} old new (Err f) d → PutResult old (IsOpen old) (to_items more) new (Err reasons.WriteFault) d
-puts_unbegun old new more f d at begins =
-    unwritten old new (IsOpen old) (to_items more) d (keeps_begun begins) begins.counted
-    (λ part is.
-    (rw (gain_is old part more at is) at (front_of_more _ _ _ (lines_gain old.profile.mode part.pairs part.items more) begins.text)))
+puts_unbegun old new more f d at begins = grind (arith, common_steps, unwritten, keeps_begun, gain_is, front_of_more)
 
 -- Behind the section the movetext is what it was before it.
 module _ (old begun held : ReaderState) (d : Device) (same : held ≡ begun)

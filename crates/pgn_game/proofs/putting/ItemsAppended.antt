@@ -99,29 +99,27 @@ written_more mode start items more = grind (arith, placed-append, written-append
 abbrev pub tokens_behind : Mode → Parts → List Item → List Item → List (List ℕ)
 tokens_behind mode start items more = tokens_from (ends_in_move false (written_from_start mode start items)) (written_behind mode start items more)
 
-pub tokens_more : (mode : Mode) (start : Parts) (items more : List Item)
-    → tokens_out mode start (items ++ more) ≡ tokens_out mode start items ++ tokens_behind mode start items more
-tokens_more mode start items more = grind (arith, tokens_from-append, written_more)
+module _ (mode : Mode) (start : Parts) (items : List Item) where
+  pub tokens_more : (more : List Item) → tokens_out mode start (items ++ more) ≡ tokens_out mode start items ++ tokens_behind mode start items more
+  tokens_more more = grind (arith, tokens_from-append, written_more)
 
--- What stands on full lines stays there when more items come.
-pub full_text_grows : (mode : Mode) (start : Parts) (items more : List Item)
-    → IsPrefix (full_text mode start items) (full_text mode start (items ++ more))
-full_text_grows mode start items more =
-    rw (tokens_more mode start items more)
-    (full_lines-grow (tokens_out mode start items) (tokens_behind mode start items more))
+  -- What stands on full lines stays there when more items come.
+  pub full_text_grows : (more : List Item) → IsPrefix (full_text mode start items) (full_text mode start (items ++ more))
+  full_text_grows more =
+      rw (tokens_more more)
+      (full_lines-grow (tokens_out mode start items) (tokens_behind mode start items more))
 
--- So it does when the marker comes and the game ends.
-pub full_text_marker : (mode : Mode) (start : Parts) (items : List Item) (marker : List ℕ)
-    → IsPrefix (full_text mode start items) (text_of_lines (lines_of (tokens_out mode start items ++ marker ∷ [])) ++ 10 ∷ [])
-full_text_marker mode start items marker =
-    let ts = tokens_out mode start items in
-    let full = full_lines-grow ts (marker ∷ []) in
-    let all = full_lines-front (lines_of (ts ++ marker ∷ [])) in (
-      full.0 ++ (all.0 ++ 10 ∷ []),
-      ap (λ l. l ++ 10 ∷ []) (all.1 ∙ ap (λ l. l ++ all.0) full.1 ∙ append_assoc _ _ all.0)
-          ∙ append_assoc (full_text mode start items) (full.0 ++ all.0) (10 ∷ [])
-          ∙ ap (λ l. full_text mode start items ++ l) (append_assoc _ all.0 _),
-    )
+  -- So it does when the marker comes and the game ends.
+  pub full_text_marker : (marker : List ℕ) → IsPrefix (full_text mode start items) (text_of_lines (lines_of (tokens_out mode start items ++ marker ∷ [])) ++ 10 ∷ [])
+  full_text_marker marker =
+      let ts = tokens_out mode start items in
+      let full = full_lines-grow ts (marker ∷ []) in
+      let all = full_lines-front (lines_of (ts ++ marker ∷ [])) in (
+        full.0 ++ (all.0 ++ 10 ∷ []),
+        ap (λ l. l ++ 10 ∷ []) (all.1 ∙ ap (λ l. l ++ all.0) full.1 ∙ append_assoc _ _ all.0)
+            ∙ append_assoc (full_text mode start items) (full.0 ++ all.0) (10 ∷ [])
+            ∙ ap (λ l. full_text mode start items ++ l) (append_assoc _ all.0 _),
+      )
 
 -- Tokens that are put.
 still_not_empty : (line : List ℕ) (ts : List (List ℕ)) → 0 < length line → All IsToken ts → 0 < length (last_line (lines_from line ts))

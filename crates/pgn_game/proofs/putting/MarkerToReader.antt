@@ -1,5 +1,5 @@
 -- What putting a marker comes to, and a token of movetext whose section cannot be written.
-use Rattle.pgn_game.proofs.Words.{◌≡◌, ℕ, List, [], ◌∷◌, ◌++◌, length, drop, Option, refl, sym, ap, subst, ◌∙◌, append_assoc, arith, IsTrue, Ok, Err, All, lit<, lit≤, drop-append_seam, Appends-trans, Appends, Move, AppendsFront, Device, one_more, IsToken, lines_of, full_lines, last_line, text_of as text_of_lines, Put, EndGame, text_at, line_at, Finished, Marker, WhiteWins, BlackWins, Draw, Unknown, marker_text, Mode, Stage, Between, AfterTags, InMovetext, Profile, counting, counts_as, Pair, Item, Part, Level as ModelLevel, Levels as ModelLevels, depth, start_of, outermost, replayed, last_position, tag_section, levels_of_part, tokens_out, full_text, torn_for, Next, whole, StoredLevel, ReaderState, IsBehind, failures_seen, seen, Bool, true, false, as_written, known_of, plies_behind, IsOpen, game_of, may_have_movetext, BeginsText, PutResult, gain_to, section_due, section_due_of}
+use Rattle.pgn_game.proofs.Words.{◌≡◌, ℕ, List, [], ◌∷◌, ◌++◌, length, drop, Option, refl, sym, ap, subst, ◌∙◌, append_assoc, arith, IsTrue, Ok, Err, All, lit<, lit≤, drop-append_seam, Appends-trans, Appends, Move, AppendsFront, Device, one_more, IsToken, lines_of, full_lines, last_line, text_of as text_of_lines, Put, EndGame, text_at, line_at, Finished, Marker, WhiteWins, BlackWins, Draw, Unknown, marker_text, Mode, Stage, Between, AfterTags, InMovetext, Profile, counting, counts_as, Pair, Item, Part, Level as ModelLevel, Levels as ModelLevels, depth, start_of, outermost, replayed, last_position, tag_section, levels_of_part, tokens_out, full_text, torn_for, Next, whole, StoredLevel, ReaderState, IsBehind, failures_seen, seen, Bool, true, false, as_written, known_of, plies_behind, IsOpen, game_of, may_have_movetext, BeginsText, PutResult, gain_to, section_due, section_due_of, common_steps}
 use Rattle.pgn_layout.specs.declared.sink.WriteFault.{WriteFault}
 use Rattle.pgn_game.specs.declared.reason.Reason.TheVariants as reasons
 use Rattle.pgn_game.proofs.putting.WritesInTurn.{front_of_more, front_after}
@@ -40,12 +40,7 @@ gain_of p result part marker at fresh each token =
 due_is : (old : ReaderState) (part : Part) (marker : List ℕ) → old.writing.is_silent ≡ false
     → IsTrue (may_have_movetext old.stage) → IsToken marker → IsOpen old part
     → section_due_of old ++ ending old.line marker ≡ gain_to (as_written old) part (whole (game_of part marker))
-due_is old part marker writes at token is =
-    let held = rw writes at is.held.held in
-    ap (λ (l : List ℕ). l ++ ending old.line marker) (section_is old part is)
-    ∙ ap (λ (l : List ℕ).
-    section_due part.stage old.profile.mode (known_of old) part.pairs ++ ending l marker) held.last
-    ∙ sym (gain_of old.profile (known_of old) part marker (open_stage old part is at) (λ e. is.fresh (is.stage ∙ e)) held.tokens token)
+due_is old part marker writes at token is = grind (arith, common_steps, section_is, section_due, known_of, gain_of, open_stage)
 
 -- At depth 0 the moves that lead here are those outside variations.
 at_depth_0 : (ls : ModelLevels) (around : List ModelLevel) → ls.around ≡ around
@@ -55,10 +50,7 @@ at_depth_0 ls (l ∷ around) e n = absurd (omega (arith, n))
 
 last_is : (old : ReaderState) (part : Part) → old.text.levels.around ≡ [] → IsOpen old part
     → (marker : List ℕ) → old.text.levels.present.present ≡ last_position (game_of part marker)
-last_is old part outside is marker =
-    let none : depth (levels_of_part part) ≡ 0 = sym (depth_is old part is) ∙ ap (length {A = StoredLevel}) outside in
-    position_is old part is
-    ∙ ap (λ (ms : List Move). replayed (start_of part.pairs) ms) (sym (at_depth_0 (levels_of_part part) (levels_of_part part).around refl none))
+last_is old part outside is marker = grind (arith, common_steps, depth, levels_of_part, depth_is, position_is, replayed, start_of, at_depth_0)
 
 abbrev finished_reader : (line marker : List ℕ) → ReaderState → ReaderState
 finished_reader line marker r = record r { stage = Between; line = line; marker = marker }
@@ -95,11 +87,7 @@ pub ends_unbegun : (old new : ReaderState) (marker : Marker) (f : WriteFault) (d
     → IsTrue (may_have_movetext old.stage)
     → BeginsText {A = Unit} old new (Err f) d → PutResult old (IsOpen old) (to_game marker) new (Err reasons.WriteFault) d
 ends_unbegun old new marker f d writes at begins =
-    unwritten old new (IsOpen old) (to_game marker) d
-    (keeps_begun begins) begins.counted
-    (λ part is.
-    subst (AppendsFront d.before d.after) (due_is old part (marker_text marker) writes at (marker_token marker) is)
-    (front_of_more d.before d.after _ (ending old.line (marker_text marker)) begins.text))
+    grind (arith, common_steps, unwritten, keeps_begun, due_is, marker_text, marker_token, front_of_more)
 
 -- How the game ends, once its section is written.
 pub record EndsText (old begun : ReaderState) (marker : Marker) (text : List ℕ) (a b : Option (List ℕ)) (n m : ℕ) : Type 0 where
@@ -117,62 +105,41 @@ finishes : (old new : ReaderState) (marker : Marker) (line : List ℕ) (d : Devi
     → old.text.levels.around ≡ [] → new ≡ finished_reader line (marker_text marker) old → d.failures_after ≡ d.failures
     → ((part : Part) → IsOpen old part → (line ≡ []) × Appends d.before d.after (gain_to (as_written old) part (to_game marker part)))
     → PutResult old (IsOpen old) (to_game marker) new (Ok Finished) d
-finishes old new marker line d at outside same still gained =
-    rw same
-    (record {
-      goes = λ part is. record {
-        leads = behind old part line (marker_text marker) (gained part is).0 outside is;
-        plies = omega (arith, is.held.plies, plies_before old at);
-        appended = (gained part is).1;
-      };
-      keeps = record { profile = refl; writing = refl; plies = omega arith; probes = omega arith };
-      stays = tt;
-      counted = still;
-    })
+finishes old new marker line d at outside same still gained = grind (arith, common_steps, behind, marker_text, plies_before)
 
-pub ends_well : (old begun new : ReaderState) (marker : Marker) (text : List ℕ) (a b d c : Option (List ℕ)) (n m k : ℕ)
-    → EndsText old begun marker text a b n m
-    → Appends b d (text_at begun.line (Put text)) → Appends d c (text_at (line_at begun.line (Put text)) EndGame)
-    → new ≡ record begun { stage = Between; line = new.line; marker = marker_text marker } → new.line ≡ [] → k ≡ m
-    → PutResult old (IsOpen old) (to_game marker) new (Ok Finished) (from_to a c n k)
-ends_well old begun new marker text a b d c n m k ends put last rest empty counted =
-    finishes old new marker [] (from_to a c n k) ends.at ends.outside
-    (rest ∙ ap (λ (l : List ℕ). record begun { stage = Between; line = l; marker = marker_text marker }) empty
-    ∙ ap (finished_reader [] (marker_text marker)) ends.begins.begun) (counted ∙ ends.begins.counted) (λ part is. (
-      refl,
-      subst (Appends a c) (ap (λ (l : List ℕ). section_due_of old ++ ending l (marker_text marker)) (of_line old begun ends.begins.begun)
-          ∙ due_is old part (marker_text marker) ends.writes ends.at (marker_token marker) is)
-          (Appends-trans a b c _ _ ends.begins.text
-          (subst (λ (t : List ℕ). Appends b c (ending begun.line t)) ends.spells (Appends-trans b d c _ _ put last))),
-    ))
+module _ (old begun new : ReaderState) (marker : Marker) where
+  pub ends_well : (text : List ℕ) (a b d c : Option (List ℕ)) (n m k : ℕ) → EndsText old begun marker text a b n m → Appends b d (text_at begun.line (Put text)) → Appends d c (text_at (line_at begun.line (Put text)) EndGame) → new ≡ record begun { stage = Between; line = new.line; marker = marker_text marker } → new.line ≡ [] → k ≡ m → PutResult old (IsOpen old) (to_game marker) new (Ok Finished) (from_to a c n k)
+  ends_well text a b d c n m k ends put last rest empty counted =
+      finishes old new marker [] (from_to a c n k) ends.at ends.outside
+      (rest ∙ ap (λ (l : List ℕ). record begun { stage = Between; line = l; marker = marker_text marker }) empty
+      ∙ ap (finished_reader [] (marker_text marker)) ends.begins.begun) (counted ∙ ends.begins.counted) (λ part is. (
+        refl,
+        subst (Appends a c) (ap (λ (l : List ℕ). section_due_of old ++ ending l (marker_text marker)) (of_line old begun ends.begins.begun)
+            ∙ due_is old part (marker_text marker) ends.writes ends.at (marker_token marker) is)
+            (Appends-trans a b c _ _ ends.begins.text
+            (subst (λ (t : List ℕ). Appends b c (ending begun.line t)) ends.spells (Appends-trans b d c _ _ put last))),
+      ))
 
--- nothing is written of a silent reader's game
-pub ends_silent : (old begun new : ReaderState) (marker : Marker) (a b : Option (List ℕ)) (n m : ℕ) → old.writing.is_silent ≡ true
-    → IsTrue (may_have_movetext old.stage) → old.text.levels.around ≡ []
-    → BeginsText {A = Unit} {E = WriteFault} old begun (Ok tt) (seen old.writing.is_silent (from_to a b n m))
-    → new ≡ record begun { stage = Between; marker = marker_text marker }
-    → PutResult old (IsOpen old) (to_game marker) new (Ok Finished) (seen old.writing.is_silent (from_to a b n m))
-ends_silent old begun new marker a b n m silent at outside begins rest =
-    finishes old new marker old.line (seen old.writing.is_silent (from_to a b n m)) at outside
-    (rest ∙ ap (λ (r : ReaderState). record r { stage = Between; marker = marker_text marker }) begins.begun) begins.counted
-    (λ part is. (rw silent at is.held.held, rw silent tt))
+  -- nothing is written of a silent reader's game
+  pub ends_silent : (a b : Option (List ℕ)) (n m : ℕ) → old.writing.is_silent ≡ true → IsTrue (may_have_movetext old.stage) → old.text.levels.around ≡ [] → BeginsText {A = Unit} {E = WriteFault} old begun (Ok tt) (seen old.writing.is_silent (from_to a b n m)) → new ≡ record begun { stage = Between; marker = marker_text marker } → PutResult old (IsOpen old) (to_game marker) new (Ok Finished) (seen old.writing.is_silent (from_to a b n m))
+  ends_silent a b n m silent at outside begins rest =
+      finishes old new marker old.line (seen old.writing.is_silent (from_to a b n m)) at outside
+      (rest ∙ ap (λ (r : ReaderState). record r { stage = Between; marker = marker_text marker }) begins.begun) begins.counted
+      (λ part is. (rw silent at is.held.held, rw silent tt))
 
--- a write failed behind the section
-pub ends_ill : (old begun new : ReaderState) (marker : Marker) (text : List ℕ) (a b c : Option (List ℕ)) (n m k : ℕ)
-    → EndsText old begun marker text a b n m
-    → AppendsFront b c (ending begun.line text) → new ≡ record begun { line = new.line } → k ≡ one_more m
-    → PutResult old (IsOpen old) (to_game marker) new (Err reasons.WriteFault) (from_to a c n k)
-ends_ill old begun new marker text a b c n m k ends front rest counted =
-    let begins = ends.begins in
-    unwritten old new (IsOpen old) (to_game marker) (from_to a c n k)
-    (record {
-      profile = ap (λ (r : ReaderState). r.profile) rest ∙ begins.profile;
-      writing = ap (λ (r : ReaderState). r.writing) rest ∙ begins.writing;
-      plies =
-          omega (arith, ap (λ (r : ReaderState). r.earlier_plies) rest, ap (λ (r : ReaderState). r.text.plies) rest, begins.earlier, begins.plies);
-      probes = omega (arith, ap (λ (r : ReaderState). r.most_probes) rest, begins.probes);
-    })
-    (counted ∙ ap one_more begins.counted) (λ part is.
-    subst (AppendsFront a c) (ap (λ (l : List ℕ). section_due_of old ++ ending l (marker_text marker)) (of_line old begun begins.begun)
-    ∙ due_is old part (marker_text marker) ends.writes ends.at (marker_token marker) is)
-    (front_after a b c _ _ begins.text (subst (λ (t : List ℕ). AppendsFront b c (ending begun.line t)) ends.spells front)))
+  -- a write failed behind the section
+  pub ends_ill : (text : List ℕ) (a b c : Option (List ℕ)) (n m k : ℕ) → EndsText old begun marker text a b n m → AppendsFront b c (ending begun.line text) → new ≡ record begun { line = new.line } → k ≡ one_more m → PutResult old (IsOpen old) (to_game marker) new (Err reasons.WriteFault) (from_to a c n k)
+  ends_ill text a b c n m k ends front rest counted =
+      let begins = ends.begins in
+      unwritten old new (IsOpen old) (to_game marker) (from_to a c n k)
+      (record {
+        profile = ap (λ (r : ReaderState). r.profile) rest ∙ begins.profile;
+        writing = ap (λ (r : ReaderState). r.writing) rest ∙ begins.writing;
+        plies =
+            omega (arith, ap (λ (r : ReaderState). r.earlier_plies) rest, ap (λ (r : ReaderState). r.text.plies) rest, begins.earlier, begins.plies);
+        probes = omega (arith, ap (λ (r : ReaderState). r.most_probes) rest, begins.probes);
+      })
+      (counted ∙ ap one_more begins.counted) (λ part is.
+      subst (AppendsFront a c) (ap (λ (l : List ℕ). section_due_of old ++ ending l (marker_text marker)) (of_line old begun begins.begun)
+      ∙ due_is old part (marker_text marker) ends.writes ends.at (marker_token marker) is)
+      (front_after a b c _ _ begins.text (subst (λ (t : List ℕ). AppendsFront b c (ending begun.line t)) ends.spells front)))

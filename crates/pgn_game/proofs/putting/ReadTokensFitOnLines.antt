@@ -1,14 +1,9 @@
 -- Each token that is written of a game that is read fits on a line, so its movetext is on the lines
 -- that its tokens have.
 use Rattle.std.proofs.ByRecursion.{All-append as all_joined}
-use Rattle.pgn_game.proofs.Words.{◌≡◌, ℕ, ◌<◌, ◌≤◌, Bool, true, false, List, [], ◌∷◌, ◌++◌, length, Option, None, Some, Result, Ok, Err, refl, sym, subst, ◌⊎◌, arith, inl, inr, is_some, IsTrue, and_parts, false≢true, filter, list_all, unwrap_or, codes, All, All-nil, All-cons, AllByRecursion, Move, Parts, is_position, legal, is_legal, LeavesPosition, WrittenMoveIsSymbol, ReadingIsSpelling, IsToken, lines_of, Kind, Token, IsSoundKind, Mode, Full, Reduced, InMovetext, Profile, Pair, value_of, Item, Game, Part, Level, Levels, levels_after, depth, first_level, back_to, start_of, Placed, placed_from, is_main_move, written_items, number_before, tokens_at, tokens_from, tokens_out, is_black_to_move, text_of_move, play, marker_of, Next, going, whole, next, in_text, items_of, Progress, progress_with, progress_after, no_progress, read_from, tokens_of, position_of, replayed}
+use Rattle.pgn_game.proofs.Words.{◌≡◌, ℕ, ◌<◌, ◌≤◌, Bool, true, false, List, [], ◌∷◌, ◌++◌, length, Option, None, Some, Result, Ok, Err, refl, sym, subst, ◌⊎◌, arith, inl, inr, is_some, IsTrue, and_parts, false≢true, filter, list_all, unwrap_or, codes, All, All-nil, All-cons, AllByRecursion, Move, Parts, is_position, legal, is_legal, LeavesPosition, WrittenMoveIsSymbol, ReadingIsSpelling, IsToken, lines_of, Kind, Token, IsSoundKind, Mode, Full, Reduced, InMovetext, Profile, Pair, value_of, Item, Game, Part, Level, Levels, levels_after, depth, first_level, back_to, start_of, Placed, placed_from, is_main_move, written_items, number_before, tokens_at, tokens_from, tokens_out, is_black_to_move, text_of_move, play, marker_of, Next, going, whole, next, in_text, items_of, Progress, progress_with, progress_after, no_progress, read_from, tokens_of, position_of, replayed, begins_with_letter, TokensDetermineLines, TokensAreSound, IsWord, is_legal_at, plays_legally, MovesAreLegal, common_steps}
 use Rattle.std.proofs.lemmas.List.Elements.{All-append}
-use Rattle.chess_text.specs.WrittenMove.{begins_with_letter}
-use Rattle.pgn_layout.specs.Laws.{TokensDetermineLines}
-use Rattle.pgn_lexer.specs.Laws.{TokensAreSound}
-use Rattle.pgn_lexer.specs.Sound.{IsWord}
 use Rattle.pgn_game.specs.games.Game as games
-use Rattle.pgn_game.specs.laws.MovesAreLegal.{is_legal_at, plays_legally, MovesAreLegal}
 use Rattle.pgn_game.specs.laws.MovetextLines.{AreOnLines, GameIsOnLines, MovetextIsOnLines}
 use Rattle.pgn_game.proofs.MarkerTexts.{result_marker}
 use Rattle.pgn_game.proofs.tokens.OneMoreToken.{by_token}
@@ -83,27 +78,13 @@ items_sound : (part : Part) (k : Kind) → IsSoundKind k → AllByRecursion IsSo
 items_sound part k sound = grind arith
 
 marker_fits : (k : Kind) (marker : List ℕ) → marker_of k ≡ Some marker → IsToken marker
-marker_fits k marker is =
-    let found = result_marker marker (marker_is_result k is) in
-    subst IsToken (sym found.1) (marker_token found.0)
+marker_fits k marker is = grind (arith, common_steps, result_marker, marker_is_result, marker_token)
 
 text_sound : (part : Part) (k : Kind) → IsSoundKind k → AllByRecursion IsSoundItem part.items → LeadsSoundly (in_text part k)
-text_sound part k sound h = by_marker (marker_of k) refl
-  where
-    by_marker : (o : Option (List ℕ)) → marker_of k ≡ o
-        → LeadsSoundly (elim o [
-          | Some marker ↦ whole (record { pairs = part.pairs; items = part.items; marker = marker })
-          | None ↦ going (record { stage = InMovetext; pairs = part.pairs; name = part.name; items = part.items ++ items_of part k })
-        ])
-    by_marker None is = (tt, all_joined IsSoundItem part.items _ h (items_sound part k sound))
-    by_marker (Some marker) is = record { items = h; marker = marker_fits k marker is }
+text_sound part k sound h = grind (arith, common_steps, marker_of, whole, going, items_of, all_joined, items_sound, marker_fits)
 
 next_sound : (part : Part) (k : Kind) → IsSoundKind k → IsSoundPart part → LeadsSoundly (next part k)
-next_sound part k sound h = by_stage (adds_none part.stage part k h.0)
-  where
-    by_stage : (next part k ≡ in_text part k) ⊎ AddsNone (next part k) → LeadsSoundly (next part k)
-    by_stage (inl is) = subst LeadsSoundly (sym is) (text_sound part k sound h.1)
-    by_stage (inr none) = leads_none (next part k) none
+next_sound part k sound h = grind (arith, common_steps, adds_none, next, in_text, inl, text_sound, inr, leads_none)
 
 abbrev IsSoundProgress : Progress → Type 0
 IsSoundProgress b = AllByRecursion IsSoundGame b.games × IsSoundPart b.part
@@ -152,12 +133,7 @@ module _ (leaves : LeavesPosition) (is_symbol : WrittenMoveIsSymbol) (reads_fen 
       ((plays_on _ m (last_position start ls.present.trail good.0) may, good.0), good.1)
   levels_go_on start ls games.open_variation good may =
       (earlier_positions start ls.present.trail good.0, (good.0, good.1))
-  levels_go_on start ls games.close_variation good may = by_around ls.around good.1
-    where
-      by_around : (around : List Level) → AllByRecursion (λ l. ArePositions start l.trail) around
-          → LeadThroughPositions start (back_to around ls)
-      by_around [] all = good
-      by_around (l ∷ around) all = all
+  levels_go_on start ls games.close_variation good may = grind (arith, common_steps, back_to)
   levels_go_on start ls _ good may = good
 
   placed_fit : (start : Parts) (ls : Levels) (items : List Item) → LeadThroughPositions start ls → AllByRecursion IsSoundItem items
@@ -172,9 +148,7 @@ module _ (leaves : LeavesPosition) (is_symbol : WrittenMoveIsSymbol) (reads_fen 
 
   tokens_fit : (mode : Mode) (pairs : List Pair) (items : List Item) → AllByRecursion IsSoundItem items
       → IsTrue (plays_legally pairs items) → All IsToken (tokens_out mode (start_of pairs) items)
-  tokens_fit mode pairs items sound may =
-      joined false _
-      (written_fit mode _ (placed_fit (start_of pairs) first_level items (start_is_position reads_fen pairs, tt) sound may))
+  tokens_fit mode pairs items sound may = grind (arith, common_steps, joined, written_fit, placed_fit, start_of, first_level, start_is_position)
 
   on_lines : (ts : List (List ℕ)) → All IsToken ts → AreOnLines ts (lines_of ts)
   on_lines ts each = record { each = each; joined = (determine ts (lines_of ts) each).1 refl }

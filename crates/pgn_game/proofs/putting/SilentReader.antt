@@ -1,17 +1,15 @@
 -- What calls in turn do to the sink of a silent reader.
-use Rattle.pgn_game.proofs.Words.{Converter, IsGoing, writing_nothing, None, CountsFault, CountsReason, NoWriteFails, Fault, Reason, Ok, Err, Adds, LeavesSink, Device, Item, List, ℕ, Mode, Movetext, Option, Result, mode_of_written, mode_unless, seen, ◌≡◌, Bool, true, false, IsTrue, refl, sym, ap, subst, ◌∙◌, arith, ReaderState, Writing, KeepsSilence, is_nothing, unused}
-use Rattle.pgn_game.specs.state.ReaderState.{ReaderCall}
-use Rattle.pgn_game.specs.declared.mode.Written.{Written}
+use Rattle.pgn_game.proofs.Words.{Converter, IsGoing, writing_nothing, None, CountsFault, CountsReason, NoWriteFails, Fault, Reason, Ok, Err, Adds, LeavesSink, Device, Item, List, ℕ, Mode, Movetext, Option, Result, mode_of_written, mode_unless, seen, ◌≡◌, Bool, true, false, IsTrue, refl, sym, ap, subst, ◌∙◌, arith, ReaderState, Writing, KeepsSilence, is_nothing, unused, ReaderCall, Written, common_steps}
 use Rattle.pgn_game.specs.declared.mode.Written.TheVariants.{Nothing}
 
 -- a call that leaves how the reader writes
-pub silence_of : {S : Type 0} (old new : ReaderState) (a b : S) → new.writing ≡ old.writing
-    → (IsTrue old.writing.is_silent → b ≡ a) → KeepsSilence old new a b
-silence_of old new a b same untouched = record { silent = ap (λ (w : Writing). w.is_silent) same; untouched = untouched }
+module _ {S : Type 0} (old new : ReaderState) (a : S) where
+  pub silence_of : (b : S) → new.writing ≡ old.writing → (IsTrue old.writing.is_silent → b ≡ a) → KeepsSilence old new a b
+  silence_of b same untouched = record { silent = ap (λ (w : Writing). w.is_silent) same; untouched = untouched }
 
--- one that does not use the sink
-pub silence_kept : {S : Type 0} (old new : ReaderState) (a : S) → new.writing ≡ old.writing → KeepsSilence old new a a
-silence_kept old new a same = silence_of old new a a same (λ silent. refl)
+  -- one that does not use the sink
+  pub silence_kept : new.writing ≡ old.writing → KeepsSilence old new a a
+  silence_kept same = silence_of a same (λ silent. refl)
 
 pub unused_call : {S : Type 0} (taken : S → Option (List ℕ)) (failures : S → ℕ) (old : ReaderState) (a : S) (Takes : Device → Type 0)
     → ((o : Option (List ℕ)) (m : ℕ) → Takes (unused o m)) → ReaderCall taken failures old old a a Takes
@@ -20,10 +18,7 @@ unused_call taken failures old a Takes takes = record { takes = takes _ _; silen
 -- one call after another
 pub silence_then : {S : Type 0} (old mid new : ReaderState) (a b c : S) → KeepsSilence old mid a b → KeepsSilence mid new b c
     → KeepsSilence old new a c
-silence_then old mid new a b c first second = record {
-  silent = second.silent ∙ first.silent;
-  untouched = λ silent. second.untouched (subst IsTrue (sym first.silent) silent) ∙ first.untouched silent;
-}
+silence_then old mid new a b c first second = grind (arith, common_steps)
 
 pub writes_some : (w : Written) → (w ≡ Nothing → ⊥) → is_nothing w ≡ false
 writes_some w some = grind arith
@@ -52,9 +47,7 @@ pub adds_as : {A E : Type 0} (w : Written) (mode : Mode) (silent : Bool) (i : It
     (result : Result A E) (d : Device) → mode_of_written w ≡ mode_unless (is_nothing w) mode → is_nothing w ≡ silent
     → Adds (mode_of_written w) i text line new_text new_line result (seen (is_nothing w) d)
     → Adds (mode_unless (is_nothing w) mode) i text line new_text new_line result (seen silent d)
-adds_as w mode silent i text new_text line new_line result d by same adds =
-    subst (λ (o : Option Mode). Adds o i text line new_text new_line result (seen silent d)) by
-    (subst (λ (q : Bool). Adds (mode_of_written w) i text line new_text new_line result (seen q d)) same adds)
+adds_as w mode silent i text new_text line new_line result d by same adds = grind (arith, common_steps, seen, mode_of_written)
 
 -- two readers that are both silent, or not, see the same of a sink
 pub seen_alike : (P : Device → Type 0) (p q : Bool) (d : Device) → p ≡ q → P (seen p d) → P (seen q d)
@@ -64,11 +57,7 @@ seen_alike P p q d same h = subst (λ (b : Bool). P (seen b d)) same h
 pub silence_put : {S : Type 0} (old found new : ReaderState) (w : Written) (a b c : S) → found.writing.is_silent ≡ old.writing.is_silent
     → is_nothing w ≡ found.writing.is_silent → new.writing.is_silent ≡ is_nothing w → (IsTrue found.writing.is_silent → b ≡ a)
     → LeavesSink (is_nothing w) b c → KeepsSilence old new a c
-silence_put old found new w a b c alike held same first second = record {
-  silent = same ∙ held ∙ alike;
-  untouched = λ silent.
-      second (subst IsTrue (sym (held ∙ alike)) silent) ∙ first (subst IsTrue (sym alike) silent);
-}
+silence_put old found new w a b c alike held same first second = grind (arith, common_steps)
 
 pub unseen : (P : Device → Type 0) (silent : Bool) (d : Device) → silent ≡ false → P (seen silent d) → P d
 unseen P true d writes h = absurd (cc)

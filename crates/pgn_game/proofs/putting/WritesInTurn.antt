@@ -14,29 +14,26 @@ front_after a b c text more done (n, within, front) = (
   rw (take-append-add text more n) (Appends-trans a b c _ _ done front),
 )
 
-text_by-append : {A : Type 0} (f : A → List ℕ) (xs ys : List A) → text_by f (xs ++ ys) ≡ text_by f xs ++ text_by f ys
-text_by-append f [] ys = refl
-text_by-append f (x ∷ xs) ys = cc (text_by-append f xs ys, append_assoc (f x) (text_by f xs) (text_by f ys))
+module _ {A : Type 0} (f : A → List ℕ) where
+  text_by-append : (xs ys : List A) → text_by f (xs ++ ys) ≡ text_by f xs ++ text_by f ys
+  text_by-append [] ys = refl
+  text_by-append (x ∷ xs) ys = cc (text_by-append xs ys, append_assoc (f x) (text_by f xs) (text_by f ys))
 
--- one element more
-text_by-next : {A : Type 0} (f : A → List ℕ) (xs : List A) (i : ℕ) (x : A) → i < length xs
-    → get_or xs i x ≡ x → text_by f (take (i + 1) xs) ≡ text_by f (take i xs) ++ f x
-text_by-next f xs i x h e = cc (add-one i, take-suc xs i x h, text_by-append f (take i xs) (x ∷ []), append-nil (f x))
+  -- one element more
+  text_by-next : (xs : List A) (i : ℕ) (x : A) → i < length xs → get_or xs i x ≡ x → text_by f (take (i + 1) xs) ≡ text_by f (take i xs) ++ f x
+  text_by-next xs i x h e = cc (add-one i, take-suc xs i x h, text_by-append (take i xs) (x ∷ []), append-nil (f x))
 
--- the texts so far, and the next one
-pub next_text : {A : Type 0} (f : A → List ℕ) (xs : List A) (i : ℕ) (x : A) (a b c : Option (List ℕ))
-    → i < length xs → get_or xs i x ≡ x
-    → Appends a b (text_by f (take i xs)) → Appends b c (f x) → Appends a c (text_by f (take (i + 1) xs))
-next_text f xs i x a b c h e done next = rw (text_by-next f xs i x h e) (Appends-trans a b c _ _ done next)
+  -- the texts so far, and the next one
+  pub next_text : (xs : List A) (i : ℕ) (x : A) (a b c : Option (List ℕ)) → i < length xs → get_or xs i x ≡ x → Appends a b (text_by f (take i xs)) → Appends b c (f x) → Appends a c (text_by f (take (i + 1) xs))
+  next_text xs i x a b c h e done next = rw (text_by-next xs i x h e) (Appends-trans a b c _ _ done next)
 
--- the texts so far, and a front of the next one
-pub next_front : {A : Type 0} (f : A → List ℕ) (xs : List A) (i : ℕ) (x : A) (a b c : Option (List ℕ))
-    → i < length xs → get_or xs i x ≡ x → Appends a b (text_by f (take i xs)) → AppendsFront b c (f x) → AppendsFront a c (text_by f xs)
-next_front f xs i x a b c h e done next =
-    let whole =
-    ap (text_by f) (sym (take-append-drop _ xs)) ∙ text_by-append f (take _ xs) (drop _ xs)
-    ∙ ap (λ l. l ++ text_by f (drop (i + 1) xs)) (text_by-next f xs i x h e) in
-    rw whole (front_of_more a c _ _ (front_after a b c _ _ done next))
+  -- the texts so far, and a front of the next one
+  pub next_front : (xs : List A) (i : ℕ) (x : A) (a b c : Option (List ℕ)) → i < length xs → get_or xs i x ≡ x → Appends a b (text_by f (take i xs)) → AppendsFront b c (f x) → AppendsFront a c (text_by f xs)
+  next_front xs i x a b c h e done next =
+      let whole =
+      ap (text_by f) (sym (take-append-drop _ xs)) ∙ text_by-append (take _ xs) (drop _ xs)
+      ∙ ap (λ l. l ++ text_by f (drop (i + 1) xs)) (text_by-next xs i x h e) in
+      rw whole (front_of_more a c _ _ (front_after a b c _ _ done next))
 
 -- at a place that is known to hold the element
 pub within_at : {A : Type 0} (xs : List A) (i : ℕ) (x : A) → slice_get xs i ≡ Some x → (i < length xs) × (get_or xs i x ≡ x)

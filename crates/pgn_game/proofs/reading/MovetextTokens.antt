@@ -12,12 +12,12 @@ levels_more items x = fold-append _ _ items _
 abbrev pub differs : Missing → Option (List ℕ) → List ℕ → Bool
 differs missing o marker = not (bytes_eq marker (unwrap_or o (result_for missing marker)))
 
-pub result_is : (missing : Missing) (o : Option (List ℕ)) (marker : List ℕ) → IsFalse (differs missing o marker) → IsResult missing o marker
-result_is missing o marker h = search (rules, not-false, bytes_eq-Decides)
+module _ (missing : Missing) (o : Option (List ℕ)) (marker : List ℕ) where
+  pub result_is : IsFalse (differs missing o marker) → IsResult missing o marker
+  result_is h = search (rules, not-false, bytes_eq-Decides)
 
-pub result_meets : (missing : Missing) (o : Option (List ℕ)) (marker : List ℕ)
-    → IsResult missing o marker → IsFalse (differs missing o marker)
-result_meets missing o marker h = grind (arith, bytes_eq-Decides)
+  pub result_meets : IsResult missing o marker → IsFalse (differs missing o marker)
+  result_meets h = grind (arith, bytes_eq-Decides)
 
 pub number_no_score : (s : List ℕ) → is_number s ≡ true → is_score s ≡ false
 number_no_score s is = grind (arith, false≢true, score_marker, marker_no_number)

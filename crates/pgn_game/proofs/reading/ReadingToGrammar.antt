@@ -1,5 +1,5 @@
 -- From reading to the grammar: tokens that run to their end spell the games that they finish.
-use Rattle.pgn_game.proofs.Words.{◌≡◌, ℕ, ◌+◌, ◌<◌, ◌≤◌, Bool, true, false, ◌&&◌, ◌||◌, not, List, [], ◌∷◌, ◌++◌, length, nat_lt, nat_le, refl, sym, ap, subst, ◌∙◌, arith, append_assoc, append-nil, Option, None, Some, ◌==◌, codes, bytes_eq, is_some, unwrap_or, IsTrue, IsFalse, Result, Ok, Err, list_all, bytes_eq-Decides, false≢true, not-false, leb-false, ltb-false, none-some, FenFault, NoMove, Ambiguous, escaped, Parts, Played, SanFault, Kind, Mode, Full, Reduced, BadTagName, DuplicateTag, TooManyTags, BadResult, BadFen, TagLineTooLong, SetUpWithoutFen, NoMoveBefore, TooDeep, UnmatchedClose, MarkerInVariation, ResultDiffers, Stage, Between, AfterLeftBracket, AfterName, AfterValue, AfterTags, InMovetext, Profile, Pair, value_of, has_pair, insert_pair, Item, Game, Part, no_part, position_of, move_of, Level, levels_of, levels_after, depth, here, without_last, start_of, refusal, is_comment, in_name, is_result, is_score, is_number, is_end, is_reduced, fen_fault_field, marker_of, lacks_fen, Next, next, going, whole, AreDropped, pair, SpellsPairs, no_pair, next_pair, IsSetUp, StandsFor, number, period, glyph, comment_open, word, comment_close, Names, new_level, level_after_move, SpellsText, no_more, token, move, variation, BeginsBare, IsResult, SpellsGame, SpellsGames, no_game, next_game, rules, ReducedFen, text_refusal}
+use Rattle.pgn_game.proofs.Words.{◌≡◌, ℕ, ◌+◌, ◌<◌, ◌≤◌, Bool, true, false, ◌&&◌, ◌||◌, not, List, [], ◌∷◌, ◌++◌, length, nat_lt, nat_le, refl, sym, ap, subst, ◌∙◌, arith, append_assoc, append-nil, Option, None, Some, ◌==◌, codes, bytes_eq, is_some, unwrap_or, IsTrue, IsFalse, Result, Ok, Err, list_all, bytes_eq-Decides, false≢true, not-false, leb-false, ltb-false, none-some, FenFault, NoMove, Ambiguous, escaped, Parts, Played, SanFault, Kind, Mode, Full, Reduced, BadTagName, DuplicateTag, TooManyTags, BadResult, BadFen, TagLineTooLong, SetUpWithoutFen, NoMoveBefore, TooDeep, UnmatchedClose, MarkerInVariation, ResultDiffers, Stage, Between, AfterLeftBracket, AfterName, AfterValue, AfterTags, InMovetext, Profile, Pair, value_of, has_pair, insert_pair, Item, Game, Part, no_part, position_of, move_of, Level, levels_of, levels_after, depth, here, without_last, start_of, refusal, is_comment, in_name, is_result, is_score, is_number, is_end, is_reduced, fen_fault_field, marker_of, lacks_fen, Next, next, going, whole, AreDropped, pair, SpellsPairs, no_pair, next_pair, IsSetUp, StandsFor, number, period, glyph, comment_open, word, comment_close, Names, new_level, level_after_move, SpellsText, no_more, token, move, variation, BeginsBare, IsResult, SpellsGame, SpellsGames, no_game, next_game, rules, ReducedFen, text_refusal, common_steps}
 use Rattle.pgn_lexer.specs.Tokens as tokens
 use Rattle.pgn_game.specs.games.Game as games
 use Rattle.pgn_game.proofs.reading.RunsToEnd.{at, Runs, ends, goes, finishes}
@@ -46,18 +46,16 @@ add_variation _ _ ks _ items _ holds room inner (inside l m around ls js more ot
     (tokens.left_paren ∷ (ks ++ tokens.right_paren ∷ ls)) js (games.open_variation ∷ (items ++ games.close_variation ∷ more)) others
     (variation _ l ks ls items more holds room inner text) rest))
 
-add_open : (p : Profile) (first : Parts) (l : Level) {n : Level} (around : List Level) (ks : List Kind) (items : List Item)
-    → IsTrue l.has_own_move → deep around < p.depth → n ≡ new_level (without_last l.trail) → Closes p first n (l ∷ around) ks items
-    → Closes p first l around (tokens.left_paren ∷ ks) (games.open_variation ∷ items)
-add_open p first l around ks items holds room e h10 = search (rules, at, add_variation)
+module _ (p : Profile) (first : Parts) (l : Level) where
+  add_open : {n : Level} (around : List Level) (ks : List Kind) (items : List Item) → IsTrue l.has_own_move → deep around < p.depth → n ≡ new_level (without_last l.trail) → Closes p first n (l ∷ around) ks items → Closes p first l around (tokens.left_paren ∷ ks) (games.open_variation ∷ items)
+  add_open around ks items holds room e h10 = search (rules, at, add_variation)
 
-add_close : (p : Profile) (first : Parts) (l m : Level) (around : List Level) (ks : List Kind) (items : List Item)
-    → Closes p first m around ks items → Closes p first l (m ∷ around) (tokens.right_paren ∷ ks) (games.close_variation ∷ items)
-add_close p first l m around ks items rest = inside l m around [] ks [] items (no_more _ l) rest
+  add_close : (m : Level) (around : List Level) (ks : List Kind) (items : List Item) → Closes p first m around ks items → Closes p first l (m ∷ around) (tokens.right_paren ∷ ks) (games.close_variation ∷ items)
+  add_close m around ks items rest = inside l m around [] ks [] items (no_more _ l) rest
 
-nothing_left : (p : Profile) (first : Parts) (l : Level) (around : List Level) → length around ≡ 0 → Closes p first l around [] []
-nothing_left p first l [] e = outermost l [] [] (no_more 0 l)
-nothing_left p first l (m ∷ around) e = absurd (omega (arith, e))
+  nothing_left : (around : List Level) → length around ≡ 0 → Closes p first l around [] []
+  nothing_left [] e = outermost l [] [] (no_more 0 l)
+  nothing_left (m ∷ around) e = absurd (omega (arith, e))
 
 -- What is left of a game in its movetext, and the games behind it.
 record Text_left (p : Profile) (ps : List Pair) (items : List Item) (ks : List Kind) (gs : List Game) : Type 0 where
@@ -157,22 +155,17 @@ After p (whole g) ks gs = (later : List Game) × (gs ≡ g ∷ later) × SpellsG
 -- Movetext, token by token.
 token_step : {p : Profile} {ps : List Pair} {items item : List Item} {k : Kind} {ks : List Kind} {gs : List Game}
     → StandsFor k item → Text_left p ps (items ++ item) ks gs → Text_left p ps items (k ∷ ks) gs
-token_step {p} {items} {item} {k} stands h =
-    text_more item (λ text more c.
-    let l = (levels_of items).present in
-    add_front p l l _ k text item more (λ d js is rest. token d l k js item is stands rest)
-    (rw (stands_levels items stands) at c)) h
+token_step {p} {items} {item} {k} stands h = grind (arith, common_steps, text_more, levels_of, add_front, token, stands_levels)
 
-adds_move : (p : Profile) (ps : List Pair) (items : List Item) (s : List ℕ) (played : Played)
-    → Names (here (start_of ps) (levels_of items)) s played → Adds p ps items (tokens.symbol s) (games.move played.mv ∷ [])
-adds_move p ps items s played names text more c =
-    let l = (levels_of items).present in
-    add_front p l (level_after_move _ _) _ _ text (games.move _ ∷ []) more
-    (λ d js is rest. move d l s played js is names rest) (rw (levels_more items (games.move played.mv)) at c)
+module _ (p : Profile) (ps : List Pair) (items : List Item) where
+  adds_move : (s : List ℕ) (played : Played) → Names (here (start_of ps) (levels_of items)) s played → Adds p ps items (tokens.symbol s) (games.move played.mv ∷ [])
+  adds_move s played names text more c =
+      let l = (levels_of items).present in
+      add_front p l (level_after_move _ _) _ _ text (games.move _ ∷ []) more
+      (λ d js is rest. move d l s played js is names rest) (rw (levels_more items (games.move played.mv)) at c)
 
-adds_open : (p : Profile) (ps : List Pair) (items : List Item) → IsTrue (levels_of items).present.has_own_move → depth (levels_of items) < p.depth
-    → Adds p ps items tokens.left_paren (games.open_variation ∷ [])
-adds_open p ps items holds room = search (rules, at, levels_more, deep-length, add_open)
+  adds_open : IsTrue (levels_of items).present.has_own_move → depth (levels_of items) < p.depth → Adds p ps items tokens.left_paren (games.open_variation ∷ [])
+  adds_open holds room = search (rules, at, levels_more, deep-length, add_open)
 
 close_at : (p : Profile) (first : Parts) (l : Level) (around : List Level) (text : List Kind) (more : List Item) → (length around == 0) ≡ false
     → Closes p first (levels_after (record { present = l; around = around }) games.close_variation).present
@@ -188,10 +181,7 @@ adds_close p ps items some = search (rules, at, levels_more, close_at)
 module _ (p : Profile) (ps : List Pair) (name : List ℕ) (items : List Item) {ks : List Kind} {gs : List Game} where
   open_step : text_refusal p (at InMovetext ps name items) tokens.left_paren ≡ None
       → Text_left p ps (items ++ games.open_variation ∷ []) ks gs → Text_left p ps items (tokens.left_paren ∷ ks) gs
-  open_step free h =
-      let holds = not-false (levels_of items).present.has_own_move (test_failed _ NoMoveBefore _ free) in
-      let room = test_failed _ TooDeep None (rest_passed (not _) NoMoveBefore free) in
-      text_more _ (adds_open p ps items holds (leb-false _ _ room)) h
+  open_step free h = grind (arith, common_steps, not-false, levels_of, test_failed, rest_passed, text_more, adds_open, leb-false)
 
   close_step : text_refusal p (at InMovetext ps name items) tokens.right_paren ≡ None
       → Text_left p ps (items ++ games.close_variation ∷ []) ks gs → Text_left p ps items (tokens.right_paren ∷ ks) gs
@@ -223,18 +213,12 @@ module _ (p : Profile) (ps : List Pair) (name : List ℕ) (items : List Item) {k
       → After p (symbol_next (at InMovetext ps name items) s is_digits score o) ks gs → Text_left p ps items (tokens.symbol s ∷ ks) gs
   symbol_step s true false o digits is_marker one free after = token_step (number s digits) (after tt)
   symbol_step s false false (Some (Ok played)) digits is_marker one free after =
-      let names : Names (here (start_of ps) (levels_of items)) s played =
-      record { no_number = digits; no_marker = is_marker; one = one; within = test_failed _ _ _ free } in
-      text_more _ (adds_move p ps items s played names) (after tt)
+      grind (arith, common_steps, here, start_of, levels_of, test_failed, text_more, adds_move)
   symbol_step s false false None digits is_marker one free after = absurd (none-some _ (sym free))
   symbol_step s false false (Some (Err NoMove)) digits is_marker one free after = absurd (none-some _ (sym free))
   symbol_step s false false (Some (Err Ambiguous)) digits is_marker one free after = absurd (none-some _ (sym free))
-  symbol_step s true true o digits is_marker one free after =
-      marker_step (ap (λ b. marker_if b s) is_marker) (test_failed _ MarkerInVariation _ free)
-      (test_failed _ ResultDiffers None (rest_passed (nat_le 1 _) MarkerInVariation free)) after
-  symbol_step s false true o digits is_marker one free after =
-      marker_step (ap (λ b. marker_if b s) is_marker) (test_failed _ MarkerInVariation _ free)
-      (test_failed _ ResultDiffers None (rest_passed (nat_le 1 _) MarkerInVariation free)) after
+  symbol_step s true true o digits is_marker one free after = grind (arith, common_steps, marker_step, marker_if, test_failed, rest_passed, nat_le)
+  symbol_step s false true o digits is_marker one free after = grind (arith, common_steps, marker_step, marker_if, test_failed, rest_passed, nat_le)
 
   text_step : (k : Kind) → refusal p (at InMovetext ps name items) k ≡ None
       → is_end k ≡ false → After p (next (at InMovetext ps name items) k) ks gs → Text_left p ps items (k ∷ ks) gs
@@ -250,9 +234,7 @@ module _ (p : Profile) (ps : List Pair) (name : List ℕ) (items : List Item) {k
       let e = sym (text_row p (at InMovetext ps name items) tokens.asterisk refl) ∙ free in
       marker_step refl (test_failed _ MarkerInVariation _ e)
       (test_failed _ ResultDiffers None (rest_passed (nat_le 1 _) MarkerInVariation e)) after
-  text_step (tokens.symbol s) free end after =
-      symbol_step s _ _ _ refl refl refl
-      (sym (text_row p (at InMovetext ps name items) (tokens.symbol s) refl ∙ symbol_refusal p (at InMovetext ps name items) s _ refl refl) ∙ free) after
+  text_step (tokens.symbol s) free end after = grind (arith, common_steps, symbol_step, text_row, symbol_refusal)
   text_step tokens.end free end after = absurd (false≢true (sym end))
   text_step _ free end after = absurd (none-some _ (sym free))
 
@@ -375,16 +357,7 @@ pair_step p {ps} {ks} free dn =
 
 no_pair_step : {p : Profile} {ps : List Pair} {items : List Item} {ks : List Kind} {gs : List Game}
     → items ≡ [] → IsSetUp ps → Text_left p ps items ks gs → Tags_left p ps ks gs
-no_pair_step {ks} none set_up h = record {
-  tags = [];
-  given = [];
-  behind = ks;
-  kinds = refl;
-  pairs = no_pair;
-  takes = tt;
-  set_up = set_up;
-  text = rw none at h;
-}
+no_pair_step {ks} none set_up h = grind (arith, common_steps, no_pair)
 
 is_set_up : {o : Option (List ℕ)} {fen : Bool}
     → (bytes_eq (unwrap_or o []) (codes "1") && not fen) ≡ false → o ≡ Some (codes "1") → fen ≡ true

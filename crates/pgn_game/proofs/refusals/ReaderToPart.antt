@@ -3,11 +3,12 @@ use Rattle.pgn_game.proofs.Words.{AreSound, ◌≡◌, ℕ, List, [], Bool, fals
 use Rattle.pgn_game.proofs.refusals.RefusalsByStage.{is_textual, row_in_movetext, next_in_movetext, row_after_tags, next_after_tags}
 
 -- The part is at the reader's stage, and what the reader holds of it there.
-pub part_stage : (old : ReaderState) (part : Part) (stage : Stage) → Agrees old part → old.stage ≡ stage → part.stage ≡ stage
-part_stage old part stage agrees at = sym agrees.stage ∙ at
+module _ (old : ReaderState) (part : Part) (stage : Stage) where
+  pub part_stage : Agrees old part → old.stage ≡ stage → part.stage ≡ stage
+  part_stage agrees at = sym agrees.stage ∙ at
 
-pub held_at : (old : ReaderState) (part : Part) (stage : Stage) → Agrees old part → old.stage ≡ stage → HoldsPairs stage old.tags part
-held_at old part stage agrees at = rw at at agrees.pairs
+  pub held_at : Agrees old part → old.stage ≡ stage → HoldsPairs stage old.tags part
+  held_at agrees at = rw at at agrees.pairs
 
 -- where movetext can begin or goes on, no name waits for its value
 pub no_name : (most : ℕ) (old held : ReaderState) → held ≡ old → IsTrue (may_have_movetext old.stage)
@@ -55,10 +56,9 @@ pub position_in_pair : {old : ReaderState} {part : Part} {stage : Stage} → Agr
 position_in_pair agrees at is = grind (arith, text_at, first_held)
 
 -- The table and the step of movetext are those of a token in it, and of the first one.
-pub entry_in_movetext : (old : ReaderState) (k : TokenKind) (part : Part)
-    → old.stage ≡ InMovetext → Agrees old part → IsEntry old (kind_of k) part
-entry_in_movetext old k part at agrees = search (rules, row_in_movetext, next_in_movetext, part_stage, open_agrees)
+module _ (old : ReaderState) (k : TokenKind) (part : Part) where
+  pub entry_in_movetext : old.stage ≡ InMovetext → Agrees old part → IsEntry old (kind_of k) part
+  entry_in_movetext at agrees = search (rules, row_in_movetext, next_in_movetext, part_stage, open_agrees)
 
-pub entry_after_tags : (old : ReaderState) (k : TokenKind) (part : Part) → old.stage ≡ AfterTags
-    → IsTrue (is_textual (kind_of k)) → lacks_fen part.pairs ≡ false → Agrees old part → IsEntry old (kind_of k) part
-entry_after_tags old k part at is free agrees = search (rules, row_after_tags, next_after_tags, part_stage, open_agrees)
+  pub entry_after_tags : old.stage ≡ AfterTags → IsTrue (is_textual (kind_of k)) → lacks_fen part.pairs ≡ false → Agrees old part → IsEntry old (kind_of k) part
+  entry_after_tags at is free agrees = search (rules, row_after_tags, next_after_tags, part_stage, open_agrees)

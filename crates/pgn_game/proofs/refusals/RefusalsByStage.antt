@@ -7,11 +7,12 @@ use Rattle.pgn_lexer.specs.declared.token.TokenKind.TheVariants as token_kinds
 at_the_stage : (P : Part → Type 0) (part : Part) {stage : Stage} → part.stage ≡ stage → P (at_stage stage part) → P part
 at_the_stage P part e h = rw e h
 
-pub hit : (test : Bool) (reason : Reason) (rest : Option Reason) → test ≡ true → or_else test reason rest ≡ Some reason
-hit test reason rest e = cc
+module _ (test : Bool) (reason : Reason) (rest : Option Reason) where
+  pub hit : test ≡ true → or_else test reason rest ≡ Some reason
+  hit e = cc
 
-pub pass : (test : Bool) (reason : Reason) (rest : Option Reason) → test ≡ false → or_else test reason rest ≡ rest
-pass test reason rest e = cc
+  pub pass : test ≡ false → or_else test reason rest ≡ rest
+  pass e = cc
 
 pub test_failed : (test : Bool) (reason : Reason) (rest : Option Reason) → or_else test reason rest ≡ None → test ≡ false
 test_failed true reason rest e = absurd (cc)

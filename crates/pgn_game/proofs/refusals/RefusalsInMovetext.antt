@@ -1,5 +1,5 @@
 -- What the tokens of movetext are rejected for, and where they lead, for a part that is open.
-use Rattle.pgn_game.proofs.Words.{leb-false, ◌≡◌, IsFalse, ℕ, Bool, true, false, ◌&&◌, ◌||◌, not, List, [], ◌∷◌, length, nat_le, Option, None, Some, Bor, refl, sym, ap, ◌∙◌, arith, is_some, ◌==◌, Result, Ok, Err, bytes_eq, codes, unwrap_or, length-map, or_right, or_from, option_copied, NoMove, Ambiguous, Kind, asterisk, symbol, Parts, Played, SanFault, Reason, NotAMove, IllegalMove, AmbiguousMove, MoveLimit, MarkerInVariation, ResultDiffers, Profile, Missing, Pair, value_of, Part, move_of, Level as ModelLevel, depth, start_of, marker_of, is_number, is_score, is_at_limit, levels_of_part, position_in, result_for, Next, going, whole, in_text, move_item, before_last, stored_level, ReaderState, is_outside_the_table, IsOpen, game_of, or_else, text_refusal, with_items, found_in, rules}
+use Rattle.pgn_game.proofs.Words.{leb-false, ◌≡◌, IsFalse, ℕ, Bool, true, false, ◌&&◌, ◌||◌, not, List, [], ◌∷◌, length, nat_le, Option, None, Some, Bor, refl, sym, ap, ◌∙◌, arith, is_some, ◌==◌, Result, Ok, Err, bytes_eq, codes, unwrap_or, length-map, or_right, or_from, option_copied, NoMove, Ambiguous, Kind, asterisk, symbol, Parts, Played, SanFault, Reason, NotAMove, IllegalMove, AmbiguousMove, MoveLimit, MarkerInVariation, ResultDiffers, Profile, Missing, Pair, value_of, Part, move_of, Level as ModelLevel, depth, start_of, marker_of, is_number, is_score, is_at_limit, levels_of_part, position_in, result_for, Next, going, whole, in_text, move_item, before_last, stored_level, ReaderState, is_outside_the_table, IsOpen, game_of, or_else, text_refusal, with_items, found_in, rules, common_steps}
 use Rattle.pgn_game.specs.games.Game as game
 use Rattle.pgn_game.proofs.refusals.RefusalsByStage.{hit, pass, symbol_rows}
 
@@ -8,15 +8,15 @@ use Rattle.pgn_game.proofs.refusals.RefusalsByStage.{hit, pass, symbol_rows}
 some_before : (start : Parts) (l : ModelLevel) → is_some (before_last start l) ≡ l.has_own_move
 some_before start l = grind arith
 
-pub holds_is : (old : ReaderState) (part : Part) → IsOpen old part
-    → is_some old.text.levels.present.before ≡ (levels_of_part part).present.has_own_move
-holds_is old part is = grind (arith, some_before)
+module _ (old : ReaderState) (part : Part) where
+  pub holds_is : IsOpen old part → is_some old.text.levels.present.before ≡ (levels_of_part part).present.has_own_move
+  holds_is is = grind (arith, some_before)
 
-pub depth_is : (old : ReaderState) (part : Part) → IsOpen old part → length old.text.levels.around ≡ depth (levels_of_part part)
-depth_is old part is = cc (length-map (levels_of_part part).around (stored_level (start_of part.pairs)))
+  pub depth_is : IsOpen old part → length old.text.levels.around ≡ depth (levels_of_part part)
+  depth_is is = cc (length-map (levels_of_part part).around (stored_level (start_of part.pairs)))
 
-pub position_is : (old : ReaderState) (part : Part) → IsOpen old part → old.text.levels.present.present ≡ position_in part
-position_is old part is = rw is.held.levels
+  pub position_is : IsOpen old part → old.text.levels.present.present ≡ position_in part
+  position_is is = rw is.held.levels
 
 -- Symbols.
 
@@ -61,13 +61,13 @@ refused_as p (Some (Err NoMove)) = Some IllegalMove
 refused_as p (Some (Err Ambiguous)) = Some AmbiguousMove
 refused_as p (Some (Ok played)) = or_else (is_at_limit p) MoveLimit None
 
-move_rows : (p : Profile) (part : Part) (s : List ℕ) (r : MoveReading) → rows_for p part s false false r ≡ refused_as (position_in part) r
-move_rows p part s (Some (Err NoMove)) = refl
-move_rows p part s _ = refl
+module _ (p : Profile) (part : Part) (s : List ℕ) where
+  move_rows : (r : MoveReading) → rows_for p part s false false r ≡ refused_as (position_in part) r
+  move_rows (Some (Err NoMove)) = refl
+  move_rows _ = refl
 
-pub move_refusal : (p : Profile) (part : Part) (s : List ℕ) → is_number s ≡ false → is_score s ≡ false
-    → text_refusal p part (symbol s) ≡ refused_as (position_in part) (move_of (position_in part) s)
-move_refusal p part s number score = search (rules, move_rows, or_from, symbol_refusal)
+  pub move_refusal : is_number s ≡ false → is_score s ≡ false → text_refusal p part (symbol s) ≡ refused_as (position_in part) (move_of (position_in part) s)
+  move_refusal number score = search (rules, move_rows, or_from, symbol_refusal)
 
 abbrev one_move : Played → MoveReading
 one_move played = Some (Ok played)
@@ -88,16 +88,7 @@ found_refused : (p : Parts) (r : MoveReading) {reason : Reason} → found_in p r
 found_refused p None e = met refl (cc)
 found_refused p (Some (Err NoMove)) e = met refl (cc)
 found_refused p (Some (Err Ambiguous)) e = met refl (cc)
-found_refused p (Some (Ok one)) {reason} e = by_limit _ refl
-  where
-    by_limit : (b : Bool) → is_at_limit p ≡ b → (refused_as p (one_move one) ≡ Some reason) × (is_outside_the_table reason ≡ false)
-    by_limit true is =
-        let h : limited true one ≡ Err reason = cc in
-        let limit = met {known = MoveLimit} {reason = reason} refl (cc) in
-        (hit _ _ None is ∙ limit.0, limit.1)
-    by_limit false is =
-        let h : limited false one ≡ Err reason = cc in
-        absurd (cc)
+found_refused p (Some (Ok one)) {reason} e = grind (arith, common_steps, is_at_limit, is_outside_the_table, met, hit)
 
 -- what was found at the reader's position was found at the part's
 found_at : (old : ReaderState) (part : Part) (s : List ℕ) {here : Parts} {r : Result Played Reason}
@@ -140,17 +131,15 @@ pub score_of : (s marker : List ℕ) (b : Bool) → is_score s ≡ b → marker_
 score_of s marker true e h = (refl, cc)
 score_of s marker false e h = absurd (cc)
 
-symbol_marker : (p : Profile) (part : Part) (s : List ℕ) {marker : List ℕ}
-    → marker_of (symbol s) ≡ Some marker → text_refusal p part (symbol s) ≡ marker_rows p part marker
-symbol_marker p part s is = grind (arith, or_right, symbol_refusal, score_of)
+module _ (p : Profile) (part : Part) where
+  symbol_marker : (s : List ℕ) {marker : List ℕ} → marker_of (symbol s) ≡ Some marker → text_refusal p part (symbol s) ≡ marker_rows p part marker
+  symbol_marker s is = grind (arith, or_right, symbol_refusal, score_of)
 
-asterisk_marker : (p : Profile) (part : Part) {marker : List ℕ} → codes "*" ≡ marker
-    → text_refusal p part asterisk ≡ marker_rows p part marker
-asterisk_marker p part e = cc
+  asterisk_marker : {marker : List ℕ} → codes "*" ≡ marker → text_refusal p part asterisk ≡ marker_rows p part marker
+  asterisk_marker e = cc
 
-pub marker_refusal : (p : Profile) (part : Part) (k : Kind) {marker : List ℕ}
-    → marker_of k ≡ Some marker → text_refusal p part k ≡ marker_rows p part marker
-marker_refusal p part k is = grind (arith, symbol_marker, asterisk_marker)
+  pub marker_refusal : (k : Kind) {marker : List ℕ} → marker_of k ≡ Some marker → text_refusal p part k ≡ marker_rows p part marker
+  marker_refusal k is = grind (arith, symbol_marker, asterisk_marker)
 
 -- whether a marker differs from the value for Result, or else from this text
 abbrev pub differs : List ℕ → Option (List ℕ) → List ℕ → Bool
@@ -162,20 +151,16 @@ marker_tested : (p : Profile) (part : Part) (missing marker : List ℕ) (inside 
     → marker_rows p part marker ≡ or_else inside MarkerInVariation (or_else (other && (depth (levels_of_part part) == 0)) ResultDiffers None)
 marker_tested p part missing marker inside other within known test = cc
 
-pub marker_inside : (old : ReaderState) (k : Kind) (marker : List ℕ) (part : Part)
-    → marker_of k ≡ Some marker → nat_le 1 (depth (levels_of_part part)) ≡ true → text_refusal old.profile part k ≡ Some MarkerInVariation
-marker_inside old k marker part is within = marker_refusal old.profile part k is ∙ hit _ _ _ within
+module _ (old : ReaderState) (k : Kind) where
+  pub marker_inside : (marker : List ℕ) (part : Part) → marker_of k ≡ Some marker → nat_le 1 (depth (levels_of_part part)) ≡ true → text_refusal old.profile part k ≡ Some MarkerInVariation
+  marker_inside marker part is within = marker_refusal old.profile part k is ∙ hit _ _ _ within
 
-pub marker_differs : (old : ReaderState) (k : Kind) (missing marker : List ℕ) (part : Part)
-    → marker_of k ≡ Some marker → depth (levels_of_part part) ≡ 0 → result_for old.profile.missing_result marker ≡ missing
-    → differs missing (value_of part.pairs (codes "Result")) marker ≡ true → text_refusal old.profile part k ≡ Some ResultDiffers
-marker_differs old k missing marker part is none known test =
-    cc (marker_refusal old.profile part k is, marker_tested old.profile part missing marker false true (ap (λ n. nat_le 1 n) none) known test)
+  pub marker_differs : (missing marker : List ℕ) (part : Part) → marker_of k ≡ Some marker → depth (levels_of_part part) ≡ 0 → result_for old.profile.missing_result marker ≡ missing → differs missing (value_of part.pairs (codes "Result")) marker ≡ true → text_refusal old.profile part k ≡ Some ResultDiffers
+  marker_differs missing marker part is none known test =
+      cc (marker_refusal old.profile part k is, marker_tested old.profile part missing marker false true (ap (λ n. nat_le 1 n) none) known test)
 
-pub marker_free : (old : ReaderState) (k : Kind) (missing marker : List ℕ) (part : Part)
-    → marker_of k ≡ Some marker → depth (levels_of_part part) ≡ 0 → result_for old.profile.missing_result marker ≡ missing
-    → differs missing (value_of part.pairs (codes "Result")) marker ≡ false → text_refusal old.profile part k ≡ None
-marker_free old k missing marker part is none known test = grind (arith, marker_refusal, marker_tested)
+  pub marker_free : (missing marker : List ℕ) (part : Part) → marker_of k ≡ Some marker → depth (levels_of_part part) ≡ 0 → result_for old.profile.missing_result marker ≡ missing → differs missing (value_of part.pairs (codes "Result")) marker ≡ false → text_refusal old.profile part k ≡ None
+  marker_free missing marker part is none known test = grind (arith, marker_refusal, marker_tested)
 
 pub marker_whole : (part : Part) (k : Kind) (marker : List ℕ) → marker_of k ≡ Some marker → in_text part k ≡ whole (game_of part marker)
 marker_whole part k marker is = cc

@@ -1,12 +1,11 @@
 -- One token that the lexer gave, and what the reader answered to it.
 use Rattle.pgn_lexer.specs.PartialToken.{refusal as refusal_token}
-use Rattle.pgn_lexer.specs.Scanned.{token, more, fault}
-use Rattle.pgn_game.proofs.Words.{Writing, Reason, Lexical, WriteFault, Profile, Game, Part, ◌≡◌, ℕ, ◌+◌, ◌<◌, ◌≤◌, ◌⊎◌, Bool, false, true, List, [], ◌∷◌, ◌++◌, length, take, drop, Option, None, Some, Result, Ok, Err, refl, sym, ap, subst, ◌∙◌, append_assoc, append-nil, length-append, le_refl, arith, IsTrue, map, sum, take-append-drop, map-append, list_any-append, or_cases, Appends-nil, Appends, Token, EndsAt, tokens_of, Standing, coming, StandsAfter, Follows, AfterScan, first, still, More, Finished, refusal, marker_of, position_if_move, position_in, Next, going, whole, next, Progress, progress_with, progress_after, Read, read, gain, text_next, Gains, plies_of, has_move, ReaderState, Agrees, as_written, IsBehind, whole_plies, plies_next, Leads, Answers, AppendsFront, MostTried, Raises, Tries, TriesUnwritten, sum_by-append, sum_by-cons, LexFault, finished_game_of, Converter, game_in_reader, play_moves, has_played_move, HasRead, IsLastGame, refused_stop as refused, unwritten, AreNext, reported_position, FaultAtEnd, SameGames, OneGame, AfterStep, EndsWithin, GainsAs, Meets, NotTaken, Reaches, ReadsMore, due_as, part_after, outcome_at, fault_of, TakesToken, Device, Marker, rules, inl, inr, position_at_fault, due, torn, text_of_games as text_of, ◌||◌}
+use Rattle.pgn_lexer.specs.Scanned.{token}
+use Rattle.pgn_game.proofs.Words.{Writing, Reason, Lexical, WriteFault, Profile, Game, Part, ◌≡◌, ℕ, ◌+◌, ◌<◌, ◌≤◌, ◌⊎◌, Bool, false, true, List, [], ◌∷◌, ◌++◌, length, take, drop, Option, None, Some, Result, Ok, Err, refl, sym, ap, subst, ◌∙◌, append_assoc, append-nil, length-append, le_refl, arith, IsTrue, map, sum, take-append-drop, map-append, list_any-append, or_cases, Appends-nil, Appends, Token, EndsAt, tokens_of, Standing, coming, StandsAfter, Follows, AfterScan, first, still, More, Finished, refusal, marker_of, position_if_move, position_in, Next, going, whole, next, Progress, progress_with, progress_after, Read, read, gain, text_next, Gains, plies_of, has_move, ReaderState, Agrees, as_written, IsBehind, whole_plies, plies_next, Leads, Answers, AppendsFront, MostTried, Raises, Tries, TriesUnwritten, sum_by-append, sum_by-cons, LexFault, finished_game_of, Converter, game_in_reader, play_moves, has_played_move, HasRead, IsLastGame, refused_stop as refused, unwritten, AreNext, reported_position, FaultAtEnd, SameGames, OneGame, AfterStep, EndsWithin, GainsAs, Meets, NotTaken, Reaches, ReadsMore, due_as, part_after, outcome_at, fault_of, TakesToken, Device, Marker, rules, inl, inr, position_at_fault, due, torn, text_of_games as text_of, ◌||◌, more, fault, MeetsMarker, TakesUnlessMarker, common_steps}
 use Rattle.pgn_game.specs.state.ReaderState as reader_state
 use Rattle.pgn_game.proofs.tokens.PairsTriedForToken.{most_with, most_to_refused, part_probed, raises_none}
 use Rattle.pgn_game.proofs.tokens.OneMoreToken.{read-passes, read-refuses, due-passes}
 use Rattle.pgn_game.proofs.tokens.NextGrows.{next_is}
-use Rattle.pgn_game.specs.state.PutResult.{MeetsMarker, TakesUnlessMarker}
 use Rattle.pgn_game.specs.state.ReaderState.{refused as refused_by}
 
 pub follows_first : (xs s : List ℕ) → Follows (first xs) (xs ++ s)
@@ -48,30 +47,19 @@ finished_behind : {r : ReaderState} {g : Game} → IsBehind r g → game_in_read
 finished_behind h = cc (h.pairs, h.plies, h.position, h.marker)
 
 plies-snoc : (games : List Game) (g : Game) → sum (map plies_of (games ++ g ∷ [])) ≡ sum (map plies_of games) + plies_of g
-plies-snoc games g =
-    let one : sum (plies_of g ∷ []) ≡ plies_of g = omega (arith, sum_by-cons (λ n. n) (plies_of g) []) in
-    ap sum (map-append plies_of games (g ∷ [])) ∙ sum_by-append (λ n. n) (map plies_of games) (plies_of g ∷ [])
-    ∙ ap (λ n. sum (map plies_of games) + n) one
+plies-snoc games g = grind (arith, common_steps, sum, plies_of, sum_by-cons, map-append, sum_by-append, map)
 
 -- a move is in the games before, or in the last one
 moves-snoc : (games : List Game) (g : Game) → IsTrue (play_moves (games ++ g ∷ [])) → IsTrue (play_moves games) ⊎ IsTrue (has_move g.items)
 moves-snoc games g h = search (rules, list_any-append, or_cases)
 
 pub in_games : (b : Progress) → IsTrue (play_moves b.games) → IsTrue (has_played_move b)
-in_games b h = or_left (play_moves b.games) (has_move b.part.items) h
-  where
-    or_left : (x y : Bool) → IsTrue x → IsTrue (x || y)
-    or_left true y h = refl
-    or_left false y h = absurd (cc)
+in_games b h = grind (arith, common_steps, play_moves, has_move)
 
 -- some pair was tried where a move was played in a game, or in the part
 in_either : {r : ReaderState} (b : Progress) → Agrees r b.part
     → (IsTrue (play_moves b.games) → 0 < r.most_probes) → IsTrue (has_played_move b) → 0 < r.most_probes
-in_either {r} b agrees before moves = by_or (play_moves b.games) (has_move b.part.items) before (part_probed r agrees) moves
-  where
-    by_or : (x y : Bool) → (IsTrue x → 0 < r.most_probes) → (IsTrue y → 0 < r.most_probes) → IsTrue (x || y) → 0 < r.most_probes
-    by_or true y left right h = left refl
-    by_or false y left right h = right h
+in_either {r} b agrees before moves = grind (arith, common_steps, play_moves, has_move, part_probed)
 
 -- a converter after a token, where it finishes no game and is no fault
 abbrev pub now_at : Standing → ReaderState → ℕ → Bool → Converter
@@ -98,9 +86,7 @@ module _ (p : Profile) (old : Converter) (given : List Token) (t : Token) (l : S
 
   raised : Raises (Tries old.reading.writing.is_silent old.reading.profile b.part t.kind) old.reading.most_probes new.most_probes
       → Raises (Tries new.writing.is_silent p b.part t.kind) old.reading.most_probes new.most_probes
-  raised h =
-      subst (λ (silent : Bool). Raises (Tries silent p b.part t.kind) old.reading.most_probes new.most_probes) same_silence
-      (subst (λ q. Raises (Tries old.reading.writing.is_silent q b.part t.kind) old.reading.most_probes new.most_probes) has_read.profile h)
+  raised h = grind (arith, common_steps, same_silence)
 
   most_tried : refusal old.reading.profile b.part t.kind ≡ None
       → Raises (Tries old.reading.writing.is_silent old.reading.profile b.part t.kind) old.reading.most_probes new.most_probes → MostTried new.writing.is_silent p (given ++ t ∷ []) new.most_probes
@@ -137,9 +123,7 @@ module _ (p : Profile) (old : Converter) (given : List Token) (t : Token) (l : S
 
   pub one_game : refusal old.reading.profile b.part t.kind ≡ None → Leads (next b.part t.kind) Finished new
       → (g : Game) × OneGame p given (given ++ t ∷ []) g × (game_in_reader new ≡ finished_game_of g)
-  one_game h leads =
-      let done = leads_finished (next b.part t.kind) b.games new leads in
-      (done.0, ap (λ (r : Read). r.progress.games) (reads h) ∙ done.1, finished_behind done.3)
+  one_game h leads = grind (arith, common_steps, leads_finished, next, reads, finished_behind)
 
   pub has_read_game : refusal old.reading.profile b.part t.kind ≡ None → Leads (next b.part t.kind) Finished new
       → whole_plies new ≡ whole_plies old.reading + plies_next (next b.part t.kind)
@@ -202,10 +186,7 @@ module _ (p : Profile) (old : Converter) (given : List Token) (t : Token) (l : S
   -- where the game goes on, the same profile writes what the token adds
   pub due_more : (w : Profile) → refusal old.reading.profile b.part t.kind ≡ None → Leads (next b.part t.kind) More new
       → due_as w p (given ++ t ∷ []) ≡ due_as w p given ++ gain w b.part t.kind
-  due_more w h leads =
-      ap (λ (r : Read). text_of p r.progress.games ++ torn w r.progress.part) (reads h) ∙ text_more w p (next b.part t.kind) b.games new leads
-      ∙ ap (λ l. text_of p b.games ++ l) (next_is w b.part t.kind)
-      ∙ sym (append_assoc (text_of p b.games) (torn w b.part) (gain w b.part t.kind))
+  due_more w h leads = grind (arith, common_steps, text_of, torn, reads, text_more, next, next_is, append_assoc, gain)
 
   -- what is written is the profile's
   module _ (written : as_written old.reading ≡ old.reading.profile) where
@@ -282,83 +263,55 @@ gains_as_none w p given {a} same = record { text = []; due_for = sym (append-nil
 -- the same was read by a converter with the same reader and count
 pub read_as : {p : Profile} {old new : Converter} {given : List Token} → HasRead p old given → new.reading ≡ old.reading → new.games ≡ old.games
     → new.fault ≡ None → IsLastGame new.just_finished (read p given).progress.games → HasRead p new given
-read_as h same games none last = record {
-  profile = rw same h.profile;
-  no_fault = none;
-  passes = h.passes;
-  agrees = rw same h.agrees;
-  games = games ∙ h.games;
-  plies = rw same h.plies;
-  probed = rw same h.probed;
-  tried = rw same h.tried;
-  just_finished = last;
-}
+read_as h same games none last = grind (arith, common_steps, passes)
 
 -- wherever the lexer stands
-pub read_at : (p : Profile) (old : Converter) (given : List Token) (l : Standing) (finished : Bool) → HasRead p old given
-    → HasRead p (now_at l old.reading old.games finished) given
-read_at p old given l finished h = read_as h refl refl refl tt
+module _ (p : Profile) (old : Converter) (given : List Token) where
+  pub read_at : (l : Standing) (finished : Bool) → HasRead p old given → HasRead p (now_at l old.reading old.games finished) given
+  read_at l finished h = read_as h refl refl refl tt
 
--- No token more was read.
-pub reads_none : (p : Profile) (old : Converter) (given : List Token) (l : Standing) (finished : Bool) {a c : Option (List ℕ)}
-    → HasRead p old given → c ≡ a → ReadsMore p given given (now_at l old.reading old.games finished) a c
-reads_none p old given l finished has_read same = record {
-  more = [];
-  extends = sym (append-nil given);
-  has_read = read_at p old given l finished has_read;
-  no_game = refl;
-  gains = gains_as_none (as_written old.reading) p given same;
-}
+  -- No token more was read.
+  pub reads_none : (l : Standing) (finished : Bool) {a c : Option (List ℕ)} → HasRead p old given → c ≡ a → ReadsMore p given given (now_at l old.reading old.games finished) a c
+  reads_none l finished has_read same = record {
+    more = [];
+    extends = sym (append-nil given);
+    has_read = read_at l finished has_read;
+    no_game = refl;
+    gains = gains_as_none (as_written old.reading) p given same;
+  }
 
--- A token was taken.
-pub reads_token : (p : Profile) (old : Converter) (given : List Token) (t : Token) (l : Standing) (new : ReaderState) (finished : Bool)
-    (d : Device) → HasRead p old given → TakesToken old.reading t.kind new (Ok More) d
-    → ReadsMore p given (given ++ t ∷ []) (now_at l new old.games finished) d.before d.after
-reads_token p old given t l new finished d has_read takes =
-    let h = takes.accepts (part_after p given) has_read.agrees in
-    let keeps = takes.keeps in
-    let w = as_written old.reading in
-    record {
-      more = t ∷ [];
-      extends = refl;
-      has_read = has_read_more p old given t l new finished has_read keeps.profile keeps.probes keeps.writing h.free h.leads h.plies h.tried;
-      no_game = same_games p old given t l new finished has_read keeps.profile keeps.probes keeps.writing h.free h.leads;
-      gains = subst (λ w. GainsAs w p given (given ++ t ∷ []) d.before d.after) (sym (written_same old.reading new keeps.profile keeps.writing))
-          (record {
-            text = gain w (part_after p given) t.kind;
-            due_for = due_more p old given t l new finished has_read keeps.profile keeps.probes keeps.writing w h.free h.leads;
-            appended = h.appended;
-          });
-    }
+  -- A token was taken.
+  pub reads_token : (t : Token) (l : Standing) (new : ReaderState) (finished : Bool) (d : Device) → HasRead p old given → TakesToken old.reading t.kind new (Ok More) d → ReadsMore p given (given ++ t ∷ []) (now_at l new old.games finished) d.before d.after
+  reads_token t l new finished d has_read takes =
+      let h = takes.accepts (part_after p given) has_read.agrees in
+      let keeps = takes.keeps in
+      let w = as_written old.reading in
+      record {
+        more = t ∷ [];
+        extends = refl;
+        has_read = has_read_more p old given t l new finished has_read keeps.profile keeps.probes keeps.writing h.free h.leads h.plies h.tried;
+        no_game = same_games p old given t l new finished has_read keeps.profile keeps.probes keeps.writing h.free h.leads;
+        gains = subst (λ w. GainsAs w p given (given ++ t ∷ []) d.before d.after) (sym (written_same old.reading new keeps.profile keeps.writing))
+            (record {
+              text = gain w (part_after p given) t.kind;
+              due_for = due_more p old given t l new finished has_read keeps.profile keeps.probes keeps.writing w h.free h.leads;
+              appended = h.appended;
+            });
+      }
 
--- A marker was met.
-pub meets_marker : (p : Profile) (old : Converter) (given : List Token) (t : Token) (marker : Marker) (l : Standing) (new : ReaderState)
-    (finished : Bool) (d : Device) → HasRead p old given → MeetsMarker old.reading t.kind marker new d
-    → Meets p given given t (record { marker = marker; at = t.at }) (now_at l new old.games finished) d.before d.after
-meets_marker p old given t marker l new finished d has_read meets = record {
-  reader = old.reading;
-  reads = reads_none p old given l finished has_read meets.unwritten;
-  is = meets.is;
-  place = refl;
-  enters = meets.enters;
-}
+  -- A marker was met.
+  pub meets_marker : (t : Token) (marker : Marker) (l : Standing) (new : ReaderState) (finished : Bool) (d : Device) → HasRead p old given → MeetsMarker old.reading t.kind marker new d → Meets p given given t (record { marker = marker; at = t.at }) (now_at l new old.games finished) d.before d.after
+  meets_marker t marker l new finished d has_read meets = record {
+    reader = old.reading;
+    reads = reads_none l finished has_read meets.unwritten;
+    is = meets.is;
+    place = refl;
+    enters = meets.enters;
+  }
 
--- A token was not taken.
-pub not_taken : (p : Profile) (old : Converter) (given : List Token) (t : Token) (new : ReaderState) (reason : Reason)
-    (d : Device) → HasRead p old given → TakesToken old.reading t.kind new (Err reason) d
-    → (reason ≡ WriteFault → marker_of t.kind ≡ None)
-    → NotTaken p given given t (record { at = t.at; reason = reason }) new d.before d.after
-not_taken p old given t new reason d has_read takes no_marker = record {
-  now = now_at old.lexer old.reading old.games old.is_finished;
-  mid = d.before;
-  reads = reads_none p old given old.lexer old.is_finished has_read refl;
-  place = refl;
-  no_marker = no_marker;
-  stopped = takes.accepts (part_after p given) has_read.agrees;
-  profile = takes.keeps.profile;
-  writing = takes.keeps.writing;
-  probes = takes.keeps.probes;
-}
+  -- A token was not taken.
+  pub not_taken : (t : Token) (new : ReaderState) (reason : Reason) (d : Device) → HasRead p old given → TakesToken old.reading t.kind new (Err reason) d → (reason ≡ WriteFault → marker_of t.kind ≡ None) → NotTaken p given given t (record { at = t.at; reason = reason }) new d.before d.after
+  not_taken t new reason d has_read takes no_marker = grind (arith, common_steps, reads, reads_none, part_after)
 
 -- a rejection of the lexer is a row of its own
 pub lexical-refusal : (p : Profile) (part : Part) (f : LexFault) → refusal p part (refusal_token f).kind ≡ Some (Lexical f.reason)
@@ -366,59 +319,40 @@ unfolding refusal
 lexical-refusal p part f = refl
 
 -- it tries no pair, and rejects no move
-pub not_taken_lexical : (p : Profile) (old : Converter) (given : List Token) (f : LexFault) (new : ReaderState) (o : Option (List ℕ))
-    → HasRead p old given → new ≡ old.reading
-    → NotTaken p given given (refusal_token f) (record { at = f.at; reason = Lexical f.reason }) new o o
-not_taken_lexical p old given f new o has_read same =
-    let some = lexical-refusal old.reading.profile (part_after p given) f in
-    rw same (record {
-      now = now_at old.lexer old.reading old.games old.is_finished;
-      mid = o;
-      reads = reads_none p old given old.lexer old.is_finished has_read refl;
-      place = refl;
-      no_marker = λ is. absurd (cc);
-      stopped = refused_by (Lexical f.reason) some (Appends-nil o) (raises_none some) refl;
-      profile = refl;
-      writing = refl;
-      probes = le_refl old.reading.most_probes;
-    })
+module _ (p : Profile) (old : Converter) where
+  pub not_taken_lexical : (given : List Token) (f : LexFault) (new : ReaderState) (o : Option (List ℕ)) → HasRead p old given → new ≡ old.reading → NotTaken p given given (refusal_token f) (record { at = f.at; reason = Lexical f.reason }) new o o
+  not_taken_lexical given f new o has_read same =
+      let some = lexical-refusal old.reading.profile (part_after p given) f in
+      rw same (record {
+        now = now_at old.lexer old.reading old.games old.is_finished;
+        mid = o;
+        reads = reads_none p old given old.lexer old.is_finished has_read refl;
+        place = refl;
+        no_marker = λ is. absurd (cc);
+        stopped = refused_by (Lexical f.reason) some (Appends-nil o) (raises_none some) refl;
+        profile = refl;
+        writing = refl;
+        probes = le_refl old.reading.most_probes;
+      })
 
--- What the reader answers to a token of the piece.
-pub took : (p : Profile) (old : Converter) (u : List ℕ) (given : List Token) (piece : List ℕ)
-    (used : ℕ) (t : Token) (l : Standing) (new : ReaderState) (finished : Bool) (d : Device)
-    (r : Result (Option Marker) Reason) → Reaches p old u (first piece) given
-    → AfterScan u (first piece) given piece l used (token t) → EndsAt t.kind t.at l.count → l.count ≡ old.lexer.count + used
-    → TakesUnlessMarker old.reading t.kind new r d
-    → AfterStep p u given piece
-    (record { lexer = l; reading = new; games = old.games; just_finished = None; is_finished = finished; fault = fault_of (outcome_at t.at r) })
-    used (outcome_at t.at r) d.before d.after
-took p old u given piece used t l new finished d (Ok None) reaches scan ends count h =
-    (t, ends_within reaches scan ends count, reads_token p old given t l new finished d reaches.has_read h)
-took p old u given piece used t l new finished d (Ok (Some marker)) reaches scan ends count h =
-    (t, ends_within reaches scan ends count, meets_marker p old given t marker l new finished d reaches.has_read h)
-took p old u given piece used t l new finished d (Err why) reaches scan ends count h =
-    (t, next_in_piece l u piece used scan.0, not_taken p old given t new why d reaches.has_read h.0 h.1)
+  -- What the reader answers to a token of the piece.
+  pub took : (u : List ℕ) (given : List Token) (piece : List ℕ) (used : ℕ) (t : Token) (l : Standing) (new : ReaderState) (finished : Bool) (d : Device) (r : Result (Option Marker) Reason) → Reaches p old u (first piece) given → AfterScan u (first piece) given piece l used (token t) → EndsAt t.kind t.at l.count → l.count ≡ old.lexer.count + used → TakesUnlessMarker old.reading t.kind new r d → AfterStep p u given piece (record { lexer = l; reading = new; games = old.games; just_finished = None; is_finished = finished; fault = fault_of (outcome_at t.at r) }) used (outcome_at t.at r) d.before d.after
+  took u given piece used t l new finished d (Ok None) reaches scan ends count h =
+      (t, ends_within reaches scan ends count, reads_token p old given t l new finished d reaches.has_read h)
+  took u given piece used t l new finished d (Ok (Some marker)) reaches scan ends count h =
+      (t, ends_within reaches scan ends count, meets_marker p old given t marker l new finished d reaches.has_read h)
+  took u given piece used t l new finished d (Err why) reaches scan ends count h =
+      (t, next_in_piece l u piece used scan.0, not_taken p old given t new why d reaches.has_read h.0 h.1)
 
-pub took_none : (p : Profile) (old : Converter) (u : List ℕ) (given : List Token)
-    (piece : List ℕ) (used : ℕ) (l : Standing) (o : Option (List ℕ)) → 0 < length piece
-    → Reaches p old u (first piece) given → AfterScan u (first piece) given piece l used more
-    → AfterStep p u given piece (now_at l old.reading old.games old.is_finished) used (Ok None) o o
-took_none p old u given piece used l o some reaches scan = (
-  scan.0,
-  subst (λ b. StandsAfter l (u ++ piece) b given) (still_none (first piece) piece some) scan.1,
-  scan.2 some,
-  reads_none p old given l old.is_finished reaches.has_read refl,
-)
+  pub took_none : (u : List ℕ) (given : List Token) (piece : List ℕ) (used : ℕ) (l : Standing) (o : Option (List ℕ)) → 0 < length piece → Reaches p old u (first piece) given → AfterScan u (first piece) given piece l used more → AfterStep p u given piece (now_at l old.reading old.games old.is_finished) used (Ok None) o o
+  took_none u given piece used l o some reaches scan = grind (arith, common_steps, still_none, first, reads_none)
 
-pub took_fault : (p : Profile) (old : Converter) (u : List ℕ) (given : List Token) (piece : List ℕ)
-    (used : ℕ) (f : LexFault) (l : Standing) (new : Converter) (o : Option (List ℕ)) → 0 < length piece
-    → Reaches p old u (first piece) given → AfterScan u (first piece) given piece l used (fault f)
-    → new.reading ≡ old.reading → AfterStep p u given piece new used (Err (record { at = f.at; reason = Lexical f.reason })) o o
-took_fault p old u given piece used f l new o some reaches scan same = (
-  refusal_token f,
-  λ s. (
-    [],
-    scan.0 s (subst (λ b. Follows b s) (sym (still_none (first piece) piece some)) tt) ∙ sym (append-nil (given ++ refusal_token f ∷ [])),
-  ),
-  not_taken_lexical p old given f new.reading o reaches.has_read same,
-)
+  pub took_fault : (u : List ℕ) (given : List Token) (piece : List ℕ) (used : ℕ) (f : LexFault) (l : Standing) (new : Converter) (o : Option (List ℕ)) → 0 < length piece → Reaches p old u (first piece) given → AfterScan u (first piece) given piece l used (fault f) → new.reading ≡ old.reading → AfterStep p u given piece new used (Err (record { at = f.at; reason = Lexical f.reason })) o o
+  took_fault u given piece used f l new o some reaches scan same = (
+    refusal_token f,
+    λ s. (
+      [],
+      scan.0 s (subst (λ b. Follows b s) (sym (still_none (first piece) piece some)) tt) ∙ sym (append-nil (given ++ refusal_token f ∷ [])),
+    ),
+    not_taken_lexical given f new.reading o reaches.has_read same,
+  )

@@ -1,10 +1,8 @@
 -- The bytes of a source, read up to a marker.
-use Rattle.std.specs.Io.KnownBytes.{Keeps, IsAtEnd}
-use Rattle.pgn_game.proofs.Words.{Token, ReadFault, Fault, Profile, ◌≡◌, ℕ, ◌^◌, ◌≤◌, List, [], ◌∷◌, ◌++◌, length, drop, take, Option, None, refl, sym, ap, subst, ◌∙◌, inl, inr, append-nil, append_assoc, take-append-drop, Consumes, Consumes-nil, Consumes-trans, decided, IsDecided, StandsAfter, first, still, Games, games_of, Converter, HasRead, Reaches, ReadsMore, as_written, MoreSoFar, StandsWithin, StopsIn, at_token, too_long, arith}
+use Rattle.std.specs.Io.KnownBytes.{Keeps}
+use Rattle.pgn_game.proofs.Words.{Token, ReadFault, Fault, Profile, ◌≡◌, ℕ, ◌^◌, ◌≤◌, List, [], ◌∷◌, ◌++◌, length, drop, take, Option, None, refl, sym, ap, subst, ◌∙◌, inl, inr, append-nil, append_assoc, take-append-drop, Consumes, Consumes-nil, Consumes-trans, decided, IsDecided, StandsAfter, first, still, Games, games_of, Converter, HasRead, Reaches, ReadsMore, as_written, MoreSoFar, StandsWithin, StopsIn, at_token, too_long, arith, IsAtEnd, FailsIn, ReadsPiece, ReadsToMarker, MeetsNext, ReadsAllOf, StopsBefore, UsesAll, common_steps}
 use Rattle.pgn_game.specs.declared.marker.Mark.{Mark}
-use Rattle.pgn_game.specs.state.ConverterSteps.{FailsIn, ReadsPiece, ReadsToMarker}
 use Rattle.pgn_game.specs.state.GamesSteps as games_steps
-use Rattle.pgn_game.specs.state.GamesSteps.{MeetsNext, ReadsAllOf, StopsBefore, UsesAll}
 use Rattle.pgn_game.proofs.tokens.AcceptedToConverter.{follows_none}
 use Rattle.pgn_game.proofs.tokens.StepsInPiece.{decided_at_end}
 use Rattle.pgn_game.proofs.tokens.GamesInPiece.{behind_first}
@@ -39,13 +37,7 @@ decided_before u piece (inr (b, e, k)) = absurd (cc)
 reads_all : {p : Profile} {given : List Token} {u : List ℕ} (b : Option ℕ) {ts : List Token} (new now : Converter) {a c : Option (List ℕ)}
     → new.reading ≡ now.reading → StandsAfter now.lexer u b ts → ts ≡ decided u → ReadsMore p given ts now a c
     → ReadsAllOf p given u new a c
-reads_all {u} b new now same stands is reads =
-    record {
-      now = now;
-      same = same;
-      left = rw is at (rw (append-nil u) at (stands.tokens [] (follows_none b)));
-      reads = rw is at reads;
-    }
+reads_all {u} b new now same stands is reads = grind (arith, common_steps, append-nil, follows_none)
 
 module _ (p : Profile) (u : List ℕ) (given : List Token) (left_old left : Option (List ℕ))
     (now : Games) (a c : Option (List ℕ)) (so : MoreSoFar p u given left_old left now a c) where

@@ -1,7 +1,6 @@
 -- The bytes of a text before place 2^62, and the tokens that they decide.
-use Rattle.pgn_game.proofs.Words.{Consumes, Option, Token, tokens_of, ◌≡◌, ℕ, ◌+◌, ◌^◌, ◌≤◌, List, [], ◌++◌, length, take, drop, refl, sym, ap, ◌∙◌, append_assoc, append-nil, arith, subst, length-take, take_all, take-append-add, take-append-drop, AreNext, within_limit}
-use Rattle.pgn_game.specs.calls.ConverterCalls.{AreShown, so_far, at_end}
-use Rattle.pgn_game.specs.calls.Conversion.{Decides}
+use Rattle.pgn_game.proofs.Words.{Consumes, Option, Token, tokens_of, ◌≡◌, ℕ, ◌+◌, ◌^◌, ◌≤◌, List, [], ◌++◌, length, take, drop, refl, sym, ap, ◌∙◌, append_assoc, append-nil, arith, subst, length-take, take_all, take-append-add, take-append-drop, AreNext, within_limit, AreShown, so_far, Decides}
+use Rattle.pgn_game.specs.calls.ConverterCalls.{at_end}
 
 -- a short text is all within it
 pub all_within : (s : List ℕ) → length s ≤ 2 ^ 62 → within_limit s ≡ s

@@ -1,19 +1,18 @@
 -- The end of a text stands behind its last byte.
-use Rattle.pgn_lexer.specs.Spelling.{Found, gives}
-use Rattle.pgn_lexer.specs.TokensOf.{Within, begins, begins_after, begins_class, begins_first, column, onto, at_end, tokens_from, has_mark}
-use Rattle.pgn_game.proofs.Words.{Token, ◌≡◌, ℕ, ◌+◌, Bool, true, false, List, [], ◌∷◌, ◌++◌, length, drop, suc, subst, arith, tokens_of, is_end}
-use Rattle.std.specs.List.{AllByRecursion}
+use Rattle.pgn_lexer.specs.TokensOf.{at_end, tokens_from}
+use Rattle.pgn_game.proofs.Words.{Token, ◌≡◌, ℕ, ◌+◌, Bool, true, false, List, [], ◌∷◌, ◌++◌, length, drop, suc, subst, arith, tokens_of, is_end, Found, gives, Within, begins, begins_after, begins_class, begins_first, column, onto, has_mark, AllByRecursion, common_steps}
 
 -- nothing that begins at a byte is the end
 abbrev FoundNoEnd : Found → Type 0
 FoundNoEnd (gives k) = is_end k ≡ false
 FoundNoEnd _ = Unit {0}
 
-class_no_end : (at : ℕ) (c : _) (b : ℕ) (bs : List ℕ) → FoundNoEnd (begins_class at c b bs)
-class_no_end at c b bs = grind arith
+module _ (at : ℕ) (c : _) (b : ℕ) (bs : List ℕ) where
+  class_no_end : FoundNoEnd (begins_class at c b bs)
+  class_no_end = grind arith
 
-first_no_end : (at : ℕ) (c : _) (b : ℕ) (bs : List ℕ) → FoundNoEnd (begins_first at c b bs)
-first_no_end at c b bs = grind (arith, class_no_end)
+  first_no_end : FoundNoEnd (begins_first at c b bs)
+  first_no_end = grind (arith, class_no_end)
 
 after_no_end : (at : ℕ) (goes : Bool) (c : _) (b : ℕ) (bs : List ℕ) → FoundNoEnd (begins_after goes at c b bs)
 after_no_end at goes c b bs = grind (arith, class_no_end)
@@ -41,10 +40,7 @@ from_end_at at within (b ∷ bs) =
     sum m n = omega arith
 
 from_start : (s : List ℕ) → EndAt (length s) (tokens_from 0 column s)
-from_start s = rw (none (length s)) (from_end_at 0 column s)
-  where
-    none : (n : ℕ) → n ≡ 0 + n
-    none n = omega arith
+from_start s = grind (arith, common_steps, from_end_at, column)
 
 -- a byte order mark is counted
 text_end_at : (s : List ℕ) → EndAt (length s) (tokens_of s)

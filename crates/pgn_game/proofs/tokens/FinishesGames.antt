@@ -1,10 +1,8 @@
 -- Behind the last piece: up to a marker, to the game that it ends, and to the end.
 use Rattle.pgn_lexer.specs.Tokens as tokens
-use Rattle.pgn_game.proofs.Words.{Token, Kind, Between, Fault, Profile, Part, Game, ◌≡◌, ℕ, ◌+◌, ◌<◌, Bool, true, false, IsTrue, List, [], ◌∷◌, ◌++◌, length, Option, None, Some, Ok, Err, refl, sym, ap, subst, ◌∙◌, arith, append-nil, append_assoc, length-append, Appends-nil, ◌↔◌, Device, tokens_of, Standing, coming, HasLeft, refusal, is_end, next, progress_with, Progress, Read, read, due, written_so_far as written, Gains, ReaderState, as_written, Converter, HasRead, IsLastGame as IsLast, game_in_reader, game_in_reader_if, Finishes, FinishesToFault, SameGames, ReadsMore, EndsGame, StaysBetween, FaultAtEnd, AtEndSoFar, AfterStepAtEnd, part_after, Stands, false≢true, le_refl}
+use Rattle.pgn_game.proofs.Words.{Token, Kind, Between, Fault, Profile, Part, Game, ◌≡◌, ℕ, ◌+◌, ◌<◌, Bool, true, false, IsTrue, List, [], ◌∷◌, ◌++◌, length, Option, None, Some, Ok, Err, refl, sym, ap, subst, ◌∙◌, arith, append-nil, append_assoc, length-append, Appends-nil, ◌↔◌, Device, tokens_of, Standing, coming, HasLeft, refusal, is_end, next, progress_with, Progress, Read, read, due, written_so_far as written, Gains, ReaderState, as_written, Converter, HasRead, IsLastGame as IsLast, game_in_reader, game_in_reader_if, Finishes, FinishesToFault, SameGames, ReadsMore, EndsGame, StaysBetween, FaultAtEnd, AtEndSoFar, AfterStepAtEnd, part_after, Stands, false≢true, le_refl, CountsGame, LeftSoFar, ReadsToLeftMarker, ReadsToEnd, FailsAtEnd, IsSound, common_steps}
 use Rattle.pgn_game.specs.declared.marker.Mark.{Mark}
 use Rattle.pgn_game.specs.declared.converter.StepEnd.TheVariants.{Token as Other, Marker as AtMarker}
-use Rattle.pgn_game.specs.state.ConverterSteps.{CountsGame, LeftSoFar, ReadsToLeftMarker, ReadsToEnd, FailsAtEnd}
-use Rattle.pgn_game.specs.calls.ConverterCalls.{IsSound}
 use Rattle.pgn_game.proofs.tokens.AcceptedToConverter.{read_as}
 use Rattle.pgn_game.proofs.tokens.OneMoreToken.{read-passes, gains_none, gains_more, stops_more, games_still, counts_still, position_still}
 use Rattle.pgn_game.proofs.tokens.NoneBeforeFault.{none_before_fault}
@@ -31,9 +29,7 @@ module _ (p : Profile) (u : List ℕ) (given : List Token) (old now new : Conver
   further ts reads = reads_more p given so.tokens now a c so.reads ts new d reads same
 
   still_there : StaysBetween now new → StaysBetween old new
-  still_there stays between =
-      let kept = stays between in
-      kept ∙ so.stays (ap (λ (r : ReaderState). r.stage) (sym kept) ∙ between)
+  still_there stays between = grind (arith, common_steps)
 
   pub left_more : AfterStepAtEnd p u so.tokens now new (Ok (Some Other)) c d → LeftSoFar p u given old new a d
   left_more (t, left, reads, stays) =
@@ -81,47 +77,22 @@ module _ (p : Profile) (u : List ℕ) (given : List Token) (old now new : Conver
 -- where the end passes, it changes nothing
 end_adds : (p : Profile) (part : Part) (games : List Game) (k : Kind) → is_end k ≡ true → refusal p part k ≡ None
     → progress_with games (next part k) ≡ record { games = games; part = part }
-end_adds p part games k e none =
-    let k_is = is_the_end k e in
-    let between = end_at p part.stage part.pairs part.name part.items (rw k_is at none) in
-    subst (λ j. progress_with games (next part j) ≡ record { games = games; part = part }) (sym k_is)
-    (subst (λ s. progress_with games (next (record { stage = s; pairs = part.pairs; name = part.name; items = part.items }) tokens.end)
-    ≡ record { games = games; part = record { stage = s; pairs = part.pairs; name = part.name; items = part.items } })
-    (sym between) refl)
+end_adds p part games k e none = grind (arith, common_steps, is_the_end, end_at, progress_with, next)
 
 end_same : (p : Profile) (ts : List Token) (t : Token) → (read p ts).fault ≡ None → is_end t.kind ≡ true
     → refusal p (part_after p ts) t.kind ≡ None → (read p (ts ++ t ∷ [])).progress ≡ (read p ts).progress
-end_same p ts t passes e none =
-    ap (λ (r : Read). r.progress) (read-passes p ts t passes none)
-    ∙ end_adds p (read p ts).progress.part (read p ts).progress.games t.kind e none
+end_same p ts t passes e none = grind (arith, common_steps, read-passes, end_adds, read)
 
 -- before the first marker
 pub ended_none : (p : Profile) (old : Converter) (u : List ℕ) (b : Option ℕ) (given : List Token) (o : Option (List ℕ))
     → Stands p old u b given → AtEndSoFar p u given old false o o
-ended_none p old u b given o stands =
-    record {
-      tokens = given;
-      left = left_of p old u b given stands;
-      has_read = stands.has_read;
-      no_fewer = le_refl _;
-      game = (λ is. absurd (false≢true is), λ less. absurd (omega (arith, less)));
-      last = λ is. absurd (false≢true is);
-      gains = gains_none;
-    }
+ended_none p old u b given o stands = grind (arith, common_steps, left_of, le_refl, false≢true, gains_none)
 
 -- behind the end a game counts as just finished only between games
 pub sound_finished : (lexer : Standing) (reading : ReaderState) (games : ℕ) {had has is_finished : Bool} {fault : Option Fault}
     → IsSound lexer reading games had is_finished fault
     → (IsTrue has → reading.stage ≡ Between) → fault ≡ None → IsSound lexer reading games has is_finished fault
-sound_finished lexer reading games sound between none =
-    record {
-      count = sound.count;
-      few = sound.few;
-      few_plies = sound.few_plies;
-      fewer_plies = sound.fewer_plies;
-      between = between;
-      no_fault = λ is. none;
-    }
+sound_finished lexer reading games sound between none = grind (arith, common_steps)
 
 module _ (p : Profile) (u : List ℕ) (given : List Token) (now : Converter) (finished_game : Bool)
     (a c : Option (List ℕ)) (so : AtEndSoFar p u given now finished_game a c) where

@@ -1,19 +1,12 @@
 -- Games in turn in a piece.
 use Rattle.std.proofs.Common.{take_all}
-use Rattle.pgn_game.proofs.Words.{Token, Fault, Profile, take-append-drop, drop-drop, decided, first, still, Converter, Stands, FedAll, FedGame, FedToFault, FedFault, FedWhole, ReadsUpTo, StopsIn, within_limit, at_token, too_long, AllSoFar, ◌≡◌, ℕ, ◌+◌, ◌^◌, ◌≤◌, List, [], ◌∷◌, ◌++◌, length, take, drop, Option, None, refl, sym, ap, ◌∙◌, append-nil, append_assoc, length-drop, arith, inl}
+use Rattle.pgn_game.proofs.Words.{Token, Fault, Profile, take-append-drop, drop-drop, decided, first, still, Converter, Stands, FedAll, FedGame, FedToFault, FedFault, FedWhole, ReadsUpTo, StopsIn, within_limit, at_token, too_long, AllSoFar, ◌≡◌, ℕ, ◌+◌, ◌^◌, ◌≤◌, List, [], ◌∷◌, ◌++◌, length, take, drop, Option, None, refl, sym, ap, ◌∙◌, append-nil, append_assoc, length-drop, arith, inl, common_steps}
 use Rattle.pgn_game.proofs.tokens.OneMoreToken.{gains_none, gains_more, stops_more}
 use Rattle.pgn_game.proofs.tokens.StepsInPiece.{further, whole_piece, decided_at_end, stands_before_any}
 
 pub all_none : (p : Profile) (old : Converter) (u : List ℕ) (given : List Token) (piece : List ℕ) (o : Option (List ℕ))
     → Stands p old u None given → given ≡ decided u → AllSoFar p u given piece 0 old o o
-all_none p old u given piece o stands is_decided =
-    record {
-      tokens = given;
-      stands = rw (append-nil u) (stands_before_any stands);
-      at_limit = λ h. is_decided ∙ ap decided (sym (append-nil u));
-      decided = inl (is_decided ∙ ap decided (sym (append-nil u)));
-      gains = gains_none;
-    }
+all_none p old u given piece o stands is_decided = grind (arith, common_steps, append-nil, stands_before_any, decided, inl, gains_none)
 
 pub behind_first : (xs : List ℕ) → still (first xs) xs ≡ None
 behind_first [] = refl

@@ -1,16 +1,13 @@
 -- Games read in turn from a source.
-use Rattle.pgn_game.proofs.Words.{bytes_seen, WriteFault, Token, Fault, Profile, Game, no_part, ◌≡◌, ℕ, ◌^◌, ◌≤◌, Bool, true, false, List, [], ◌∷◌, ◌++◌, length, Option, None, Some, Result, Ok, Err, refl, sym, ap, subst, ◌∙◌, inl, inr, append-nil, length-append, arith, Consumes-nil, tokens_of, decided, coming, first, Gains, Games, games_of, HasReadAll, HaveRead, within, at_end, NextGame, NoGame, NextStops, AfterNext, IsTrue, is_ok, text_of_games as text_of, whole, next, Progress, read, read_from, written_so_far as written, Converter, AfterFinish, Finishes, FinishesToFault, rules, Reason, refusal, Next, going, progress_with, Read, finished_game_of, HasRead, no_progress, Device, FinishedGame, IsKnown, Stands, MoreSoFar, StandsWithin, EndsGame}
+use Rattle.pgn_game.proofs.Words.{bytes_seen, WriteFault, Token, Fault, Profile, Game, no_part, ◌≡◌, ℕ, ◌^◌, ◌≤◌, Bool, true, false, List, [], ◌∷◌, ◌++◌, length, Option, None, Some, Result, Ok, Err, refl, sym, ap, subst, ◌∙◌, inl, inr, append-nil, length-append, arith, Consumes-nil, tokens_of, decided, coming, first, Gains, Games, games_of, HasReadAll, HaveRead, within, at_end, NextGame, NoGame, NextStops, AfterNext, IsTrue, is_ok, text_of_games as text_of, whole, next, Progress, read, read_from, written_so_far as written, Converter, AfterFinish, Finishes, FinishesToFault, rules, Reason, refusal, Next, going, progress_with, Read, finished_game_of, HasRead, no_progress, Device, FinishedGame, IsKnown, Stands, MoreSoFar, StandsWithin, EndsGame, ReadsNoGame, MeetsNext, ReadsAllOf, StopsBefore, UsesAll, CountsGame, common_steps}
 use Rattle.pgn_game.specs.declared.marker.Mark.{Mark}
 use Rattle.pgn_game.specs.calls.GamesCalls as games_calls
-use Rattle.pgn_game.specs.calls.GamesCalls.{ReadsNoGame}
 use Rattle.pgn_game.specs.state.GamesSteps as games_steps
-use Rattle.pgn_game.specs.state.GamesSteps.{MeetsNext, ReadsAllOf, StopsBefore, UsesAll}
 use Rattle.pgn_game.proofs.tokens.OneMoreToken.{read-passes, read-refuses, stops_from, torn-none, gains_none, gains_more, stops_more, games_still}
 use Rattle.pgn_game.proofs.tokens.OneMoreToken.{counts_still}
 use Rattle.pgn_game.proofs.tokens.LastTokens.{AddsOne, left_games, left_none_begun}
 use Rattle.pgn_game.proofs.tokens.MarkerToGame.{shows_due, shows_stop, fault_not_taken, fault_of_marker, gains_known, gains_marker, game_by_marker, has_read_marker}
 use Rattle.pgn_game.proofs.tokens.NoneBeforeFault.{reads_behind}
-use Rattle.pgn_game.specs.state.ConverterSteps.{CountsGame}
 use Rattle.pgn_game.proofs.tokens.AcceptedToConverter.{follows_none, read_as}
 use Rattle.pgn_game.proofs.tokens.StepsAtEnd.{let_go}
 
@@ -32,19 +29,8 @@ not_one_more {gs} g e = absurd (omega (arith, ap (length {A = Game}) e, length-a
 -- the token that finishes a game leaves no part of one
 pub none_behind : (p : Profile) (ts : List Token) (t : Token) (g : Game) → (read p (ts ++ t ∷ [])).fault ≡ None
     → (read p (ts ++ t ∷ [])).progress.games ≡ (read p ts).progress.games ++ g ∷ [] → (read p (ts ++ t ∷ [])).progress.part ≡ no_part
-none_behind p ts t g passes one = by_test (refusal p (read p ts).progress.part t.kind) refl
-  where
-    before : (read p ts).fault ≡ None
-    before = passes_before p ts (t ∷ []) passes
-
-    by_next : (nx : Next) → next (read p ts).progress.part t.kind ≡ nx
-        → (read p (ts ++ t ∷ [])).progress ≡ progress_with (read p ts).progress.games nx → (read p (ts ++ t ∷ [])).progress.part ≡ no_part
-    by_next (going part) is reads = absurd (not_one_more g (sym (ap (λ (b : Progress). b.games) reads) ∙ one))
-    by_next (whole h) is reads = ap (λ (b : Progress). b.part) reads
-
-    by_test : (o : Option Reason) → refusal p (read p ts).progress.part t.kind ≡ o → (read p (ts ++ t ∷ [])).progress.part ≡ no_part
-    by_test (Some reason) is = absurd (none_or_some _ (ap (λ (r : Read). r.fault) (read-refuses p ts t [] reason before is)) passes)
-    by_test None is = by_next (next (read p ts).progress.part t.kind) refl (ap (λ (r : Read). r.progress) (read-passes p ts t before is))
+none_behind p ts t g passes one =
+    grind (arith, common_steps, refusal, read, passes_before, next, progress_with, no_part, going, not_one_more, whole, none_or_some, read-refuses, read-passes)
 
 -- ---- one call
 
@@ -68,11 +54,7 @@ not_true h = absurd (cc)
 pub begins : (p : Profile) (u : List ℕ) (given : List Token) (left : Option (List ℕ)) (now : Games) → HaveRead p left u now given
     → now.converter.is_finished ≡ false
     → (now.converter.reading.writing.is_silent ≡ false → IsKnown p) × StandsWithin u now given × HasRead p now.converter given
-begins p u given left now (within on) not_finished = (
-  on.stands.known,
-  record { used = on.used; bytes = on.bytes; lexer = on.stands.lexer; at_limit = on.at_limit; decided = on.decided },
-  on.stands.has_read,
-)
+begins p u given left now (within on) not_finished = grind (arith, common_steps, decided)
 begins p u given left now (at_end all) not_finished = absurd (cc (all.finished))
 
 -- ---- up to a marker

@@ -1,5 +1,5 @@
 -- Calls of `next` one after another.
-use Rattle.pgn_game.proofs.Words.{Profile, Game, ◌≡◌, ℕ, ◌∷◌, ◌++◌, true, false, List, [], map, Option, Some, Ok, Err, refl, subst, Consumes-nil, Consumes-trans, Appends, Consumes, coming, first, Token, tokens_of, plies_of, FinishedGame, finished_game_of, Games, HaveRead, ReadSoFar, NextGame, games_read, append_assoc, append-nil, map-append, length-map, IfSome, rules, length, sum, sym, ap, read, totals, ◌∙◌}
+use Rattle.pgn_game.proofs.Words.{Profile, Game, ◌≡◌, ℕ, ◌∷◌, ◌++◌, true, false, List, [], map, Option, Some, Ok, Err, refl, subst, Consumes-nil, Consumes-trans, Appends, Consumes, coming, first, Token, tokens_of, plies_of, FinishedGame, finished_game_of, Games, HaveRead, ReadSoFar, NextGame, games_read, append_assoc, append-nil, map-append, length-map, IfSome, rules, length, sum, sym, ap, read, totals, ◌∙◌, arith, common_steps}
 use Rattle.pgn_game.specs.calls.GamesCalls as games_calls
 use Rattle.pgn_game.specs.laws.GamesJoined as games_joined
 use Rattle.pgn_game.specs.laws.GamesJoined.{TakesGames, GamesJoin}
@@ -38,9 +38,7 @@ taken_more : {p : Profile} {left left_old left_new before out after : Option (Li
     (so : SoFar p left before taken old left_old out)
     (next : NextGame p so.reads.bytes so.reads.tokens left_old left_new new out after) → new.converter.just_finished ≡ Some game
     → taken ++ game ∷ [] ≡ finished (games_read p next.tokens)
-taken_more {p} game so next e =
-    rw so.games (rw (same_game e next.just_finished) (sym (map-append finished_game_of (games_read p so.reads.tokens) (next.game ∷ []))
-    ∙ ap finished (sym next.one_game)))
+taken_more {p} game so next e = grind (arith, common_steps, same_game, map-append, finished_game_of, games_read)
 
 module _ (p : Profile) (left before : Option (List ℕ)) (first : Games) (begins : HaveRead p left [] first []) where
   so_far : {taken : List FinishedGame} {now : Games} {left_now after : Option (List ℕ)} → TakesGames left before first taken now left_now after

@@ -5,7 +5,7 @@ use Rattle.pgn_lexer.specs.declared.partial_token.Mode.TheVariants as modes
 use Rattle.pgn_lexer.specs.declared.partial_token.SuffixRun.{SuffixRun}
 use Rattle.pgn_lexer.specs.declared.partial_token.SuffixRun.TheVariants as suffix_runs
 use Rattle.pgn_lexer.specs.Tokens as tokens
-use Rattle.pgn_game.proofs.Words.{Kind, Token, Reason, Profile, Missing, counts_as, takes_the_marker, Stage, Between, Pair, Item, Game, Part, no_part, ◌≡◌, ℕ, ◌<◌, Bool, true, false, List, [], ◌∷◌, ◌++◌, length, length-append, Option, None, Some, refl, ap, subst, ◌∙◌, append-nil, arith, inl, inr, ◌⊎◌, IsLast, Standing, coming, refusal, if◌then◌else◌, LexReason, SymbolTooLong, WordTooLong, GlyphRange, gives, stops, onto, tokens_to_come_in, text_of_games as text_of, torn, Progress, Next, Read, progress_after, progress_with, going, next, next_in, read_from, whole, written_so_far as written, rules, nat_le, sym}
+use Rattle.pgn_game.proofs.Words.{Kind, Token, Reason, Profile, Missing, counts_as, takes_the_marker, Stage, Between, Pair, Item, Game, Part, no_part, ◌≡◌, ℕ, ◌<◌, Bool, true, false, List, [], ◌∷◌, ◌++◌, length, length-append, Option, None, Some, refl, ap, subst, ◌∙◌, append-nil, arith, inl, inr, ◌⊎◌, IsLast, Standing, coming, refusal, if◌then◌else◌, LexReason, SymbolTooLong, WordTooLong, GlyphRange, gives, stops, onto, tokens_to_come_in, text_of_games as text_of, torn, Progress, Next, Read, progress_after, progress_with, going, next, next_in, read_from, whole, written_so_far as written, rules, nat_le, sym, common_steps}
 use Rattle.pgn_game.proofs.tokens.OneMoreToken.{after_test, by_token, first_passes, goes_on, read_from-test}
 
 reads_on : (p : Profile) (b : Progress) (t : Token) (ts : List Token) {o : Option Reason}
@@ -61,16 +61,8 @@ AddsOne gs r = (r.progress.games ≡ gs) ⊎ ((r.fault ≡ None) × ((g : Game) 
 
 last_games : (p : Profile) (b : Progress) {ts : List Token} → AreLast ts → AddsOne b.games (read_from p b ts)
 last_games p b (quiet ts q has) = inl (quiet_games p b ts q)
-last_games p b (one t at) = by_token p b t (last ∷ []) (AddsOne b.games) (λ reason is. inl refl) (λ is. by_next (next b.part t.kind))
-  where
-    last : Token
-    last = record { at = at; kind = tokens.end }
-
-    by_next : (nx : Next) → AddsOne b.games (read_from p (progress_with b.games nx) (last ∷ []))
-    by_next (going part) = inl (quiet_games p (progress_with b.games (going part)) (last ∷ []) (end, tt))
-    by_next (whole g) =
-        let here = reads_on p (progress_with b.games (whole g)) last [] (end_passes p) in
-        inr (ap (λ (r : Read). r.fault) here, (g, ap (λ (r : Read). r.progress.games) here))
+last_games p b (one t at) =
+    grind (arith, common_steps, by_token, inl, next, read_from, progress_with, going, quiet_games, whole, reads_on, end_passes, inr)
 
 -- ---- the end
 
@@ -171,47 +163,44 @@ left_last {place} (symbol is) = one _ place
 left : (l : Standing) → AreLast (coming l [])
 left l = left_last (left_in l.held.mode)
 
-pub left_games : (p : Profile) (b : Progress) (l : Standing) → AddsOne b.games (read_from p b (coming l []))
-left_games p b l = last_games p b (left l)
+module _ (p : Profile) (b : Progress) (l : Standing) where
+  pub left_games : AddsOne b.games (read_from p b (coming l []))
+  left_games = last_games p b (left l)
 
--- if they pass, all that is due is the text of games
-pub left_none_begun : (p : Profile) (b : Progress) (l : Standing) → (read_from p b (coming l [])).fault ≡ None
-    → written p (read_from p b (coming l [])).progress ≡ text_of p (read_from p b (coming l [])).progress.games
-left_none_begun p b l passes = search (rules, append-nil, left, none_torn)
+  -- if they pass, all that is due is the text of games
+  pub left_none_begun : (read_from p b (coming l [])).fault ≡ None → written p (read_from p b (coming l [])).progress ≡ text_of p (read_from p b (coming l [])).progress.games
+  left_none_begun passes = search (rules, append-nil, left, none_torn)
 
--- ---- a write that fails among them
+  -- ---- a write that fails among them
 
--- The token at fault adds to what is due, and so no game was finished before it: behind a game
--- there is only the end, which adds nothing.
-pub none_finished_before : (p : Profile) (b : Progress) (l : Standing) (front : List Token) (token : Token) (rest : List Token)
-    → coming l [] ≡ front ++ token ∷ rest → (read_from p b (front ++ token ∷ [])).fault ≡ None
-    → length (written p (read_from p b front).progress) < length (written p (read_from p b (front ++ token ∷ [])).progress)
-    → (read_from p b front).progress.games ≡ b.games
-none_finished_before p b l front token rest cut passes more = by_last front (coming l []) (left l) cut passes more
-  where
-    by_next : (m last : Token) (nx : Next) → last.kind ≡ tokens.end → next b.part m.kind ≡ nx
-        → length (written p (progress_after b m)) < length (written p (progress_after (progress_after b m) last))
-        → (progress_after b m).games ≡ b.games
-    by_next m last (going part) is leads more = ap (λ (n : Next). (progress_with b.games n).games) leads
-    by_next m last (whole g) is leads more =
-        let after : progress_after b m ≡ record { games = b.games ++ g ∷ []; part = no_part } = ap (progress_with b.games) leads in
-        let same : written p (progress_after (progress_after b m) last) ≡ written p (progress_after b m) =
-        ap (λ (c : Progress). written p (progress_with c.games (next c.part last.kind))) after
-        ∙ ap (λ k. written p (progress_with (b.games ++ g ∷ []) (next no_part k))) is ∙ ap (written p) (sym after) in
-        absurd (omega (arith, more, ap (length {A = ℕ}) same))
+  -- The token at fault adds to what is due, and so no game was finished before it: behind a game
+  -- there is only the end, which adds nothing.
+  pub none_finished_before : (front : List Token) (token : Token) (rest : List Token) → coming l [] ≡ front ++ token ∷ rest → (read_from p b (front ++ token ∷ [])).fault ≡ None → length (written p (read_from p b front).progress) < length (written p (read_from p b (front ++ token ∷ [])).progress) → (read_from p b front).progress.games ≡ b.games
+  none_finished_before front token rest cut passes more = by_last front (coming l []) (left l) cut passes more
+    where
+      by_next : (m last : Token) (nx : Next) → last.kind ≡ tokens.end → next b.part m.kind ≡ nx
+          → length (written p (progress_after b m)) < length (written p (progress_after (progress_after b m) last))
+          → (progress_after b m).games ≡ b.games
+      by_next m last (going part) is leads more = ap (λ (n : Next). (progress_with b.games n).games) leads
+      by_next m last (whole g) is leads more =
+          let after : progress_after b m ≡ record { games = b.games ++ g ∷ []; part = no_part } = ap (progress_with b.games) leads in
+          let same : written p (progress_after (progress_after b m) last) ≡ written p (progress_after b m) =
+          ap (λ (c : Progress). written p (progress_with c.games (next c.part last.kind))) after
+          ∙ ap (λ k. written p (progress_with (b.games ++ g ∷ []) (next no_part k))) is ∙ ap (written p) (sym after) in
+          absurd (omega (arith, more, ap (length {A = ℕ}) same))
 
-    by_last : (front ts : List Token) → AreLast ts → ts ≡ front ++ token ∷ rest → (read_from p b (front ++ token ∷ [])).fault ≡ None
-        → length (written p (read_from p b front).progress) < length (written p (read_from p b (front ++ token ∷ [])).progress)
-        → (read_from p b front).progress.games ≡ b.games
-    by_last [] ts last cut passes more = refl
-    by_last (m ∷ mid) _ (quiet ts q has) cut passes more =
-        quiet_games p b (m ∷ mid) (quiet_front (m ∷ mid) (token ∷ rest) (subst AreQuiet cut q))
-    by_last (m ∷ []) _ (one t at) cut passes more =
-        let free = first_passes p b m (token ∷ []) passes in
-        let here = goes_on p b m (token ∷ []) free in
-        let there = goes_on p (progress_after b m) token [] (first_passes p (progress_after b m) token [] (rw here at passes)) in
-        let before = goes_on p b m [] free in
-        let is : token ≡ record { at = at; kind = tokens.end } = cc in
-        rw before (by_next m token (next b.part m.kind) (ap (λ (t : Token). t.kind) is) refl
-        (rw (here ∙ there) at (rw before at more)))
-    by_last (m ∷ n ∷ mid) _ (one t at) cut passes more = absurd (omega (arith, ap (length {A = Token}) cut, length-append mid (token ∷ rest)))
+      by_last : (front ts : List Token) → AreLast ts → ts ≡ front ++ token ∷ rest → (read_from p b (front ++ token ∷ [])).fault ≡ None
+          → length (written p (read_from p b front).progress) < length (written p (read_from p b (front ++ token ∷ [])).progress)
+          → (read_from p b front).progress.games ≡ b.games
+      by_last [] ts last cut passes more = refl
+      by_last (m ∷ mid) _ (quiet ts q has) cut passes more =
+          quiet_games p b (m ∷ mid) (quiet_front (m ∷ mid) (token ∷ rest) (subst AreQuiet cut q))
+      by_last (m ∷ []) _ (one t at) cut passes more =
+          let free = first_passes p b m (token ∷ []) passes in
+          let here = goes_on p b m (token ∷ []) free in
+          let there = goes_on p (progress_after b m) token [] (first_passes p (progress_after b m) token [] (rw here at passes)) in
+          let before = goes_on p b m [] free in
+          let is : token ≡ record { at = at; kind = tokens.end } = cc in
+          rw before (by_next m token (next b.part m.kind) (ap (λ (t : Token). t.kind) is) refl
+          (rw (here ∙ there) at (rw before at more)))
+      by_last (m ∷ n ∷ mid) _ (one t at) cut passes more = absurd (omega (arith, ap (length {A = Token}) cut, length-append mid (token ∷ rest)))

@@ -1,6 +1,6 @@
 -- The token that finishes a game is its marker, which is the Result of its tag section.
 use Rattle.pgn_lexer.specs.Tokens as tokens
-use Rattle.pgn_game.proofs.Words.{Kind, Token, Reason, Stage, AfterLeftBracket, AfterName, AfterValue, Profile, value_of, Game, Part, ◌≡◌, ℕ, false, List, [], ◌∷◌, ◌++◌, Option, None, Some, refl, codes, unwrap_or, IsTrue, IsFalse, not-false, bytes_eq-Decides, refusal, marker_of, is_comment, result_for, text_refusal, Next, going, whole, next, next_in, in_text, at_stage, progress_with, read, games_read, FinishesGame, EndsByMarker, GamesEndByMarker, rules, MarkerInVariation, ResultDiffers, SetUpWithoutFen, Between, AfterTags, InMovetext, ◌&&◌, not, nat_le, sym, ◌∙◌, ◌==◌, bytes_eq, levels_of_part, lacks_fen, depth, ap, Read, subst, Progress}
+use Rattle.pgn_game.proofs.Words.{Kind, Token, Reason, Stage, AfterLeftBracket, AfterName, AfterValue, Profile, value_of, Game, Part, ◌≡◌, ℕ, false, List, [], ◌∷◌, ◌++◌, Option, None, Some, refl, codes, unwrap_or, IsTrue, IsFalse, not-false, bytes_eq-Decides, refusal, marker_of, is_comment, result_for, text_refusal, Next, going, whole, next, next_in, in_text, at_stage, progress_with, read, games_read, FinishesGame, EndsByMarker, GamesEndByMarker, rules, MarkerInVariation, ResultDiffers, SetUpWithoutFen, Between, AfterTags, InMovetext, ◌&&◌, not, nat_le, sym, ◌∙◌, ◌==◌, bytes_eq, levels_of_part, lacks_fen, depth, ap, Read, subst, Progress, arith, common_steps}
 use Rattle.pgn_game.proofs.exporting.PairsExportedAgain.{result_of}
 use Rattle.pgn_game.proofs.pairs.ExportedValues.{exported_known}
 use Rattle.pgn_game.proofs.refusals.RefusalsByStage.{is_textual, is_lexical, after_tags, between, rest_passed, test_failed, text_row}
@@ -59,14 +59,7 @@ passes_in_text p InMovetext part k g is free leads = sym (text_row p part k is.s
 same_result : (p : Profile) (part : Part) (k : Kind) (marker : List ℕ) → marker_of k ≡ Some marker → text_refusal p part k ≡ None
     → marker ≡ unwrap_or (value_of part.pairs (codes "Result")) (result_for p.missing_result marker)
 same_result p part k marker is free =
-    let rows = sym (marker_refusal p part k is) ∙ free in
-    let value = unwrap_or (value_of part.pairs (codes "Result")) (result_for p.missing_result marker) in
-    let deep = depth (levels_of_part part) in
-    let same : not (bytes_eq marker value) ≡ false =
-    same_at_zero (not (bytes_eq marker value)) deep (test_failed (nat_le 1 deep) MarkerInVariation _ rows)
-    (test_failed (other_if p.missing_result part.pairs (Some marker) && (deep == 0)) ResultDiffers None
-    (rest_passed (nat_le 1 deep) MarkerInVariation rows)) in
-    (bytes_eq-Decides marker value).0 (not-false (bytes_eq marker value) same)
+    grind (arith, common_steps, marker_refusal, unwrap_or, value_of, codes, result_for, depth, levels_of_part, bytes_eq, same_at_zero, test_failed, nat_le, other_if, rest_passed, bytes_eq-Decides, not-false)
 
 -- ---- A game that was read
 
@@ -96,9 +89,7 @@ module _ (p : Profile) (given : List Token) (marker : Token) (finishes : Finishe
   by_next : (nx : Next) → refusal p part marker.kind ≡ None → next part marker.kind ≡ nx
       → (read p (given ++ marker ∷ [])).progress ≡ progress_with (games_read p given) nx → EndsByMarker p given marker finishes.game
   by_next (going to) free leads after = absurd (not_one_more finishes.game (sym (ap (λ (b : Progress). b.games) after) ∙ finishes.one_more))
-  by_next (whole g) free leads after =
-      of_game g free leads
-      (last_is (games_read p given) (games_read p given) (sym (ap (λ (b : Progress). b.games) after) ∙ finishes.one_more))
+  by_next (whole g) free leads after = grind (arith, common_steps, of_game, last_is, games_read)
 
   by_test : (o : Option Reason) → refusal p part marker.kind ≡ o → EndsByMarker p given marker finishes.game
   by_test (Some reason) is = absurd (none_or_some _ (ap (λ (r : Read). r.fault) (read-refuses p given marker [] reason before is)) finishes.passes)

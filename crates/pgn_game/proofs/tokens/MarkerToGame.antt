@@ -1,7 +1,6 @@
 -- The tokens up to a marker, and the game that it ends; or the token that was not taken.
-use Rattle.pgn_game.proofs.Words.{Token, Fault, Profile, Missing, counts_as, takes_the_marker, Game, ◌≡◌, ℕ, ◌+◌, Bool, false, List, [], ◌∷◌, ◌++◌, Option, None, Some, Result, Ok, Err, refl, sym, ap, subst, ◌∙◌, Device, Appends, Appends-nil, Appends-trans, append-nil, append_assoc, Standing, Finished, IsAccepted, Reason, WriteFault, IsTrue, true, ◌⊎◌, inl, inr, bytes_seen, due, with_missing, counting, ReaderState, IsKnown, as_written, known_text, Gains, finished_game_of, Converter, game_in_reader, HasRead, TakesToken, FaultAtEnd, OneGame, SameGames, ReadsMore, Meets, NotTaken, EndsGame, due_as, ended_by, part_after}
+use Rattle.pgn_game.proofs.Words.{Token, Fault, Profile, Missing, counts_as, takes_the_marker, Game, ◌≡◌, ℕ, ◌+◌, Bool, false, List, [], ◌∷◌, ◌++◌, Option, None, Some, Result, Ok, Err, refl, sym, ap, subst, ◌∙◌, Device, Appends, Appends-nil, Appends-trans, append-nil, append_assoc, Standing, Finished, IsAccepted, Reason, WriteFault, IsTrue, true, ◌⊎◌, inl, inr, bytes_seen, due, with_missing, counting, ReaderState, IsKnown, as_written, known_text, Gains, finished_game_of, Converter, game_in_reader, HasRead, TakesToken, FaultAtEnd, OneGame, SameGames, ReadsMore, Meets, NotTaken, EndsGame, due_as, ended_by, part_after, known_result, arith, common_steps}
 use Rattle.pgn_game.specs.declared.marker.Mark.{Mark as CodeMark}
-use Rattle.pgn_game.specs.games.Profile.{known_result}
 use Rattle.pgn_game.proofs.tokens.OneMoreToken.{due_grows, gains_more, stops_more, games_still, counts_still, position_still}
 use Rattle.pgn_game.proofs.tokens.AcceptedToConverter.{at_fault, at_refusal, gains_token, has_read_game, one_game, written_same}
 
@@ -11,9 +10,7 @@ known_is (counts_as text) told known = refl
 known_is takes_the_marker told known = absurd (cc)
 
 pub written_known : (p : Profile) (r : ReaderState) → IsKnown p → r.profile ≡ p → as_written r ≡ p
-written_known p r known is =
-    ap (λ (q : Profile). counting q (known_text q.missing_result r.writing.told)) is
-    ∙ ap (with_missing p) (known_is p.missing_result r.writing.told known)
+written_known p r known is = grind (arith, common_steps, counting, known_text, with_missing, known_is)
 
 -- the reader that has met a marker, and the one that has failed at a token, write as before it
 pub written_at_marker : {p : Profile} {given tokens : List Token} {t : Token} {m : CodeMark} {c : Converter} {a b : Option (List ℕ)}
@@ -26,34 +23,12 @@ written_at_fault {new} h = written_same new h.now.reading (sym h.profile) (sym h
 
 -- More tokens behind more tokens.
 pub reads_none : (p : Profile) (given : List Token) (now : Converter) (o : Option (List ℕ)) → HasRead p now given → ReadsMore p given given now o o
-reads_none p given now o has_read =
-    record {
-      more = [];
-      extends = sym (append-nil given);
-      has_read = has_read;
-      no_game = refl;
-      gains = record { text = []; due_for = sym (append-nil (due_as (as_written now.reading) p given)); appended = Appends-nil o };
-    }
+reads_none p given now o has_read = grind (arith, common_steps, append-nil, due_as, as_written)
 
 module _ (p : Profile) (given mid : List Token) (now : Converter) (a b : Option (List ℕ)) (first : ReadsMore p given mid now a b) where
   pub reads_more : (tokens : List Token) (new : Converter) (c : Option (List ℕ)) → ReadsMore p mid tokens new b c
       → as_written new.reading ≡ as_written now.reading → ReadsMore p given tokens new a c
-  reads_more tokens new c second same =
-      let w : Profile = as_written new.reading in
-      let before : due_as w p mid ≡ due_as w p given ++ first.gains.text =
-      subst (λ (w : Profile). due_as w p mid ≡ due_as w p given ++ first.gains.text) (sym same) first.gains.due_for in
-      record {
-        more = first.more ++ second.more;
-        extends = second.extends ∙ ap (λ (l : List Token). l ++ second.more) first.extends ∙ append_assoc given first.more second.more;
-        has_read = second.has_read;
-        no_game = second.no_game ∙ first.no_game;
-        gains = record {
-          text = first.gains.text ++ second.gains.text;
-          due_for = second.gains.due_for ∙ ap (λ (l : List ℕ). l ++ second.gains.text) before
-              ∙ append_assoc (due_as w p given) first.gains.text second.gains.text;
-          appended = Appends-trans a b c _ _ first.gains.appended second.gains.appended;
-        };
-      }
+  reads_more tokens new c second same = grind (arith, common_steps, as_written, due_as, append_assoc)
 
   pub meets_more : (tokens : List Token) (t : Token) (m : CodeMark) (new : Converter) (c : Option (List ℕ)) → Meets p mid tokens t m new b c
       → as_written new.reading ≡ as_written now.reading → Meets p given tokens t m new a c
@@ -117,13 +92,7 @@ gains_unseen p given more tokens a c unseen extends =
 -- What was read and written up to a token.
 module _ (p : Profile) (given tokens : List Token) where
   pub gains_known : (now : Converter) (a c : Option (List ℕ)) → ShowsDue p a → ReadsMore p given tokens now a c → Gains p given tokens a c
-  gains_known now a c (inl known) reads =
-      let w = written_known p now.reading known reads.has_read.profile in
-      record {
-        text = reads.gains.text;
-        due_for = subst (λ (w : Profile). due_as w p tokens ≡ due_as w p given ++ reads.gains.text) w reads.gains.due_for;
-        appended = reads.gains.appended;
-      }
+  gains_known now a c (inl known) reads = grind (arith, common_steps, written_known, due_as)
   gains_known now a c (inr unseen) reads = gains_unseen p given reads.more tokens a c unseen reads.extends
 
   -- behind what was read before
@@ -188,9 +157,7 @@ module _ (p : Profile) (given tokens : List Token) (t : Token) (m : CodeMark) (c
         gains_more (gains_known p given tokens before a sink.before (inl known) meets.reads)
         (gains_token p before tokens t c.lexer new false meets.reads.has_read (takes (Ok tt) ends).keeps.profile
         (takes (Ok tt) ends).keeps.probes (takes (Ok tt) ends).keeps.writing w h.free h.appended)
-    gains_marker (inr unseen) =
-        gains_unseen p given (meets.reads.more ++ t ∷ []) (tokens ++ t ∷ []) a sink.after unseen
-        (ap (λ (ts : List Token). ts ++ t ∷ []) meets.reads.extends ∙ append_assoc given meets.reads.more (t ∷ []))
+    gains_marker (inr unseen) = grind (arith, common_steps, gains_unseen, append_assoc)
 
   pub fault_of_marker : (us : List Token) (f : Fault) → ShowsStop p a f.reason → EndsGame c.reading m new (Err f) sink
       → FaultAtEnd p given (tokens ++ t ∷ us) f new a sink.after

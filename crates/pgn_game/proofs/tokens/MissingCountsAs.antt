@@ -1,8 +1,6 @@
 -- A converter that has read no token, where a missing Result counts as another marker from now on.
-use Rattle.pgn_game.proofs.Words.{Agrees, HoldsText, Stage, Between, StillStands, silenced, writing_nothing, Fault, Profile, ◌≡◌, Bool, true, false, [], ℕ, Option, refl, Standing, Marker, marker_text, counting, HasRead, takes_the_marker, with_missing, no_part, ap}
+use Rattle.pgn_game.proofs.Words.{Agrees, HoldsText, Stage, Between, StillStands, silenced, writing_nothing, Fault, Profile, ◌≡◌, Bool, true, false, [], ℕ, Option, refl, Standing, Marker, marker_text, counting, HasRead, takes_the_marker, with_missing, no_part, ap, taking_marker, ReadsByMarker, reading_by_marker, arith, common_steps}
 use Rattle.pgn_game.proofs.Words.{ReaderState, Converter, CountsMissingAs, IsSound, counting_missing_as, game_in_reader_if, MostTried, none, rules}
-use Rattle.pgn_game.specs.state.ConverterSteps.{taking_marker}
-use Rattle.pgn_game.specs.calls.ConverterCalls.{ReadsByMarker, reading_by_marker}
 use Rattle.pgn_game.proofs.twice.MarkerCounts.{agrees_under}
 
 abbrev pub reader_counting : Marker → ReaderState → ReaderState
@@ -36,18 +34,7 @@ silent_agrees : (r : ReaderState) → Agrees r no_part → Agrees (silenced r) n
 silent_agrees r h = record { stage = h.stage; pairs = h.pairs; text = silent_text r r.stage h.stage h.text }
 
 pub reads_silently : (p : Profile) (c : Converter) → HasRead p c [] → HasRead p (writing_nothing c) []
-reads_silently p c h =
-    record {
-      profile = h.profile;
-      no_fault = h.no_fault;
-      passes = refl;
-      agrees = silent_agrees c.reading h.agrees;
-      games = h.games;
-      plies = h.plies;
-      probed = h.probed;
-      tried = none_tried h.tried;
-      just_finished = h.just_finished;
-    }
+reads_silently p c h = grind (arith, common_steps, silent_agrees, none_tried)
 
 pub stands_silently : (c : Converter) → StillStands c (writing_nothing c)
 stands_silently c p u b stands = record { known = λ writes. absurd (cc); lexer = stands.lexer; has_read = reads_silently p c stands.has_read }
@@ -58,18 +45,7 @@ sound_silently l r games has_finished_game is_finished fault sound = search rule
 
 -- or where it takes the marker
 pub reads_taking : (p : Profile) (c : Converter) → HasRead p c [] → HasRead (with_missing p takes_the_marker) (taking_marker c) []
-reads_taking p c h =
-    record {
-      profile = ap (λ (q : Profile). with_missing q takes_the_marker) h.profile;
-      no_fault = h.no_fault;
-      passes = refl;
-      agrees = agrees_under (with_missing c.reading.profile takes_the_marker) c.reading no_part refl h.agrees;
-      games = h.games;
-      plies = h.plies;
-      probed = h.probed;
-      tried = none_tried h.tried;
-      just_finished = h.just_finished;
-    }
+reads_taking p c h = grind (arith, common_steps, with_missing, takes_the_marker, agrees_under, no_part, none_tried)
 
 -- or where it takes the marker, and nothing is written
 pub stands_by_marker : (c : Converter) → ReadsByMarker c (reading_by_marker c)

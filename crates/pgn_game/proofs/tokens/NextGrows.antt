@@ -35,12 +35,12 @@ module _ (tags deepest : ℕ) (mode : Mode) (ps : List Pair) (name : List ℕ) (
   stage_grows (counts_as text) InMovetext k = in_movetext_grows text k
   stage_grows (counts_as text) _ k = (_, refl)
 
-pub next_grows : (p : Profile) (part : Part) (k : Kind) → IsPrefix (torn p part) (text_next p (next part k))
-next_grows p part k = stage_grows p.tags p.depth p.mode part.pairs part.name part.items p.missing_result part.stage k
+module _ (p : Profile) (part : Part) (k : Kind) where
+  pub next_grows : IsPrefix (torn p part) (text_next p (next part k))
+  next_grows = stage_grows p.tags p.depth p.mode part.pairs part.name part.items p.missing_result part.stage k
 
--- so it is what stands written and the rest
-pub next_is : (p : Profile) (part : Part) (k : Kind)
-    → text_next p (next part k) ≡ torn p part ++ drop (length (torn p part)) (text_next p (next part k))
-next_is p part k =
-    let h = next_grows p part k in
-    rw (ap (drop (length (torn p part))) h.1 ∙ drop-append_seam (torn p part) h.0) h.1
+  -- so it is what stands written and the rest
+  pub next_is : text_next p (next part k) ≡ torn p part ++ drop (length (torn p part)) (text_next p (next part k))
+  next_is =
+      let h = next_grows in
+      rw (ap (drop (length (torn p part))) h.1 ∙ drop-append_seam (torn p part) h.0) h.1

@@ -1,5 +1,5 @@
 -- Behind the last piece no game is finished before a token that is rejected, or a write that fails.
-use Rattle.pgn_game.proofs.Words.{Token, Fault, Profile, ◌≡◌, ℕ, ◌+◌, List, [], ◌∷◌, ◌++◌, length, Option, None, refl, sym, ap, subst, ◌∙◌, inl, inr, ◌⊎◌, append-nil, append_assoc, length-append, arith, tokens_of, Standing, coming, HasLeft, Progress, progress_after, no_progress, Read, read, read_from, due, Stops, refused_stop as refused, unwritten, StopsWriting, games_before, rules}
+use Rattle.pgn_game.proofs.Words.{Token, Fault, Profile, ◌≡◌, ℕ, ◌+◌, List, [], ◌∷◌, ◌++◌, length, Option, None, refl, sym, ap, subst, ◌∙◌, inl, inr, ◌⊎◌, append-nil, append_assoc, length-append, arith, tokens_of, Standing, coming, HasLeft, Progress, progress_after, no_progress, Read, read, read_from, due, Stops, refused_stop as refused, unwritten, StopsWriting, games_before, rules, common_steps}
 use Rattle.pgn_game.proofs.tokens.OneMoreToken.{first_passes, goes_on, due_grows}
 use Rattle.pgn_game.proofs.tokens.LastTokens.{AddsOne, left_games, none_finished_before}
 
@@ -72,12 +72,4 @@ pub none_before_fault : (p : Profile) (u : List ℕ) {given : List Token} (l : S
 none_before_fault p u {given} l left passes {a} {b} (unwritten at writing) =
     by_parts p given l (tokens_of u) passes left at a b writing (parted given writing.front (sym left ∙ writing.cut))
 none_before_fault p u {given} l left passes (refused f fault gains) =
-    by_games (subst (AddsOne (read p given).progress.games) (sym reads) (left_games p (read p given).progress l))
-  where
-    reads : read p (tokens_of u) ≡ read_from p (read p given).progress (coming l [])
-    reads = ap (read p) left ∙ reads_behind p no_progress given (coming l []) passes
-
-    by_games : AddsOne (read p given).progress.games (read p (tokens_of u))
-        → (read p (tokens_of u)).progress.games ≡ (read p given).progress.games
-    by_games (inl same) = same
-    by_games (inr (none, more)) = absurd (cc (none, fault))
+    grind (arith, common_steps, read, left_games, tokens_of, read_from, coming, reads_behind, no_progress, inl, inr)

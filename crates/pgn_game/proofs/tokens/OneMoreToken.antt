@@ -1,5 +1,5 @@
 -- One token more: what was read, and what is due for it.
-use Rattle.pgn_game.proofs.Words.{Bool, Kind, Token, Reason, Fault, Mode, Profile, Missing, counts_as, takes_the_marker, Game, Part, no_part, ◌≡◌, ℕ, ◌+◌, List, [], ◌∷◌, ◌++◌, length, Option, None, Some, refl, sym, ap, ◌∙◌, append_assoc, append-nil, length-append, arith, take-append-add, Appends-trans, Appends-nil, refusal, text_next, gain, Gains, game_text, text_of_games as text_of, torn_for, Next, next, Progress, progress_with, progress_after, no_progress, Read, read_from, read, written_so_far as written, due, IsPrefix, DueGrows, Stops, refused_stop as refused, unwritten, StopsWriting, games_before, position_at_stop, ProbesAtStop, rules, subst, Appends, torn, going, whole}
+use Rattle.pgn_game.proofs.Words.{Bool, Kind, Token, Reason, Fault, Mode, Profile, Missing, counts_as, takes_the_marker, Game, Part, no_part, ◌≡◌, ℕ, ◌+◌, List, [], ◌∷◌, ◌++◌, length, Option, None, Some, refl, sym, ap, ◌∙◌, append_assoc, append-nil, length-append, arith, take-append-add, Appends-trans, Appends-nil, refusal, text_next, gain, Gains, game_text, text_of_games as text_of, torn_for, Next, next, Progress, progress_with, progress_after, no_progress, Read, read_from, read, written_so_far as written, due, IsPrefix, DueGrows, Stops, refused_stop as refused, unwritten, StopsWriting, games_before, position_at_stop, ProbesAtStop, rules, subst, Appends, torn, going, whole, common_steps}
 use Rattle.pgn_game.proofs.tokens.NextGrows.{next_is}
 
 abbrev read_as : Progress → Option Fault → Read
@@ -10,53 +10,41 @@ abbrev pub after_test : Profile → Progress → Token → List Token → Option
 after_test p b t ts (Some reason) = read_as b (Some (record { at = t.at; reason = reason }))
 after_test p b t ts None = read_from p (progress_after b t) ts
 
-pub read_from-test : (p : Profile) (b : Progress) (t : Token) (ts : List Token)
-    → read_from p b (t ∷ ts) ≡ after_test p b t ts (refusal p b.part t.kind)
-read_from-test p b t ts = cc
+module _ (p : Profile) (b : Progress) (t : Token) (ts : List Token) where
+  pub read_from-test : read_from p b (t ∷ ts) ≡ after_test p b t ts (refusal p b.part t.kind)
+  read_from-test = cc
 
--- what holds where a token is rejected, and where it passes, holds of what is read from it on
-pub by_token : (p : Profile) (b : Progress) (t : Token) (ts : List Token) (P : Read → Type 0)
-    → ((reason : Reason) → refusal p b.part t.kind ≡ Some reason → P (read_as b (Some (record { at = t.at; reason = reason }))))
-    → (refusal p b.part t.kind ≡ None → P (read_from p (progress_after b t) ts)) → P (read_from p b (t ∷ ts))
-by_token p b t ts P rejected passes = subst P (sym (read_from-test p b t ts)) (by_test (refusal p b.part t.kind) refl)
-  where
-    by_test : (o : Option Reason) → refusal p b.part t.kind ≡ o → P (after_test p b t ts o)
-    by_test (Some reason) is = rejected reason is
-    by_test None is = passes is
+  -- what holds where a token is rejected, and where it passes, holds of what is read from it on
+  pub by_token : (P : Read → Type 0) → ((reason : Reason) → refusal p b.part t.kind ≡ Some reason → P (read_as b (Some (record { at = t.at; reason = reason })))) → (refusal p b.part t.kind ≡ None → P (read_from p (progress_after b t) ts)) → P (read_from p b (t ∷ ts))
+  by_token P rejected passes = grind (arith, common_steps, read_from-test, refusal)
 
-passed : (p : Profile) (b : Progress) (t : Token) (ts : List Token) (o : Option Reason) → (after_test p b t ts o).fault ≡ None → o ≡ None
-passed p b t ts (Some reason) e = absurd (cc)
-passed p b t ts None e = refl
+  passed : (o : Option Reason) → (after_test p b t ts o).fault ≡ None → o ≡ None
+  passed (Some reason) e = absurd (cc)
+  passed None e = refl
 
-pub first_passes : (p : Profile) (b : Progress) (t : Token) (ts : List Token)
-    → (read_from p b (t ∷ ts)).fault ≡ None → refusal p b.part t.kind ≡ None
-first_passes p b t ts e = passed p b t ts (refusal p b.part t.kind) (rw (read_from-test p b t ts) at e)
+  pub first_passes : (read_from p b (t ∷ ts)).fault ≡ None → refusal p b.part t.kind ≡ None
+  first_passes e = passed (refusal p b.part t.kind) (rw (read_from-test) at e)
 
-pub goes_on : (p : Profile) (b : Progress) (t : Token) (ts : List Token)
-    → refusal p b.part t.kind ≡ None → read_from p b (t ∷ ts) ≡ read_from p (progress_after b t) ts
-goes_on p b t ts none = read_from-test p b t ts ∙ ap (after_test p b t ts) none
+  pub goes_on : refusal p b.part t.kind ≡ None → read_from p b (t ∷ ts) ≡ read_from p (progress_after b t) ts
+  goes_on none = read_from-test ∙ ap (after_test p b t ts) none
 
-after_those : (p : Profile) (b : Progress) (ts : List Token) (t : Token) (us : List Token) → (read_from p b ts).fault ≡ None
-    → read_from p b (ts ++ t ∷ us) ≡ after_test p (read_from p b ts).progress t us (refusal p (read_from p b ts).progress.part t.kind)
-after_those p b [] t us e = read_from-test p b t us
-after_those p b (x ∷ xs) t us e =
-    let none = first_passes p b x xs e in
-    let here : read_from p b (x ∷ xs) ≡ read_from p (progress_after b x) xs = goes_on p b x xs none in
-    cc (goes_on p b x (xs ++ t ∷ us) none, after_those p (progress_after b x) xs t us (rw here at e), here)
+module _ (p : Profile) where
+  after_those : (b : Progress) (ts : List Token) (t : Token) (us : List Token) → (read_from p b ts).fault ≡ None → read_from p b (ts ++ t ∷ us) ≡ after_test p (read_from p b ts).progress t us (refusal p (read_from p b ts).progress.part t.kind)
+  after_those b [] t us e = read_from-test p b t us
+  after_those b (x ∷ xs) t us e =
+      let none = first_passes p b x xs e in
+      let here : read_from p b (x ∷ xs) ≡ read_from p (progress_after b x) xs = goes_on p b x xs none in
+      cc (goes_on p b x (xs ++ t ∷ us) none, after_those (progress_after b x) xs t us (rw here at e), here)
 
-pub read-passes : (p : Profile) (given : List Token) (t : Token)
-    → (read p given).fault ≡ None → refusal p (read p given).progress.part t.kind ≡ None
-    → read p (given ++ t ∷ []) ≡ read_as (progress_after (read p given).progress t) None
-read-passes p given t e none = after_those p no_progress given t [] e ∙ ap (after_test p (read p given).progress t []) none
+  pub read-passes : (given : List Token) (t : Token) → (read p given).fault ≡ None → refusal p (read p given).progress.part t.kind ≡ None → read p (given ++ t ∷ []) ≡ read_as (progress_after (read p given).progress t) None
+  read-passes given t e none = after_those no_progress given t [] e ∙ ap (after_test p (read p given).progress t []) none
 
-pub read-refuses : (p : Profile) (given : List Token) (t : Token) (us : List Token) (reason : Reason)
-    → (read p given).fault ≡ None → refusal p (read p given).progress.part t.kind ≡ Some reason
-    → read p (given ++ t ∷ us) ≡ read_as (read p given).progress (Some (record { at = t.at; reason = reason }))
-read-refuses p given t us reason e some = after_those p no_progress given t us e ∙ ap (after_test p (read p given).progress t us) some
+  pub read-refuses : (given : List Token) (t : Token) (us : List Token) (reason : Reason) → (read p given).fault ≡ None → refusal p (read p given).progress.part t.kind ≡ Some reason → read p (given ++ t ∷ us) ≡ read_as (read p given).progress (Some (record { at = t.at; reason = reason }))
+  read-refuses given t us reason e some = after_those no_progress given t us e ∙ ap (after_test p (read p given).progress t us) some
 
-pub text_of-snoc : (p : Profile) (games : List Game) (g : Game) → text_of p (games ++ g ∷ []) ≡ text_of p games ++ game_text p g
-text_of-snoc p [] g = append-nil (game_text p g)
-text_of-snoc p (x ∷ xs) g = rw (text_of-snoc p xs g) (sym (append_assoc (game_text p x) (text_of p xs) (game_text p g)))
+  pub text_of-snoc : (games : List Game) (g : Game) → text_of p (games ++ g ∷ []) ≡ text_of p games ++ game_text p g
+  text_of-snoc [] g = append-nil (game_text p g)
+  text_of-snoc (x ∷ xs) g = rw (text_of-snoc xs g) (sym (append_assoc (game_text p x) (text_of p xs) (game_text p g)))
 
 -- where no game is begun, nothing stands written of one
 pub torn-none : (missing : Missing) (mode : Mode) → torn_for missing mode no_part ≡ []
@@ -64,13 +52,13 @@ torn-none (counts_as text) mode = refl
 torn-none takes_the_marker mode = refl
 
 -- what is written when a token has led so far
-written_with : (p : Profile) (games : List Game) (nx : Next) → written p (progress_with games nx) ≡ text_of p games ++ text_next p nx
-written_with p games (going after) = refl
-written_with p games (whole g) = rw (torn-none p.missing_result p.mode) (append-nil (text_of p (games ++ g ∷ [])) ∙ text_of-snoc p games g)
+module _ (p : Profile) (games : List Game) where
+  written_with : (nx : Next) → written p (progress_with games nx) ≡ text_of p games ++ text_next p nx
+  written_with (going after) = refl
+  written_with (whole g) = rw (torn-none p.missing_result p.mode) (append-nil (text_of p (games ++ g ∷ [])) ∙ text_of-snoc p games g)
 
-written-next : (p : Profile) (games : List Game) (part : Part) (k : Kind)
-    → written p (progress_with games (next part k)) ≡ written p (record { games = games; part = part }) ++ gain p part k
-written-next p games part k = cc (written_with p games (next part k), next_is p part k, append_assoc (text_of p games) (torn p part) (gain p part k))
+  written-next : (part : Part) (k : Kind) → written p (progress_with games (next part k)) ≡ written p (record { games = games; part = part }) ++ gain p part k
+  written-next part k = cc (written_with (next part k), next_is p part k, append_assoc (text_of p games) (torn p part) (gain p part k))
 
 pub due-passes : (p : Profile) (given : List Token) (t : Token)
     → (read p given).fault ≡ None → refusal p (read p given).progress.part t.kind ≡ None

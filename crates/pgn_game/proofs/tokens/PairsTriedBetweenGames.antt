@@ -1,8 +1,7 @@
 -- Between games no pair is tried: the tokens behind the last game of a text without a fault.
 use Rattle.pgn_lexer.specs.Tokens as tokens
 use Rattle.pgn_game.specs.calls.MostTried as most_tried
-use Rattle.pgn_game.specs.calls.MostTried.{CostsUnlessRefused}
-use Rattle.pgn_game.proofs.Words.{◌≡◌, ◌⊎◌, inl, inr, ℕ, true, false, ◌||◌, List, [], ◌∷◌, Option, None, Some, refl, sym, ap, subst, ◌∙◌, Parts, Kind, Token, Mode, Reason, Stage, Between, Pair, Item, Game, Part, no_part, progress_with, Profile, refusal, is_at, is_comment, is_end, Next, going, whole, next, next_in, in_text, Progress, Tries, MostFrom, rules}
+use Rattle.pgn_game.proofs.Words.{◌≡◌, ◌⊎◌, inl, inr, ℕ, true, false, ◌||◌, List, [], ◌∷◌, Option, None, Some, refl, sym, ap, subst, ◌∙◌, Parts, Kind, Token, Mode, Reason, Stage, Between, Pair, Item, Game, Part, no_part, progress_with, Profile, refusal, is_at, is_comment, is_end, Next, going, whole, next, next_in, in_text, Progress, Tries, MostFrom, rules, CostsUnlessRefused}
 use Rattle.pgn_game.proofs.reading.RunsToEnd.{Runs, at, kinds, ends, goes, finishes}
 
 -- ---- A game that is begun is finished before the end
@@ -57,19 +56,16 @@ tries_none p _ is = absurd (cc)
 abbrev between : List Game → Progress
 between games = record { games = games; part = no_part }
 
-passes_one : (p : Profile) (games : List Game) (t : Token) (ts : List Token) → refusal p no_part t.kind ≡ None
-    → next no_part t.kind ≡ going no_part → (is_comment t.kind || is_end t.kind) ≡ true
-    → MostFrom false p (between games) ts 0 → MostFrom false p (between games) (t ∷ ts) 0
-passes_one p games t ts free leads dropped rest =
-    most_tried.passes (between games) t ts 0 0 free (tries_none p t.kind dropped)
-    (subst (λ n. MostFrom false p (progress_with games n) ts 0) (sym leads) rest)
+module _ (p : Profile) (games : List Game) (t : Token) (ts : List Token) where
+  passes_one : refusal p no_part t.kind ≡ None → next no_part t.kind ≡ going no_part → (is_comment t.kind || is_end t.kind) ≡ true → MostFrom false p (between games) ts 0 → MostFrom false p (between games) (t ∷ ts) 0
+  passes_one free leads dropped rest =
+      most_tried.passes (between games) t ts 0 0 free (tries_none p t.kind dropped)
+      (subst (λ n. MostFrom false p (progress_with games n) ts 0) (sym leads) rest)
 
-one_more : (p : Profile) (games : List Game) (t : Token) (ts : List Token) {to : Part} {ks : List Kind} → Runs p to ks []
-    → refusal p no_part t.kind ≡ None → next no_part t.kind ≡ going to → (to ≡ no_part → MostFrom false p (between games) ts 0)
-    → Drops t.kind (going to) → MostFrom false p (between games) (t ∷ ts) 0
-one_more p games t ts runs free leads rest (inl begun) = absurd (finishes_one p runs begun refl)
-one_more p games t ts runs free leads rest (inr (same, dropped)) =
-    passes_one p games t ts free (leads ∙ ap going same) dropped (rest same)
+  one_more : {to : Part} {ks : List Kind} → Runs p to ks [] → refusal p no_part t.kind ≡ None → next no_part t.kind ≡ going to → (to ≡ no_part → MostFrom false p (between games) ts 0) → Drops t.kind (going to) → MostFrom false p (between games) (t ∷ ts) 0
+  one_more runs free leads rest (inl begun) = absurd (finishes_one p runs begun refl)
+  one_more runs free leads rest (inr (same, dropped)) =
+      passes_one free (leads ∙ ap going same) dropped (rest same)
 
 tried_from : (p : Profile) {part : Part} {ks : List Kind} {gs : List Game} → Runs p part ks gs → part ≡ no_part → gs ≡ []
     → (ts : List Token) (games : List Game) → kinds ts ≡ ks → MostFrom false p (between games) ts 0

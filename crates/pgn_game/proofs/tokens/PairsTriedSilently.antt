@@ -1,15 +1,9 @@
 -- How many pairs are tried for a token by a reader that writes nothing.
-use Rattle.std.proofs.lemmas.Bool.{and_parts}
-use Rattle.chess_rules.specs.Laws.{FewCandidates}
-use Rattle.chess_text.specs.Form.{form_of}
-use Rattle.chess_text.specs.Laws.{ReadingAFormIsSpelling}
 use Rattle.chess_text.specs.declared.form.Form.TheVariants.{Castle, Man}
 use Rattle.pgn_lexer.specs.Tokens as tokens
-use Rattle.pgn_game.specs.calls.Tried.{Costs}
 use Rattle.pgn_game.specs.games.Game.{move}
 use Rattle.pgn_game.specs.calls.MostTried as most_tried
-use Rattle.pgn_game.specs.calls.MostTried.{CostsUnlessRefused, is_sought}
-use Rattle.pgn_game.proofs.Words.{◌≡◌, ℕ, ◌≤◌, max, Bool, true, false, ◌&&◌, ◌||◌, not, List, [], ◌∷◌, take, drop, Option, None, Some, option_map, Result, Ok, Err, refl, sym, subst, ◌∙◌, arith, Parts, Form, Played, SanFault, NoMove, Ambiguous, move_of_form, form_pairs, CostsAnswer, CostsForm, Kind, Token, Mode, Reason, AmbiguousMove, Profile, Item, Part, refusal, row, rows, is_many_moves, is_number, is_score, is_outside_tag_pairs, position_in, depth, levels_of_part, next, CostsIf, CostsToFind, CostsToWrite, MostFrom, Tries, added, is_written, Progress, progress_after, read_from, move_of}
+use Rattle.pgn_game.proofs.Words.{◌≡◌, ℕ, ◌≤◌, max, Bool, true, false, ◌&&◌, ◌||◌, not, List, [], ◌∷◌, take, drop, Option, None, Some, option_map, Result, Ok, Err, refl, sym, subst, ◌∙◌, arith, Parts, Form, Played, SanFault, NoMove, Ambiguous, move_of_form, form_pairs, CostsAnswer, CostsForm, Kind, Token, Mode, Reason, AmbiguousMove, Profile, Item, Part, refusal, row, rows, is_many_moves, is_number, is_score, is_outside_tag_pairs, position_in, depth, levels_of_part, next, CostsIf, CostsToFind, CostsToWrite, MostFrom, Tries, added, is_written, Progress, progress_after, read_from, move_of, and_parts, FewCandidates, form_of, ReadingAFormIsSpelling, Costs, CostsUnlessRefused, is_sought, common_steps}
 use Rattle.pgn_game.proofs.exporting.GameToResult.{row_fails}
 use Rattle.pgn_game.proofs.tokens.OneMoreToken.{goes_on}
 
@@ -48,9 +42,7 @@ module _ (few : FewCandidates) (spelling : ReadingAFormIsSpelling) where
   few_found part _ n h = omega (arith, h)
 
   few_tried : (p : Profile) (part : Part) (k : Kind) (n : ℕ) → Tries true p part k n → n ≤ 8
-  few_tried p part k n h =
-      subst (λ (m : ℕ). m ≤ 8) (sym (none_to_write (refusal p part k) (depth (levels_of_part part)) (position_in part) (added part (next part k)) h.found n h.writes))
-      (few_found part k h.found h.finds)
+  few_tried p part k n h = grind (arith, common_steps, none_to_write, refusal, depth, levels_of_part, position_in, added, next, few_found)
 
   pub tries_few : (p : Profile) {b : Progress} {ts : List Token} {n : ℕ} → MostFrom true p b ts n → n ≤ 8
   tries_few p (most_tried.none c) = omega arith
@@ -88,9 +80,7 @@ sought_once : (p : Profile) (part : Part) (s : List ℕ) → refusal p part (tok
     → is_many_moves (move_of (position_in part) s) ≡ false
 unfolding refusal
 sought_once p part s free sought =
-    let k = tokens.symbol s in
-    one_move (is_outside_tag_pairs part) (is_number s) (is_score s) (is_many_moves (move_of (position_in part) s)) sought
-    (row_fails (take 15 (rows p part k)) (row AmbiguousMove _) (drop 16 (rows p part k)) free)
+    grind (arith, common_steps, one_move, is_outside_tag_pairs, is_number, is_score, is_many_moves, move_of, position_in, row_fails, rows, row)
 
 alike_if : (sought : Bool) (p : Parts) (s : List ℕ) (n m : ℕ) → (sought ≡ true → is_many_moves (move_of p s) ≡ false)
     → CostsIf sought p s n → CostsIf sought p s m → n ≡ m
@@ -114,13 +104,7 @@ more_to_add (Some reason) mode deep here items n m h = omega (arith, h)
 
 fewer_tried : (p : Profile) (part : Part) (k : Kind) (n m : ℕ) → refusal p part k ≡ None → Tries true p part k n → Tries false p part k m → n ≤ m
 fewer_tried p part k n m free silent writes =
-    let deep = depth (levels_of_part part) in
-    let here = position_in part in
-    let items = added part (next part k) in
-    let none = none_to_write (refusal p part k) deep here items silent.found n silent.writes in
-    let same = alike_found p part k silent.found writes.found free silent.finds writes.finds in
-    let more = more_to_add (refusal p part k) (Some p.mode) deep here items writes.found m writes.writes in
-    omega (arith, none, same, more)
+    grind (arith, common_steps, depth, levels_of_part, position_in, added, next, none_to_write, refusal, alike_found, more_to_add)
 
 -- The first of the tokens is not rejected.
 record Passing (silent : Bool) (p : Profile) (b : Progress) (t : Token) (ts : List Token) (most : ℕ) : Type 0 where

@@ -1,10 +1,8 @@
 -- White space that is passed, with numbers and periods in movetext.
-use Rattle.pgn_lexer.specs.Tokens.{symbol, period}
-use Rattle.pgn_lexer.specs.WholeTokens.{Passes, is_passed, none, over_space, over_token}
-use Rattle.pgn_game.specs.state.ConverterSteps.{StepsOn}
-use Rattle.pgn_game.specs.state.PutResult.{MeetsEntry, PutsItems, TakesEntry, TakesUnlessMarker}
+use Rattle.pgn_lexer.specs.Tokens.{period}
+use Rattle.pgn_lexer.specs.WholeTokens.{none}
 use Rattle.pgn_lexer.specs.declared.token.TokenKind.TheVariants as token_kinds
-use Rattle.pgn_game.proofs.Words.{length-drop, Bool, Marker, Kind, Token, Standing, waiting, InMovetext, ReaderState, Profile, Converter, Device, Reason, ◌≡◌, ℕ, ◌+◌, ◌*◌, ◌<◌, ◌≤◌, List, [], ◌++◌, length, take, drop, Option, None, Ok, IsTrue, refl, sym, ap, subst, ◌∙◌, arith, inl, Appends-nil, More, kind_of, TokenKind, Result, Accepted, may_have_movetext, TakesToken, Reaches, SoFar, first, StandsAfter, next_at, still, decided}
+use Rattle.pgn_game.proofs.Words.{length-drop, Bool, Marker, Kind, Token, Standing, waiting, InMovetext, ReaderState, Profile, Converter, Device, Reason, ◌≡◌, ℕ, ◌+◌, ◌*◌, ◌<◌, ◌≤◌, List, [], ◌++◌, length, take, drop, Option, None, Ok, IsTrue, refl, sym, ap, subst, ◌∙◌, arith, inl, Appends-nil, More, kind_of, TokenKind, Result, Accepted, may_have_movetext, TakesToken, Reaches, SoFar, first, StandsAfter, next_at, still, decided, symbol, Passes, is_passed, over_space, over_token, StepsOn, MeetsEntry, PutsItems, TakesEntry, TakesUnlessMarker, common_steps}
 use Rattle.pgn_game.proofs.ReaderLemmas.{enters, entry_in_movetext, entry_met, begun_before, puts_number, passes_entry, number_no_score, number_free, number_leads, number_untried}
 use Rattle.pgn_game.proofs.tokens.AcceptedToConverter.{ends_within, follows_own, now_at, read_at, reads_token, still_none}
 use Rattle.pgn_game.proofs.tokens.MarkerToGame.{reads_none, reads_more}
@@ -20,18 +18,12 @@ passes_count (over_token l new m n t passes within some scans skipped passed) = 
 pub passes_few : {skips : Bool} {old : Standing} {piece : List ℕ} {new : Standing} {n : ℕ} → Passes skips old piece new n → waiting new ≤ 2 * n + waiting old
 passes_few none = omega arith
 passes_few (over_space l new m passes within is_white scans waits) = let before = passes_few passes in omega (arith, before, waits)
-passes_few (over_token l new m n t passes within some scans skipped passed) =
-    let before = passes_few passes in
-    let sooner = scans.advances in
-    omega (arith, before, sooner)
+passes_few (over_token l new m n t passes within some scans skipped passed) = grind (arith, common_steps)
 
 pub passes_sooner : {skips : Bool} {old : Standing} {piece : List ℕ} {new : Standing} {n : ℕ} → Passes skips old piece new n → 0 < n → waiting new < 2 * n + waiting old
 passes_sooner none h = absurd (omega arith)
 passes_sooner (over_space l new m passes within is_white scans waits) h = let before = passes_few passes in omega (arith, before, waits)
-passes_sooner (over_token l new m n t passes within some scans skipped passed) h =
-    let before = passes_few passes in
-    let sooner = scans.advances in
-    omega (arith, before, sooner)
+passes_sooner (over_token l new m n t passes within some scans skipped passed) h = grind (arith, common_steps, passes_few)
 
 -- ---- what the reader does with them
 

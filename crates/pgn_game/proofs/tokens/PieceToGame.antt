@@ -1,7 +1,6 @@
 -- A piece that was read up to a marker, and the game that the marker ends, or the fault there.
 use Rattle.pgn_game.specs.declared.marker.Mark.{Mark}
-use Rattle.pgn_game.specs.state.ConverterSteps.{CountsGame, ReadsPiece, ReadsToMarker, FailsIn}
-use Rattle.pgn_game.proofs.Words.{Bool, false, IsTrue, bytes_seen, WriteFault, Fault, Profile, Token, Device, still, ReaderState, Converter, Stands, Reaches, IsKnown, EndsGame, FedAll, FedGame, FedToFault, StopsIn, at_token, too_long, AreNext, within_limit, FaultAtEnd, FinishedGame, ◌≡◌, ℕ, List, [], ◌∷◌, ◌++◌, Option, None, Some, Ok, Err, refl, sym, ap, ◌∙◌}
+use Rattle.pgn_game.proofs.Words.{Bool, false, IsTrue, bytes_seen, WriteFault, Fault, Profile, Token, Device, still, ReaderState, Converter, Stands, Reaches, IsKnown, EndsGame, FedAll, FedGame, FedToFault, StopsIn, at_token, too_long, AreNext, within_limit, FaultAtEnd, FinishedGame, ◌≡◌, ℕ, List, [], ◌∷◌, ◌++◌, Option, None, Some, Ok, Err, refl, sym, ap, ◌∙◌, CountsGame, ReadsPiece, ReadsToMarker, FailsIn}
 use Rattle.pgn_game.proofs.tokens.MarkerToGame.{shows_due, shows_stop, gains_known, fault_not_taken, has_read_marker, game_by_marker, gains_marker, fault_of_marker}
 use Rattle.pgn_game.proofs.tokens.AcceptedToConverter.{read_as}
 use Rattle.pgn_game.proofs.tokens.StepsInPiece.{lets_go}

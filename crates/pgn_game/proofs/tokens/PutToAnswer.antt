@@ -1,8 +1,7 @@
 -- From what putting a token results in, and from its row of the table, to what the reader answers.
-use Rattle.std.proofs.Math.Nat.{le-max_left}
 use Rattle.pgn_lexer.specs.declared.token.TokenKind.TheVariants as token_kinds
 use Rattle.pgn_game.specs.games.Game.{move}
-use Rattle.pgn_game.proofs.Words.{Parts, Played, Kind, Reason, Stage, Between, AfterTags, InMovetext, Profile, Item, Part, no_part, ◌≡◌, ◌⊎◌, ℕ, max, Bool, true, false, ◌||◌, [], ◌∷◌, List, length, drop, Option, None, Some, Bor, Result, Ok, Err, IsFalse, IsTrue, is_some, refl, sym, ap, subst, ◌∙◌, arith, or_parts, Move, legal, Appends-nil, AppendsFront, Device, kind_of, TokenKind, symbol, Accepted, More, Marker, marker_text, move_of, found_in, torn, refusal, is_at, is_comment, is_end, is_number, is_outside_tag_pairs, is_score, marker_of, position_if_move, position_in, Next, going, at_stage, in_text, next, gain, text_next, CostsToFind, Tries, TriesUnwritten, ReaderState, Mode, mode_written, Agrees, Answers, as_written, IsStopped, is_outside_the_table, FinishesAtMarker, IsEntry, IsOpen, may_have_movetext, model_item, text_refusal, with_items, Annotation, CountsMove, EntersMovetext, Finds, FinishesNone, GoesTo, PutResult, PutsItems, Takes, TakesEntry, TakesOutside, TakesToken, TakesUnwritten, at_game_start, counting_probes, unused, rules, inl, inr, IllegalMove, false≢true, ok_or, with_next, Appends, plies_behind, plies_next, whole_plies, ◌+◌, Finished}
+use Rattle.pgn_game.proofs.Words.{Parts, Played, Kind, Reason, Stage, Between, AfterTags, InMovetext, Profile, Item, Part, no_part, ◌≡◌, ◌⊎◌, ℕ, max, Bool, true, false, ◌||◌, [], ◌∷◌, List, length, drop, Option, None, Some, Bor, Result, Ok, Err, IsFalse, IsTrue, is_some, refl, sym, ap, subst, ◌∙◌, arith, or_parts, Move, legal, Appends-nil, AppendsFront, Device, kind_of, TokenKind, symbol, Accepted, More, Marker, marker_text, move_of, found_in, torn, refusal, is_at, is_comment, is_end, is_number, is_outside_tag_pairs, is_score, marker_of, position_if_move, position_in, Next, going, at_stage, in_text, next, gain, text_next, CostsToFind, Tries, TriesUnwritten, ReaderState, Mode, mode_written, Agrees, Answers, as_written, IsStopped, is_outside_the_table, FinishesAtMarker, IsEntry, IsOpen, may_have_movetext, model_item, text_refusal, with_items, Annotation, CountsMove, EntersMovetext, Finds, FinishesNone, GoesTo, PutResult, PutsItems, Takes, TakesEntry, TakesOutside, TakesToken, TakesUnwritten, at_game_start, counting_probes, unused, rules, inl, inr, IllegalMove, false≢true, ok_or, with_next, Appends, plies_behind, plies_next, whole_plies, ◌+◌, Finished, le-max_left, MeetsEntry, TakesUnlessMarker, common_steps}
 use Rattle.pgn_game.specs.state.ReaderState as reader_state
 use Rattle.pgn_game.proofs.refusals.RefusalsByStage.{begins_alike, comment_passes, drops_comments, passes_between}
 use Rattle.pgn_game.proofs.refusals.RefusalsInMovetext.{marker_whole, move_free, move_leads, move_refused as move_row_refused, position_is}
@@ -14,7 +13,6 @@ use Rattle.pgn_game.proofs.putting.PairStepToReader.{puts_nothing, no_torn}
 use Rattle.pgn_game.proofs.tokens.PairsTriedForToken.{CostsToPut, TriesPut, adds_item, adds_none, adds_same, costs_found, marker_untried}
 use Rattle.pgn_game.proofs.tokens.PairsTriedForToken.{plain_untried, tries_put, untried_in_pair}
 use Rattle.pgn_game.specs.calls.MostTried as most_tried
-use Rattle.pgn_game.specs.state.PutResult.{MeetsEntry, TakesUnlessMarker}
 
 pub counting_none : (old : ReaderState) → old ≡ counting_probes old 0
 counting_none old = let same : old.most_probes ≡ max old.most_probes 0 = omega arith in ap (λ (n : ℕ). record old { most_probes = n }) same
@@ -73,13 +71,7 @@ module _ (old counted new : ReaderState) (part : Part) (k : Kind) (to : Next) (d
 
   answers : (r : Result Accepted Reason) → GoesTo counted part to new r d
       → TriesPut (mode_written old) part to r n more → Answers old part k new r d.before d.after
-  answers (Ok accepted) goes costs = record {
-    free = says.0;
-    leads = rw says.1 goes.leads;
-    plies = goes.plies ∙ ap (λ n. n + plies_next to) (ap whole_plies same) ∙ ap (λ (x : Next). whole_plies old + plies_next x) (sym says.1);
-    appended = subst (Appends d.before d.after) gain_is goes.appended;
-    tried = record { tried = more; allowed = tries costs; most = most };
-  }
+  answers (Ok accepted) goes costs = grind (arith, common_steps, plies_next, whole_plies, gain_is, tries)
   answers (Err reason) (is, front) costs =
       subst (λ (r : Reason). IsStopped old part k new d.before d.after r) (sym is)
       (reader_state.unwritten says.0 (subst (AppendsFront d.before d.after) gain_is front)
@@ -106,9 +98,7 @@ pub takes_step : (old new : ReaderState) (k : Kind) (to : Part → Next) (o : Op
     → ((part : Part) → Agrees old part → (refusal old.profile part k ≡ None) × (next part k ≡ to part))
     → ((part : Part) → Agrees old part → CostsToFind part k 0)
     → ((part : Part) → CostsToPut (mode_written old) part (to part) 0 0) → TakesToken old k new (Ok More) (unused o m)
-takes_step old new k to o m puts most says finds costs =
-    takes_put old (Agrees old) (Agrees old) k 0 0 (counting_none old) puts tt (λ at. refl) (omega (arith, most)) (λ part is. is) says finds
-    (λ part is. costs part)
+takes_step old new k to o m puts most says finds costs = grind (arith, common_steps, takes_put, counting_none)
 
 -- Tokens of a tag pair, at one of its stages.
 module _ (old new : ReaderState) (k : Kind) (stage : Stage) (at : old.stage ≡ stage)
@@ -146,16 +136,12 @@ puts_entry {old} {new} k {items} {r} put costs says finds =
     (λ part is. (is.row ∙ (says part is.is_open).0, is.leads ∙ (says part is.is_open).1)) (λ part is. finds part)
     (λ part is. tries_put (mode_written old) part (going (with_items part items)) r 0 0 (costs (mode_written old) part))
 
-pub passes_entry : (old new : ReaderState) (k : Kind) (r : Result Accepted Reason) (d : Device) → PutsItems old [] new r d
-    → ((part : Part) → IsOpen old part → (text_refusal old.profile part k ≡ None) × (in_text part k ≡ going (with_items part [])))
-    → ((part : Part) → CostsToFind part k 0) → TakesEntry old k new r d
-passes_entry old new k r d put says finds = puts_entry k put adds_none says finds
+module _ (old new : ReaderState) (k : Kind) where
+  pub passes_entry : (r : Result Accepted Reason) (d : Device) → PutsItems old [] new r d → ((part : Part) → IsOpen old part → (text_refusal old.profile part k ≡ None) × (in_text part k ≡ going (with_items part []))) → ((part : Part) → CostsToFind part k 0) → TakesEntry old k new r d
+  passes_entry r d put says finds = puts_entry k put adds_none says finds
 
-pub item_entry : (old new : ReaderState) (k : Kind) (i : Annotation) (r : Result Accepted Reason) (d : Device)
-    → PutsItems old (model_item i ∷ []) new r d → ((part : Part) → IsOpen old part → (text_refusal old.profile part k ≡ None)
-    × (in_text part k ≡ going (with_items part (model_item i ∷ [])))) → ((part : Part) → CostsToFind part k 0)
-    → TakesEntry old k new r d
-item_entry old new k i r d put says finds = puts_entry k put (λ mode part. adds_item mode i part) says finds
+  pub item_entry : (i : Annotation) (r : Result Accepted Reason) (d : Device) → PutsItems old (model_item i ∷ []) new r d → ((part : Part) → IsOpen old part → (text_refusal old.profile part k ≡ None) × (in_text part k ≡ going (with_items part (model_item i ∷ [])))) → ((part : Part) → CostsToFind part k 0) → TakesEntry old k new r d
+  item_entry i r d put says finds = puts_entry k put (λ mode part. adds_item mode i part) says finds
 
 -- A token that belongs to movetext at the stage of the reader.
 pub enters : (old : ReaderState) (k : TokenKind) → IsTrue (may_have_movetext old.stage)
@@ -173,57 +159,37 @@ finds_alike _ n h = h
 module _ (silent : Bool) (p : Profile) (k : TokenKind) (row : refusal p no_pairs (kind_of k) ≡ refusal p no_part (kind_of k))
     (leads : next no_pairs (kind_of k) ≡ next no_part (kind_of k)) where
   tries_alike : {n : ℕ} → Tries silent p no_pairs (kind_of k) n → Tries silent p no_part (kind_of k) n
-  tries_alike t = record {
-    found = t.found;
-    finds = finds_alike k t.found t.finds;
-    writes = rw leads at (rw row at t.writes);
-  }
+  tries_alike t = grind (arith, common_steps, finds_alike)
 
   unwritten_alike : {n : ℕ} → TriesUnwritten silent p no_pairs (kind_of k) n → TriesUnwritten silent p no_part (kind_of k) n
   unwritten_alike (most_tried.at_token t) = most_tried.at_token (tries_alike t)
   unwritten_alike {n} (most_tried.in_section before finds) = most_tried.in_section refl (finds_alike k n finds)
 
   gain_alike : (w : Profile) → gain w no_pairs (kind_of k) ≡ gain w no_part (kind_of k)
-  gain_alike w =
-      rw (no_torn w no_pairs AfterTags refl (λ e. absurd (cc)) ∙ sym (no_torn w no_part Between refl (λ e. absurd (cc))))
-      (ap (λ (x : Next). drop (length (torn w no_part)) (text_next w x)) leads)
+  gain_alike w = grind (arith, common_steps, no_torn, no_part, torn, text_next)
 
-answers_alike : (old new : ReaderState) (k : TokenKind) (r : Result Accepted Reason) (a b : Option (List ℕ)) → old.stage ≡ Between
-    → refusal old.profile no_pairs (kind_of k) ≡ refusal old.profile no_part (kind_of k)
-    → next no_pairs (kind_of k) ≡ next no_part (kind_of k)
-    → Answers (at_game_start old) no_pairs (kind_of k) new r a b → Answers old no_part (kind_of k) new r a b
-answers_alike old new k (Ok accepted) a b at row leads h = record {
-  free = sym row ∙ h.free;
-  leads = rw leads at h.leads;
-  plies = h.plies ∙ ap (λ (s : ℕ). s + plies_next (next no_pairs (kind_of k)))
-      (sym (ap (λ (s : Stage). plies_behind s old.earlier_plies old.text.plies) at))
-      ∙ ap (λ (x : Next). whole_plies old + plies_next x) leads;
-  appended = subst (Appends a b) (gain_alike old.writing.is_silent old.profile k row leads (as_written old)) h.appended;
-  tried = record { tried = h.tried.tried; allowed = tries_alike old.writing.is_silent old.profile k row leads h.tried.allowed; most = h.tried.most };
-}
-answers_alike old new k (Err reason) a b at row leads (reader_state.refused why is none t here) =
-    reader_state.refused why (sym row ∙ is) none
-    (record { tried = t.tried; allowed = tries_alike old.writing.is_silent old.profile k row leads t.allowed; most = t.most }) here
-answers_alike old new k (Err reason) a b at row leads (reader_state.unwritten free front t) =
-    reader_state.unwritten (sym row ∙ free) (subst (AppendsFront a b) (gain_alike old.writing.is_silent old.profile k row leads (as_written old)) front)
-    (record { tried = t.tried; allowed = unwritten_alike old.writing.is_silent old.profile k row leads t.allowed; most = t.most })
+module _ (old new : ReaderState) where
+  answers_alike : (k : TokenKind) (r : Result Accepted Reason) (a b : Option (List ℕ)) → old.stage ≡ Between → refusal old.profile no_pairs (kind_of k) ≡ refusal old.profile no_part (kind_of k) → next no_pairs (kind_of k) ≡ next no_part (kind_of k) → Answers (at_game_start old) no_pairs (kind_of k) new r a b → Answers old no_part (kind_of k) new r a b
+  answers_alike k (Ok accepted) a b at row leads h =
+      grind (arith, common_steps, plies_next, next, kind_of, plies_behind, whole_plies, gain_alike, as_written, tries_alike)
+  answers_alike k (Err reason) a b at row leads (reader_state.refused why is none t here) =
+      reader_state.refused why (sym row ∙ is) none
+      (record { tried = t.tried; allowed = tries_alike old.writing.is_silent old.profile k row leads t.allowed; most = t.most }) here
+  answers_alike k (Err reason) a b at row leads (reader_state.unwritten free front t) =
+      reader_state.unwritten (sym row ∙ free) (subst (AppendsFront a b) (gain_alike old.writing.is_silent old.profile k row leads (as_written old)) front)
+      (record { tried = t.tried; allowed = unwritten_alike old.writing.is_silent old.profile k row leads t.allowed; most = t.most })
 
-pub takes_first : (old new : ReaderState) (k : TokenKind) (r : Result Accepted Reason) (d : Device)
-    → old.stage ≡ Between → is_comment (kind_of k) ≡ false → is_end (kind_of k) ≡ false
-    → TakesToken (at_game_start old) (kind_of k) new r d → TakesToken old (kind_of k) new r d
-takes_first old new k r d at comment over t = search (rules, answers_alike, begins_alike, held_at, text_at)
+  pub takes_first : (k : TokenKind) (r : Result Accepted Reason) (d : Device) → old.stage ≡ Between → is_comment (kind_of k) ≡ false → is_end (kind_of k) ≡ false → TakesToken (at_game_start old) (kind_of k) new r d → TakesToken old (kind_of k) new r d
+  takes_first k r d at comment over t = search (rules, answers_alike, begins_alike, held_at, text_at)
 
--- Markers.
-pub takes_marker : (old new : ReaderState) (k : Kind) (marker : Marker) (r : Result Accepted Reason) (d : Device)
-    → PutResult old (IsOpen old) (to_game marker) new r d
-    → FinishesAtMarker k new r → new.most_probes ≡ old.most_probes → marker_of k ≡ Some (marker_text marker)
-    → ((part : Part) → IsOpen old part → text_refusal old.profile part k ≡ None) → TakesEntry old k new r d
-takes_marker old new k marker r d puts finished most is free =
-    takes_put old (IsEntry old k) (IsOpen old) k 0 0
-    (counting_none old) puts finished (λ at. refl) (omega (arith, most)) (λ part at. at.is_open)
-    (λ part at. (at.row ∙ free part at.is_open, at.leads ∙ marker_whole part k (marker_text marker) is))
-    (λ part at. marker_untried part k (ap is_some is))
-    (λ part at. tries_put (mode_written old) part (to_game marker part) r 0 0 refl)
+  -- Markers.
+  pub takes_marker : (k : Kind) (marker : Marker) (r : Result Accepted Reason) (d : Device) → PutResult old (IsOpen old) (to_game marker) new r d → FinishesAtMarker k new r → new.most_probes ≡ old.most_probes → marker_of k ≡ Some (marker_text marker) → ((part : Part) → IsOpen old part → text_refusal old.profile part k ≡ None) → TakesEntry old k new r d
+  takes_marker k marker r d puts finished most is free =
+      takes_put old (IsEntry old k) (IsOpen old) k 0 0
+      (counting_none old) puts finished (λ at. refl) (omega (arith, most)) (λ part at. at.is_open)
+      (λ part at. (at.row ∙ free part at.is_open, at.leads ∙ marker_whole part k (marker_text marker) is))
+      (λ part at. marker_untried part k (ap is_some is))
+      (λ part at. tries_put (mode_written old) part (to_game marker part) r 0 0 refl)
 
 -- Moves.
 
@@ -272,50 +238,41 @@ bare_untried : (k : TokenKind) (part : Part) → (is_comment (kind_of k) || is_e
 bare_untried (token_kinds.Symbol s) part is = absurd (false≢true is)
 bare_untried _ part is = refl
 
-pub passes_first : (old new : ReaderState) (k : TokenKind) (o : Option (List ℕ)) (m : ℕ)
-    → new ≡ old → old.stage ≡ Between → (is_comment (kind_of k) || is_end (kind_of k)) ≡ true
-    → TakesToken old (kind_of k) new (Ok More) (unused o m)
-passes_first old new k o m same at is =
-    subst (λ (r : ReaderState). TakesToken old (kind_of k) r (Ok More) (unused o m)) (sym same)
-    (takes_step old old (kind_of k) going o m (puts_nothing old o m) refl
-    (λ part agrees. passes_between old.profile k (part_stage old part Between agrees at) is)
-    (λ part agrees. bare_untried k part is) (λ part. adds_same (mode_written old) part part refl))
+module _ (old : ReaderState) where
+  pub passes_first : (new : ReaderState) (k : TokenKind) (o : Option (List ℕ)) (m : ℕ) → new ≡ old → old.stage ≡ Between → (is_comment (kind_of k) || is_end (kind_of k)) ≡ true → TakesToken old (kind_of k) new (Ok More) (unused o m)
+  passes_first new k o m same at is =
+      subst (λ (r : ReaderState). TakesToken old (kind_of k) r (Ok More) (unused o m)) (sym same)
+      (takes_step old old (kind_of k) going o m (puts_nothing old o m) refl
+      (λ part agrees. passes_between old.profile k (part_stage old part Between agrees at) is)
+      (λ part agrees. bare_untried k part is) (λ part. adds_same (mode_written old) part part refl))
 
--- The move of a token that SetUp rejects.
-pub no_symbol_counted : (old : ReaderState) (k : TokenKind)
-    → ((s : Bor (List ℕ)) → k ≡ token_kinds.Symbol s → ⊥) → CountsMove old (kind_of k) old
-no_symbol_counted old (token_kinds.Symbol s) other = absurd (other s refl)
-no_symbol_counted old k other = record { pairs = 0; counted = counting_none old; tried = λ part agrees. refl }
+  -- The move of a token that SetUp rejects.
+  pub no_symbol_counted : (k : TokenKind) → ((s : Bor (List ℕ)) → k ≡ token_kinds.Symbol s → ⊥) → CountsMove old (kind_of k) old
+  no_symbol_counted (token_kinds.Symbol s) other = absurd (other s refl)
+  no_symbol_counted k other = record { pairs = 0; counted = counting_none old; tried = λ part agrees. refl }
 
-pub plain_counted : (old : ReaderState) (s : List ℕ) → (is_score s || is_number s) ≡ true → CountsMove old (symbol s) old
-plain_counted old s plain = record { pairs = 0; counted = counting_none old; tried = λ part agrees. plain_untried part s plain }
+  pub plain_counted : (s : List ℕ) → (is_score s || is_number s) ≡ true → CountsMove old (symbol s) old
+  plain_counted s plain = record { pairs = 0; counted = counting_none old; tried = λ part agrees. plain_untried part s plain }
 
-pub move_counted : (old found : ReaderState) (s : List ℕ) (r : Result Move Reason) (n : ℕ) → old.stage ≡ AfterTags
-    → (is_score s || is_number s) ≡ false → Finds old s found r n → CountsMove old (symbol s) found
-move_counted old found s r n at plain finds =
-    let may = ap may_have_movetext at in
-    let tests = or_parts (is_score s) (is_number s) plain in
-    record { pairs = n; counted = finds.counted; tried = λ part agrees. costs_found s n (open_agrees agrees may) may tests.1 tests.0 finds.tried }
+  pub move_counted : (found : ReaderState) (s : List ℕ) (r : Result Move Reason) (n : ℕ) → old.stage ≡ AfterTags → (is_score s || is_number s) ≡ false → Finds old s found r n → CountsMove old (symbol s) found
+  move_counted found s r n at plain finds = grind (arith, common_steps, may_have_movetext, or_parts, is_score, is_number, costs_found, open_agrees)
 
--- The first token of a game is taken as after pairs, of which there is none.
-pub takes_outside_first : (old new : ReaderState) (k : TokenKind) (o : Option (Result Accepted Reason))
-    → old.stage ≡ Between → is_comment (kind_of k) ≡ false → is_end (kind_of k) ≡ false
-    → TakesOutside (at_game_start old) (kind_of k) new o → TakesOutside old (kind_of k) new o
-takes_outside_first old new k (Some r) at comment over t =
-    λ taken failures. takes_first old new k r (unused taken failures) at comment over (t taken failures)
-takes_outside_first old new k None at comment over t = record {
-  stage = t.stage;
-  profile = t.profile;
-  writing = t.writing;
-  plies = omega (arith, t.plies);
-  probes = t.probes;
-  takes = λ newer r d entry. takes_first old newer k r d at comment over (t.takes newer r d entry);
-}
+  -- The first token of a game is taken as after pairs, of which there is none.
+  pub takes_outside_first : (new : ReaderState) (k : TokenKind) (o : Option (Result Accepted Reason)) → old.stage ≡ Between → is_comment (kind_of k) ≡ false → is_end (kind_of k) ≡ false → TakesOutside (at_game_start old) (kind_of k) new o → TakesOutside old (kind_of k) new o
+  takes_outside_first new k (Some r) at comment over t =
+      λ taken failures. takes_first old new k r (unused taken failures) at comment over (t taken failures)
+  takes_outside_first new k None at comment over t = record {
+    stage = t.stage;
+    profile = t.profile;
+    writing = t.writing;
+    plies = omega (arith, t.plies);
+    probes = t.probes;
+    takes = λ newer r d entry. takes_first old newer k r d at comment over (t.takes newer r d entry);
+  }
 
--- a token that enters movetext is met there
-pub entry_met : (old ready new : ReaderState) (k : Kind) (r : Result (Option Marker) Reason) (d : Device)
-    → EntersMovetext old k ready → MeetsEntry ready k new r d → TakesUnlessMarker old k new r d
-entry_met old ready new k (Ok (Some marker)) d enters h =
-    record { is = h.is; enters = subst (EntersMovetext old k) (sym h.same) enters; unwritten = h.unwritten; still = h.still }
-entry_met old ready new k (Ok None) d enters h = enters.takes new (Ok _) d h.takes
-entry_met old ready new k (Err reason) d enters h = (enters.takes new (Err reason) d h.takes, λ is. h.no_marker)
+  -- a token that enters movetext is met there
+  pub entry_met : (ready new : ReaderState) (k : Kind) (r : Result (Option Marker) Reason) (d : Device) → EntersMovetext old k ready → MeetsEntry ready k new r d → TakesUnlessMarker old k new r d
+  entry_met ready new k (Ok (Some marker)) d enters h =
+      record { is = h.is; enters = subst (EntersMovetext old k) (sym h.same) enters; unwritten = h.unwritten; still = h.still }
+  entry_met ready new k (Ok None) d enters h = enters.takes new (Ok _) d h.takes
+  entry_met ready new k (Err reason) d enters h = (enters.takes new (Err reason) d h.takes, λ is. h.no_marker)

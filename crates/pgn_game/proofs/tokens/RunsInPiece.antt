@@ -1,8 +1,6 @@
 -- Runs over a piece in turn, and the step that they are.
 use Rattle.pgn_game.specs.declared.converter.StepEnd.TheVariants.{Token as Other, Marker as AtMarker}
-use Rattle.pgn_game.specs.declared.converter.StepEnd.{StepEnd}
-use Rattle.pgn_game.specs.state.ConverterSteps.{IsBeforePiece, IsBeforeToken, KeepsRest, StepAdvances, StepGoes, Steps, TakesSteps, fault_of}
-use Rattle.pgn_game.proofs.Words.{seen, Fault, Converter, CountsFault, Device, Standing, waiting, ◌≡◌, ℕ, ◌+◌, ◌*◌, ◌<◌, ◌≤◌, ◌^◌, ◌⊎◌, inl, inr, zero, suc, Bool, false, List, length, drop, Option, None, Some, Result, Ok, Err, refl, subst, ◌∙◌, arith, length-drop, first}
+use Rattle.pgn_game.proofs.Words.{seen, Fault, Converter, CountsFault, Device, Standing, waiting, ◌≡◌, ℕ, ◌+◌, ◌*◌, ◌<◌, ◌≤◌, ◌^◌, ◌⊎◌, inl, inr, zero, suc, Bool, false, List, length, drop, Option, None, Some, Result, Ok, Err, refl, subst, ◌∙◌, arith, length-drop, first, StepEnd, IsBeforePiece, IsBeforeToken, KeepsRest, StepAdvances, StepGoes, Steps, TakesSteps, fault_of, common_steps}
 use Rattle.pgn_game.proofs.tokens.StepsInPiece.{after_steps, reads_on_none, stands_here}
 
 -- A run may use no byte, and then nothing waits that did not before. It never asks for more bytes.
@@ -24,28 +22,12 @@ between a c x y = record { before = a; after = c; failures = x; failures_after =
 
 pub keeps_then : {A B : Type 0} {old mid new : Converter} {over is_finished : Bool} {first : Result A Fault} {second : Result B Fault}
     → KeepsRest old mid over first → KeepsRest mid new is_finished second → KeepsRest old new is_finished second
-keeps_then one two =
-    record {
-      written = two.written ∙ one.written;
-      games = two.games ∙ one.games;
-      none_just_finished = two.none_just_finished;
-      finished = two.finished;
-      probes = omega (arith, one.probes, two.probes);
-      fault = two.fault;
-    }
+keeps_then one two = grind (arith, common_steps)
 
 -- no token was read
 pub keeps_none : {A : Type 0} (old : Converter) (result : Result A Fault) → old.just_finished ≡ None → old.is_finished ≡ false
     → old.fault ≡ fault_of result → KeepsRest old old false result
-keeps_none old result none_just_finished not_finished fault =
-    record {
-      written = refl;
-      games = refl;
-      none_just_finished = none_just_finished;
-      finished = not_finished;
-      probes = omega arith;
-      fault = fault;
-    }
+keeps_none old result none_just_finished not_finished fault = grind (arith, common_steps)
 
 -- what is counted after nothing was
 pub counts_then : (outcome : Result (Option StepEnd) Fault) (a c e : Option (List ℕ)) (x y z : ℕ) → y ≡ x → CountsFault outcome (between c e y z)
@@ -57,29 +39,16 @@ counts_then (Err f) a c e x y z same counted = rw same at counted
 pub goes_then : {old mid new : Converter} (piece : List ℕ) (end used : ℕ) (outcome : Result (Option StepEnd) Fault) (a c e : Option (List ℕ)) (x y z : ℕ)
     → end < length piece → StepGoes old piece mid end (Ok (Some Other)) (between a c x y) → StepGoes mid (drop end piece) new used outcome (between c e y z)
     → StepGoes old piece new (end + used) outcome (between a e x z)
-goes_then piece end used outcome a c e x y z here one two =
-    record {
-      within = omega (arith, two.within, length-drop end piece, here);
-      count = omega (arith, two.count, one.count);
-      ready = two.ready;
-      keeps = keeps_then one.keeps two.keeps;
-      counted = counts_then outcome a c e x y z one.counted two.counted;
-    }
+goes_then piece end used outcome a c e x y z here one two = grind (arith, common_steps, length-drop, keeps_then, counts_then)
 
 -- behind them there is still room for the rest of the piece
-pub room_behind : {old now : Converter} {piece : List ℕ} {at : ℕ} {sink : Device} → old.lexer.count + length piece ≤ 2 ^ 62
-    → StepGoes old piece now at (Ok (Some Other)) sink → now.lexer.count + length (drop at piece) ≤ 2 ^ 62
-room_behind {piece = piece} {at = at} short goes = omega (arith, goes.count, goes.within, short, length-drop at piece)
+module _ {old now : Converter} {piece : List ℕ} {at : ℕ} {sink : Device} where
+  pub room_behind : old.lexer.count + length piece ≤ 2 ^ 62 → StepGoes old piece now at (Ok (Some Other)) sink → now.lexer.count + length (drop at piece) ≤ 2 ^ 62
+  room_behind short goes = omega (arith, goes.count, goes.within, short, length-drop at piece)
 
--- and a step can be taken, if a byte is left
-pub before_rest : {old now : Converter} {piece : List ℕ} {at : ℕ} {sink : Device} → old.lexer.count + length piece ≤ 2 ^ 62
-    → StepGoes old piece now at (Ok (Some Other)) sink → at < length piece → IsBeforePiece now (drop at piece)
-before_rest {piece = piece} {at = at} short goes here =
-    record {
-      before = record { no_fault = goes.keeps.fault; not_finished = goes.keeps.finished; none_just_finished = goes.keeps.none_just_finished };
-      some = omega (arith, length-drop at piece, here);
-      short = room_behind short goes;
-    }
+  -- and a step can be taken, if a byte is left
+  pub before_rest : old.lexer.count + length piece ≤ 2 ^ 62 → StepGoes old piece now at (Ok (Some Other)) sink → at < length piece → IsBeforePiece now (drop at piece)
+  before_rest short goes here = grind (arith, common_steps, length-drop, room_behind)
 
 -- no byte is used
 pub runs_none : (old : Converter) (piece : List ℕ) (a : Option (List ℕ)) (x : ℕ) → IsBeforeToken old → Runs old piece old 0 (Ok (Some Other)) (between a a x x)
@@ -103,13 +72,7 @@ none_or_some (suc n) = inr (omega arith)
 advances_then : (old mid new : Standing) (end used : ℕ) (outcome : Result (Option StepEnd) Fault) → RunAdvances old mid end (Ok (Some Other))
     → RunAdvances mid new used outcome → RunAdvances old new (end + used) outcome
 advances_then old mid new end used (Ok None) one two = two
-advances_then old mid new end used (Ok (Some Other)) one two = (
-  omega (arith, one.0, two.0),
-  λ some. elim (none_or_some used) [
-    | inl none ↦ omega (arith, one.1 (omega (arith, none, some)), two.0)
-    | inr more ↦ omega (arith, one.0, two.1 more)
-  ],
-)
+advances_then old mid new end used (Ok (Some Other)) one two = grind (arith, common_steps, none_or_some, inl, inr)
 advances_then old mid new end used (Ok (Some (AtMarker m))) one two = omega (arith, one.0, two)
 advances_then old mid new end used (Err f) one two = tt
 
@@ -131,14 +94,7 @@ runs_then old mid new piece end used outcome a c e x y z here one two =
 -- a run that used a byte is a step
 pub steps_run : {old new : Converter} {piece : List ℕ} {used : ℕ} {sink : Device} (outcome : Result (Option StepEnd) Fault) → 0 < used
     → Runs old piece new used outcome sink → Steps old piece new used outcome sink
-steps_run {old} {new} {piece} {used} outcome some runs =
-    record { after = runs.after; advances = sooner outcome runs.advances; goes = runs.goes }
-  where
-    sooner : (met : Result (Option StepEnd) Fault) → RunAdvances old.lexer new.lexer used met → StepAdvances old.lexer piece new.lexer used met
-    sooner (Ok None) h = absurd h
-    sooner (Ok (Some Other)) h = h.1 some
-    sooner (Ok (Some (AtMarker m))) h = h
-    sooner (Err f) h = tt
+steps_run {old} {new} {piece} {used} outcome some runs = grind (arith, common_steps)
 
 advances_on : (old mid new : Standing) (piece : List ℕ) (end used : ℕ) (outcome : Result (Option StepEnd) Fault) → end < length piece
     → RunAdvances old mid end (Ok (Some Other)) → StepAdvances mid (drop end piece) new used outcome → StepAdvances old piece new (end + used) outcome

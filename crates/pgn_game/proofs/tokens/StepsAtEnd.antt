@@ -1,9 +1,7 @@
 -- Steps behind the last piece, and how small the counts stay.
 use Rattle.pgn_lexer.specs.Tokens as tokens
 use Rattle.pgn_lexer.specs.PartialToken.{refusal as refusal_token}
-use Rattle.pgn_game.proofs.Words.{length, Kind, Token, Stage, Between, Reason, Lexical, Fault, Profile, Pair, Item, Game, Part, no_part, ◌≡◌, ℕ, ◌+◌, ◌<◌, ◌≤◌, Bool, true, false, ◌&&◌, List, [], ◌∷◌, ◌++◌, Option, None, Some, Result, Ok, Err, is_ok, refl, sym, subst, append-nil, append_assoc, Appends, arith, ◌*◌, ◌^◌, IsTrue, is_some, Device, tokens_of, Standing, waiting, HasLeft, IsNext, FinishGivesToken, More, refusal, is_end, marker_of, Marker, next, gain, progress_with, Progress, read, ReaderState, Agrees, HoldsPairs, as_written, CountsWrites, Keeps, TakesToken, AfterStepAtEnd, ReadsMore, due_as, part_after, outcome_at, fault_of, LexFault, Converter, IsSound, game_in_reader_if, HasRead, Stands, CountsFault, CountsReason, IsStill, rules, ap, ◌∙◌, coming, none-some, false≢true}
-use Rattle.pgn_game.specs.state.PutResult.{TakesUnlessMarker}
-use Rattle.pgn_game.specs.state.ConverterSteps.{IsBeforePiece, IsBeforeToken, IsReadyAfter, KeepsRest, StepAdvances, StepAtEndAdvances, is_ended}
+use Rattle.pgn_game.proofs.Words.{length, Kind, Token, Stage, Between, Reason, Lexical, Fault, Profile, Pair, Item, Game, Part, no_part, ◌≡◌, ℕ, ◌+◌, ◌<◌, ◌≤◌, Bool, true, false, ◌&&◌, List, [], ◌∷◌, ◌++◌, Option, None, Some, Result, Ok, Err, is_ok, refl, sym, subst, append-nil, append_assoc, Appends, arith, ◌*◌, ◌^◌, IsTrue, is_some, Device, tokens_of, Standing, waiting, HasLeft, IsNext, FinishGivesToken, More, refusal, is_end, marker_of, Marker, next, gain, progress_with, Progress, read, ReaderState, Agrees, HoldsPairs, as_written, CountsWrites, Keeps, TakesToken, AfterStepAtEnd, ReadsMore, due_as, part_after, outcome_at, fault_of, LexFault, Converter, IsSound, game_in_reader_if, HasRead, Stands, CountsFault, CountsReason, IsStill, rules, ap, ◌∙◌, coming, none-some, false≢true, TakesUnlessMarker, IsBeforePiece, IsBeforeToken, IsReadyAfter, KeepsRest, StepAdvances, StepAtEndAdvances, is_ended, common_steps}
 use Rattle.pgn_game.proofs.tokens.OneMoreToken.{read-passes}
 use Rattle.pgn_game.proofs.tokens.EndOfText.{end_place}
 use Rattle.pgn_game.proofs.tokens.AcceptedToConverter.{follows_none, has_read_more, meets_marker, not_taken, not_taken_lexical, now_at, read_as, read_at, written_same, reads_token}
@@ -47,9 +45,7 @@ end_at p _ ps name items h = absurd (none-some _ (sym h))
 
 between_after : {s : Stage} (ps : List Pair) (name : List ℕ) (items : List Item) (games : List Game) → s ≡ Between
     → (progress_with games (next (record { stage = s; pairs = ps; name = name; items = items }) tokens.end)).part.stage ≡ Between
-between_after {s} ps name items games e =
-    subst (λ s. (progress_with games (next (record { stage = s; pairs = ps; name = name; items = items }) tokens.end)).part.stage ≡ Between)
-    (sym e) refl
+between_after {s} ps name items games e = grind (arith, common_steps, progress_with, next)
 
 pub is_the_end : (k : Kind) → is_end k ≡ true → k ≡ tokens.end
 is_the_end tokens.end h = refl
@@ -98,47 +94,42 @@ after_at_end l r games finished at answer =
     record { lexer = l; reading = r; games = games; just_finished = None; is_finished = finished; fault = fault_of (outcome_at at answer) }
 
 -- The end was reached.
-pub closes_end : (p : Profile) (old : Converter) (u : List ℕ) (given : List Token) (t : Token) (l : Standing) (new : ReaderState)
-    (d : Device) (r : Result (Option Marker) Reason) → is_end t.kind ≡ true → IsTrue (is_ok (outcome_at t.at r)) → HasRead p old given
-    → tokens_of u ≡ given ++ t ∷ [] → TakesUnlessMarker old.reading t.kind new r d
-    → AfterStepAtEnd p u given old (after_at_end l new old.games true t.at r) (Ok None) d.before d.after
-closes_end p old u given t l new d (Ok None) is_e ok has_read left takes =
-    let h = takes.accepts (part_after p given) has_read.agrees in
-    let keeps = takes.keeps in
-    let more = has_read_more p old given t l new true has_read keeps.profile keeps.probes keeps.writing h.free h.leads h.plies h.tried in
-    let passes = rw has_read.profile at h.free in
-    let no_game = end_passes p (read p given).progress t.kind is_e passes in
-    let between : new.stage ≡ Between = cc (more.agrees.stage, read-passes p given t has_read.passes passes, no_game) in (
-      t,
-      record {
-        whole = left;
-        is_end = is_e;
-        place = end_place u given t left is_e;
-        passes = passes;
-        reads = reads_end p old given t l new d has_read is_e takes between;
-        has_read = more;
-        between = between;
-      },
-      takes.stays.0,
-    )
-closes_end p old u given t l new d (Ok (Some marker)) is_e ok has_read left meets =
-    absurd (no_marker_at_end t.kind is_e (rw meets.is refl))
-closes_end p old u given t l new d (Err why) is_e ok has_read left takes = absurd (false≢true ok)
+module _ (p : Profile) (old : Converter) (u : List ℕ) (given : List Token) (t : Token) (l : Standing) (new : ReaderState) where
+  pub closes_end : (d : Device) (r : Result (Option Marker) Reason) → is_end t.kind ≡ true → IsTrue (is_ok (outcome_at t.at r)) → HasRead p old given → tokens_of u ≡ given ++ t ∷ [] → TakesUnlessMarker old.reading t.kind new r d → AfterStepAtEnd p u given old (after_at_end l new old.games true t.at r) (Ok None) d.before d.after
+  closes_end d (Ok None) is_e ok has_read left takes =
+      let h = takes.accepts (part_after p given) has_read.agrees in
+      let keeps = takes.keeps in
+      let more = has_read_more p old given t l new true has_read keeps.profile keeps.probes keeps.writing h.free h.leads h.plies h.tried in
+      let passes = rw has_read.profile at h.free in
+      let no_game = end_passes p (read p given).progress t.kind is_e passes in
+      let between : new.stage ≡ Between = cc (more.agrees.stage, read-passes p given t has_read.passes passes, no_game) in (
+        t,
+        record {
+          whole = left;
+          is_end = is_e;
+          place = end_place u given t left is_e;
+          passes = passes;
+          reads = reads_end p old given t l new d has_read is_e takes between;
+          has_read = more;
+          between = between;
+        },
+        takes.stays.0,
+      )
+  closes_end d (Ok (Some marker)) is_e ok has_read left meets =
+      absurd (no_marker_at_end t.kind is_e (rw meets.is refl))
+  closes_end d (Err why) is_e ok has_read left takes = absurd (false≢true ok)
 
--- A token was taken that is not the end, or a marker was met, or a token was not taken.
-pub closes_token : (p : Profile) (old : Converter) (u : List ℕ) (given : List Token) (t : Token) (l : Standing) (new : ReaderState)
-    (finished : Bool) (d : Device) (e : Bool) (r : Result (Option Marker) Reason) → (e && is_ok (outcome_at t.at r)) ≡ false
-    → HasRead p old given → Left u given e l t → TakesUnlessMarker old.reading t.kind new r d
-    → AfterStepAtEnd p u given old (after_at_end l new old.games finished t.at r) (outcome_at t.at r) d.before d.after
-closes_token p old u given t l new finished d true (Ok None) not_ok has_read left takes = absurd (false≢true (sym not_ok))
-closes_token p old u given t l new finished d true (Ok (Some marker)) not_ok has_read left takes = absurd (false≢true (sym not_ok))
-closes_token p old u given t l new finished d false (Ok None) not_ok has_read left takes =
-    (t, left, reads_token p old given t l new finished d has_read takes, takes.stays.0)
-closes_token p old u given t l new finished d false (Ok (Some marker)) not_ok has_read left meets =
-    (t, left, meets_marker p old given t marker l new finished d has_read meets)
-closes_token p old u given t l new finished d e (Err why) not_ok has_read left takes =
-    let rest = tokens_left u given e l t left in
-    (t, rest.0, rest.1, not_taken p old given t new why d has_read takes.0 takes.1)
+  -- A token was taken that is not the end, or a marker was met, or a token was not taken.
+  pub closes_token : (finished : Bool) (d : Device) (e : Bool) (r : Result (Option Marker) Reason) → (e && is_ok (outcome_at t.at r)) ≡ false → HasRead p old given → Left u given e l t → TakesUnlessMarker old.reading t.kind new r d → AfterStepAtEnd p u given old (after_at_end l new old.games finished t.at r) (outcome_at t.at r) d.before d.after
+  closes_token finished d true (Ok None) not_ok has_read left takes = absurd (false≢true (sym not_ok))
+  closes_token finished d true (Ok (Some marker)) not_ok has_read left takes = absurd (false≢true (sym not_ok))
+  closes_token finished d false (Ok None) not_ok has_read left takes =
+      (t, left, reads_token p old given t l new finished d has_read takes, takes.stays.0)
+  closes_token finished d false (Ok (Some marker)) not_ok has_read left meets =
+      (t, left, meets_marker p old given t marker l new finished d has_read meets)
+  closes_token finished d e (Err why) not_ok has_read left takes =
+      let rest = tokens_left u given e l t left in
+      (t, rest.0, rest.1, not_taken p old given t new why d has_read takes.0 takes.1)
 
 pub closes_fault : (p : Profile) (old new : Converter) (u : List ℕ) (given : List Token) (f : LexFault) (o : Option (List ℕ))
     → HasRead p old given → tokens_of u ≡ given ++ refusal_token f ∷ [] → new.reading ≡ old.reading
@@ -158,48 +149,29 @@ kept old new k d (Err why) takes = takes.0.keeps
 pub keeps_met : {A : Type 0} {view old new : Converter} {is_finished : Bool} {result : Result A Fault} → view ≡ old → Keeps view.reading new.reading
     → new.games ≡ view.games → new.just_finished ≡ None → new.is_finished ≡ is_finished → new.fault ≡ fault_of result
     → KeepsRest old new is_finished result
-keeps_met {view = view} {new = new} same keeps games none_just_finished finished fault =
-    record {
-      written = written_same view.reading new.reading keeps.profile keeps.writing ∙ ap (λ (s : Converter). as_written s.reading) same;
-      games = games ∙ ap (λ (s : Converter). s.games) same;
-      none_just_finished = none_just_finished;
-      finished = finished;
-      probes = omega (arith, ap (λ (s : Converter). s.reading.most_probes) same, keeps.probes);
-      fault = fault;
-    }
+keeps_met {view = view} {new = new} same keeps games none_just_finished finished fault = grind (arith, common_steps, written_same, as_written)
 
 -- a marker that was met behind the last piece can be taken
-pub ready_at_end : (old new : Standing) (before after : ReaderState) (games at : ℕ) (k : Kind) (d : Device)
-    (e : Bool) (r : Result (Option Marker) Reason)
-    → (e && is_ok (outcome_at at r)) ≡ false → Nearer e old new → TakesUnlessMarker before k after r d
-    → games + waiting old ≤ 2 * old.count + 2 → before.earlier_plies + before.text.plies + waiting old ≤ 2 * old.count + 2
-    → IsReadyAfter
-    (record { lexer = new; reading = after; games = games; just_finished = None; is_finished = false; fault = fault_of (outcome_at at r) }) (outcome_at at r)
-ready_at_end old new before after games at k d e (Ok None) not_ok near takes few plies = tt
-ready_at_end old new before after games at k d true (Ok (Some marker)) not_ok near meets few plies =
-    absurd (false≢true (sym not_ok))
-ready_at_end old new before after games at k d false (Ok (Some marker)) not_ok near meets few plies = record {
-  before = record { no_fault = refl; not_finished = refl; none_just_finished = refl };
-  stage = meets.enters.stage;
-  few = omega (arith, few, near.0, near.1);
-  few_plies = omega (arith, plies, near.0, near.1, meets.enters.plies);
-}
-ready_at_end old new before after games at k d e (Err why) not_ok near takes few plies = tt
+module _ (old : Standing) where
+  pub ready_at_end : (new : Standing) (before after : ReaderState) (games at : ℕ) (k : Kind) (d : Device) (e : Bool) (r : Result (Option Marker) Reason) → (e && is_ok (outcome_at at r)) ≡ false → Nearer e old new → TakesUnlessMarker before k after r d → games + waiting old ≤ 2 * old.count + 2 → before.earlier_plies + before.text.plies + waiting old ≤ 2 * old.count + 2 → IsReadyAfter (record { lexer = new; reading = after; games = games; just_finished = None; is_finished = false; fault = fault_of (outcome_at at r) }) (outcome_at at r)
+  ready_at_end new before after games at k d e (Ok None) not_ok near takes few plies = tt
+  ready_at_end new before after games at k d true (Ok (Some marker)) not_ok near meets few plies =
+      absurd (false≢true (sym not_ok))
+  ready_at_end new before after games at k d false (Ok (Some marker)) not_ok near meets few plies = grind (arith, common_steps)
+  ready_at_end new before after games at k d e (Err why) not_ok near takes few plies = tt
 
--- a token in a piece brings the lexer on, and one behind the last piece too
-pub advances_token : (old : Standing) (piece : List ℕ) (new : Standing) (used at : ℕ) (r : Result (Option Marker) Reason)
-    → waiting new < 2 * used + waiting old → StepAdvances old piece new used (outcome_at at r)
-advances_token old piece new used at (Ok None) sooner = sooner
-advances_token old piece new used at (Ok (Some marker)) sooner = sooner
-advances_token old piece new used at (Err why) sooner = tt
+  -- a token in a piece brings the lexer on, and one behind the last piece too
+  pub advances_token : (piece : List ℕ) (new : Standing) (used at : ℕ) (r : Result (Option Marker) Reason) → waiting new < 2 * used + waiting old → StepAdvances old piece new used (outcome_at at r)
+  advances_token piece new used at (Ok None) sooner = sooner
+  advances_token piece new used at (Ok (Some marker)) sooner = sooner
+  advances_token piece new used at (Err why) sooner = tt
 
-pub advances_at_end : (old new : Standing) (at : ℕ) (e : Bool) (r : Result (Option Marker) Reason)
-    → (e && is_ok (outcome_at at r)) ≡ false → Nearer e old new → StepAtEndAdvances old new (outcome_at at r)
-advances_at_end old new at true (Ok None) not_ok near = absurd (false≢true (sym not_ok))
-advances_at_end old new at true (Ok (Some marker)) not_ok near = absurd (false≢true (sym not_ok))
-advances_at_end old new at false (Ok None) not_ok near = near.0
-advances_at_end old new at false (Ok (Some marker)) not_ok near = near.0
-advances_at_end old new at e (Err why) not_ok near = tt
+  pub advances_at_end : (new : Standing) (at : ℕ) (e : Bool) (r : Result (Option Marker) Reason) → (e && is_ok (outcome_at at r)) ≡ false → Nearer e old new → StepAtEndAdvances old new (outcome_at at r)
+  advances_at_end new at true (Ok None) not_ok near = absurd (false≢true (sym not_ok))
+  advances_at_end new at true (Ok (Some marker)) not_ok near = absurd (false≢true (sym not_ok))
+  advances_at_end new at false (Ok None) not_ok near = near.0
+  advances_at_end new at false (Ok (Some marker)) not_ok near = near.0
+  advances_at_end new at e (Err why) not_ok near = tt
 
 -- an answer of the reader that is no fault keeps none, and counts none; none passes the end
 pub no_fault_if_ok : (at : ℕ) (r : Result (Option Marker) Reason) → IsTrue (is_ok (outcome_at at r)) → fault_of (outcome_at at r) ≡ None
@@ -225,12 +197,7 @@ pub ready_in_piece : (old new : Standing) (before after : ReaderState) (games at
     → IsReadyAfter
     (record { lexer = new; reading = after; games = games; just_finished = None; is_finished = false; fault = fault_of (outcome_at at r) }) (outcome_at at r)
 ready_in_piece old new before after games at used k d (Ok None) sooner count takes few plies = tt
-ready_in_piece old new before after games at used k d (Ok (Some marker)) sooner count meets few plies = record {
-  before = record { no_fault = refl; not_finished = refl; none_just_finished = refl };
-  stage = meets.enters.stage;
-  few = omega (arith, few, sooner, count);
-  few_plies = omega (arith, plies, sooner, count, meets.enters.plies);
-}
+ready_in_piece old new before after games at used k d (Ok (Some marker)) sooner count meets few plies = grind (arith, common_steps)
 ready_in_piece old new before after games at used k d (Err why) sooner count takes few plies = tt
 
 -- an error of the reader counts as the fault that it is
@@ -244,59 +211,27 @@ counts_token old new k at (Ok (Some marker)) sink meets = meets.still
 counts_token old new k at (Err reason) sink takes = counts_reason reason sink takes.0.counted
 
 -- after a fault a converter owes no more than that few bytes are used
-pub sound_behind_fault : (lexer : Standing) (reading : ReaderState) (games : ℕ) (is_finished : Bool) (f : Fault) → lexer.count ≤ 2 ^ 62
-    → IsSound lexer reading games false is_finished (Some f)
-sound_behind_fault lexer reading games is_finished f count = search rules
+module _ (lexer : Standing) (reading : ReaderState) (games : ℕ) (is_finished : Bool) where
+  pub sound_behind_fault : (f : Fault) → lexer.count ≤ 2 ^ 62 → IsSound lexer reading games false is_finished (Some f)
+  sound_behind_fault f count = search rules
 
-pub sound_if_not_ok : (lexer : Standing) (reading : ReaderState) (games : ℕ) (is_finished : Bool) (at : ℕ) (r : Result (Option Marker) Reason)
-    → is_ok (outcome_at at r) ≡ false → lexer.count ≤ 2 ^ 62
-    → IsSound lexer reading games false is_finished (fault_of (outcome_at at r))
-sound_if_not_ok lexer reading games is_finished at (Ok None) not_ok count = absurd (false≢true (sym not_ok))
-sound_if_not_ok lexer reading games is_finished at (Ok (Some marker)) not_ok count = absurd (false≢true (sym not_ok))
-sound_if_not_ok lexer reading games is_finished at (Err why) not_ok count = sound_behind_fault lexer reading games is_finished _ count
+  pub sound_if_not_ok : (at : ℕ) (r : Result (Option Marker) Reason) → is_ok (outcome_at at r) ≡ false → lexer.count ≤ 2 ^ 62 → IsSound lexer reading games false is_finished (fault_of (outcome_at at r))
+  sound_if_not_ok at (Ok None) not_ok count = absurd (false≢true (sym not_ok))
+  sound_if_not_ok at (Ok (Some marker)) not_ok count = absurd (false≢true (sym not_ok))
+  sound_if_not_ok at (Err why) not_ok count = sound_behind_fault _ count
 
 -- a token behind the last piece keeps the counts small
-pub sound_behind : (old new : Standing) (before after : ReaderState) (games : ℕ) {finished : Bool} {fault : Option Fault}
-    → Nearer false old new → old.count ≤ 2 ^ 62 → games + waiting old ≤ 2 * old.count + 2
-    → before.earlier_plies + before.text.plies + waiting old ≤ 2 * old.count + 2
-    → Keeps before after → IsSound new after games false finished fault
-sound_behind old new before after games near count few plies keeps = record {
-  count = omega (arith, count, near.1);
-  few = λ is. omega (arith, few, near.0, near.1);
-  few_plies = λ is. omega (arith, plies, near.0, near.1, keeps.plies);
-  fewer_plies = λ is not_over. omega (arith, plies, near.0, near.1, keeps.plies);
-  between = λ is. absurd (false≢true is);
-  no_fault = λ is. absurd (false≢true is);
-}
+module _ (old new : Standing) (before after : ReaderState) (games : ℕ) where
+  pub sound_behind : {finished : Bool} {fault : Option Fault} → Nearer false old new → old.count ≤ 2 ^ 62 → games + waiting old ≤ 2 * old.count + 2 → before.earlier_plies + before.text.plies + waiting old ≤ 2 * old.count + 2 → Keeps before after → IsSound new after games false finished fault
+  sound_behind near count few plies keeps = grind (arith, common_steps, false≢true)
 
--- the end keeps them as they are, or nearly
-pub sound_at_end : (old new : Standing) (before after : ReaderState) (games : ℕ) {fault : Option Fault}
-    → Nearer true old new → old.count ≤ 2 ^ 62 → games + waiting old ≤ 2 * old.count + 2
-    → before.earlier_plies + before.text.plies + waiting old ≤ 2 * old.count + 2
-    → Keeps before after → IsSound new after games false true fault
-sound_at_end old new before after games near count few plies keeps = rw near (record {
-  count = count;
-  few = λ is. few;
-  few_plies = λ is. omega (arith, plies, keeps.plies);
-  fewer_plies = λ is over. absurd (false≢true (sym over));
-  between = λ is. absurd (false≢true is);
-  no_fault = λ is. absurd (false≢true is);
-})
+  -- the end keeps them as they are, or nearly
+  pub sound_at_end : {fault : Option Fault} → Nearer true old new → old.count ≤ 2 ^ 62 → games + waiting old ≤ 2 * old.count + 2 → before.earlier_plies + before.text.plies + waiting old ≤ 2 * old.count + 2 → Keeps before after → IsSound new after games false true fault
+  sound_at_end near count few plies keeps = grind (arith, common_steps, false≢true)
 
--- and so does one in a piece
-pub sound_in_piece : (old new : Standing) (before after : ReaderState) (games used size : ℕ) {finished : Bool} {fault : Option Fault}
-    → waiting new < 2 * used + waiting old → new.count ≡ old.count + used → used ≤ size → old.count + size ≤ 2 ^ 62
-    → games + waiting old ≤ 2 * old.count + 2
-    → before.earlier_plies + before.text.plies + waiting old ≤ 2 * old.count + 2
-    → Keeps before after → IsSound new after games false finished fault
-sound_in_piece old new before after games used size sooner count within short few plies keeps = record {
-  count = omega (arith, count, within, short);
-  few = λ is. omega (arith, few, sooner, count);
-  few_plies = λ is. omega (arith, plies, sooner, count, keeps.plies);
-  fewer_plies = λ is not_over. omega (arith, plies, sooner, count, keeps.plies);
-  between = λ is. absurd (false≢true is);
-  no_fault = λ is. absurd (false≢true is);
-}
+  -- and so does one in a piece
+  pub sound_in_piece : (used size : ℕ) {finished : Bool} {fault : Option Fault} → waiting new < 2 * used + waiting old → new.count ≡ old.count + used → used ≤ size → old.count + size ≤ 2 ^ 62 → games + waiting old ≤ 2 * old.count + 2 → before.earlier_plies + before.text.plies + waiting old ≤ 2 * old.count + 2 → Keeps before after → IsSound new after games false finished fault
+  sound_in_piece used size sooner count within short few plies keeps = grind (arith, common_steps, false≢true)
 
 -- with a fault no game is just finished
 pub none_by_fault : (b : Bool) (r : ReaderState) {o : Option Fault} {f : Fault}
@@ -341,17 +276,7 @@ pub record FieldsBefore (lexer : Standing) (reading : ReaderState) (games : ℕ)
 pub fields_before : {lexer : Standing} {reading : ReaderState} {games : ℕ} {has_finished_game is_finished : Bool} {fault : Option Fault} {old : Converter}
     → view_of lexer reading games has_finished_game is_finished fault ≡ old → IsSound lexer reading games has_finished_game is_finished fault
     → IsBeforeToken old → FieldsBefore lexer reading games has_finished_game is_finished fault old
-fields_before {reading = reading} {has_finished_game = has_finished_game} view sound before =
-    let flag = not_just_finished has_finished_game reading (ap (λ (s : Converter). s.just_finished) view ∙ before.none_just_finished) in
-    let none = ap (λ (s : Converter). s.fault) view ∙ before.no_fault in
-    let not_over = ap (λ (s : Converter). s.is_finished) view ∙ before.not_finished in
-    record {
-      flag = flag;
-      not_over = not_over;
-      none = none;
-      sound = rw (flag, none, not_over) at sound;
-      same = rw (flag, none, not_over) at view;
-    }
+fields_before {reading = reading} {has_finished_game = has_finished_game} view sound before = grind (arith, common_steps, not_just_finished)
 
 pub short_before : {view old : Converter} {piece : List ℕ} → view ≡ old → IsBeforePiece old piece → view.lexer.count + length piece ≤ 2 ^ 62
 short_before view before = omega (arith, ap (λ (s : Converter). s.lexer.count) view, before.short)

@@ -2,9 +2,7 @@
 use Rattle.std.proofs.Common.{length-take-le, take_all}
 use Rattle.pgn_game.specs.declared.marker.Mark.{Mark}
 use Rattle.pgn_game.specs.declared.converter.StepEnd.TheVariants.{Token as Other, Marker as AtMarker}
-use Rattle.pgn_game.specs.declared.converter.StepEnd.{StepEnd}
-use Rattle.pgn_game.specs.state.ConverterSteps.{AfterSteps, StepsOn, ReadsPiece, ReadsToMarker, FailsIn}
-use Rattle.pgn_game.proofs.Words.{InputTooLong, Fault, Profile, take-append-drop, take-take, drop-take, drop-drop, Token, decided, Follows, IsDecided, first, still, Standing, StandsAfter, ReaderState, as_written, Converter, Stands, Reaches, StopsIn, within_limit, too_long, ◌≡◌, ℕ, ◌+◌, ◌-◌, ◌<◌, ◌≤◌, ◌^◌, zero, suc, List, [], ◌∷◌, ◌++◌, length, take, drop, Option, None, Some, refl, sym, ap, subst, ◌∙◌, append_assoc, append-nil, length-append, length-drop, length-take, le_refl, drop_of_length-le, inl, inr, arith, Result, Ok, Err, take-add, AfterStep, next_at, SoFar, EndsAt}
+use Rattle.pgn_game.proofs.Words.{InputTooLong, Fault, Profile, take-append-drop, take-take, drop-take, drop-drop, Token, decided, Follows, IsDecided, first, still, Standing, StandsAfter, ReaderState, as_written, Converter, Stands, Reaches, StopsIn, within_limit, too_long, ◌≡◌, ℕ, ◌+◌, ◌-◌, ◌<◌, ◌≤◌, ◌^◌, zero, suc, List, [], ◌∷◌, ◌++◌, length, take, drop, Option, None, Some, refl, sym, ap, subst, ◌∙◌, append_assoc, append-nil, length-append, length-drop, length-take, le_refl, drop_of_length-le, inl, inr, arith, Result, Ok, Err, take-add, AfterStep, next_at, SoFar, EndsAt, StepEnd, AfterSteps, StepsOn, ReadsPiece, ReadsToMarker, FailsIn, common_steps}
 use Rattle.pgn_game.proofs.tokens.MarkerToGame.{reads_none, reads_more, meets_more, not_taken_more}
 use Rattle.pgn_game.proofs.tokens.AcceptedToConverter.{follows_own, next_in_piece, read_as, still_none}
 use Rattle.pgn_game.proofs.tokens.BytesWithinLimit.{all_within, front_within}
@@ -28,14 +26,7 @@ begins_with {b} (x ∷ xs) stands follows =
 
 pub so_far_none : (p : Profile) (old : Converter) (u : List ℕ) (b : Option ℕ) (given : List Token) (piece : List ℕ) (o : Option (List ℕ))
     → Reaches p old u b given → Follows b piece → SoFar p u b given piece 0 old o o
-so_far_none p old u b given piece o reaches follows =
-    record {
-      tokens = given;
-      stands = rw (append-nil u) (begins_with piece reaches.lexer follows);
-      decided = λ some. absurd (omega (arith, some));
-      empty = λ none. refl;
-      reads = reads_none p given old o reaches.has_read;
-    }
+so_far_none p old u b given piece o reaches follows = grind (arith, common_steps, append-nil, begins_with, decided, reads_none)
 
 next_within : (b : Option ℕ) (piece : List ℕ) (at : ℕ) → 0 < length piece → next_at b piece at ≡ first (drop at piece)
 next_within b [] at h = absurd (omega arith)
@@ -57,26 +48,14 @@ decided_at_end u ts (inl e) = e
 decided_at_end u ts (inr (c, e, k)) = absurd (cc)
 
 -- the piece is used whole, and no token ends in it
-pub reads_behind : (p : Profile) (u : List ℕ) (b : Option ℕ) (given : List Token) (piece : List ℕ)
-    (at : ℕ) (now : Converter) (a c : Option (List ℕ)) → SoFar p u b given piece at now a c
-    → at ≡ length piece → ReadsPiece p u b given piece now a c
-reads_behind p u b given piece at now a c so end =
-    let whole : take at piece ≡ piece = take_all at piece (omega (arith, end)) in
-    let none : drop at piece ≡ [] = drop_of_length-le piece (omega (arith, end)) in
-    record {
-      tokens = so.tokens;
-      stands = rw (whole, end, next_behind b piece) at so.stands;
-      decided = λ some. decided_at_end (u ++ piece) so.tokens (rw (whole, none) at (so.decided (omega (arith, some, end))));
-      empty = so.empty;
-      reads = so.reads;
-    }
+module _ (p : Profile) (u : List ℕ) (b : Option ℕ) (given : List Token) (piece : List ℕ) (at : ℕ) (now : Converter) (a c : Option (List ℕ)) where
+  pub reads_behind : SoFar p u b given piece at now a c → at ≡ length piece → ReadsPiece p u b given piece now a c
+  reads_behind so end = grind (arith, common_steps, take_all, drop_of_length-le, next_behind, decided, decided_at_end)
 
--- a converter in the piece stands before the rest
-pub stands_here : (p : Profile) (u : List ℕ) (b : Option ℕ) (given : List Token) (piece : List ℕ)
-    (at : ℕ) (now : Converter) (a c : Option (List ℕ)) (so : SoFar p u b given piece at now a c)
-    → at < length piece → Reaches p now (u ++ take at piece) (first (drop at piece)) so.tokens
-stands_here p u b given piece at now a c so within =
-    record { lexer = rw (next_within b piece at (omega (arith, within))) at so.stands; has_read = so.reads.has_read }
+  -- a converter in the piece stands before the rest
+  pub stands_here : (so : SoFar p u b given piece at now a c) → at < length piece → Reaches p now (u ++ take at piece) (first (drop at piece)) so.tokens
+  stands_here so within =
+      record { lexer = rw (next_within b piece at (omega (arith, within))) at so.stands; has_read = so.reads.has_read }
 
 module _ (p : Profile) (u : List ℕ) (b : Option ℕ) (given : List Token) (piece : List ℕ) (at : ℕ) (now : Converter)
     (a c d : Option (List ℕ)) (so : SoFar p u b given piece at now a c) (within : at < length piece)
@@ -86,9 +65,7 @@ module _ (p : Profile) (u : List ℕ) (b : Option ℕ) (given : List Token) (pie
 
   -- more was read of the rest
   known_there : (used : ℕ) → next_at (first (drop at piece)) (drop at piece) used ≡ next_at b piece (at + used)
-  known_there used =
-      let rest : 0 < length (drop at piece) = omega (arith, within, length-drop at piece) in
-      next_within (first (drop at piece)) (drop at piece) used rest ∙ ap first (drop-drop used at piece) ∙ sym (next_within b piece (at + used) some)
+  known_there used = grind (arith, common_steps, length-drop, next_within, first, drop-drop, some)
 
   decided_further : (used : ℕ) (ts : List Token) → IsDecided ((u ++ take at piece) ++ take used (drop at piece)) (drop used (drop at piece)) ts
       → IsDecided (u ++ take (at + used) piece) (drop (at + used) piece) ts
@@ -172,10 +149,7 @@ module _ (p : Profile) (u : List ℕ) (given : List Token) (piece : List ℕ) (a
       → AfterSteps p (u ++ take at piece) on.so.tokens (drop at piece) new used outcome c d
       → AfterSteps p u given piece new (at + used) outcome a d
   unfolding so_far_on
-  after_steps (Ok None) after = (
-    omega (arith, after.0, length-drop at piece, within),
-    all_on p u (first piece) given piece at now a c d on.so within new written after.1,
-  )
+  after_steps (Ok None) after = grind (arith, common_steps, length-drop, all_on, first)
   after_steps (Ok (Some Other)) after =
       record {
         so = so_far_on p u (first piece) given piece at now a c d on.so within new written used after;

@@ -1,11 +1,7 @@
 -- What a step does over one call of the lexer, and over what is passed before a token.
-use Rattle.pgn_lexer.specs.Scanned.{fault, more, token}
-use Rattle.pgn_lexer.specs.Stands.{Scans}
-use Rattle.pgn_lexer.specs.WholeTokens.{Passes, ReadsBehind}
+use Rattle.pgn_lexer.specs.Scanned.{token}
 use Rattle.pgn_game.specs.declared.converter.StepEnd.TheVariants.{Token as Other}
-use Rattle.pgn_game.specs.state.ConverterSteps.{Steps, fault_of, outcome_at}
-use Rattle.pgn_game.specs.state.PutResult.{TakesUnlessMarker}
-use Rattle.pgn_game.proofs.Words.{LexFault, Lexical, Fault, Bool, IsTrue, false, ◌≡◌, ℕ, ◌+◌, ◌-◌, ◌<◌, ◌≤◌, ◌^◌, List, length, drop, length-drop, first, Option, None, Some, Result, Ok, Err, refl, subst, arith, Marker, Token, InMovetext, Reason, ReaderState, Converter, Device, IsSound, Standing, Keeps}
+use Rattle.pgn_game.proofs.Words.{LexFault, Lexical, Fault, Bool, IsTrue, false, ◌≡◌, ℕ, ◌+◌, ◌-◌, ◌<◌, ◌≤◌, ◌^◌, List, length, drop, length-drop, first, Option, None, Some, Result, Ok, Err, refl, subst, arith, Marker, Token, InMovetext, Reason, ReaderState, Converter, Device, IsSound, Standing, Keeps, fault, more, Scans, Passes, ReadsBehind, Steps, fault_of, outcome_at, TakesUnlessMarker, common_steps}
 use Rattle.pgn_game.proofs.tokens.AcceptedToConverter.{follows_own, now_at, took, took_fault, took_none}
 use Rattle.pgn_game.proofs.tokens.PastNumbers.{passes_count, passes_few, passes_sooner, reads_past}
 use Rattle.pgn_game.proofs.tokens.RunsInPiece.{Runs, between, steps_behind}
@@ -42,16 +38,7 @@ module _ (lexer : Standing) (reading : ReaderState) (games : ℕ) (piece : List 
         }
 
     pub sound_more : Scans lexer piece l used more → IsSound l reading games false false None
-    sound_more scans =
-        let waits = few_waiting l in
-        record {
-          count = omega (arith, scans.count, within, short);
-          few = λ is. omega (arith, sound.few is, scans.count, scans.reads.0, some, waits);
-          few_plies = λ is. omega (arith, sound.few_plies is, scans.count, scans.reads.0, some, waits);
-          fewer_plies = λ is not_over. omega (arith, sound.fewer_plies is not_over, scans.count, scans.reads.0, some, waits);
-          between = sound.between;
-          no_fault = sound.no_fault;
-        }
+    sound_more scans = grind (arith, common_steps, few_waiting, between)
 
     -- the text is rejected
     pub steps_fault : (f : LexFault) → Scans lexer piece l used (fault f) → (o : Option (List ℕ)) (failures : ℕ)
@@ -109,9 +96,7 @@ module _ (lexer : Standing) (reading : ReaderState) (games : ℕ) (piece : List 
           }
 
       pub sound_met : {finished : _} {fault : _} → IsSound l new games false finished fault
-      sound_met =
-          sound_in_piece lexer l reading new games used (length piece) scans.advances scans.count within short
-          (sound.few refl) (sound.fewer_plies refl refl) keeps
+      sound_met = grind (arith, common_steps, sound_in_piece, keeps)
 
   -- ---- a call that passes white space, and numbers in movetext
 
@@ -132,17 +117,7 @@ module _ (lexer : Standing) (reading : ReaderState) (games : ℕ) (piece : List 
         }
 
     pub sound_past : {l : Standing} {used : ℕ} → Passes skips lexer piece l used → used ≤ length piece → IsSound l reading games false false None
-    sound_past passes within =
-        let few = passes_few passes in
-        let count = passes_count passes in
-        record {
-          count = omega (arith, count, within, short);
-          few = λ is. omega (arith, sound.few is, count, few);
-          few_plies = λ is. omega (arith, sound.few_plies is, count, few);
-          fewer_plies = λ is not_over. omega (arith, sound.fewer_plies is not_over, count, few);
-          between = sound.between;
-          no_fault = sound.no_fault;
-        }
+    sound_past passes within = grind (arith, common_steps, passes_few, passes_count, between)
 
 -- and the token behind them
 module _ (lexer : Standing) (reading : ReaderState) (games : ℕ) (piece : List ℕ)

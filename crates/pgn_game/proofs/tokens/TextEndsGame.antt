@@ -2,7 +2,7 @@
 use Rattle.pgn_lexer.specs.declared.partial_token.Mode.TheVariants as modes
 use Rattle.pgn_lexer.specs.Tokens as tokens
 use Rattle.pgn_game.proofs.MarkerTexts.{score_marker, marker_short}
-use Rattle.pgn_game.proofs.Words.{Token, Profile, Game, ◌≡◌, ℕ, ◌+◌, ◌<◌, ◌≤◌, Bool, true, false, List, [], ◌∷◌, ◌++◌, length, nat_le, None, refl, sym, ap, subst, ◌∙◌, inl, inr, drop, append-nil, append_assoc, length-append, arith, le-leb, EndsAt, Standing, coming, is_score, no_progress, Read, read, read_from, Converter, Stands, games_read, FinishesGame, if◌then◌else◌, drop_at, drop-append-le, drop-drop, length-drop, SymbolTooLong, gives, stops, onto, tokens_of, tokens_to_come_in, BeginsWithToken, RisesTo, SymbolsStandInText, TokensRise, GamesEndByMarker, LastGame, TextsEndBehindMarker, TextsEndBetweenGames, text_of_games as text_of}
+use Rattle.pgn_game.proofs.Words.{Token, Profile, Game, ◌≡◌, ℕ, ◌+◌, ◌<◌, ◌≤◌, Bool, true, false, List, [], ◌∷◌, ◌++◌, length, nat_le, None, refl, sym, ap, subst, ◌∙◌, inl, inr, drop, append-nil, append_assoc, length-append, arith, le-leb, EndsAt, Standing, coming, is_score, no_progress, Read, read, read_from, Converter, Stands, games_read, FinishesGame, if◌then◌else◌, drop_at, drop-append-le, drop-drop, length-drop, SymbolTooLong, gives, stops, onto, tokens_of, tokens_to_come_in, BeginsWithToken, RisesTo, SymbolsStandInText, TokensRise, GamesEndByMarker, LastGame, TextsEndBehindMarker, TextsEndBetweenGames, text_of_games as text_of, common_steps}
 use Rattle.pgn_game.proofs.tokens.GamesInTurn.{passes_before}
 use Rattle.pgn_game.proofs.tokens.NoneBeforeFault.{reads_behind}
 use Rattle.pgn_game.proofs.refusals.RefusalsInMovetext.{score_of}
@@ -137,13 +137,7 @@ module _ (stand : SymbolsStandInText) (ends : GamesEndByMarker) (p : Profile)
       ∙ ap (λ ts. given ++ ts) two.1)))
 
   by_left : (ts : List Token) → coming l [] ≡ ts → IsLeft l.held.mode l.count l.held.at l.held.text ts → LastGame p u given
-  by_left _ is (none ts q has) =
-      absurd (omega (
-        arith,
-        more,
-        ap (λ (r : Read). length r.progress.games) reads,
-        ap (length {A = Game}) (quiet_games p (read p given).progress (coming l []) (subst AreQuiet (sym is) q)),
-      ))
+  by_left _ is (none ts q has) = grind (arith, common_steps, reads, quiet_games, read, coming)
   by_left _ is (glyph n) =
       let finished = (finishes (token_at l.held.at (tokens.glyph n)) l.count is).game in
       let marker = (ends p given (token_at l.held.at (tokens.glyph n)) finished).is_marker in

@@ -1,11 +1,10 @@
 -- Conversions of whole inputs.
-use Rattle.std.specs.Io.KnownBytes.{Keeps, IsAtEnd}
-use Rattle.std.proofs.lemmas.Option.{IfSome_then}
-use Rattle.pgn_game.proofs.Words.{Token, InputTooLong, Fault, Profile, ◌≡◌, ℕ, false, ◌^◌, ◌≤◌, List, [], ◌++◌, length, Option, None, Some, Result, Ok, Err, IfSome, OnOk, sym, ap, subst, ◌∙◌, append-nil, map, sum, Consumes-nil, Consumes-trans, tokens_of, decided, plies_of, whole_plies, Gains, IsConverted, IsTotalled, MostProbes, ReadsNoMore, FailsOn, Fails, AfterEnd, AfterConversion, AfterSlice, verdict_in, Games, games_of, HaveRead, NextGame, NoGame, NextStops, ReadSoFar, ReaderState, Bool, Appends, Consumes, Totals, Read, read, due, refused as is_refused, totals, verdict, verdict_of, Converter, HasRead, Stands, Stops, refused_stop as refused, unwritten, StopsIn, at_token, too_long, FedFault, FedWhole, ReadsUpTo, Finishes, rules, no_progress, inl, refl, within, first, writing_nothing}
+use Rattle.std.specs.Io.KnownBytes.{Keeps}
+use Rattle.pgn_game.proofs.Words.{Token, InputTooLong, Fault, Profile, ◌≡◌, ℕ, false, ◌^◌, ◌≤◌, List, [], ◌++◌, length, Option, None, Some, Result, Ok, Err, IfSome, OnOk, sym, ap, subst, ◌∙◌, append-nil, map, sum, Consumes-nil, Consumes-trans, tokens_of, decided, plies_of, whole_plies, Gains, IsConverted, IsTotalled, MostProbes, ReadsNoMore, FailsOn, Fails, AfterEnd, AfterConversion, AfterSlice, verdict_in, Games, games_of, HaveRead, NextGame, NoGame, NextStops, ReadSoFar, ReaderState, Bool, Appends, Consumes, Totals, Read, read, due, refused as is_refused, totals, verdict, verdict_of, Converter, HasRead, Stands, Stops, refused_stop as refused, unwritten, StopsIn, at_token, too_long, FedFault, FedWhole, ReadsUpTo, Finishes, rules, no_progress, inl, refl, within, first, writing_nothing, IsAtEnd, IfSome_then, AreShown, IsRefused, arith, common_steps}
 use Rattle.pgn_game.specs.calls.GamesCalls as games_calls
 use Rattle.pgn_game.specs.calls.Conversion as conversion
 use Rattle.pgn_game.proofs.tokens.OneMoreToken.{torn-none, gains_none, gains_more, stops_more, stops_from}
-use Rattle.pgn_game.specs.calls.ConverterCalls.{AreShown, IsRefused, at_end}
+use Rattle.pgn_game.specs.calls.ConverterCalls.{at_end}
 use Rattle.pgn_game.proofs.tokens.AcceptedToConverter.{in_games}
 use Rattle.pgn_game.proofs.tokens.MissingCountsAs.{reads_silently, stands_silently}
 use Rattle.pgn_game.proofs.tokens.BytesWithinLimit.{all_shown, decides_by, shown_begins, shown_by}
@@ -18,32 +17,23 @@ verdict_refused : (r : Read) {f : Fault} → r.fault ≡ Some f → verdict_of r
 verdict_refused r e = rw e
 
 -- the counts of a converter that has read the whole text are those of the text
-pub totalled : {p : Profile} {s : List ℕ} {c : Converter} (t : Totals)
-    → HasRead p c (tokens_of s) → t.games ≡ c.games → t.plies ≡ whole_plies c.reading
-    → t.most_probes ≡ c.reading.most_probes → t.most_probes ≤ 1040 → (verdict p s ≡ verdict_in t) × MostProbes c.reading.writing.is_silent p s t.most_probes
-totalled t has games plies probes bound = search (rules, in_games, verdict_passes)
+module _ {p : Profile} where
+  pub totalled : {s : List ℕ} {c : Converter} (t : Totals) → HasRead p c (tokens_of s) → t.games ≡ c.games → t.plies ≡ whole_plies c.reading → t.most_probes ≡ c.reading.most_probes → t.most_probes ≤ 1040 → (verdict p s ≡ verdict_in t) × MostProbes c.reading.writing.is_silent p s t.most_probes
+  totalled t has games plies probes bound = search (rules, in_games, verdict_passes)
 
-pub ended : {p : Profile} {u : List ℕ} {given : List Token} {new : Converter} {finished_game : _} (t : Totals) {a c : Option (List ℕ)}
-    → Finishes p u given new finished_game a c → t.games ≡ new.games → t.plies ≡ whole_plies new.reading
-    → t.most_probes ≡ new.reading.most_probes → t.most_probes ≤ 1040 → AfterEnd new.reading.writing.is_silent p u given (Ok t) a c
-ended t done games plies probes bound =
-    let (is_verdict, most) = totalled t done.has_read games plies probes bound in
-    (is_verdict, most, done.gains)
+  pub ended : {u : List ℕ} {given : List Token} {new : Converter} {finished_game : _} (t : Totals) {a c : Option (List ℕ)} → Finishes p u given new finished_game a c → t.games ≡ new.games → t.plies ≡ whole_plies new.reading → t.most_probes ≡ new.reading.most_probes → t.most_probes ≤ 1040 → AfterEnd new.reading.writing.is_silent p u given (Ok t) a c
+  ended t done games plies probes bound = grind (arith, common_steps, totalled)
 
-pub appended : {p : Profile} {tokens : List Token} {a c : Option (List ℕ)} → Gains p [] tokens a c → Appends a c (due p tokens)
-appended {p} {tokens} {a} {c} gains =
-    let whole : due p tokens ≡ gains.text = rw (torn-none p.missing_result p.mode) at gains.due_for in
-    subst (Appends a c) (sym whole) gains.appended
+  pub appended : {tokens : List Token} {a c : Option (List ℕ)} → Gains p [] tokens a c → Appends a c (due p tokens)
+  appended {tokens} {a} {c} gains = grind (arith, common_steps, due, torn-none)
 
-pub none_read : {p : Profile} {c : Converter} {left : Option (List ℕ)} → Stands p c [] None []
-    → c.is_finished ≡ false → HaveRead p left [] (games_of c []) []
-none_read stands not_finished =
-    within (record { used = []; bytes = refl; stands = stands; at_limit = λ h. refl; decided = inl refl; not_finished = not_finished })
+  pub none_read : {c : Converter} {left : Option (List ℕ)} → Stands p c [] None [] → c.is_finished ≡ false → HaveRead p left [] (games_of c []) []
+  none_read stands not_finished =
+      within (record { used = []; bytes = refl; stands = stands; at_limit = λ h. refl; decided = inl refl; not_finished = not_finished })
 
-pub read_none : {p : Profile} {now : Games} (left : Option (List ℕ)) {o : Option (List ℕ)}
-    → HaveRead p left [] now [] → ReadSoFar p left left now o o
-read_none left have =
-    record { bytes = []; tokens = []; consumed = Consumes-nil left; have_read = have; gains = gains_none }
+  pub read_none : {now : Games} (left : Option (List ℕ)) {o : Option (List ℕ)} → HaveRead p left [] now [] → ReadSoFar p left left now o o
+  read_none left have =
+      record { bytes = []; tokens = []; consumed = Consumes-nil left; have_read = have; gains = gains_none }
 
 -- where nothing is written from now on
 pub read_none_silently : (p : Profile) (left : Option (List ℕ)) (u : List ℕ) (now : Games) → HaveRead p left u now []
@@ -57,15 +47,7 @@ read_none_silently p left u now (within on) =
       decided = on.decided;
       not_finished = on.not_finished;
     })
-read_none_silently p left u now (games_calls.HaveRead.at_end all) =
-    games_calls.HaveRead.at_end (record {
-      at_end = all.at_end;
-      short = all.short;
-      whole = all.whole;
-      none_begun = all.none_begun;
-      has_read = reads_silently p now.converter all.has_read;
-      finished = all.finished;
-    })
+read_none_silently p left u now (games_calls.HaveRead.at_end all) = grind (arith, common_steps, reads_silently)
 
 pub keeps_consumed : (o m n : Option (List ℕ)) (u : List ℕ) → Consumes o m u → Keeps m n → Consumes o n u
 keeps_consumed None m n u h k = tt
@@ -75,27 +57,22 @@ keeps_consumed (Some xs) (Some ys) (Some zs) u h k = rw k h
 
 no_more : {p : Profile} {u : List ℕ} {tokens : List Token} {a c : Option (List ℕ)} → tokens ≡ decided u
     → (read p tokens).fault ≡ None → Gains p [] tokens a c → ReadsNoMore p u a c
-no_more is_decided passes gains =
-    record {
-      passes = rw is_decided at passes;
-      appended = rw is_decided at (appended gains);
-    }
+no_more is_decided passes gains = grind (arith, common_steps, appended)
 
 -- the tokens up to a rejected one decide the verdict
-refused_text : {p : Profile} (s : List ℕ) {tokens : List Token} (more : List Token) {f : Fault} {a c : Option (List ℕ)}
-    → tokens_of s ≡ tokens ++ more → (read p tokens).fault ≡ Some f → Gains p [] tokens a c → IsConverted p s (is_refused f) a c
-refused_text {p} s {tokens} more cut fault gains =
-    let same : read p (tokens_of s) ≡ read p tokens = ap (read p) cut ∙ stops_from p no_progress tokens more fault in (
-      ap verdict_of same ∙ verdict_refused (read p tokens) fault,
-      rw same (appended gains),
-    )
+module _ {p : Profile} (s : List ℕ) {tokens : List Token} where
+  refused_text : (more : List Token) {f : Fault} {a c : Option (List ℕ)} → tokens_of s ≡ tokens ++ more → (read p tokens).fault ≡ Some f → Gains p [] tokens a c → IsConverted p s (is_refused f) a c
+  refused_text more cut fault gains =
+      let same : read p (tokens_of s) ≡ read p tokens = ap (read p) cut ∙ stops_from p no_progress tokens more fault in (
+        ap verdict_of same ∙ verdict_refused (read p tokens) fault,
+        rw same (appended gains),
+      )
 
--- and that its bytes before place 2^62 show it
-refused_by : {p : Profile} (s : List ℕ) {tokens : List Token} {f : Fault} {a c : Option (List ℕ)}
-    → AreShown s tokens → (read p tokens).fault ≡ Some f → Gains p [] tokens a c → IsRefused p s f × IsConverted p s (is_refused f) a c
-refused_by s {tokens} shown fault gains =
-    let here = shown_begins s tokens shown in
-    (record { tokens = tokens; shown = shown; fault = fault }, refused_text s here.0 here.1 fault gains)
+  -- and that its bytes before place 2^62 show it
+  refused_by : {f : Fault} {a c : Option (List ℕ)} → AreShown s tokens → (read p tokens).fault ≡ Some f → Gains p [] tokens a c → IsRefused p s f × IsConverted p s (is_refused f) a c
+  refused_by shown fault gains =
+      let here = shown_begins s tokens shown in
+      (record { tokens = tokens; shown = shown; fault = fault }, refused_text here.0 here.1 fault gains)
 
 refused_at_end : {p : Profile} (s : List ℕ) {f : Fault} {a c : Option (List ℕ)} → length s ≤ 2 ^ 62
     → (read p (tokens_of s)).fault ≡ Some f → Gains p [] (tokens_of s) a c → IsRefused p s f × IsConverted p s (is_refused f) a c
@@ -161,16 +138,15 @@ module _ (p : Profile) (left_old left left_new : Option (List ℕ)) (now : Games
       (no_more none.reads.decided none.reads.passes (gains_more so.gains none.reads.gains)))
 
 -- a text that was converted has at most 2^62 bytes
-pub is_short : (silent : Bool) (p : Profile) (left_old left_new a c : Option (List ℕ)) (r : Result Totals Fault)
-    → AfterConversion silent p left_old left_new r a c → OnOk r (IfSome left_old (λ s. length s ≤ 2 ^ 62))
-is_short silent p left_old left_new a c (Ok t) h =
-    IfSome_then left_old {P = λ s. IsTotalled silent p s t a c} {Q = λ s. length s ≤ 2 ^ 62} h (λ s whole. whole.short)
-is_short silent p left_old left_new a c (Err f) h = tt
+module _ (silent : Bool) (p : Profile) where
+  pub is_short : (left_old left_new a c : Option (List ℕ)) (r : Result Totals Fault) → AfterConversion silent p left_old left_new r a c → OnOk r (IfSome left_old (λ s. length s ≤ 2 ^ 62))
+  is_short left_old left_new a c (Ok t) h =
+      IfSome_then left_old {P = λ s. IsTotalled silent p s t a c} {Q = λ s. length s ≤ 2 ^ 62} h (λ s whole. whole.short)
+  is_short left_old left_new a c (Err f) h = tt
 
-pub is_short_slice : (silent : Bool) (p : Profile) (text : List ℕ) (a c : Option (List ℕ)) (r : Result Totals Fault)
-    → AfterSlice silent p text r a c → OnOk r (length text ≤ 2 ^ 62)
-is_short_slice silent p text a c (Ok t) h = h.short
-is_short_slice silent p text a c (Err f) h = tt
+  pub is_short_slice : (text : List ℕ) (a c : Option (List ℕ)) (r : Result Totals Fault) → AfterSlice silent p text r a c → OnOk r (length text ≤ 2 ^ 62)
+  is_short_slice text a c (Ok t) h = h.short
+  is_short_slice text a c (Err f) h = tt
 
 -- a slice, fed from the start on
 pub slice_stops : (p : Profile) {f : Fault} {text : List ℕ} (a c : Option (List ℕ))

@@ -1,12 +1,10 @@
 -- Reading with a missing Result that counts as a text, and with one that takes the marker.
 -- Letters: q is the profile whose missing Result takes the marker, b the progress, t a token, ts
 -- are tokens.
-use Rattle.std.proofs.lemmas.Bool.{and_parts, not-true}
-use Rattle.pgn_layout.specs.Lines.{lines_of, text_of as text_of_lines}
+use Rattle.pgn_layout.specs.Lines.{text_of as text_of_lines}
 use Rattle.pgn_lexer.specs.Tokens as tokens
-use Rattle.pgn_game.proofs.Words.{Kind, Token, Reason, ResultDiffers, Profile, Missing, counts_as, takes_the_marker, Pair, value_of, Game, Part, ◌≡◌, ◌⊎◌, inl, inr, ℕ, ◌+◌, Bool, true, false, ◌&&◌, not, ◌==◌, List, [], ◌∷◌, ◌++◌, length, take, drop, codes, bytes_eq, unwrap_or, Option, None, Some, IsTrue, refl, sym, ap, subst, ◌∙◌, length-append, true≢false, arith, list_all, bytes_eq-Decides, Fault, Marker, marker_text, counting, with_missing, tag_lines, depth, start_of, Row, row, rows, first_holding, refusal, is_outside_tag_pairs, has_other_result, levels_of_part, marker_of, IsResult, Next, going, whole, next, Progress, progress_with, progress_after, no_progress, Read, read_from, read, or_else}
-use Rattle.pgn_game.specs.export.Text.{game_text, text_of, tokens_out}
-use Rattle.pgn_game.specs.laws.MissingResults.{is_about_result, rejects_marker, IsReadAlike, MissingResults}
+use Rattle.pgn_game.proofs.Words.{Kind, Token, Reason, ResultDiffers, Profile, Missing, counts_as, takes_the_marker, Pair, value_of, Game, Part, ◌≡◌, ◌⊎◌, inl, inr, ℕ, ◌+◌, Bool, true, false, ◌&&◌, not, ◌==◌, List, [], ◌∷◌, ◌++◌, length, take, drop, codes, bytes_eq, unwrap_or, Option, None, Some, IsTrue, refl, sym, ap, subst, ◌∙◌, length-append, true≢false, arith, list_all, bytes_eq-Decides, Fault, Marker, marker_text, counting, with_missing, tag_lines, depth, start_of, Row, row, rows, first_holding, refusal, is_outside_tag_pairs, has_other_result, levels_of_part, marker_of, IsResult, Next, going, whole, next, Progress, progress_with, progress_after, no_progress, Read, read_from, read, or_else, and_parts, not-true, lines_of, game_text, tokens_out, is_about_result, rejects_marker, IsReadAlike, MissingResults, common_steps}
+use Rattle.pgn_game.specs.export.Text.{text_of}
 use Rattle.pgn_game.proofs.refusals.RefusalsInMovetext.{other_if}
 use Rattle.pgn_game.proofs.exporting.GameTextToGame.{exported_result}
 use Rattle.pgn_game.proofs.exporting.GameToResult.{one_of_four, result_of}
@@ -59,25 +57,14 @@ other_of : (text : List ℕ) (part : Part) (k : Kind) (o : Option (List ℕ)) (v
     ⊎ (has_other_result takes_the_marker part k ≡ false)
 other_of text part k None v is given = inr (ap (other_if takes_the_marker part.pairs) is)
 other_of text part k (Some marker) (Some value) is given =
-    inl (
-    ap (other_if (counts_as text) part.pairs) is ∙ ap (λ (o : Option (List ℕ)). not (bytes_eq marker (unwrap_or o text))) given
-    ∙ sym (ap (other_if takes_the_marker part.pairs) is ∙ ap (λ (o : Option (List ℕ)). not (bytes_eq marker (unwrap_or o marker))) given)
-    )
-other_of text part k (Some marker) None is given =
-    inr (
-    ap (other_if takes_the_marker part.pairs) is ∙ ap (λ (o : Option (List ℕ)). not (bytes_eq marker (unwrap_or o marker))) given
-    ∙ ap not ((bytes_eq-Decides marker marker).1 refl)
-    )
+    grind (arith, common_steps, inl, other_if, counts_as, bytes_eq, unwrap_or, takes_the_marker)
+other_of text part k (Some marker) None is given = grind (arith, common_steps, inr, other_if, takes_the_marker, bytes_eq, unwrap_or, bytes_eq-Decides)
 
 refusal_taking : (q : Profile) (text : List ℕ) (part : Part) (k : Kind)
     → q.missing_result ≡ takes_the_marker → by_result (refusal (counting q text) part k) ≡ false
     → refusal q part k ≡ refusal (counting q text) part k
 refusal_taking q text part k takes plain =
-    ap (λ (missing : Missing). refusal (with_missing q missing) part k) takes
-    ∙ elim (other_of text part k (marker_of k) (value_of part.pairs (codes "Result")) refl refl) [
-      | inl same ↦ sym (table_alike q (counts_as text) takes_the_marker part k same)
-      | inr none ↦ table_without q text part k none plain
-    ]
+    grind (arith, common_steps, refusal, with_missing, other_of, marker_of, value_of, codes, inl, table_alike, counts_as, takes_the_marker, inr, table_without)
 
 -- A game that is finished has the same text.
 abbrev text_with : Profile → Game → List Pair → List ℕ
@@ -92,55 +79,39 @@ game_alike q text g takes is =
 finished_alike : (q : Profile) (text : List ℕ) (part : Part) (k : Kind) (g : Game)
     → q.missing_result ≡ takes_the_marker → refusal (counting q text) part k ≡ None
     → next part k ≡ whole g → game_text q g ≡ game_text (counting q text) g
-finished_alike q text part k g takes free is = by_marker (marker_of k) refl
-  where
-    by_marker : (o : Option (List ℕ)) → marker_of k ≡ o → game_text q g ≡ game_text (counting q text) g
-    by_marker None none = let to = no_marker_goes part k none in let e : going to.0 ≡ whole g = sym to.1 ∙ is in absurd (cc)
-    by_marker (Some marker) some =
-        let e : whole (record { pairs = part.pairs; items = part.items; marker = marker }) ≡ whole g =
-        sym (marker_finishes (counting q text) part k marker some free) ∙ is in
-        let same : record { pairs = part.pairs; items = part.items; marker = marker } ≡ g = cc in
-        subst (λ (g : Game). game_text q g ≡ game_text (counting q text) g) same
-        (game_alike q text (record { pairs = part.pairs; items = part.items; marker = marker }) takes
-        (result_of (counting q text) part k marker some free))
+finished_alike q text part k g takes free is =
+    grind (arith, common_steps, marker_of, game_text, counting, no_marker_goes, going, whole, marker_finishes, game_alike, result_of)
 
 -- so have all games
 abbrev AreAlike : Profile → List ℕ → List Game → Type 0
 AreAlike q text games = text_of q games ≡ text_of (counting q text) games
 
-one_more : (q : Profile) (text : List ℕ) (games : List Game) (to : Next) → AreAlike q text games
-    → ((g : Game) → to ≡ whole g → game_text q g ≡ game_text (counting q text) g) → AreAlike q text (progress_with games to).games
-one_more q text games (going part) before same = before
-one_more q text games (whole g) before same = cc (text_of-snoc q games g, before, same g refl, text_of-snoc (counting q text) games g)
+module _ (q : Profile) (text : List ℕ) where
+  one_more : (games : List Game) (to : Next) → AreAlike q text games → ((g : Game) → to ≡ whole g → game_text q g ≡ game_text (counting q text) g) → AreAlike q text (progress_with games to).games
+  one_more games (going part) before same = before
+  one_more games (whole g) before same = cc (text_of-snoc q games g, before, same g refl, text_of-snoc (counting q text) games g)
 
-all_alike : (q : Profile) (text : List ℕ) (b : Progress) (ts : List Token) → q.missing_result ≡ takes_the_marker → AreAlike q text b.games
-    → AreAlike q text (read_from (counting q text) b ts).progress.games
-all_alike q text b [] takes before = before
-all_alike q text b (t ∷ ts) takes before =
-    by_token (counting q text) b t ts (λ r. AreAlike q text r.progress.games) (λ reason is. before)
-    (λ is. all_alike q text (progress_after b t) ts takes
-    (one_more q text b.games (next b.part t.kind) before (λ g leads. finished_alike q text b.part t.kind g takes is leads)))
+  all_alike : (b : Progress) (ts : List Token) → q.missing_result ≡ takes_the_marker → AreAlike q text b.games → AreAlike q text (read_from (counting q text) b ts).progress.games
+  all_alike b [] takes before = before
+  all_alike b (t ∷ ts) takes before =
+      by_token (counting q text) b t ts (λ r. AreAlike q text r.progress.games) (λ reason is. before)
+      (λ is. all_alike (progress_after b t) ts takes
+      (one_more b.games (next b.part t.kind) before (λ g leads. finished_alike q text b.part t.kind g takes is leads)))
 
--- Reading.
+  -- Reading.
 
--- a token that is rejected for another reason, and one that is not rejected
-reads_alike : (q : Profile) (text : List ℕ) (b : Progress) (ts : List Token)
-    → q.missing_result ≡ takes_the_marker → rejects_marker (read_from (counting q text) b ts).fault ≡ false
-    → read_from q b ts ≡ read_from (counting q text) b ts
-reads_alike q text b [] takes plain = refl
-reads_alike q text b (t ∷ ts) takes plain =
-    by_token (counting q text) b t ts (λ r. rejects_marker r.fault ≡ false → read_from q b (t ∷ ts) ≡ r)
-    (λ reason is other. read_from-test q b t ts
-    ∙ ap (after_test q b t ts) (refusal_taking q text b.part t.kind takes (ap by_result is ∙ other) ∙ is))
-    (λ is other. goes_on q b t ts (refusal_taking q text b.part t.kind takes (ap by_result is) ∙ is)
-    ∙ reads_alike q text (progress_after b t) ts takes other) plain
+  -- a token that is rejected for another reason, and one that is not rejected
+  reads_alike : (b : Progress) (ts : List Token) → q.missing_result ≡ takes_the_marker → rejects_marker (read_from (counting q text) b ts).fault ≡ false → read_from q b ts ≡ read_from (counting q text) b ts
+  reads_alike b [] takes plain = refl
+  reads_alike b (t ∷ ts) takes plain =
+      by_token (counting q text) b t ts (λ r. rejects_marker r.fault ≡ false → read_from q b (t ∷ ts) ≡ r)
+      (λ reason is other. read_from-test q b t ts
+      ∙ ap (after_test q b t ts) (refusal_taking q text b.part t.kind takes (ap by_result is ∙ other) ∙ is))
+      (λ is other. goes_on q b t ts (refusal_taking q text b.part t.kind takes (ap by_result is) ∙ is)
+      ∙ reads_alike (progress_after b t) ts takes other) plain
 
-is_read_alike : (q : Profile) (text : List ℕ) (ts : List Token) → q.missing_result ≡ takes_the_marker
-    → read q ts ≡ read (counting q text) ts → IsReadAlike q text ts
-is_read_alike q text ts takes same = record {
-  same = same;
-  written = ap (λ (r : Read). text_of q r.progress.games) same ∙ all_alike q text no_progress ts takes refl;
-}
+  is_read_alike : (ts : List Token) → q.missing_result ≡ takes_the_marker → read q ts ≡ read (counting q text) ts → IsReadAlike q text ts
+  is_read_alike ts takes same = grind (arith, common_steps, all_alike, no_progress)
 
 -- The marker that is rejected.
 
@@ -174,11 +145,7 @@ is_harmless r = not (is_about_result r.reason && r.holds)
 by_row : (b : Bool) (reason : Reason) (rest : Option Reason) → (is_about_result reason && b) ≡ false
     → by_result rest ≡ false → by_result (or_else b reason rest) ≡ false
 by_row false reason rest plain further = further
-by_row true reason rest plain further = by_reason (is_about_result reason) plain
-  where
-    by_reason : (x : Bool) → (x && true) ≡ false → x ≡ false
-    by_reason true e = absurd (true≢false e)
-    by_reason false e = refl
+by_row true reason rest plain further = grind (arith, common_steps, is_about_result, true≢false)
 
 no_result : (rs : List Row) → IsTrue (list_all is_harmless rs) → by_result (first_holding rs) ≡ false
 no_result [] all = refl
@@ -227,21 +194,12 @@ module _ (q : Profile) (b : Progress) (t : Token) (m : Marker)
   same_row = refusal_counting q (marker_text m) b.part t.kind takes (inr is)
 
   pub up_to_marker : read_from q b (t ∷ []) ≡ read_from (counting q (marker_text m)) b (t ∷ [])
-  up_to_marker =
-      by_token q b t [] (λ r. r ≡ read_from (counting q (marker_text m)) b (t ∷ []))
-      (λ reason row.
-      sym (read_from-test (counting q (marker_text m)) b t [] ∙ ap (after_test (counting q (marker_text m)) b t []) (same_row ∙ row)))
-      (λ row. sym (goes_on (counting q (marker_text m)) b t [] (same_row ∙ row)))
+  up_to_marker = grind (arith, common_steps, by_token, read_from, counting, marker_text, read_from-test, after_test, same_row, row, goes_on)
 
   pub marker_refused : (ts : List Token) → length (read_from (counting q (marker_text m)) b (t ∷ ts)).progress.games ≡ length b.games
       → read_from q b (t ∷ ts) ≡ read_from (counting q (marker_text m)) b (t ∷ ts)
   marker_refused ts none =
-      by_token q b t ts (λ r. r ≡ read_from (counting q (marker_text m)) b (t ∷ ts))
-      (λ reason row.
-      sym (read_from-test (counting q (marker_text m)) b t ts ∙ ap (after_test (counting q (marker_text m)) b t ts) (same_row ∙ row)))
-      (λ row.
-      absurd (game_stays (counting q (marker_text m)) b t ts _ (marker_finishes q b.part t.kind (marker_text m) is row)
-      (ap (λ (r : Read). length r.progress.games) (sym (goes_on (counting q (marker_text m)) b t ts (same_row ∙ row))) ∙ none)))
+      grind (arith, common_steps, by_token, read_from, counting, marker_text, read_from-test, after_test, same_row, row, game_stays, marker_finishes, goes_on)
 
 -- at a token before it, which is no marker
 module _ (q : Profile) (b : Progress) (t : Token) (takes : q.missing_result ≡ takes_the_marker)

@@ -1,13 +1,6 @@
 -- Which device counts a failure in a step, of the reasons one by one.
-use Rattle.pgn_game.proofs.Words.{Reason, ReadFault, WriteFault, Changed, ◌≡◌, ℕ, refl, ap, subst, ◌∙◌, inl, inr, arith, Device, Bool, true, false, IsTrue, Result, Ok, Err, Fault, seen}
-use Rattle.pgn_layout.specs.Device.{nowhere}
-use Rattle.pgn_game.specs.state.Readings.{no_sink}
-use Rattle.pgn_game.specs.calls.Conversion.{CountsResult, CountsSink, CountsWriting}
-use Rattle.pgn_game.specs.calls.ConverterCalls.{NoWriteFails}
-use Rattle.pgn_game.specs.declared.conversion.Totals.{Totals}
-use Rattle.pgn_game.specs.state.GamesSteps.{CountsReading}
+use Rattle.pgn_game.proofs.Words.{Reason, ReadFault, WriteFault, Changed, ◌≡◌, ℕ, refl, ap, subst, ◌∙◌, inl, inr, arith, Device, Bool, true, false, IsTrue, Result, Ok, Err, Fault, seen, nowhere, no_sink, CountsResult, CountsSink, CountsWriting, NoWriteFails, Totals, CountsReading, CountsThree}
 use Rattle.pgn_game.proofs.Words.{IsStill, one_more, CountsReason, CountsDevices, changed_reason}
-use Rattle.pgn_game.specs.calls.CheckedConversion.{CountsThree}
 
 -- an error of the reader is no difference, and no failed read
 pub reader_reason : (r : Reason) (s o n : ℕ) → CountsReason r o n → CountsDevices r s s o n

@@ -1,16 +1,12 @@
 -- One game of each reading: from the tokens up to its marker to the marker that is taken, or to the
 -- token at which reading stops.
-use Rattle.std.proofs.lemmas.List.{append_cancel_left}
-use Rattle.std.proofs.lemmas.Option.{IfSome_then}
 use Rattle.pgn_lexer.specs.Tokens as tokens
 use Rattle.pgn_game.specs.declared.marker.Mark.{Mark as CodeMark}
-use Rattle.pgn_game.proofs.Words.{Kind, Token, Reason, Changed, WriteFault, Fault, Profile, Missing, takes_the_marker, Game, Part, no_part, ◌≡◌, ℕ, ◌+◌, ◌^◌, ◌<◌, ◌≤◌, ◌||◌, ◌&&◌, ◌==◌, not, is_some, bytes_eq, Bool, true, false, List, [], ◌∷◌, ◌++◌, length, take, drop, Option, None, Some, Ok, Err, IfSome, refl, sym, ap, subst, ◌∙◌, append_assoc, append-nil, drop-length, arith, and_parts, not-false, bytes_eq-Decides, Appends-nil, Appends-trans, Appends, Device, TokensRise, tokens_of, coming, Stage, Between, InMovetext, HoldsText, Marker, counting, refusal, is_end, marker_of, torn, gain, text_next, Next, going, whole, next, Read, read, progress_with, IsLastGame, game_in_reader, ReaderState, telling, as_written, known_text, IsStopped, Converter, marker_text, game_of, Mark, is_other, is_changed, HasMarked, HasMatched, Reading, model_mark, changed_reason, OneGame, SameGames, ReadsMore, EndsGame, due_as, part_after, text_of_games as text_of}
+use Rattle.pgn_game.proofs.Words.{Kind, Token, Reason, Changed, WriteFault, Fault, Profile, Missing, takes_the_marker, Game, Part, no_part, ◌≡◌, ℕ, ◌+◌, ◌^◌, ◌<◌, ◌≤◌, ◌||◌, ◌&&◌, ◌==◌, not, is_some, bytes_eq, Bool, true, false, List, [], ◌∷◌, ◌++◌, length, take, drop, Option, None, Some, Ok, Err, IfSome, refl, sym, ap, subst, ◌∙◌, append_assoc, append-nil, drop-length, arith, and_parts, not-false, bytes_eq-Decides, Appends-nil, Appends-trans, Appends, Device, TokensRise, tokens_of, coming, Stage, Between, InMovetext, HoldsText, Marker, counting, refusal, is_end, marker_of, torn, gain, text_next, Next, going, whole, next, Read, read, progress_with, IsLastGame, game_in_reader, ReaderState, telling, as_written, known_text, IsStopped, Converter, marker_text, game_of, Mark, is_other, is_changed, HasMarked, HasMatched, Reading, model_mark, changed_reason, OneGame, SameGames, ReadsMore, EndsGame, due_as, part_after, text_of_games as text_of, append_cancel_left, IfSome_then, game_text, AfterRead, AllRead, ComesNext, EndComes, FirstFails, GameRead, GameWritten, HasCome, HasGiven, MarkerComes, ReadFails, ReadingStops, SecondFails, StandsBetween, StandsIn, at_read, as_changed, announcing, AreShown, writing_nothing, common_steps}
 use Rattle.pgn_game.specs.state.ReaderState as reader_state
-use Rattle.pgn_game.specs.export.Text.{game_text}
-use Rattle.pgn_game.specs.state.Readings.{AfterRead, AllRead, ComesNext, EndComes, FirstFails, GameRead, GameWritten, HasCome, HasGiven, MarkerComes, ReadFails, ReadingStops, SecondFails, StandsBetween, StandsIn, at_read, at_token, as_changed}
+use Rattle.pgn_game.specs.state.Readings.{at_token}
 use Rattle.pgn_game.specs.state.Readings as readings
-use Rattle.pgn_game.specs.state.ConverterSteps.{announcing}
-use Rattle.pgn_game.specs.calls.ConverterCalls.{AreShown, at_end, writing_nothing}
+use Rattle.pgn_game.specs.calls.ConverterCalls.{at_end}
 use Rattle.pgn_game.proofs.tokens.AcceptedToConverter.{follows_own, read_as}
 use Rattle.pgn_game.proofs.tokens.BytesWithinLimit.{shown_begins}
 use Rattle.pgn_game.proofs.tokens.MarkerToGame.{game_accepted, has_read_marker, takes, written_at_fault, written_at_marker}
@@ -25,15 +21,10 @@ use Rattle.pgn_game.proofs.twice.MarksInTurn.{marked_game, marked_more, marked_o
 end_part : (s : Stage) (ps : List _) (name : List ℕ) (items : List _) → s ≡ Between
     → next (record { stage = s; pairs = ps; name = name; items = items }) tokens.end
     ≡ going (record { stage = s; pairs = ps; name = name; items = items })
-end_part s ps name items e =
-    subst (λ s. next (record { stage = s; pairs = ps; name = name; items = items }) tokens.end
-    ≡ going (record { stage = s; pairs = ps; name = name; items = items })) (sym e) refl
+end_part s ps name items e = grind (arith, common_steps, next, going)
 
 end_leads : (q : Profile) (part : Part) (k : Kind) → is_end k ≡ true → refusal q part k ≡ None → next part k ≡ going part
-end_leads q part k is free =
-    let k_is = is_the_end k is in
-    let between = end_at q part.stage part.pairs part.name part.items (subst (λ j. refusal q part j ≡ None) k_is free) in
-    ap (next part) k_is ∙ end_part part.stage part.pairs part.name part.items between
+end_leads q part k is free = grind (arith, common_steps, is_the_end, end_at, refusal, next, end_part)
 
 end_gains_nothing : (q w : Profile) (part : Part) (k : Kind) → is_end k ≡ true → refusal q part k ≡ None → gain w part k ≡ []
 end_gains_nothing q w part k is free =
@@ -54,10 +45,7 @@ module _ (q : Profile) (left_old left_new : Option (List ℕ)) (given : List Tok
   -- more tokens bring no mark
   still_marked : (ts : List Token) (now : Converter) (a c : Option (List ℕ)) → ReadsMore q given ts now a c
       → (ms : List Mark) → HasMarked q given ms → HasMarked q ts ms
-  still_marked ts now a c reads ms h =
-      subst (λ (ts : List Token). HasMarked q ts ms) (sym reads.extends)
-      (marked_on q given reads.more so (subst (λ (ts : List Token). (read q ts).fault ≡ None) reads.extends reads.has_read.passes)
-      (subst (SameGames q given) reads.extends reads.no_game) ms h)
+  still_marked ts now a c reads ms h = grind (arith, common_steps, marked_on, read)
 
   pub all_read : (new : Reading) (a c : Option (List ℕ)) → EndComes q left_old given new a c → AllRead q left_old given new
   all_read new a c h =
@@ -105,35 +93,15 @@ module _ (q : Profile) (left_old left_new : Option (List ℕ)) (given : List Tok
 -- ---- the marker
 
 -- What the text of a source begins with.
-pub begins : (left_old left_now : Option (List ℕ)) (r : Reading) (ts : List Token) → HasCome left_old left_now r ts
-    → IfSome left_old (λ s. (rest : List Token) × (tokens_of s ≡ ts ++ rest))
-begins left_old left_now r ts h =
-    IfSome_then left_old {P = λ s. AreShown s ts} {Q = λ s. (rest : List Token) × (tokens_of s ≡ ts ++ rest)}
-    h.shown (λ s shown. shown_begins s ts shown)
+module _ (left_old left_now : Option (List ℕ)) (r : Reading) where
+  pub begins : (ts : List Token) → HasCome left_old left_now r ts → IfSome left_old (λ s. (rest : List Token) × (tokens_of s ≡ ts ++ rest))
+  begins ts h =
+      IfSome_then left_old {P = λ s. AreShown s ts} {Q = λ s. (rest : List Token) × (tokens_of s ≡ ts ++ rest)}
+      h.shown (λ s shown. shown_begins s ts shown)
 
--- What a reading has come to is not moved by the marker that its converter takes.
-come_still : (left_old left_now : Option (List ℕ)) (r s : Reading) (ts : List Token) → s.converter.lexer ≡ r.converter.lexer
-    → s.unused ≡ r.unused → s.has_ended ≡ r.has_ended → HasCome left_old left_now r ts → HasCome left_old left_now s ts
-come_still left_old left_now r s ts lexer unused ended h =
-    record {
-      bytes = h.bytes;
-      consumed = h.consumed;
-      stands = subst (λ e. StandsIn e s h.bytes ts left_old) (sym ended) (by_end r.has_ended h.stands);
-      shown = h.shown;
-    }
-  where
-    by_end : (e : Bool) → StandsIn e r h.bytes ts left_old → StandsIn e s h.bytes ts left_old
-    by_end false (stands, next) = (
-      record {
-        used = stands.used;
-        bytes = stands.bytes ∙ ap (λ (l : List ℕ). stands.used ++ l) (sym unused);
-        lexer = rw (lexer, unused) stands.lexer;
-        at_limit = stands.at_limit;
-        decided = rw unused stands.decided;
-      },
-      next,
-    )
-    by_end true (left, count, short, text_is) = (rw lexer left, rw lexer count, short, text_is)
+  -- What a reading has come to is not moved by the marker that its converter takes.
+  come_still : (s : Reading) (ts : List Token) → s.converter.lexer ≡ r.converter.lexer → s.unused ≡ r.unused → s.has_ended ≡ r.has_ended → HasCome left_old left_now r ts → HasCome left_old left_now s ts
+  come_still s ts lexer unused ended h = grind (arith, common_steps, next)
 
 -- The marker that one of the readings has met is taken.
 module _ (q : Profile) (left_old left_new : Option (List ℕ)) (given : List Token) (m : CodeMark) (mid new : Reading) (a : Option (List ℕ)) (sink : Device)
@@ -179,15 +147,10 @@ module _ (q : Profile) (left_old left_new : Option (List ℕ)) (given : List Tok
     more = h.tokens ++ h.token ∷ []
 
     pub one_more : OneGame q given (h.tokens ++ h.token ∷ []) (game_of (part_after q h.tokens) (marker_text m.marker))
-    one_more =
-        ap (λ (r : Read). r.progress.games) (read-passes q ts t passes free)
-        ∙ ap (λ (n : Next). (progress_with (read q ts).progress.games n).games) leads
-        ∙ ap (λ gs. gs ++ game_of part (marker_text m.marker) ∷ []) h.meets.reads.no_game
+    one_more = grind (arith, common_steps, read-passes, passes, free, progress_with, read, leads, game_of, marker_text)
 
     between : part_after q more ≡ no_part
-    between =
-        ap (λ (r : Read). r.progress.part) (read-passes q ts t passes free)
-        ∙ ap (λ (n : Next). (progress_with (read q ts).progress.games n).part) leads
+    between = grind (arith, common_steps, read-passes, passes, free, progress_with, read, leads)
 
     module _ (lexer : new.converter.lexer ≡ mid.converter.lexer) (unused : new.unused ≡ mid.unused) (ended : new.has_ended ≡ mid.has_ended)
         (games : new.converter.games ≡ mid.converter.games + 1)
@@ -234,76 +197,38 @@ module _ (q : Profile) (left_old left_new : Option (List ℕ)) (given : List Tok
 -- what it writes by
 told_written : (q : Profile) (r : ReaderState) (marker : List ℕ) → q.missing_result ≡ takes_the_marker → r.profile ≡ q → r.writing.told ≡ Some marker
     → as_written r ≡ counting q marker
-told_written q r marker takes_it profile told =
-    ap (λ (p : Profile). counting p (known_text p.missing_result r.writing.told)) profile
-    ∙ ap (λ (missing : Missing). counting q (known_text missing r.writing.told)) takes_it
-    ∙ ap (λ (o : Option (List ℕ)). counting q (known_text takes_the_marker o)) told
+told_written q r marker takes_it profile told = grind (arith, common_steps, counting, known_text, takes_the_marker)
 
 -- a marker that is told changes nothing else
 text_told : (marker : List ℕ) (r : ReaderState) (here : Part) (stage : Stage) → HoldsText stage r here → HoldsText stage (telling marker r) here
 text_told marker r here InMovetext h = h
 text_told marker r here _ h = h
 
-pub told_reading : (q : Profile) (left_old left : Option (List ℕ)) (r : Reading) (given : List Token) (m : Marker) (d : Converter)
-    → d ≡ announcing m r.converter → HasGiven q left_old left r given
-    → HasGiven q left_old left (record { converter = d; unused = r.unused; has_ended = r.has_ended }) given
-told_reading q left_old left r given m d is h =
-    let read = h.has_read in
-    record {
-      takes = h.takes;
-      come = come_still left_old left r (record { converter = d; unused = r.unused; has_ended = r.has_ended }) given
-          (ap (λ (c : Converter). c.lexer) is) refl refl h.come;
-      has_read = rw is (record {
-        profile = read.profile;
-        no_fault = read.no_fault;
-        passes = read.passes;
-        agrees = record {
-          stage = read.agrees.stage;
-          pairs = read.agrees.pairs;
-          text = text_told (marker_text m) r.converter.reading (part_after q given) r.converter.reading.stage read.agrees.text;
-        };
-        games = read.games;
-        plies = read.plies;
-        probed = read.probed;
-        tried = read.tried;
-        just_finished = read.just_finished;
-      });
-    }
+module _ (q : Profile) (left_old left : Option (List ℕ)) (r : Reading) where
+  pub told_reading : (given : List Token) (m : Marker) (d : Converter) → d ≡ announcing m r.converter → HasGiven q left_old left r given → HasGiven q left_old left (record { converter = d; unused = r.unused; has_ended = r.has_ended }) given
+  told_reading given m d is h =
+      grind (arith, common_steps, read, takes, come_still, profile, passes, text_told, marker_text, part_after)
 
--- nothing is written from now on
-pub silent_reading : (q : Profile) (left_old left : Option (List ℕ)) (r : Reading) (d : Converter) → d ≡ writing_nothing r.converter
-    → HasGiven q left_old left r []
-    → HasGiven q left_old left (record { converter = d; unused = r.unused; has_ended = r.has_ended }) []
-silent_reading q left_old left r d is h =
-    record {
-      takes = h.takes;
-      come = come_still left_old left r (record { converter = d; unused = r.unused; has_ended = r.has_ended }) []
-          (ap (λ (c : Converter). c.lexer) is) refl refl h.come;
-      has_read = rw is (reads_silently q r.converter h.has_read);
-    }
+  -- nothing is written from now on
+  pub silent_reading : (d : Converter) → d ≡ writing_nothing r.converter → HasGiven q left_old left r [] → HasGiven q left_old left (record { converter = d; unused = r.unused; has_ended = r.has_ended }) []
+  silent_reading d is h = grind (arith, common_steps, takes, come_still, reads_silently)
 
 pub told_by : (q : Profile) (c d : Converter) (m : Marker) → d ≡ announcing m c → q.missing_result ≡ takes_the_marker → c.reading.profile ≡ q
     → as_written d.reading ≡ counting q (marker_text m)
-told_by q c d m is takes_it profile =
-    ap (λ (c : Converter). as_written c.reading) is
-    ∙ told_written q (telling (marker_text m) c.reading) (marker_text m) takes_it profile refl
+told_by q c d m is takes_it profile = grind (arith, common_steps, as_written, told_written, telling, marker_text)
 
 -- a token that shows a difference, by the marks
-differs_if : (q : Profile) (m : Mark) (part : Part) (t : Token) (b : Bool) → refusal q part t.kind ≡ None
-    → is_other m (next part t.kind) t ≡ b → is_changed q m part t ≡ b
-differs_if q m part t b free is = ap (λ (o : Option Reason). is_some o || is_other m (next part t.kind) t) free ∙ is
+module _ (q : Profile) (m : Mark) (part : Part) (t : Token) where
+  differs_if : (b : Bool) → refusal q part t.kind ≡ None → is_other m (next part t.kind) t ≡ b → is_changed q m part t ≡ b
+  differs_if b free is = ap (λ (o : Option Reason). is_some o || is_other m (next part t.kind) t) free ∙ is
 
-differs_refused : (q : Profile) (m : Mark) (part : Part) (t : Token) (reason : Reason) → refusal q part t.kind ≡ Some reason → is_changed q m part t ≡ true
-differs_refused q m part t reason some = ap (λ (o : Option Reason). is_some o || is_other m (next part t.kind) t) some
+  differs_refused : (reason : Reason) → refusal q part t.kind ≡ Some reason → is_changed q m part t ≡ true
+  differs_refused reason some = ap (λ (o : Option Reason). is_some o || is_other m (next part t.kind) t) some
 
--- a marker that differs from the mark, whether it is rejected or not
-differs_at_marker : (q : Profile) (m : Mark) (part : Part) (t : Token) (marker : List ℕ) → marker_of t.kind ≡ Some marker
-    → not (bytes_eq marker m.text && (t.at == m.at)) ≡ true → is_changed q m part t ≡ true
-differs_at_marker q m part t marker is other = by_test (refusal q part t.kind) refl
-  where
-    by_test : (o : Option Reason) → refusal q part t.kind ≡ o → is_changed q m part t ≡ true
-    by_test (Some reason) some = differs_refused q m part t reason some
-    by_test None free = differs_if q m part t true free (ap (λ (n : Next). is_other m n t) (marker_finishes q part t.kind marker is free) ∙ other)
+  -- a marker that differs from the mark, whether it is rejected or not
+  differs_at_marker : (marker : List ℕ) → marker_of t.kind ≡ Some marker → not (bytes_eq marker m.text && (t.at == m.at)) ≡ true → is_changed q m part t ≡ true
+  differs_at_marker marker is other =
+      grind (arith, common_steps, refusal, is_changed, differs_refused, free, differs_if, is_other, marker_finishes)
 
 module _ (q : Profile) (left_old left_new : Option (List ℕ)) (given : List Token) (told : CodeMark) (rise : TokensRise)
     (takes_it : q.missing_result ≡ takes_the_marker) (so : (read q given).fault ≡ None) (between : part_after q given ≡ no_part) where
@@ -317,23 +242,13 @@ module _ (q : Profile) (left_old left_new : Option (List ℕ)) (given : List Tok
   written_of : (ts : List Token) (now : Converter) (a c : Option (List ℕ)) → as_written now.reading ≡ w → ReadsMore q given ts now a c
       → Appends a c (torn w (part_after q ts))
   written_of ts now a c by reads =
-      let games : List ℕ = text_of q (read q given).progress.games in
-      let same : text_of q (read q ts).progress.games ≡ games = ap (text_of q) reads.no_game in
-      let nothing : torn w (part_after q given) ≡ [] = ap (torn w) between ∙ torn-none w.missing_result w.mode in
-      let due : games ++ torn w (part_after q ts) ≡ games ++ reads.gains.text =
-      ap (λ (l : List ℕ). l ++ torn w (part_after q ts)) (sym same)
-      ∙ subst (λ (w : Profile). due_as w q ts ≡ due_as w q given ++ reads.gains.text) by reads.gains.due_for
-      ∙ ap (λ (l : List ℕ). (games ++ l) ++ reads.gains.text) nothing ∙ ap (λ (l : List ℕ). l ++ reads.gains.text) (append-nil games) in
-      subst (Appends a c) (sym (append_cancel_left games (torn w (part_after q ts)) reads.gains.text due)) reads.gains.appended
+      grind (arith, common_steps, text_of, read, torn, part_after, between, torn-none, due_as, append-nil, append_cancel_left)
 
   -- tokens behind which another comes show no difference
   still_matched : (ts : List Token) (now : Converter) (a c : Option (List ℕ)) (reads : ReadsMore q given ts now a c)
       → (s : List ℕ) (t : Token) (rest : List Token) → tokens_of s ≡ ts ++ t ∷ rest
       → (ms : List Mark) → HasMatched q ms given (mark ∷ []) → HasMatched q ms ts (mark ∷ [])
-  still_matched ts now a c reads s t rest cut ms h =
-      subst (λ (ts : List Token). HasMatched q ms ts (mark ∷ [])) (sym reads.extends)
-      (matched_on q given reads.more so (subst (λ (ts : List Token). (read q ts).fault ≡ None) reads.extends reads.has_read.passes)
-      (subst (SameGames q given) reads.extends reads.no_game) (no_end_before rise s given reads.more ts t rest cut reads.extends) ms mark h)
+  still_matched ts now a c reads s t rest cut ms h = grind (arith, common_steps, matched_on, read, no_end_before)
 
   -- it stops behind these tokens
   fails_behind : (ts : List Token) (now : Converter) (f : Fault) (a c d : Option (List ℕ)) → as_written now.reading ≡ w → ReadsMore q given ts now a c
@@ -470,10 +385,7 @@ module _ (q : Profile) (left_old left_new : Option (List ℕ)) (given : List Tok
 
         text_is : text_next w (next (part_after q h.tokens) h.token.kind) ≡ game_text q (game_of (part_after q h.tokens) (marker_text m.marker))
         text_is =
-            let alike = (bytes_eq-Decides (marker_text m.marker) (marker_text told.marker)).0 (and_parts _ _ (not-false _ same)).0 in
-            ap (text_next w) goes_to
-            ∙ ap (λ (text : List ℕ). game_text (counting q text) (game_of (part_after q h.tokens) (marker_text m.marker))) (sym alike)
-            ∙ same_game_text q (game_of (part_after q h.tokens) (marker_text m.marker)) takes_it
+            grind (arith, common_steps, bytes_eq-Decides, marker_text, and_parts, not-false, text_next, goes_to, game_text, counting, game_of, part_after, same_game_text)
 
         pub game_written : GameWritten q left_old left_new given told new a sink.after
         game_written =

@@ -2,11 +2,9 @@
 -- table rejects the same tokens for the same reasons, and a game has the same export text.
 -- Letters: q is the profile whose missing Result takes the marker. For the reader it counts as the
 -- marker `text`. k is the kind of a token, g a game.
-use Rattle.std.proofs.lemmas.Bool.{and_parts, not-true}
 use Rattle.pgn_lexer.specs.Tokens as tokens
-use Rattle.pgn_lexer.specs.declared.token.LexReason.{LexReason}
 use Rattle.pgn_lexer.specs.declared.token.LexReason.TheVariants as lex_reasons
-use Rattle.pgn_game.proofs.Words.{mode_unless, Kind, Reason, Changed, Lexical, ReadFault, WriteFault, BadTagName, ResultDiffers, changed_reason, Stage, Between, AfterLeftBracket, AfterName, AfterValue, AfterTags, InMovetext, Profile, Missing, counts_as, takes_the_marker, Game, Part, ◌≡◌, ℕ, ◌⊎◌, Bool, true, false, ◌&&◌, not, List, [], ◌∷◌, ◌++◌, take, drop, Option, None, Some, inl, inr, refl, sym, ap, subst, ◌∙◌, true≢false, IsTrue, ◌==◌, list_all, counting, with_missing, depth, start_of, Row, row, rows, first_holding, refusal, in_name, is_score, is_outside_tag_pairs, has_other_result, levels_of_part, marker_of, game_text, going, whole, at_stage, items_of, in_text, next, next_in, HoldsItems, ReaderState, Agrees, HoldsText, is_outside_the_table, game_of, or_else, with_items}
+use Rattle.pgn_game.proofs.Words.{mode_unless, Kind, Reason, Changed, Lexical, ReadFault, WriteFault, BadTagName, ResultDiffers, changed_reason, Stage, Between, AfterLeftBracket, AfterName, AfterValue, AfterTags, InMovetext, Profile, Missing, counts_as, takes_the_marker, Game, Part, ◌≡◌, ℕ, ◌⊎◌, Bool, true, false, ◌&&◌, not, List, [], ◌∷◌, ◌++◌, take, drop, Option, None, Some, inl, inr, refl, sym, ap, subst, ◌∙◌, true≢false, IsTrue, ◌==◌, list_all, counting, with_missing, depth, start_of, Row, row, rows, first_holding, refusal, in_name, is_score, is_outside_tag_pairs, has_other_result, levels_of_part, marker_of, game_text, going, whole, at_stage, items_of, in_text, next, next_in, HoldsItems, ReaderState, Agrees, HoldsText, is_outside_the_table, game_of, or_else, with_items, and_parts, not-true, LexReason, arith, common_steps}
 use Rattle.pgn_game.proofs.MarkerTexts.{score_marker, marker_no_name}
 use Rattle.pgn_game.proofs.refusals.RefusalsByStage.{name_refusal, test_failed}
 use Rattle.pgn_game.proofs.refusals.RefusalsInMovetext.{marker_whole, other_if, score_of}
@@ -21,9 +19,7 @@ pub table_alike : (q : Profile) (a b : Missing) (part : Part) (k : Kind) → has
     → refusal (with_missing q a) part k ≡ refusal (with_missing q b) part k
 unfolding refusal
 table_alike q a b part (tokens.refused r) same = refl
-table_alike q a b part k same =
-    ap (λ (other : Bool). first_holding (take 21 (rows q part k)
-    ++ row ResultDiffers (is_outside_tag_pairs part && other && (depth (levels_of_part part) == 0)) ∷ drop 22 (rows q part k))) same
+table_alike q a b part k same = grind (arith, common_steps, first_holding, rows, row, is_outside_tag_pairs, depth, levels_of_part)
 
 pub refusal_counting : (q : Profile) (text : List ℕ) (part : Part) (k : Kind) → q.missing_result ≡ takes_the_marker
     → (marker_of k ≡ None) ⊎ (marker_of k ≡ Some text) → refusal (counting q text) part k ≡ refusal q part k
@@ -47,8 +43,7 @@ score_leads : (q : Profile) (stage : Stage) (part : Part) (s : List ℕ)
     → next (at_stage stage part) (tokens.symbol s) ≡ in_text part (tokens.symbol s)
 unfolding refusal
 score_leads q AfterLeftBracket part s is free =
-    let named = test_failed (not (list_all in_name s)) BadTagName _ (sym (name_refusal q (at_stage AfterLeftBracket part) s refl) ∙ free) in
-    absurd (true≢false (sym (ap not (no_name s is)) ∙ named))
+    grind (arith, common_steps, test_failed, list_all, in_name, name_refusal, at_stage, true≢false, no_name)
 score_leads q AfterName part s is free = absurd (cc)
 score_leads q AfterValue part s is free = absurd (cc)
 score_leads q _ part s is free = refl
@@ -86,13 +81,13 @@ pub no_marker_goes : (part : Part) (k : Kind) → marker_of k ≡ None → (to :
 no_marker_goes part k none = goes_at part.stage part k none
 
 -- The reader agrees with a part in any profile of its mode.
-text_under : (q : Profile) (r : ReaderState) (part : Part) (stage : Stage) → q.mode ≡ r.profile.mode
-    → HoldsText stage r part → HoldsText stage (record r { profile = q }) part
-text_under q r part InMovetext same h = (subst (λ mode. HoldsItems (mode_unless r.writing.is_silent mode) (start_of part.pairs) part.items r.text r.line) (sym same) h.0, h.1)
-text_under q r part _ same h = h
+module _ (q : Profile) (r : ReaderState) (part : Part) where
+  text_under : (stage : Stage) → q.mode ≡ r.profile.mode → HoldsText stage r part → HoldsText stage (record r { profile = q }) part
+  text_under InMovetext same h = (subst (λ mode. HoldsItems (mode_unless r.writing.is_silent mode) (start_of part.pairs) part.items r.text r.line) (sym same) h.0, h.1)
+  text_under _ same h = h
 
-pub agrees_under : (q : Profile) (r : ReaderState) (part : Part) → q.mode ≡ r.profile.mode → Agrees r part → Agrees (record r { profile = q }) part
-agrees_under q r part same agrees = record { stage = agrees.stage; pairs = agrees.pairs; text = text_under q r part r.stage same agrees.text }
+  pub agrees_under : q.mode ≡ r.profile.mode → Agrees r part → Agrees (record r { profile = q }) part
+  agrees_under same agrees = record { stage = agrees.stage; pairs = agrees.pairs; text = text_under r.stage same agrees.text }
 
 -- The reasons of the table.
 abbrev is_inside : Row → Bool

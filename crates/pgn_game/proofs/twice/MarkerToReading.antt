@@ -2,12 +2,10 @@
 -- ended.
 use Rattle.pgn_lexer.specs.declared.partial_token.Mode.{Mode}
 use Rattle.pgn_game.specs.declared.marker.Mark.{Mark as CodeMark}
-use Rattle.pgn_game.proofs.Words.{Token, within_limit, InputTooLong, Fault, Profile, ◌≡◌, ℕ, ◌^◌, ◌≤◌, arith, false, true, List, [], ◌∷◌, ◌++◌, length, Option, None, Some, Result, Ok, Err, IfSome, IsStill, CountsDevices, CountsFault, refl, sym, ap, subst, ◌∙◌, append_assoc, append-nil, Consumes-nil, Consumes-trans, Consumes, Stands, inl, takes_the_marker, with_missing, Device, tokens_of, decided, Standing, coming, HasLeft, first, Converter, ReadsMore, as_written, StandsWithin, Reading, games_of}
-use Rattle.pgn_game.specs.calls.ConverterCalls.{AreShown, at_end}
-use Rattle.pgn_game.specs.state.ConverterSteps.{AfterEndToMarker, EndsToMarker, taking_marker}
-use Rattle.pgn_game.specs.state.GamesSteps.{AfterToMarker, CountsReading, StopsBefore, UsesAll}
+use Rattle.pgn_game.proofs.Words.{Token, within_limit, InputTooLong, Fault, Profile, ◌≡◌, ℕ, ◌^◌, ◌≤◌, arith, false, true, List, [], ◌∷◌, ◌++◌, length, Option, None, Some, Result, Ok, Err, IfSome, IsStill, CountsDevices, CountsFault, refl, sym, ap, subst, ◌∙◌, append_assoc, append-nil, Consumes-nil, Consumes-trans, Consumes, Stands, inl, takes_the_marker, with_missing, Device, tokens_of, decided, Standing, coming, HasLeft, first, Converter, ReadsMore, as_written, StandsWithin, Reading, games_of, AreShown, AfterEndToMarker, EndsToMarker, taking_marker, AfterToMarker, CountsReading, StopsBefore, UsesAll, AfterMarker, HasGiven, ReadingStops, ReadFails, at_read, StandsIn, common_steps}
+use Rattle.pgn_game.specs.calls.ConverterCalls.{at_end}
 use Rattle.pgn_game.specs.state.GamesSteps as games_steps
-use Rattle.pgn_game.specs.state.Readings.{AfterMarker, HasGiven, ReadingStops, ReadFails, at_read, at_token, StandsIn}
+use Rattle.pgn_game.specs.state.Readings.{at_token}
 use Rattle.pgn_game.proofs.tokens.AcceptedToConverter.{follows_none}
 use Rattle.pgn_game.proofs.tokens.BytesWithinLimit.{all_shown, none_next, shown_begins, shown_by, shown_none}
 use Rattle.pgn_game.proofs.tokens.LastTokens.{IsLeft, glyph, left_in, none, symbol}
@@ -34,28 +32,15 @@ all_shown_none (Some s) = shown_none s
 -- before the first byte
 pub given_none : (p : Profile) (c d : Converter) (unused : List ℕ) (left : Option (List ℕ)) → Stands p c [] None [] → d ≡ taking_marker c → unused ≡ []
     → HasGiven (with_missing p takes_the_marker) left left (record { converter = d; unused = unused; has_ended = false }) []
-given_none p c d unused left stands is empty =
-    rw (is, empty) (record {
-      takes = refl;
-      come = record {
-        bytes = [];
-        consumed = Consumes-nil left;
-        stands = (record { used = []; bytes = refl; lexer = stands.lexer; at_limit = λ h. refl; decided = inl refl }, none_next (within_limit []));
-        shown = all_shown_none left;
-      };
-      has_read = reads_taking p c stands.has_read;
-    })
+given_none p c d unused left stands is empty = grind (arith, common_steps, decided, inl, none_next, within_limit, all_shown_none, reads_taking)
 
 -- where a reading stands, by whether its source has ended
-pub within_source : (q : Profile) (left_old left : Option (List ℕ)) (r : Reading) (given : List Token) (h : HasGiven q left_old left r given)
-    → r.has_ended ≡ false → StandsWithin h.come.bytes (games_of r.converter r.unused) given
-within_source q left_old left r given h is = (subst (λ e. StandsIn e r h.come.bytes given left_old) is h.come.stands).0
+module _ (q : Profile) (left_old left : Option (List ℕ)) (r : Reading) (given : List Token) (h : HasGiven q left_old left r given) where
+  pub within_source : r.has_ended ≡ false → StandsWithin h.come.bytes (games_of r.converter r.unused) given
+  within_source is = (subst (λ e. StandsIn e r h.come.bytes given left_old) is h.come.stands).0
 
-pub behind_source : (q : Profile) (left_old left : Option (List ℕ)) (r : Reading) (given : List Token) (h : HasGiven q left_old left r given)
-    → r.has_ended ≡ true
-    → HasLeft r.converter.lexer h.come.bytes given × (r.converter.lexer.count ≡ length h.come.bytes) × (length h.come.bytes ≤ 2 ^ 62)
-    × IfSome left_old (λ s. s ≡ h.come.bytes)
-behind_source q left_old left r given h is = subst (λ e. StandsIn e r h.come.bytes given left_old) is h.come.stands
+  pub behind_source : r.has_ended ≡ true → HasLeft r.converter.lexer h.come.bytes given × (r.converter.lexer.count ≡ length h.come.bytes) × (length h.come.bytes ≤ 2 ^ 62) × IfSome left_old (λ s. s ≡ h.come.bytes)
+  behind_source is = subst (λ e. StandsIn e r h.come.bytes given left_old) is h.come.stands
 
 -- In the bytes of the source.
 module _ (q : Profile) (left_old left left_new : Option (List ℕ)) (given : List Token) (u : List ℕ) (consumed : Consumes left_old left u) where
@@ -136,11 +121,7 @@ module _ (q : Profile) (left_old left_new : Option (List ℕ)) (given mid : List
   reading = record { converter = new; unused = unused; has_ended = true }
 
   of_whole : (P : List ℕ → Type 0) → P u → IfSome left_old P
-  of_whole P h = by_some left_old whole
-    where
-      by_some : (o : Option (List ℕ)) → IfSome o (λ s. s ≡ u) → IfSome o P
-      by_some None is = tt
-      by_some (Some s) is = subst P (sym is) h
+  of_whole P h = grind (arith, common_steps)
 
   pub met_at_end : (r : Result (Option CodeMark) Fault) → new.lexer.count ≡ now.lexer.count → AfterEndToMarker q u mid now new r b c
       → AfterMarker q left_old left_new given reading r a c
@@ -207,17 +188,11 @@ module _ (q : Profile) (left_old left left_new : Option (List ℕ)) (given : Lis
 -- nothing is read there
 pub counts_behind : {A : Type 0} (r : Result A Fault) (source sink : Device) → IsStill source → CountsFault r sink → CountsReading r source sink
 counts_behind (Ok x) source sink still h = (still, h)
-counts_behind (Err f) source sink still h =
-    behind_still f.reason source.failures source.failures_after source.failures_after sink.failures sink.failures sink.failures_after still refl
-    (reader_reason f.reason source.failures_after sink.failures sink.failures_after h)
+counts_behind (Err f) source sink still h = grind (arith, common_steps, behind_still, reader_reason)
 
 -- after what counted nothing
 pub counts_then : {A : Type 0} (r : Result A Fault) (source first second both : Device) → IsStill source → first.failures_after ≡ first.failures
     → second.failures ≡ first.failures_after → both.failures ≡ first.failures → both.failures_after ≡ second.failures_after
     → CountsFault r second → CountsReading r source both
 counts_then (Ok x) source first second both still zero joined before after h = (still, after ∙ h ∙ joined ∙ zero ∙ sym before)
-counts_then (Err f) source first second both still zero joined before after h =
-    behind_still f.reason source.failures source.failures_after source.failures_after both.failures second.failures both.failures_after still
-    (joined ∙ zero ∙ sym before)
-    (subst (CountsDevices f.reason source.failures_after source.failures_after second.failures) (sym after)
-    (reader_reason f.reason source.failures_after second.failures second.failures_after h))
+counts_then (Err f) source first second both still zero joined before after h = grind (arith, common_steps, behind_still, reader_reason)

@@ -1,37 +1,22 @@
 -- One token more, of either reading: the marks of the first, and the tokens of the second up to a
 -- mark.
-use Rattle.pgn_game.proofs.Words.{Token, Reason, Profile, Game, Part, ◌≡◌, ℕ, Bool, false, ◌||◌, is_some, List, [], ◌∷◌, ◌++◌, length, Option, None, Some, refl, sym, ap, subst, ◌∙◌, append_assoc, append-nil, tokens_of, RisesTo, TokensRise, refusal, is_end, Next, going, whole, next, Progress, progress_with, no_progress, progress_after, Read, read, read_from, Mark, mark_at, marks, marks_from, is_other, is_changed, marks_after, compared_from, compared, HasMarked, HasMatched, SameGames, part_after}
+use Rattle.pgn_game.proofs.Words.{Token, Reason, Profile, Game, Part, ◌≡◌, ℕ, Bool, false, ◌||◌, is_some, List, [], ◌∷◌, ◌++◌, length, Option, None, Some, refl, sym, ap, subst, ◌∙◌, append_assoc, append-nil, tokens_of, RisesTo, TokensRise, refusal, is_end, Next, going, whole, next, Progress, progress_with, no_progress, progress_after, Read, read, read_from, Mark, mark_at, marks, marks_from, is_other, is_changed, marks_after, compared_from, compared, HasMarked, HasMatched, SameGames, part_after, arith, common_steps}
 use Rattle.pgn_game.proofs.EqualReadings.{after_marks, marks_test, after_change, change_test}
 use Rattle.pgn_game.proofs.reading.RunsToEnd.{not_end}
 use Rattle.pgn_game.proofs.tokens.NoneBeforeFault.{reads_behind}
 use Rattle.pgn_game.proofs.tokens.OneMoreToken.{first_passes, goes_on, read-passes}
 use Rattle.pgn_game.proofs.twice.CountingToTaking.{game_stays}
 
-marked_token : (q : Profile) (given : List Token) (t : Token) (ms : List Mark) → (read q given).fault ≡ None
-    → refusal q (part_after q given) t.kind ≡ None → HasMarked q given ms
-    → HasMarked q (given ++ t ∷ []) (ms ++ mark_at t.at (next (part_after q given) t.kind))
-marked_token q given t ms passes free so ts =
-    let b = (read q given).progress in
-    let new = mark_at t.at (next b.part t.kind) in
-    ap (marks q) (append_assoc given (t ∷ []) ts) ∙ so (t ∷ ts)
-    ∙ ap (λ (l : List Mark). ms ++ l) (marks_test q b t ts ∙ ap (after_marks q b t ts) free)
-    ∙ sym (append_assoc ms new (marks_from q (progress_after b t) ts))
-    ∙ ap (λ (r : Read). (ms ++ new) ++ marks_from q r.progress ts) (sym (read-passes q given t passes free))
+module _ (q : Profile) (given : List Token) (t : Token) (ms : List Mark) where
+  marked_token : (read q given).fault ≡ None → refusal q (part_after q given) t.kind ≡ None → HasMarked q given ms → HasMarked q (given ++ t ∷ []) (ms ++ mark_at t.at (next (part_after q given) t.kind))
+  marked_token passes free so ts =
+      grind (arith, common_steps, read, mark_at, next, marks, append_assoc, marks_test, after_marks, marks_from, progress_after, read-passes)
 
-pub marked_more : (q : Profile) (given : List Token) (t : Token) (ms : List Mark) (to : Part)
-    → (read q given).fault ≡ None → refusal q (part_after q given) t.kind ≡ None
-    → next (part_after q given) t.kind ≡ going to → HasMarked q given ms → HasMarked q (given ++ t ∷ []) ms
-marked_more q given t ms to passes free leads so =
-    subst (λ (l : List Mark). HasMarked q (given ++ t ∷ []) l)
-    (ap (λ (n : Next). ms ++ mark_at t.at n) leads ∙ append-nil ms) (marked_token q given t ms passes free so)
+  pub marked_more : (to : Part) → (read q given).fault ≡ None → refusal q (part_after q given) t.kind ≡ None → next (part_after q given) t.kind ≡ going to → HasMarked q given ms → HasMarked q (given ++ t ∷ []) ms
+  marked_more to passes free leads so = grind (arith, common_steps, mark_at, append-nil, marked_token)
 
-pub marked_game : (q : Profile) (given : List Token) (t : Token) (ms : List Mark) (g : Game)
-    → (read q given).fault ≡ None → refusal q (part_after q given) t.kind ≡ None
-    → next (part_after q given) t.kind ≡ whole g → HasMarked q given ms
-    → HasMarked q (given ++ t ∷ []) (ms ++ record { text = g.marker; at = t.at } ∷ [])
-marked_game q given t ms g passes free leads so =
-    subst (λ (l : List Mark). HasMarked q (given ++ t ∷ []) l)
-    (ap (λ (n : Next). ms ++ mark_at t.at n) leads) (marked_token q given t ms passes free so)
+  pub marked_game : (g : Game) → (read q given).fault ≡ None → refusal q (part_after q given) t.kind ≡ None → next (part_after q given) t.kind ≡ whole g → HasMarked q given ms → HasMarked q (given ++ t ∷ []) (ms ++ record { text = g.marker; at = t.at } ∷ [])
+  marked_game g passes free leads so = grind (arith, common_steps, mark_at, marked_token)
 
 pub matched_mark : (q : Profile) (ms : List Mark) (m : Mark) (us : List Token)
     → HasMatched q ms us [] → HasMatched q (ms ++ m ∷ []) us (m ∷ [])
@@ -51,23 +36,14 @@ marks_behind : (n : Next) (m : Mark) (ns : List Mark) → marks_after n m ns ≡
 marks_behind (going to) m ns = refl
 marks_behind (whole g) m ns = refl
 
-matched_token : (q : Profile) (ms : List Mark) (m : Mark) (us : List Token) (t : Token)
-    → (read q us).fault ≡ None → is_changed q m (part_after q us) t ≡ false → HasMatched q ms us (m ∷ [])
-    → HasMatched q ms (us ++ t ∷ []) (marks_after (next (part_after q us) t.kind) m [])
-matched_token q ms m us t passes same so ns ts =
-    let b = (read q us).progress in
-    let n = next b.part t.kind in
-    ap (compared_from q (ms ++ ns) no_progress) (append_assoc us (t ∷ []) ts)
-    ∙ so ns (t ∷ ts) ∙ change_test q m ns b t ts ∙ ap (after_change q m ns b t ts) same
-    ∙ ap (λ (l : List Mark). compared_from q l (progress_after b t) ts) (marks_behind n m ns)
-    ∙ ap (λ (r : Read). compared_from q (marks_after n m [] ++ ns) r.progress ts)
-    (sym (read-passes q us t passes (not_changed q m b.part t same).0))
+module _ (q : Profile) (ms : List Mark) (m : Mark) (us : List Token) (t : Token) where
+  matched_token : (read q us).fault ≡ None → is_changed q m (part_after q us) t ≡ false → HasMatched q ms us (m ∷ []) → HasMatched q ms (us ++ t ∷ []) (marks_after (next (part_after q us) t.kind) m [])
+  matched_token passes same so ns ts =
+      grind (arith, common_steps, read, next, compared_from, no_progress, append_assoc, change_test, after_change, progress_after, marks_behind, marks_after, read-passes, not_changed)
 
-pub matched_next : (q : Profile) (ms : List Mark) (m : Mark) (us : List Token) (t : Token) (n : Next)
-    → (read q us).fault ≡ None → is_changed q m (part_after q us) t ≡ false
-    → next (part_after q us) t.kind ≡ n → HasMatched q ms us (m ∷ []) → HasMatched q ms (us ++ t ∷ []) (marks_after n m [])
-matched_next q ms m us t n passes same leads so =
-    subst (λ (n : Next). HasMatched q ms (us ++ t ∷ []) (marks_after n m [])) leads (matched_token q ms m us t passes same so)
+  pub matched_next : (n : Next) → (read q us).fault ≡ None → is_changed q m (part_after q us) t ≡ false → next (part_after q us) t.kind ≡ n → HasMatched q ms us (m ∷ []) → HasMatched q ms (us ++ t ∷ []) (marks_after n m [])
+  matched_next n passes same leads so =
+      subst (λ (n : Next). HasMatched q ms (us ++ t ∷ []) (marks_after n m [])) leads (matched_token passes same so)
 
 -- Tokens that finish no game.
 
@@ -154,16 +130,11 @@ module _ (q : Profile) (given more : List Token) (before : (read q given).fault 
   more_same = ap (λ (r : Read). length r.progress.games) (sym behind) ∙ ap (length {A = Game}) same
 
   pub marked_on : (ms : List Mark) → HasMarked q given ms → HasMarked q (given ++ more) ms
-  marked_on ms so ts =
-      ap (marks q) (append_assoc given more ts) ∙ so (more ++ ts)
-      ∙ ap (λ (l : List Mark). ms ++ l) (quiet_marks q (read q given).progress more ts more_passes more_same
-      ∙ ap (λ (r : Read). marks_from q r.progress ts) (sym behind))
+  marked_on ms so ts = grind (arith, common_steps, marks, append_assoc, quiet_marks, read, more_passes, more_same, marks_from, behind)
 
   pub matched_on : HasNoEnd more → (ms : List Mark) (m : Mark) → HasMatched q ms given (m ∷ []) → HasMatched q ms (given ++ more) (m ∷ [])
   matched_on no_end ms m so ns ts =
-      ap (compared_from q (ms ++ ns) no_progress) (append_assoc given more ts) ∙ so ns (more ++ ts)
-      ∙ quiet_compared q m ns (read q given).progress more ts no_end more_passes more_same
-      ∙ ap (λ (r : Read). compared_from q (m ∷ ns) r.progress ts) (sym behind)
+      grind (arith, common_steps, compared_from, no_progress, append_assoc, quiet_compared, read, more_passes, more_same, behind)
 
 -- both readings, whatever comes behind them
 pub both_read : (q : Profile) (ts us vs ws : List Token) (ms left : List Mark) → HasMarked q ts ms → HasMatched q ms us left

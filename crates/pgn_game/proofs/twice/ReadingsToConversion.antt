@@ -1,20 +1,12 @@
 -- From what the calls of each game return, in both readings, to the conversion.
-use Rattle.std.proofs.lemmas.Option.{IfSome_then}
-use Rattle.pgn_game.proofs.Words.{Token, Reason, Changed, ReadFault, Fault, Profile, Missing, takes_the_marker, Game, no_part, ◌≡◌, ℕ, ◌+◌, ◌^◌, ◌<◌, ◌≤◌, max, Bool, true, false, List, [], ◌∷◌, ◌++◌, length, take, Option, None, Some, Ok, IfSome, refl, sym, ap, subst, ◌∙◌, append_assoc, append-nil, length-append, arith, IsTrue, map, sum, take-append-add, Appends-nil, Appends-trans, and_parts, not-false, bytes_eq-Decides, Appends, Device, FailsOnce, tokens_of, decided, coming, plies_of, text_next, gain, refusal, whole_plies, play_moves, verdict_in, MostTried, Mark, marks_from, is_other, is_changed, marks_after, Comparison, compared_from, compared, with_mark, torn_before, written_by, earlier_fault, BothSoFar, HasMarked, Reading, changed_reason, model_mark, part_after}
-use Rattle.pgn_game.specs.declared.conversion.Totals.{Totals}
+use Rattle.pgn_game.proofs.Words.{Token, Reason, Changed, ReadFault, Fault, Profile, Missing, takes_the_marker, Game, no_part, ◌≡◌, ℕ, ◌+◌, ◌^◌, ◌<◌, ◌≤◌, max, Bool, true, false, List, [], ◌∷◌, ◌++◌, length, take, Option, None, Some, Ok, IfSome, refl, sym, ap, subst, ◌∙◌, append_assoc, append-nil, length-append, arith, IsTrue, map, sum, take-append-add, Appends-nil, Appends-trans, and_parts, not-false, bytes_eq-Decides, Appends, Device, FailsOnce, tokens_of, decided, coming, plies_of, text_next, gain, refusal, whole_plies, play_moves, verdict_in, MostTried, Mark, marks_from, is_other, is_changed, marks_after, Comparison, compared_from, compared, with_mark, torn_before, written_by, earlier_fault, BothSoFar, HasMarked, Reading, changed_reason, model_mark, part_after, IfSome_then, Totals, game_text, torn, Next, going, whole, next, Progress, progress_with, progress_after, Read, read, totals, verdict_of, Decides, IsTokenPrefix, AreConverted, AreRefused, AreTotalled, HasTaken, MatchesAllMarks, FirstStops, SecondStops, WriteStops, TwoReadingsFail, TwoReadingsConvert, AllRead, ComesNext, FirstFails, GameRead, GameWritten, HasCome, HasGiven, ReadFails, SecondFails, StandsIn, WhyFirst, WhySecond, as_changed, AreShown, common_steps}
 use Rattle.pgn_game.specs.declared.marker.Mark.{Mark as CodeMark}
-use Rattle.pgn_game.specs.export.Text.{game_text, text_of, torn}
-use Rattle.pgn_game.specs.games.Progress.{Next, going, whole, next, Progress, progress_with, progress_after, Read, read, refused as is_refused, totals}
-use Rattle.pgn_game.specs.games.Progress.{verdict_of}
-use Rattle.pgn_game.specs.calls.Conversion.{Decides, IsTokenPrefix}
-use Rattle.pgn_game.specs.calls.CheckedConversion.{AreConverted, AreRefused, AreTotalled, HasTaken, MatchesAllMarks, FirstStops, SecondStops}
-use Rattle.pgn_game.specs.calls.CheckedConversion.{WriteStops, TwoReadingsFail, TwoReadingsConvert}
-use Rattle.pgn_game.specs.state.Readings.{AllRead, ComesNext, FirstFails, GameRead, GameWritten, HasCome, HasGiven, ReadFails, SecondFails, StandsIn, WhyFirst, WhySecond, as_changed}
+use Rattle.pgn_game.specs.export.Text.{text_of}
+use Rattle.pgn_game.specs.games.Progress.{refused as is_refused}
 use Rattle.pgn_game.specs.state.Readings as readings
 use Rattle.pgn_game.proofs.EqualReadings.{after_marks, marks_test, after_change, change_test, no_mark}
 use Rattle.pgn_game.proofs.tokens.NextGrows.{next_is}
 use Rattle.pgn_game.proofs.tokens.OneMoreToken.{read-refuses, text_of-snoc}
-use Rattle.pgn_game.specs.calls.ConverterCalls.{AreShown}
 use Rattle.pgn_game.proofs.tokens.AcceptedToConverter.{in_games}
 use Rattle.pgn_game.proofs.tokens.BytesWithinLimit.{decides_by, shown_begins}
 use Rattle.pgn_game.proofs.twice.GamesOfReadings.{begins}
@@ -55,9 +47,7 @@ both_none q first second a b o first_given second_given =
 -- Of a game that ends with the mark, the text under that mark is its text.
 under_mark : (q : Profile) (g : Game) (m : Mark) → q.missing_result ≡ takes_the_marker
     → g.marker ≡ m.text → game_text q g ≡ game_text (with_mark q m) g
-under_mark q g m takes same =
-    let text : Missing → List ℕ = λ missing. game_text (record { tags = q.tags; depth = q.depth; mode = q.mode; missing_result = missing }) g in
-    ap text takes ∙ ap (λ (marker : List ℕ). game_text (with_mark q (record { text = marker; at = m.at })) g) same
+under_mark q g m takes same = grind (arith, common_steps, game_text, with_mark)
 
 -- between games nothing is written of one
 torn-between : (q : Profile) (ms : List Mark) → torn_before q ms no_part ≡ []
@@ -71,8 +61,7 @@ written_at_token : (q : Profile) (m : Mark) (ms : List Mark) (games : List Game)
     ≡ text_of q games ++ text_next (with_mark q m) n
 written_at_token q m ms games t (going to) takes same = refl
 written_at_token q m ms games t (whole g) takes same =
-    let marker = (bytes_eq-Decides g.marker m.text).0 (and_parts _ _ (not-false _ same)).0 in
-    cc (torn-between q ms, append-nil (text_of q (games ++ g ∷ [])), text_of-snoc q games g, under_mark q g m takes marker)
+    grind (arith, common_steps, bytes_eq-Decides, and_parts, not-false, torn-between, append-nil, text_of-snoc, under_mark)
 
 pub both_more : (q : Profile) (first_old first_now second_old second_now : Option (List ℕ)) (a b : Reading)
     (before mid : Option (List ℕ)) (so : BothSoFar q first_old first_now second_old second_now a b before mid)
@@ -113,11 +102,7 @@ module _ (q : Profile) (first second sink : Device) (first_now : Option (List �
 
   converted : (s r : List ℕ) (o : Option Fault) → compared q (tokens_of s) (tokens_of r) ≡ at_mark → (read q (tokens_of s)).fault ≡ o
       → AreConverted q s r (verdict_of (record { progress = (read q so.second_tokens).progress; fault = o })) sink
-  converted s r o is fault = (
-    ap (λ (f : Comparison). verdict_of (record { progress = f.progress; fault = earlier_fault f.fault (read q (tokens_of s)).fault })) is
-        ∙ ap (λ (x : Option Fault). verdict_of (record { progress = (read q so.second_tokens).progress; fault = x })) fault,
-    subst (λ (f : Comparison). HasTaken sink (written_by q f)) (sym is) written,
-  )
+  converted s r o is fault = grind (arith, common_steps, verdict_of, earlier_fault, read, tokens_of, written_by, written)
 
   pub both_end : (new_a : Reading) (t : Totals) → AllRead q first.before so.first_tokens new_a
       → new_a.converter.reading.writing.is_silent ≡ true → b.converter.reading.writing.is_silent ≡ false
@@ -266,9 +251,7 @@ module _ (q : Profile) (first second sink : Device) (first_now second_now mid : 
 
   -- what is written of this game stands behind the games
   all_written : (text : List ℕ) → Appends writes.mid sink.after text → HasTaken sink (text_of q c.games ++ (torn under c.part ++ text))
-  all_written text wrote =
-      subst (λ (games : List Game). HasTaken sink (text_of q games ++ (torn under c.part ++ text))) (sym writes.no_game)
-      (Appends-trans sink.before mid sink.after _ _ so.written (Appends-trans mid writes.mid sink.after _ _ writes.wrote wrote))
+  all_written text wrote = grind (arith, common_steps, torn)
 
   torn_written : Appends writes.mid sink.after [] → HasTaken sink (text_of q c.games ++ torn under c.part)
   torn_written wrote = subst (λ l. HasTaken sink (text_of q c.games ++ l)) (append-nil (torn under c.part)) (all_written [] wrote)

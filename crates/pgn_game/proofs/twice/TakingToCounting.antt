@@ -2,9 +2,7 @@
 -- which each game ends.
 -- Letters: q is the profile whose missing Result takes the marker, b the progress, t a token, ts
 -- are tokens.
-use Rattle.std.proofs.lemmas.Bool.{and_parts}
-use Rattle.pgn_game.proofs.Words.{Token, Profile, takes_the_marker, Game, ◌≡◌, inl, inr, true, ℕ, List, [], ◌∷◌, ◌++◌, bytes_eq, Option, None, Some, IsTrue, refl, sym, ap, ◌∙◌, list_all-append, bytes_eq-Decides, counting, refusal, marker_of, Next, going, whole, next, Progress, progress_with, progress_after, read_from}
-use Rattle.pgn_game.specs.laws.MissingResults.{all_end_with}
+use Rattle.pgn_game.proofs.Words.{Token, Profile, takes_the_marker, Game, ◌≡◌, inl, inr, true, ℕ, List, [], ◌∷◌, ◌++◌, bytes_eq, Option, None, Some, IsTrue, refl, sym, ap, ◌∙◌, list_all-append, bytes_eq-Decides, counting, refusal, marker_of, Next, going, whole, next, Progress, progress_with, progress_after, read_from, and_parts, all_end_with, arith, common_steps}
 use Rattle.pgn_game.proofs.tokens.OneMoreToken.{by_token, first_passes, goes_on}
 use Rattle.pgn_game.proofs.twice.MarkerCounts.{marker_finishes, refusal_counting}
 
@@ -24,10 +22,7 @@ end_before p text b (t ∷ ts) all =
 
 -- so the marker of a game just finished is the text
 marker_is : (text : List ℕ) (games : List Game) (g : Game) → IsTrue (all_end_with text (games ++ g ∷ [])) → g.marker ≡ text
-marker_is text games g all =
-    let last = (and_parts (all_end_with text games) (all_end_with text (g ∷ []))
-    (rw (list_all-append (λ (g : Game). bytes_eq g.marker text) games (g ∷ [])) at all)).1 in
-    (bytes_eq-Decides g.marker text).0 (and_parts (bytes_eq g.marker text) true last).0
+marker_is text games g all = grind (arith, common_steps, and_parts, all_end_with, list_all-append, bytes_eq, bytes_eq-Decides)
 
 pub reads_as_one_marker : (q : Profile) (text : List ℕ) (b : Progress) (ts : List Token) → q.missing_result ≡ takes_the_marker
     → (read_from q b ts).fault ≡ None → IsTrue (all_end_with text (read_from q b ts).progress.games)

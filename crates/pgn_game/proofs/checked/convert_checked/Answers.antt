@@ -1,10 +1,46 @@
-use Rattle.pgn_game.proofs.Words.{◌-◌, max, refl, ap, ◌∙◌, arith, err_from_is_err_and, device, Device, Err, IsStill, Ok, one_more, checked_profile}
-use Rattle.pgn_game.specs.state.GamesSteps.{CountsReading}
-use Rattle.pgn_game.specs.state.Readings.{WritesGame}
+use Rattle.pgn_game.proofs.Words.{Profile, ◌-◌, max, refl, ap, ◌∙◌, arith, err_from_is_err_and, device, Device, one_more, checked_profile, CountsReading, WritesGame}
 use Rattle.pgn_game.proofs.putting.SilentReader.{unseen}
 use Rattle.pgn_game.proofs.twice.FailuresOfSteps.{first_counts, second_counts, source_fails}
 use Rattle.pgn_game.proofs.twice.ReadingsToConversion.{both_end, both_more, both_none, first_stops, second_stops}
+use Rattle.pgn_game.proofs.checked.convert_checked.Given.{Over}
+use Rattle.pgn_game.proofs.checked.convert_checked.Goals.{After-read_game, After-write_game}
 use Rattle.pgn_game.proofs.checked.convert_checked.Goals as goal
+
+-- The first source is read to the end of one game more.
+module _ (g : Over) (c : After-read_game g) where
+  abbrev q : Profile
+  q = checked_profile g.row.T (g.row.L - 1) c.args.mode
+
+  abbrev first : Device
+  first = device g.Q.Source.left g.Q.Source.failures c.args.first.now c.read_game.new.source
+
+  abbrev second : Device
+  second = device g.R.Source.left g.R.Source.failures c.args.second.now c.loop-mark.second
+
+  abbrev sink : Device
+  sink = device g.W.Sink.taken g.W.Sink.failures c.args.writer.now c.loop-mark.writer
+
+-- The second source is read so far too, and the game is written: `here` are the devices in this call.
+module _ (g : Over) (c : After-write_game g) where
+  abbrev second_here : Device
+  second_here = device g.R.Source.left g.R.Source.failures c.loop-mark.second c.write_game.new.source
+
+  abbrev sink_here : Device
+  sink_here = device g.W.Sink.taken g.W.Sink.failures c.loop-mark.writer c.write_game.new.out
+
+  abbrev second_read : Device
+  second_read = device g.R.Source.left g.R.Source.failures c.args.second.now c.write_game.new.source
+
+  abbrev written : Device
+  written = device g.W.Sink.taken g.W.Sink.failures c.args.writer.now c.write_game.new.out
+
+  writes : WritesGame second_here.before second_here.after c.loop-mark.behind c.in-Some.mark c.write_game.new.self c.write_game.result
+      sink_here.before sink_here.after
+  writes = unseen (λ d. WritesGame second_here.before second_here.after c.loop-mark.behind c.in-Some.mark c.write_game.new.self c.write_game.result d.before d.after)
+      _ sink_here c.loop-mark.invariant.second_writes c.write_game.ensures.writes
+
+  counted : CountsReading c.write_game.result second_here sink_here
+  counted = unseen (CountsReading c.write_game.result second_here) _ sink_here c.loop-mark.invariant.second_writes c.write_game.ensures.counted
 
 pub loop-mark-init : goal.loop-mark-init
 loop-mark-init g c =
@@ -22,127 +58,83 @@ loop-mark-init g c =
 
 pub returns-in_err-mark-clause-converts : goal.returns-in_err-mark-clause-converts
 returns-in_err-mark-clause-converts g c =
-    let q = checked_profile g.row.T (g.row.L - 1) c.args.mode in
+    let n = (goal.at.returns-in_err-mark-clause-converts g c).After-read_game in
     let so = c.loop-mark.invariant in
     let f = c.in_err-mark.field-0.0 in
     let e = err_from_is_err_and c.from_residual.result c.from_residual.ensures.1 in
     rw (e.1, e.2)
-    (first_stops q (device g.Q.Source.left g.Q.Source.failures c.args.first.now c.read_game.new.source)
-    (device g.R.Source.left g.R.Source.failures c.args.second.now c.loop-mark.second)
-    (device g.W.Sink.taken g.W.Sink.failures c.args.writer.now c.loop-mark.writer) _
-    c.loop-mark.ahead c.loop-mark.behind so.both f
+    (first_stops (q g n) (first g n) (second g n) (sink g n) _ c.loop-mark.ahead c.loop-mark.behind so.both f
     (λ is. source_fails f.reason _ _ _ _ c.in_err-mark.ensures.counted is ∙ ap one_more so.first)
-    (c.in_err-mark.ensures.reads q _ so.both.first_tokens so.both.first_stands))
+    (c.in_err-mark.ensures.reads (q g n) _ so.both.first_tokens so.both.first_stands))
+
+pub returns-in_err-mark-clause-counted : goal.returns-in_err-mark-clause-counted
+returns-in_err-mark-clause-counted g c =
+    let n = (goal.at.returns-in_err-mark-clause-counted g c).After-read_game in
+    let so = c.loop-mark.invariant in
+    let e = err_from_is_err_and c.from_residual.result c.from_residual.ensures.1 in
+    rw (e.1, e.2)
+    (first_counts c.in_err-mark.field-0.0.reason (first g n) (second g n) (sink g n) _ so.first so.second so.sink c.in_err-mark.ensures.counted)
 
 pub returns-clause-converts : goal.returns-clause-converts
 returns-clause-converts g c =
-    let q = checked_profile g.row.T (g.row.L - 1) c.args.mode in
-    let x = c.loop-mark.invariant.both in
+    let n = (goal.at.returns-clause-converts g c).After-read_game in
+    let so = c.loop-mark.invariant in
+    let x = so.both in
     let reads = rw c.in_default.is at c.in_ok-mark.ensures.reads in
-    both_end q (device g.Q.Source.left g.Q.Source.failures c.args.first.now c.read_game.new.source)
-    (device g.R.Source.left g.R.Source.failures c.args.second.now c.loop-mark.second)
-    (device g.W.Sink.taken g.W.Sink.failures c.args.writer.now c.loop-mark.writer) _
-    c.loop-mark.ahead c.loop-mark.behind x c.read_game.new.self c.totals.result
-    (reads q _ x.first_tokens x.first_stands) (c.in_ok-mark.ensures.silent ∙ c.loop-mark.invariant.first_silent)
-    c.loop-mark.invariant.second_writes c.totals.ensures.games c.totals.ensures.plies
+    both_end (q g n) (first g n) (second g n) (sink g n) _ c.loop-mark.ahead c.loop-mark.behind x c.read_game.new.self c.totals.result
+    (reads (q g n) _ x.first_tokens x.first_stands) (c.in_ok-mark.ensures.silent ∙ so.first_silent)
+    so.second_writes c.totals.ensures.games c.totals.ensures.plies
     (c.totals.ensures.probes ∙ ap (λ n. max n c.loop-mark.behind.converter.reading.most_probes) c.most_probes.ensures.value)
     (omega (arith, c.most_probes.ensures.value, c.most_probes.ensures.bound))
     (omega (arith, c.totals.ensures.probes, c.totals.ensures.bound))
 
 pub loop-mark-preserved : goal.loop-mark-preserved
 loop-mark-preserved g c =
-    let q = checked_profile g.row.T (g.row.L - 1) c.args.mode in
+    let w = (goal.at.loop-mark-preserved g c).After-write_game in
     let so = c.loop-mark.invariant in
     let x = so.both in
-    let goes_on = rw c.in-Some.is at c.in_ok-mark.ensures.going in
-    let source = device g.R.Source.left g.R.Source.failures c.loop-mark.second c.write_game.new.source in
-    let sink = device g.W.Sink.taken g.W.Sink.failures c.loop-mark.writer c.write_game.new.out in
-    let writes = unseen (λ (d : Device). WritesGame source.before source.after c.loop-mark.behind c.in-Some.mark c.write_game.new.self (Ok tt) d.before d.after)
-    _ sink so.second_writes c.in_ok-write_game.ensures.writes in
+    let q = checked_profile g.row.T (g.row.L - 1) c.args.mode in
+    let counts = rw c.in_ok-write_game.was at (counted g w) in
     record {
-      first_going = goes_on.0;
+      first_going = (rw c.in-Some.is at c.in_ok-mark.ensures.going).0;
       second_going = c.in_ok-write_game.ensures.going;
       first_silent = c.in_ok-mark.ensures.silent ∙ so.first_silent;
       second_writes = c.in_ok-write_game.ensures.silent.silent ∙ so.second_writes;
       first = c.in_ok-mark.ensures.counted.0 ∙ so.first;
-      second = c.in_ok-write_game.ensures.counted.0 ∙ so.second;
-      sink = unseen IsStill _ sink so.second_writes c.in_ok-write_game.ensures.counted.1 ∙ so.sink;
+      second = counts.0 ∙ so.second;
+      sink = counts.1 ∙ so.sink;
       both =
           both_more q _ _ _ _ c.loop-mark.ahead c.loop-mark.behind _ _ x c.in-Some.mark c.read_game.new.self c.write_game.new.self _ _ _
           ((rw c.in-Some.is at c.in_ok-mark.ensures.reads) q _ x.first_tokens x.first_stands)
-          (writes q _ x.second_tokens x.second_stands);
+          ((rw c.in_ok-write_game.was at (writes g w)) q _ x.second_tokens x.second_stands);
     }
 
 pub returns-in_err-write_game-clause-converts : goal.returns-in_err-write_game-clause-converts
 returns-in_err-write_game-clause-converts g c =
-    let q = checked_profile g.row.T (g.row.L - 1) c.args.mode in
+    let here = goal.at.returns-in_err-write_game-clause-converts g c in
+    let n = here.After-read_game in
+    let w = here.After-write_game in
     let so = c.loop-mark.invariant in
     let x = so.both in
-    let reads = rw c.in-Some.is at c.in_ok-mark.ensures.reads in
     let f = c.in_err-write_game.field-0.0 in
     let e = err_from_is_err_and c.from_residual-in_err-write_game.result c.from_residual-in_err-write_game.ensures.1 in
-    let source = device g.R.Source.left g.R.Source.failures c.loop-mark.second c.write_game.new.source in
-    let sink = device g.W.Sink.taken g.W.Sink.failures c.loop-mark.writer c.write_game.new.out in
-    let writes = unseen (λ (d : Device). WritesGame source.before source.after c.loop-mark.behind c.in-Some.mark c.write_game.new.self (Err f) d.before d.after)
-    _ sink so.second_writes c.in_err-write_game.ensures.writes in
     rw (e.1, e.2)
-    (second_stops q (device g.Q.Source.left g.Q.Source.failures c.args.first.now c.read_game.new.source)
-    (device g.R.Source.left g.R.Source.failures c.args.second.now c.write_game.new.source)
-    (device g.W.Sink.taken g.W.Sink.failures c.args.writer.now c.write_game.new.out) _ _ _
-    c.loop-mark.ahead c.loop-mark.behind x c.in-Some.mark c.read_game.new.self f
-    (reads q _ x.first_tokens x.first_stands) (writes q _ x.second_tokens x.second_stands)
+    (second_stops (q g n) (first g n) (second_read g w) (written g w) _ _ _ c.loop-mark.ahead c.loop-mark.behind x c.in-Some.mark c.read_game.new.self f
+    ((rw c.in-Some.is at c.in_ok-mark.ensures.reads) (q g n) _ x.first_tokens x.first_stands)
+    ((rw c.in_err-write_game.was at (writes g w)) (q g n) _ x.second_tokens x.second_stands)
     (λ is. source_fails f.reason _ _ _ _ c.in_err-write_game.ensures.counted is ∙ ap one_more so.second))
 
 pub returns-in_err-write_game-clause-counted : goal.returns-in_err-write_game-clause-counted
 returns-in_err-write_game-clause-counted g c =
+    let here = goal.at.returns-in_err-write_game-clause-counted g c in
+    let w = here.After-write_game in
     let so = c.loop-mark.invariant in
     let e = err_from_is_err_and c.from_residual-in_err-write_game.result c.from_residual-in_err-write_game.ensures.1 in
-    let source = device g.R.Source.left g.R.Source.failures c.loop-mark.second c.write_game.new.source in
-    let sink = device g.W.Sink.taken g.W.Sink.failures c.loop-mark.writer c.write_game.new.out in
     rw (e.1, e.2)
-    (second_counts c.in_err-write_game.field-0.0.reason (device g.Q.Source.left g.Q.Source.failures c.args.first.now c.read_game.new.source)
-    (device g.R.Source.left g.R.Source.failures c.args.second.now c.write_game.new.source)
-    (device g.W.Sink.taken g.W.Sink.failures c.args.writer.now c.write_game.new.out) _ _
-    (c.in_ok-mark.ensures.counted.0 ∙ so.first) so.second so.sink
-    (unseen (λ (d : Device). CountsReading {A = Unit} (Err c.in_err-write_game.field-0.0) source d) _ sink so.second_writes c.in_err-write_game.ensures.counted))
-
-pub returns-in_err-mark-clause-counted : goal.returns-in_err-mark-clause-counted
-returns-in_err-mark-clause-counted g c =
-    let so = c.loop-mark.invariant in
-    let e = err_from_is_err_and c.from_residual.result c.from_residual.ensures.1 in
-    rw (e.1, e.2)
-    (first_counts c.in_err-mark.field-0.0.reason (device g.Q.Source.left g.Q.Source.failures c.args.first.now c.read_game.new.source)
-    (device g.R.Source.left g.R.Source.failures c.args.second.now c.loop-mark.second)
-    (device g.W.Sink.taken g.W.Sink.failures c.args.writer.now c.loop-mark.writer) _
-    so.first so.second so.sink c.in_err-mark.ensures.counted)
-
-pub read_game-requires : goal.read_game-requires
-read_game-requires g c = (c.requires.memory, c.loop-mark.invariant.first_going)
-
-pub write_game-requires : goal.write_game-requires
-write_game-requires g c = (c.requires.memory, c.loop-mark.invariant.second_going)
+    (second_counts c.in_err-write_game.field-0.0.reason (first g here.After-read_game) (second_read g w) (written g w) _ _
+    (c.in_ok-mark.ensures.counted.0 ∙ so.first) so.second so.sink (rw c.in_err-write_game.was at (counted g w)))
 
 pub loop-mark-smaller : goal.loop-mark-smaller
 loop-mark-smaller g c =
     let goes_on = rw c.in-Some.is at c.in_ok-mark.ensures.going in
     omega (arith, goes_on.1, goes_on.2)
-
-pub returns-clause-counted : goal.returns-clause-counted
-returns-clause-counted g c =
-    let so = c.loop-mark.invariant in
-    (c.in_ok-mark.ensures.counted.0 ∙ so.first, so.second, so.sink)
-
-pub new-ahead-requires : goal.new-ahead-requires
-new-ahead-requires g c = (c.requires.memory, c.requires.levels)
-
-pub write_nothing-requires : goal.write_nothing-requires
-write_nothing-requires g c = (c.requires.memory, c.new-ahead.ensures.going)
-
-pub new-behind-requires : goal.new-behind-requires
-new-behind-requires g c = (c.requires.memory, c.requires.levels)
-
-pub most_probes-requires : goal.most_probes-requires
-most_probes-requires g c = c.requires.memory
-
-pub totals-requires : goal.totals-requires
-totals-requires g c = (c.requires.memory, (c.loop-mark.invariant.second_going, c.most_probes.ensures.bound))

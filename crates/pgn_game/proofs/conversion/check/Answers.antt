@@ -1,6 +1,4 @@
-use Rattle.pgn_game.proofs.Words.{◌-◌, Bool, true, ap, subst, Converter, AfterConversion, profile_of, bytes_seen, device, None}
-use Rattle.pgn_layout.specs.Device.{nowhere}
-use Rattle.pgn_game.specs.calls.Conversion.{CountsResult}
+use Rattle.pgn_game.proofs.Words.{◌-◌, Bool, true, ap, subst, Converter, AfterConversion, profile_of, bytes_seen, device, None, nowhere, CountsResult}
 use Rattle.pgn_game.proofs.putting.SilentReader.{ready_silently, seen_alike}
 use Rattle.pgn_game.proofs.tokens.WholeInput.{is_short}
 use Rattle.pgn_game.proofs.twice.FailuresOfSteps.{no_write_in}

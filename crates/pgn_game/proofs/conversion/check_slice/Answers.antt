@@ -1,6 +1,4 @@
-use Rattle.pgn_game.proofs.Words.{◌-◌, Bool, true, ap, subst, AfterSlice, profile_of, bytes_seen, None, Converter}
-use Rattle.pgn_layout.specs.Device.{nowhere}
-use Rattle.pgn_game.specs.calls.Conversion.{CountsSink}
+use Rattle.pgn_game.proofs.Words.{◌-◌, Bool, true, ap, subst, AfterSlice, profile_of, bytes_seen, None, Converter, nowhere, CountsSink}
 use Rattle.pgn_game.proofs.putting.SilentReader.{ready_silently, seen_alike}
 use Rattle.pgn_game.proofs.tokens.WholeInput.{is_short_slice}
 use Rattle.pgn_game.proofs.twice.FailuresOfSteps.{no_write_to}

@@ -1,5 +1,4 @@
-use Rattle.pgn_game.proofs.Words.{◌-◌, Bool, false, subst, AfterConversion, profile_of, bytes_seen, device}
-use Rattle.pgn_game.specs.calls.Conversion.{CountsResult}
+use Rattle.pgn_game.proofs.Words.{◌-◌, Bool, false, subst, AfterConversion, profile_of, bytes_seen, device, CountsResult}
 use Rattle.pgn_game.proofs.putting.SilentReader.{unseen}
 use Rattle.pgn_game.proofs.tokens.WholeInput.{is_short}
 use Rattle.pgn_game.proofs.conversion.convert.Goals as goal

@@ -1,5 +1,4 @@
-use Rattle.pgn_game.proofs.Words.{Bool, true, false, refl, ap, subst, ◌∙◌, Ok, Err, device, Device, err_from_is_err_and, games_of, AfterConversion, CountsNext, IsStill, bytes_seen}
-use Rattle.pgn_game.specs.calls.GamesCalls.{ReadsNext}
+use Rattle.pgn_game.proofs.Words.{Bool, true, false, refl, ap, subst, ◌∙◌, Ok, Err, device, Device, err_from_is_err_and, games_of, AfterConversion, CountsNext, IsStill, bytes_seen, ReadsNext}
 use Rattle.pgn_game.proofs.ReaderFitsInMemory.{fits_alike}
 use Rattle.pgn_game.proofs.putting.SilentReader.{seen_alike, silence_kept, silence_then}
 use Rattle.pgn_game.proofs.tokens.WholeInput.{none_read, read_none, games_more, games_end, games_stop}

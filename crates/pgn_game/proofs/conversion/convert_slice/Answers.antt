@@ -1,5 +1,4 @@
-use Rattle.pgn_game.proofs.Words.{◌-◌, Bool, false, subst, AfterSlice, profile_of, bytes_seen, device}
-use Rattle.pgn_game.specs.calls.Conversion.{CountsSink}
+use Rattle.pgn_game.proofs.Words.{◌-◌, Bool, false, subst, AfterSlice, profile_of, bytes_seen, device, CountsSink}
 use Rattle.pgn_game.proofs.putting.SilentReader.{unseen}
 use Rattle.pgn_game.proofs.tokens.WholeInput.{is_short_slice}
 use Rattle.pgn_game.proofs.conversion.convert_slice.Goals as goal

@@ -1,6 +1,5 @@
-use Rattle.pgn_game.proofs.Words.{refl, err_from_is_err_and, Reason, ReadFault, Changed, WriteFault, Fault, Device, device, Result, Ok, Err, ◌≡◌, sym, subst, Bool}
+use Rattle.pgn_game.proofs.Words.{refl, err_from_is_err_and, Reason, ReadFault, Changed, WriteFault, Fault, Device, device, Result, Ok, Err, ◌≡◌, sym, subst, Bool, CountsSink, CountsWriting}
 use Rattle.pgn_game.proofs.Words.{◌∙◌, arith, CountsReason, CountsFault, Totals, AfterEnd, bytes_seen}
-use Rattle.pgn_game.specs.calls.Conversion.{CountsSink, CountsWriting}
 use Rattle.pgn_game.proofs.ReaderFitsInMemory.{fits_alike}
 use Rattle.pgn_game.proofs.putting.SilentReader.{seen_alike}
 use Rattle.pgn_game.proofs.tokens.WholeInput.{slice_stops, slice_ends}

@@ -1,11 +1,26 @@
-use Rattle.pgn_game.proofs.Words.{ℕ, Ok, Err, refl, ap, ◌∙◌, device, le_refl, le_trans, err_from_is_err_and, games_of, one_more, sink_of}
-use Rattle.pgn_game.specs.state.GamesSteps.{FeedsRest}
+use Rattle.pgn_game.proofs.Words.{None, [], ℕ, Ok, Err, refl, ap, ◌∙◌, device, le_refl, le_trans, err_from_is_err_and, games_of, one_more, sink_of, FeedsRest, ReadsSoFar}
 use Rattle.pgn_game.proofs.twice.MarkerToReading.{counts_then}
 use Rattle.pgn_game.proofs.tokens.AcceptedToConverter.{follows_own}
 use Rattle.pgn_game.proofs.tokens.GoesToMarker.{keeps_behind, keeps_failing}
 use Rattle.pgn_game.proofs.tokens.BytesToMarker.{none_yet, reaches, marker_read, rest_read, rest_stops, filled, at_source_end, unread}
 use Rattle.pgn_game.proofs.putting.SilentReader.{seen_alike, silence_kept, silence_then}
+use Rattle.pgn_game.proofs.games.next_marker.Given.{Over}
+use Rattle.pgn_game.proofs.games.next_marker.Goals.{In_default}
 use Rattle.pgn_game.proofs.games.next_marker.Goals as goal
+
+-- All bytes that were not used yet were fed.
+module _ (g : Over) (c : In_default g) where
+  fed : FeedsRest (games_of c.loop-mark.converter c.loop-mark.buffer) (games_of c.feed_rest.new.converter c.feed_rest.new.buffer) (Ok None)
+      (sink_of c.args.converter.now.reading g.W.Sink.taken g.W.Sink.failures c.loop-mark.out c.feed_rest.new.out)
+  fed = rw c.in_default.is at (seen_alike (FeedsRest _ _ _) _ _ _ c.loop-mark.invariant.silent.silent c.in_ok-mark.ensures.feeds)
+
+  all_fed : ReadsSoFar (games_of c.args.converter.now c.args.buffer.now) (games_of c.feed_rest.new.converter [])
+      (device g.R.Source.left g.R.Source.failures c.args.source.now c.loop-mark.source)
+      (sink_of c.args.converter.now.reading g.W.Sink.taken g.W.Sink.failures c.args.out.now c.feed_rest.new.out)
+  all_fed p u given stands has_read =
+      let x = c.loop-mark.invariant.reads p u given stands has_read in
+      rest_read p u given _ _ _ _ _ x _ c.feed_rest.new.converter fed.keeps.written
+      (fed.feeds.1 p _ _ _ (reaches p u given _ _ _ _ _ x) (follows_own c.loop-mark.buffer))
 
 pub loop-mark-init : goal.loop-mark-init
 loop-mark-init g c =
@@ -17,20 +32,19 @@ loop-mark-init g c =
       source = refl;
       sink = refl;
       silent = silence_kept c.args.converter.now.reading c.args.converter.now.reading c.args.out.now refl;
-      reads = λ p u given stands has_read. none_yet p u given _ (games_of c.args.converter.now c.args.buffer.now) _ stands has_read;
+      reads = λ p u given stands has_read. none_yet p u given _ _ _ stands has_read;
     }
 
 pub returns-in_err-mark : goal.returns-in_err-mark
 returns-in_err-mark g c =
     let e = err_from_is_err_and c.from_residual.result c.from_residual.ensures.1 in
     let so = c.loop-mark.invariant in
-    let games = games_of c.loop-mark.converter c.loop-mark.buffer in
     let fed = seen_alike (FeedsRest _ _ _) _ _ _ so.silent.silent c.in_err-mark.ensures.feeds in
     record {
       reads = λ p u given stands has_read.
           let x = so.reads p u given stands has_read in
-          rw (e.1, e.2) (rest_stops p u given _ _ games _ _ x _ c.feed_rest.new.converter fed.keeps.written _
-          (fed.feeds p _ _ _ (reaches p u given _ _ games _ _ x) (follows_own c.loop-mark.buffer)));
+          rw (e.1, e.2) (rest_stops p u given _ _ _ _ _ x _ c.feed_rest.new.converter fed.keeps.written _
+          (fed.feeds p _ _ _ (reaches p u given _ _ _ _ _ x) (follows_own c.loop-mark.buffer)));
       goes = rw (e.1, e.2) (record {
         ready = tt;
         short = tt;
@@ -48,13 +62,12 @@ returns-in_err-mark g c =
 pub returns-in-Some : goal.returns-in-Some
 returns-in-Some g c =
     let so = c.loop-mark.invariant in
-    let games = games_of c.loop-mark.converter c.loop-mark.buffer in
     let fed = rw c.in-Some.is at (seen_alike (FeedsRest _ _ _) _ _ _ so.silent.silent c.in_ok-mark.ensures.feeds) in
     record {
       reads = λ p u given stands has_read.
           let x = so.reads p u given stands has_read in
-          rw fed.feeds.1 (marker_read p u given _ _ games _ _ x _ c.feed_rest.new.converter fed.keeps.written fed.feeds.0 c.in-Some.mark
-          (fed.feeds.2 p _ _ _ (reaches p u given _ _ games _ _ x) (follows_own c.loop-mark.buffer)));
+          rw fed.feeds.1 (marker_read p u given _ _ _ _ _ x _ c.feed_rest.new.converter fed.keeps.written fed.feeds.0 c.in-Some.mark
+          (fed.feeds.2 p _ _ _ (reaches p u given _ _ _ _ _ x) (follows_own c.loop-mark.buffer)));
       goes = record {
         ready = fed.ready;
         short = fed.short;
@@ -66,64 +79,53 @@ returns-in-Some g c =
 
 pub returns-in_err-read_more : goal.returns-in_err-read_more
 returns-in_err-read_more g c =
+    let n = (goal.at.returns-in_err-read_more g c).In_default in
     let e = err_from_is_err_and c.from_residual-in_err-read_more.result c.from_residual-in_err-read_more.ensures.1 in
     let so = c.loop-mark.invariant in
     let more = c.in_err-read_more.ensures.more in
-    let games = games_of c.loop-mark.converter c.loop-mark.buffer in
-    let fed = rw c.in_default.is at (seen_alike (FeedsRest _ _ _) _ _ _ so.silent.silent c.in_ok-mark.ensures.feeds) in
     rw (e.1, e.2, more.1) (record {
       reads = λ p u given stands has_read.
-          let x = so.reads p u given stands has_read in
-          let now = rest_read p u given _ _ games _ _ x _ c.feed_rest.new.converter fed.keeps.written
-          (fed.feeds.1 p _ _ _ (reaches p u given _ _ games _ _ x) (follows_own c.loop-mark.buffer)) in
-          unread p u given _ _ _ c.feed_rest.new.converter _ _ now _ _ refl fed.short more.2 more.0;
+          unread p u given _ _ _ c.feed_rest.new.converter _ _ (all_fed g n p u given stands has_read) _ _ refl (fed g n).short more.2 more.0;
       goes = record {
         ready = tt;
         short = tt;
-        keeps = keeps_failing _ (keeps_behind {B = ℕ} {second = Ok 0} so.games so.written so.probes fed.keeps refl);
-        counted = rw more.0 (c.in_err-read_more.ensures.counted ∙ ap one_more so.source, fed.counted ∙ so.sink);
+        keeps = keeps_failing _ (keeps_behind {B = ℕ} {second = Ok 0} so.games so.written so.probes (fed g n).keeps refl);
+        counted = rw more.0 (c.in_err-read_more.ensures.counted ∙ ap one_more so.source, (fed g n).counted ∙ so.sink);
       };
       silent = silence_then _ _ _ _ _ _ so.silent c.feed_rest.ensures.silent;
     })
 
 pub returns-then-not-branch : goal.returns-then-not-branch
 returns-then-not-branch g c =
+    let n = (goal.at.returns-then-not-branch g c).In_default in
     let so = c.loop-mark.invariant in
     let more = rw c.if-not-branch.true at c.in_ok-read_more.ensures.more in
-    let games = games_of c.loop-mark.converter c.loop-mark.buffer in
-    let fed = rw c.in_default.is at (seen_alike (FeedsRest _ _ _) _ _ _ so.silent.silent c.in_ok-mark.ensures.feeds) in
     rw more.0 (record {
       reads = λ p u given stands has_read.
-          let x = so.reads p u given stands has_read in
-          let now = rest_read p u given _ _ games _ _ x _ c.feed_rest.new.converter fed.keeps.written
-          (fed.feeds.1 p _ _ _ (reaches p u given _ _ games _ _ x) (follows_own c.loop-mark.buffer)) in
-          rw more.1 (at_source_end p u given _ _ _ c.feed_rest.new.converter _ _ now more.2 more.3);
+          rw more.1 (at_source_end p u given _ _ _ c.feed_rest.new.converter _ _ (all_fed g n p u given stands has_read) more.2 more.3);
       goes = record {
         ready = tt;
-        short = fed.short;
-        keeps = keeps_behind so.games so.written so.probes fed.keeps refl;
-        counted = (c.in_ok-read_more.ensures.counted ∙ so.source, fed.counted ∙ so.sink);
+        short = (fed g n).short;
+        keeps = keeps_behind so.games so.written so.probes (fed g n).keeps refl;
+        counted = (c.in_ok-read_more.ensures.counted ∙ so.source, (fed g n).counted ∙ so.sink);
       };
       silent = silence_then _ _ _ _ _ _ so.silent c.feed_rest.ensures.silent;
     })
 
 pub loop-mark-preserved : goal.loop-mark-preserved
 loop-mark-preserved g c =
+    let n = (goal.at.loop-mark-preserved g c).In_default in
     let so = c.loop-mark.invariant in
-    let games = games_of c.loop-mark.converter c.loop-mark.buffer in
-    let fed = rw c.in_default.is at (seen_alike (FeedsRest _ _ _) _ _ _ so.silent.silent c.in_ok-mark.ensures.feeds) in
+    let keeps = (fed g n).keeps in
     let more = rw c.if-not-branch.false at c.in_ok-read_more.ensures.more in
     rw more.0 (record {
-      going = record { no_fault = fed.keeps.fault; not_finished = fed.keeps.finished };
-      games = fed.keeps.games ∙ so.games;
-      written = fed.keeps.written ∙ so.written;
-      probes = le_trans so.probes fed.keeps.probes;
+      going = record { no_fault = keeps.fault; not_finished = keeps.finished };
+      games = keeps.games ∙ so.games;
+      written = keeps.written ∙ so.written;
+      probes = le_trans so.probes keeps.probes;
       source = c.in_ok-read_more.ensures.counted ∙ so.source;
-      sink = fed.counted ∙ so.sink;
+      sink = (fed g n).counted ∙ so.sink;
       silent = silence_then _ _ _ _ _ _ so.silent c.feed_rest.ensures.silent;
       reads = λ p u given stands has_read.
-          let x = so.reads p u given stands has_read in
-          let now = rest_read p u given _ _ games _ _ x _ c.feed_rest.new.converter fed.keeps.written
-          (fed.feeds.1 p _ _ _ (reaches p u given _ _ games _ _ x) (follows_own c.loop-mark.buffer)) in
-          filled p u given _ _ _ c.feed_rest.new.converter _ _ now c.read_more.new.buffer more.2;
+          filled p u given _ _ _ c.feed_rest.new.converter _ _ (all_fed g n p u given stands has_read) c.read_more.new.buffer more.2;
     })

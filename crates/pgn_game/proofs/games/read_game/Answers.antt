@@ -1,7 +1,4 @@
-use Rattle.std.specs.Result.{is_ok}
-use Rattle.pgn_game.proofs.Words.{Reason, ReadFault, WriteFault, Changed, Fault, ◌≡◌, ℕ, Bool, Result, Ok, Err, refl, sym, ap, subst, ◌∙◌, arith, err_from_is_err_and, Device, device, one_more, CountsDevices, CountsReason, CountsFault, CountsNext, games_of, false≢true, sink_of, EndsGame}
-use Rattle.pgn_game.specs.calls.ConverterCalls.{Ends}
-use Rattle.pgn_game.specs.state.ConverterSteps.{CountsGame}
+use Rattle.pgn_game.proofs.Words.{seen, Reason, ReadFault, WriteFault, Changed, Fault, ◌≡◌, ℕ, Bool, Result, Ok, Err, refl, ap, subst, ◌∙◌, arith, err_from_is_err_and, Device, device, one_more, CountsDevices, CountsReason, CountsFault, CountsNext, EndsGame, Ends, CountsGame}
 use Rattle.pgn_game.proofs.ReaderFitsInMemory.{fits_alike}
 use Rattle.pgn_game.proofs.tokens.GamesInTurn.{begins, game_read, marker_stops, stops_before, stands_at_end, finished}
 use Rattle.pgn_game.proofs.putting.SilentReader.{none_fails, seen_alike, silence_then}
@@ -29,18 +26,18 @@ pub returns-in_err-mark : goal.returns-in_err-mark
 returns-in_err-mark g c =
     let e = err_from_is_err_and c.from_residual.result c.from_residual.ensures.1 in
     record {
-      goes = record {
+      goes = rw (e.1, e.2) (record {
         reads = λ p u given have.
-            let begun = begins p u given _ (games_of c.args.converter.now c.args.buffer.now) have c.requires.not_finished in
-            rw (e.1, e.2) (stops_before p _ begun.0 u given _ _ _ c.next_marker.new.converter _ _
+            let begun = begins p u given _ _ have c.requires.not_finished in
+            stops_before p _ begun.0 u given _ _ _ c.next_marker.new.converter _ _
             (λ silent. no_write_seen {A = Unit} (Err c.in_err-mark.field-0.0)
             (device g.R.Source.left g.R.Source.failures c.args.source.now c.next_marker.new.source)
             (device g.W.Sink.taken g.W.Sink.failures c.args.out.now c.next_marker.new.out) _ silent c.in_err-mark.ensures.goes.counted)
-            (c.in_err-mark.ensures.reads p u given begun.1 begun.2));
-        fewer = λ same. absurd (false≢true (ap is_ok (sym e.1 ∙ same)));
-        fault = rw (e.1, e.2) c.in_err-mark.ensures.goes.keeps.fault;
-        counted = λ free. rw (e.1, e.2) c.in_err-mark.ensures.goes.counted;
-      };
+            (c.in_err-mark.ensures.reads p u given begun.1 begun.2);
+        fewer = λ same. absurd (cc);
+        fault = c.in_err-mark.ensures.goes.keeps.fault;
+        counted = λ free. c.in_err-mark.ensures.goes.counted;
+      });
       silent = c.next_marker.ensures.silent;
     }
 
@@ -50,21 +47,20 @@ returns-in_err-end_game-in-Some g c =
     let same = c.next_marker.ensures.silent.silent in
     let sink = device g.W.Sink.taken g.W.Sink.failures c.next_marker.new.out c.end_game.new.out in
     let f = c.in_err-end_game-in-Some.field-0.0 in
+    let counted = seen_alike (CountsFault {A = Unit} (Err f)) _ _ sink same c.in_err-end_game-in-Some.ensures.counts.counted in
+    let goes = c.in_ok-mark.ensures.goes.counted in
     record {
-      goes = record {
+      goes = rw (e.1, e.2) (record {
         reads = λ p u given have.
-            let begun = begins p u given _ (games_of c.args.converter.now c.args.buffer.now) have c.requires.not_finished in
-            let met = rw c.in-Some.is at (c.in_ok-mark.ensures.reads p u given begun.1 begun.2) in
-            rw (e.1, e.2) (marker_stops p _ begun.0 u given _ _ _ c.in-Some.mark (games_of c.next_marker.new.converter c.next_marker.new.buffer)
-            (sink_of c.args.converter.now.reading g.W.Sink.taken g.W.Sink.failures c.next_marker.new.out c.end_game.new.out) met c.end_game.new.self f
-            (λ silent. none_fails {A = Unit} _ (Err f) sink silent
-            (seen_alike (CountsFault {A = Unit} (Err f)) _ _ sink same c.in_err-end_game-in-Some.ensures.counts.counted))
-            (seen_alike (EndsGame _ _ _ _) _ _ sink same c.in_err-end_game-in-Some.ensures.ends));
-        fewer = λ same. absurd (false≢true (ap is_ok (sym e.1 ∙ same)));
-        fault = rw (e.1, e.2) c.in_err-end_game-in-Some.ensures.counts.fault;
-        counted = λ free. rw (e.1, e.2) (counts_fault _ _ _ _ _ _ c.in_ok-mark.ensures.goes.counted.0 c.in_ok-mark.ensures.goes.counted.1
-            (seen_alike (CountsFault {A = Unit} (Err f)) _ _ sink same c.in_err-end_game-in-Some.ensures.counts.counted));
-      };
+            let begun = begins p u given _ _ have c.requires.not_finished in
+            marker_stops p _ begun.0 u given _ _ _ c.in-Some.mark _ (seen _ sink)
+            (rw c.in-Some.is at (c.in_ok-mark.ensures.reads p u given begun.1 begun.2)) c.end_game.new.self f
+            (λ silent. none_fails {A = Unit} _ (Err f) sink silent counted)
+            (seen_alike (EndsGame _ _ _ _) _ _ sink same c.in_err-end_game-in-Some.ensures.ends);
+        fewer = λ same. absurd (cc);
+        fault = c.in_err-end_game-in-Some.ensures.counts.fault;
+        counted = λ free. counts_fault _ _ _ _ _ _ goes.0 goes.1 counted;
+      });
       silent = silence_then _ _ _ _ _ _ c.next_marker.ensures.silent c.end_game.ensures.silent;
     }
 
@@ -77,12 +73,10 @@ returns-in_ok-end_game-in-Some g c =
     record {
       goes = record {
         reads = λ p u given have.
-            let begun = begins p u given _ (games_of c.args.converter.now c.args.buffer.now) have c.requires.not_finished in
-            let met = rw c.in-Some.is at (c.in_ok-mark.ensures.reads p u given begun.1 begun.2) in
-            game_read p _ begun.0 u given _ _ _ c.in-Some.mark (games_of c.next_marker.new.converter c.next_marker.new.buffer)
-            (sink_of c.args.converter.now.reading g.W.Sink.taken g.W.Sink.failures c.next_marker.new.out c.end_game.new.out) met c.end_game.new.self
-            (c.end_game.ensures.silent.silent ∙ same)
-            (seen_alike (EndsGame _ _ _ _) _ _ sink same ended.ends) counts;
+            let begun = begins p u given _ _ have c.requires.not_finished in
+            game_read p _ begun.0 u given _ _ _ c.in-Some.mark _ (seen _ sink)
+            (rw c.in-Some.is at (c.in_ok-mark.ensures.reads p u given begun.1 begun.2)) c.end_game.new.self
+            (c.end_game.ensures.silent.silent ∙ same) (seen_alike (EndsGame _ _ _ _) _ _ sink same ended.ends) counts;
         fewer = λ same.
             rw (counts.not_finished, c.requires.not_finished) (omega (arith, counts.few, counts.games, c.next_marker.ensures.goes.keeps.games));
         fault = counts.fault;
@@ -98,12 +92,11 @@ returns-in-None g c =
     record {
       goes = record {
         reads = λ p u given have.
-            let begun = begins p u given _ (games_of c.args.converter.now c.args.buffer.now) have c.requires.not_finished in
-            let games = games_of c.next_marker.new.converter c.next_marker.new.buffer in
+            let begun = begins p u given _ _ have c.requires.not_finished in
             let uses = rw c.in-None.is at (c.in_ok-mark.ensures.reads p u given begun.1 begun.2) in
-            finished p _ begun.0 u given _ _ games _ _ same uses c.finish.new.self _ c.finish.result
+            finished p _ begun.0 u given _ _ _ _ _ same uses c.finish.new.self _ c.finish.result
             (seen_alike (λ (d : Device). Ends c.next_marker.new.converter c.finish.new.self c.finish.result d) _ _ sink same c.finish.ensures.ends
-            p _ _ _ (stands_at_end p _ begun.0 u given _ _ games _ _ same uses))
+            p _ _ _ (stands_at_end p _ begun.0 u given _ _ _ _ _ same uses))
             c.finish.ensures.finished c.in_ok-mark.ensures.goes.short;
         fewer = λ same. rw (c.finish.ensures.finished, same, c.requires.not_finished) (omega arith);
         fault = c.finish.ensures.fault;

@@ -1,5 +1,4 @@
-use Rattle.pgn_game.proofs.Words.{◌≡◌, ◌≤◌, ◌-◌, length}
-use Rattle.pgn_game.specs.state.LineWords.{words_from}
+use Rattle.pgn_game.proofs.Words.{◌≡◌, ◌≤◌, ◌-◌, length, words_from}
 use Rattle.pgn_game.proofs.line_of_play.behind_space.Given as goal
 
 -- white space alone so far

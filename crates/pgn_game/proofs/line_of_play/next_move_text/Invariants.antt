@@ -1,5 +1,4 @@
-use Rattle.pgn_game.proofs.Words.{◌≡◌, ◌≤◌, ◌-◌, length}
-use Rattle.pgn_game.specs.state.LineWords.{moves_from}
+use Rattle.pgn_game.proofs.Words.{◌≡◌, ◌≤◌, ◌-◌, length, moves_from}
 use Rattle.pgn_game.proofs.line_of_play.next_move_text.Given as goal
 
 -- the words so far are move numbers

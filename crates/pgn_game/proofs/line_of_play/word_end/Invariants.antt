@@ -1,6 +1,4 @@
-use Rattle.pgn_game.proofs.Words.{◌≡◌, ◌<◌, ◌≤◌, ◌-◌, length, drop}
-use Rattle.pgn_game.specs.calls.LineOfPlay.{words_behind}
-use Rattle.pgn_game.specs.state.LineWords.{bytes_between, words_from}
+use Rattle.pgn_game.proofs.Words.{◌≡◌, ◌<◌, ◌≤◌, ◌-◌, length, drop, words_behind, bytes_between, words_from}
 use Rattle.pgn_game.proofs.line_of_play.word_end.Given as goal
 
 -- the bytes so far are of the word

@@ -1,5 +1,4 @@
-use Rattle.pgn_game.proofs.Words.{◌≡◌, ◌-◌, ◌<◌, length, ◌∙◌, true, false, ap, sym, arith, suc, bytes_eq, index_of, pair_at, []}
-use Rattle.std.proofs.lemmas.List.{get_or_read}
+use Rattle.pgn_game.proofs.Words.{◌≡◌, ◌-◌, ◌<◌, length, ◌∙◌, true, false, ap, sym, arith, suc, bytes_eq, index_of, pair_at, [], get_or_read}
 use Rattle.pgn_game.proofs.pairs.SortedPairs.{new-first, value-behind}
 use Rattle.pgn_game.proofs.pairs.ValuesByName.{bytes_eq-true}
 use Rattle.pgn_game.proofs.ordered.find.Goals as goal

@@ -1,5 +1,4 @@
-use Rattle.pgn_game.proofs.Words.{IsGoing, Reading, bytes_seen, device, err_from_is_err_and, le_trans, refl, sink_of, subst, sym, ◌∙◌}
-use Rattle.pgn_game.specs.state.ConverterSteps.{EndsToMarker}
+use Rattle.pgn_game.proofs.Words.{IsGoing, Reading, bytes_seen, device, err_from_is_err_and, le_trans, refl, sink_of, subst, sym, ◌∙◌, EndsToMarker}
 use Rattle.pgn_game.proofs.ReaderFitsInMemory.{reading_fits_converter}
 use Rattle.pgn_game.proofs.putting.SilentReader.{seen_alike, silence_then}
 use Rattle.pgn_game.proofs.tokens.MarkerToGame.{reads_none}

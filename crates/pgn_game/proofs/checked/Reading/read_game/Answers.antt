@@ -1,11 +1,33 @@
-use Rattle.pgn_game.proofs.Words.{Reading, ap, err_from_is_err_and, refl, subst, sym, ◌∙◌, ◌+◌, ◌<◌, ◌^◌, false, None, [], Device, device, Ok, Err, EndsGame, CountsFault, IsStill, bytes_seen}
-use Rattle.pgn_game.specs.state.ConverterSteps.{IsReady}
-use Rattle.pgn_game.specs.state.GamesSteps.{CountsReading}
-use Rattle.pgn_game.specs.state.Readings.{MarkerComes, no_sink}
+use Rattle.pgn_game.proofs.Words.{◌≡◌, List, Option, ℕ, Profile, Token, Reading, ap, err_from_is_err_and, refl, subst, ◌∙◌, ◌+◌, ◌<◌, ◌^◌, false, None, [], Device, device, Err, EndsGame, CountsFault, IsStill, CountsReading, MarkerComes, StandsBetween, no_sink}
 use Rattle.pgn_game.proofs.ReaderFitsInMemory.{reading_alike, reading_fits_converter}
 use Rattle.pgn_game.proofs.twice.FailuresOfSteps.{behind_still, no_write, reader_reason, seen_none}
 use Rattle.pgn_game.proofs.twice.GamesOfReadings.{all_read, first_fails, game_read, marker_refused_first}
+use Rattle.pgn_game.proofs.checked.Reading.read_game.Given.{Over}
+use Rattle.pgn_game.proofs.checked.Reading.read_game.Goals.{After-end_game}
 use Rattle.pgn_game.proofs.checked.Reading.read_game.Goals as goal
+
+-- A marker was met, and the game ended with it. Nothing is written.
+module _ (g : Over) (c : After-end_game g) where
+  abbrev here : Reading
+  here = record { converter = c.self.inside.converter; unused = c.self.inside.buffer; has_ended = c.self.inside.has_ended }
+
+  abbrev left_new : Option (List ℕ)
+  left_new = g.R.Source.left c.next_marker.new.source
+
+  met : (q : Profile) (left_old : Option (List ℕ)) (given : List Token)
+      → StandsBetween q left_old (g.R.Source.left c.args.source.now) given c.args.self.now
+      → MarkerComes q left_old left_new given c.in-Some.mark here None None
+  met q left_old given stands =
+      let reads = rw c.in-Some.is at c.in_ok-mark.ensures.reads.reads in
+      seen_none (λ d. MarkerComes q left_old left_new given c.in-Some.mark here d.before d.after) _
+      (rw (← c.self.view_is) at (reads q left_old given stands.has_given))
+
+  ends : EndsGame c.self.inside.converter.reading c.in-Some.mark c.end_game.new.self.reading c.end_game.result no_sink
+  ends = seen_none (λ d. EndsGame c.self.inside.converter.reading c.in-Some.mark c.end_game.new.self.reading c.end_game.result d) _ c.end_game.ensures.ends
+
+  silent : c.end_game.new.self.reading.writing.is_silent ≡ c.args.self.now.converter.reading.writing.is_silent
+  silent = c.end_game.ensures.silent.silent ∙ ap (λ (r : Reading). r.converter.reading.writing.is_silent) c.self.view_is
+      ∙ c.next_marker.ensures.silent.silent
 
 pub next_marker-requires : goal.next_marker-requires
 next_marker-requires g c = (search reading_alike, c.requires.going)
@@ -43,58 +65,40 @@ returns-in_default g c =
 
 pub end_game-requires : goal.end_game-requires
 end_game-requires g c =
-    (search reading_fits_converter, subst (λ (r : Reading). IsReady r.converter) (sym c.self.view_is) (rw c.in-Some.is at c.in_ok-mark.ensures.reads.ready))
+    (search reading_fits_converter, rw (← c.self.view_is) at (rw c.in-Some.is at c.in_ok-mark.ensures.reads.ready))
 
 pub returns-in_err-end_game : goal.returns-in_err-end_game
 returns-in_err-end_game g c =
+    let n = (goal.at.returns-in_err-end_game g c).After-end_game in
     let e = err_from_is_err_and c.from_residual-in_err-end_game.result c.from_residual-in_err-end_game.ensures.1 in
     let f = c.in_err-end_game.field-0.0 in
-    let s = c.args.self.now.converter.reading.writing.is_silent in
-    let here = c.self.inside.converter.reading.writing.is_silent in
     let counted = reader_reason f.reason (g.R.Source.failures c.next_marker.new.source) 0 0
-    (seen_none (CountsFault {A = Unit} (Err f)) here c.in_err-end_game.ensures.counts.counted) in
-    let ends = seen_none (λ (d : Device). EndsGame c.self.inside.converter.reading c.in-Some.mark c.end_game.new.self.reading (Err f) d) here
-    c.in_err-end_game.ensures.ends in
-    let new : Reading = record { converter = c.end_game.new.self; unused = []; has_ended = false } in
-    record {
+    (seen_none (CountsFault {A = Unit} (Err f)) c.self.inside.converter.reading.writing.is_silent c.in_err-end_game.ensures.counts.counted) in
+    rw (e.1, e.2) (record {
       reads = λ q left_old given stands.
-          let reads = rw c.in-Some.is at c.in_ok-mark.ensures.reads.reads in
-          let left_new = g.R.Source.left c.next_marker.new.source in
-          let met = subst (λ (r : Reading). MarkerComes q left_old left_new given c.in-Some.mark r (bytes_seen s None) (bytes_seen s None))
-          (sym c.self.view_is) (reads q left_old given stands.has_given) in
-          rw (e.1, e.2)
-          (marker_refused_first q left_old left_new given c.in-Some.mark _ new None no_sink stands.has_given.takes stands.has_given.has_read.passes
-          (seen_none (λ (d : Device). MarkerComes q left_old left_new given c.in-Some.mark
-          (record { converter = c.self.inside.converter; unused = c.self.inside.buffer; has_ended = c.self.inside.has_ended }) d.before d.after) s met) f
-          (no_write f.reason _ _ counted) ends);
-      going = rw e.1 tt;
-      silent = c.end_game.ensures.silent.silent ∙ ap (λ (r : Reading). r.converter.reading.writing.is_silent) c.self.view_is
-          ∙ c.next_marker.ensures.silent.silent;
-      counted = rw (e.1, e.2) (behind_still f.reason _ _ _ _ _ _ c.in_ok-mark.ensures.reads.counted.0 refl counted);
-    }
+          marker_refused_first q left_old _ given _ _ (record { converter = c.end_game.new.self; unused = []; has_ended = false }) None no_sink
+          stands.has_given.takes stands.has_given.has_read.passes (met g n q left_old given stands) f (no_write f.reason _ _ counted)
+          (rw c.in_err-end_game.was at (ends g n));
+      going = tt;
+      silent = silent g n;
+      counted = behind_still f.reason _ _ _ _ _ _ c.in_ok-mark.ensures.reads.counted.0 refl counted;
+    })
 
 pub returns : goal.returns
 returns g c =
-    let ended = c.in_ok-end_game.ensures in
-    let s = c.args.self.now.converter.reading.writing.is_silent in
-    let here = c.self.inside.converter.reading.writing.is_silent in
+    let n = (goal.at.returns g c).After-end_game in
+    let counts = c.in_ok-end_game.ensures.counts in
     let same = ap (λ (r : Reading). r.converter.games) c.self.view_is ∙ c.next_marker.ensures.reads.games in
     record {
       reads = λ q left_old given stands.
-          let reads = rw c.in-Some.is at c.in_ok-mark.ensures.reads.reads in
-          let left_new = g.R.Source.left c.next_marker.new.source in
-          let met = subst (λ (r : Reading). MarkerComes q left_old left_new given c.in-Some.mark r (bytes_seen s None) (bytes_seen s None))
-          (sym c.self.view_is) (reads q left_old given stands.has_given) in
-          game_read q left_old left_new given c.in-Some.mark _ _ None no_sink stands.has_given.takes stands.has_given.has_read.passes
-          (seen_none (λ (d : Device). MarkerComes q left_old left_new given c.in-Some.mark
-          (record { converter = c.self.inside.converter; unused = c.self.inside.buffer; has_ended = c.self.inside.has_ended }) d.before d.after) s met)
-          (seen_none (λ (d : Device). EndsGame c.self.inside.converter.reading c.in-Some.mark c.end_game.new.self.reading (Ok tt) d) here ended.ends)
-          ended.counts.lexer refl refl ended.counts.games ended.counts.just_finished ended.counts.fault;
+          game_read q left_old _ given _ _ _ None no_sink stands.has_given.takes stands.has_given.has_read.passes
+          (met g n q left_old given stands) (rw c.in_ok-end_game.was at (ends g n))
+          counts.lexer refl refl counts.games counts.just_finished counts.fault;
       going = (
-        record { not_finished = ended.counts.not_finished; no_fault = ended.counts.fault },
-        ended.counts.games ∙ ap (λ n. n + 1) same,
-        subst (λ n. n < 2 ^ 64) same ended.counts.few,
+        record { not_finished = counts.not_finished; no_fault = counts.fault },
+        counts.games ∙ ap (λ n. n + 1) same,
+        subst (λ n. n < 2 ^ 64) same counts.few,
       );
-      silent = ended.silent.silent ∙ ap (λ (r : Reading). r.converter.reading.writing.is_silent) c.self.view_is ∙ c.next_marker.ensures.silent.silent;
+      silent = silent g n;
       counted = (c.in_ok-mark.ensures.reads.counted.0, refl);
     }

@@ -1,12 +1,42 @@
-use Rattle.pgn_game.proofs.Words.{Converter, Reading, as_written, ap, bytes_seen, refl, subst, sym, ◌∙◌, device, sink_of, CountsFault, EndsGame, IsStill, KeepsSilence, false, Err, []}
-use Rattle.pgn_game.specs.state.ConverterSteps.{IsReady}
-use Rattle.pgn_game.specs.state.Readings.{MarkerComes, ReadsUpToMarker}
+use Rattle.pgn_game.proofs.Words.{◌≡◌, seen, Device, ℕ, List, Option, Profile, Token, counting, marker_text, Converter, Reading, as_written, ap, refl, sym, ◌∙◌, device, sink_of, CountsFault, EndsGame, IsStill, KeepsSilence, false, Err, [], AfterMarker, ReadsUpToMarker, StandsBetween}
 use Rattle.pgn_game.proofs.ReaderFitsInMemory.{reading_fits_converter}
 use Rattle.pgn_game.proofs.putting.SilentReader.{seen_alike, silence_then}
 use Rattle.pgn_game.proofs.twice.FailuresOfSteps.{counts_changed}
 use Rattle.pgn_game.proofs.twice.MarkerToReading.{counts_then}
 use Rattle.pgn_game.proofs.twice.GamesOfReadings.{ends_before, game_written, marker_differs, marker_refused_second, second_fails, told_by, told_reading}
+use Rattle.pgn_game.proofs.checked.Reading.write_game.Given.{Over}
+use Rattle.pgn_game.proofs.checked.Reading.write_game.Goals.{After-next_marker}
 use Rattle.pgn_game.proofs.checked.Reading.write_game.Goals as goal
+
+-- The second reading, up to a marker. The marker of the first reading is announced to it.
+module _ (g : Over) (c : After-next_marker g) where
+  abbrev old : Reading
+  old = record { converter = c.self.inside.converter; unused = c.self.inside.buffer; has_ended = c.self.inside.has_ended }
+
+  abbrev source : Device
+  source = device g.R.Source.left g.R.Source.failures c.args.source.now c.next_marker.new.source
+
+  abbrev sink : Device
+  sink = sink_of c.self.inside.converter.reading g.W.Sink.taken g.W.Sink.failures c.args.out.now c.next_marker.new.out
+
+  same : c.announce_marker.new.self.reading.writing.is_silent ≡ c.self.inside.converter.reading.writing.is_silent
+  same = ap (λ (s : Converter). s.reading.writing.is_silent) c.announce_marker.ensures
+
+  met : ReadsUpToMarker (record { converter = c.announce_marker.new.self; unused = c.self.inside.buffer; has_ended = c.self.inside.has_ended })
+      c.next_marker.new.self c.next_marker.result source sink
+  met = seen_alike (ReadsUpToMarker _ _ _ _) _ _ _ same c.next_marker.ensures.reads
+
+  silent : KeepsSilence c.self.inside.converter.reading c.next_marker.new.self.converter.reading c.args.out.now c.next_marker.new.out
+  silent = silence_then _ _ _ _ _ _ (record { silent = same; untouched = λ silent. refl }) c.next_marker.ensures.silent
+
+  module _ (q : Profile) (left_old : Option (List ℕ)) (given : List Token) (here : StandsBetween q left_old source.before given old) where
+    reads : AfterMarker q left_old source.after given c.next_marker.new.self c.next_marker.result sink.before sink.after
+    reads = met.reads q left_old given
+        (told_reading q left_old source.before old given c.args.mark.marker c.announce_marker.new.self c.announce_marker.ensures here.has_given)
+
+    by : as_written c.next_marker.new.self.converter.reading ≡ counting q (marker_text c.args.mark.marker)
+    by = met.written
+        ∙ told_by q c.self.inside.converter c.announce_marker.new.self c.args.mark.marker c.announce_marker.ensures here.has_given.takes here.has_given.has_read.profile
 
 pub announce_marker-requires : goal.announce_marker-requires
 announce_marker-requires g c = search reading_fits_converter
@@ -16,142 +46,93 @@ count-requires g c = search reading_fits_converter
 
 pub returns-in-Err : goal.returns-in-Err
 returns-in-Err g c =
-    let same = ap (λ (s : Converter). s.reading.writing.is_silent) c.announce_marker.ensures in
-    let source = device g.R.Source.left g.R.Source.failures c.args.source.now c.next_marker.new.source in
-    let sink = device g.W.Sink.taken g.W.Sink.failures c.args.out.now c.next_marker.new.out in
-    let met = seen_alike (ReadsUpToMarker _ _ _ _) _ _ sink same c.in-Err.ensures.reads in
-    rw (← c.self.view_is)
+    let n = (goal.at.returns-in-Err g c).After-next_marker in
+    rw (← c.self.view_is, c.changed.ensures)
     (record {
       writes = λ q left_old given here.
           let h = here.has_given in
-          let told = told_reading q left_old source.before _ given c.args.mark.marker c.announce_marker.new.self c.announce_marker.ensures h in
-          let by = met.written ∙ told_by q c.self.inside.converter c.announce_marker.new.self c.args.mark.marker c.announce_marker.ensures h.takes h.has_read.profile in
-          rw c.changed.ensures
-          (second_fails q left_old source.after given c.args.mark c.tokens_rise.ensures h.takes h.has_read.passes here.between
-          c.next_marker.new.self c.in-Err.fault _ _ by (met.reads q left_old given told));
+          second_fails q left_old _ given c.args.mark c.tokens_rise.ensures h.takes h.has_read.passes here.between
+          c.next_marker.new.self c.in-Err.fault _ _ (by g n q left_old given here) (rw c.in-Err.is at (reads g n q left_old given here));
       going = tt;
-      counted = rw c.changed.ensures (counts_changed c.in-Err.fault.reason _ _ _ _ met.counted);
-      silent = silence_then _ _ _ _ _ _ (record { silent = same; untouched = λ silent. refl }) c.next_marker.ensures.silent;
+      counted = counts_changed c.in-Err.fault.reason _ _ _ _ (rw c.in-Err.is at (met g n).counted);
+      silent = silent g n;
     })
 
 pub returns-in-Ok-None : goal.returns-in-Ok-None
 returns-in-Ok-None g c =
-    let same = ap (λ (s : Converter). s.reading.writing.is_silent) c.announce_marker.ensures in
-    let source = device g.R.Source.left g.R.Source.failures c.args.source.now c.next_marker.new.source in
-    let sink = device g.W.Sink.taken g.W.Sink.failures c.args.out.now c.next_marker.new.out in
-    let met = seen_alike (ReadsUpToMarker _ _ _ _) _ _ sink same (rw c.in-Ok-None.field-0-is at c.in-Ok-None.ensures.reads) in
-    rw (← c.self.view_is)
+    let n = (goal.at.returns-in-Ok-None g c).After-next_marker in
+    rw (← c.self.view_is, c.differs.ensures)
     (record {
       writes = λ q left_old given here.
           let h = here.has_given in
-          let told = told_reading q left_old source.before _ given c.args.mark.marker c.announce_marker.new.self c.announce_marker.ensures h in
-          let by = met.written ∙ told_by q c.self.inside.converter c.announce_marker.new.self c.args.mark.marker c.announce_marker.ensures h.takes h.has_read.profile in
-          rw (c.differs.ensures, c.count.ensures ∙ ap (λ (r : Reading). r.converter.lexer.count) c.self-2.view_is)
-          (ends_before q left_old source.after given c.args.mark c.tokens_rise.ensures h.takes h.has_read.passes here.between
-          c.next_marker.new.self _ _ by (met.reads q left_old given told));
+          rw (c.count.ensures ∙ ap (λ (r : Reading). r.converter.lexer.count) c.self-2.view_is)
+          (ends_before q left_old _ given c.args.mark c.tokens_rise.ensures h.takes h.has_read.passes here.between
+          c.next_marker.new.self _ _ (by g n q left_old given here) (rw (c.in-Ok-None.is, c.in-Ok-None.field-0-is) at (reads g n q left_old given here)));
       going = tt;
-      counted = rw c.differs.ensures met.counted;
-      silent = silence_then _ _ _ _ _ _ (record { silent = same; untouched = λ silent. refl }) c.next_marker.ensures.silent;
+      counted = rw c.in-Ok-None.is at (met g n).counted;
+      silent = silent g n;
     })
 
 pub returns-then-is_other : goal.returns-then-is_other
 returns-then-is_other g c =
-    let same = ap (λ (s : Converter). s.reading.writing.is_silent) c.announce_marker.ensures in
-    let source = device g.R.Source.left g.R.Source.failures c.args.source.now c.next_marker.new.source in
-    let sink = device g.W.Sink.taken g.W.Sink.failures c.args.out.now c.next_marker.new.out in
-    let met = seen_alike (ReadsUpToMarker _ _ _ _) _ _ sink same (rw c.in-Ok-Some.field-0-is at c.in-Ok-Some.ensures.reads) in
-    rw (← c.self.view_is)
+    let n = (goal.at.returns-then-is_other g c).After-next_marker in
+    rw (← c.self.view_is, c.differs-then-is_other.ensures)
     (record {
       writes = λ q left_old given here.
           let h = here.has_given in
-          let told = told_reading q left_old source.before _ given c.args.mark.marker c.announce_marker.new.self c.announce_marker.ensures h in
-          let by = met.written ∙ told_by q c.self.inside.converter c.announce_marker.new.self c.args.mark.marker c.announce_marker.ensures h.takes h.has_read.profile in
-          rw c.differs-then-is_other.ensures
-          (marker_differs q left_old source.after given c.args.mark c.tokens_rise.ensures h.takes h.has_read.passes here.between
+          marker_differs q left_old _ given c.args.mark c.tokens_rise.ensures h.takes h.has_read.passes here.between
           c.in-Ok-Some.found c.next_marker.new.self c.next_marker.new.self _
-          (sink_of c.self.inside.converter.reading g.W.Sink.taken g.W.Sink.failures c.next_marker.new.out c.next_marker.new.out) by (met.reads q left_old given told)
-          (sym c.is_other.ensures ∙ c.if-is_other.true));
+          (sink_of c.self.inside.converter.reading g.W.Sink.taken g.W.Sink.failures c.next_marker.new.out c.next_marker.new.out) (by g n q left_old given here)
+          (rw (c.in-Ok-Some.is, c.in-Ok-Some.field-0-is) at (reads g n q left_old given here)) (sym c.is_other.ensures ∙ c.if-is_other.true);
       going = tt;
-      counted = rw c.differs-then-is_other.ensures met.counted;
-      silent = silence_then _ _ _ _ _ _ (record { silent = same; untouched = λ silent. refl }) c.next_marker.ensures.silent;
+      counted = rw c.in-Ok-Some.is at (met g n).counted;
+      silent = silent g n;
     })
 
 pub end_game-requires : goal.end_game-requires
 end_game-requires g c =
-    (search reading_fits_converter, subst (λ (r : Reading). IsReady r.converter) (sym c.self-2.view_is) (rw c.in-Ok-Some.field-0-is at c.in-Ok-Some.ensures.reads.ready))
+    (search reading_fits_converter, rw (← c.self-2.view_is) at (rw c.in-Ok-Some.field-0-is at c.in-Ok-Some.ensures.reads.ready))
 
 pub returns-in-Err-end_game : goal.returns-in-Err-end_game
 returns-in-Err-end_game g c =
-    let same = ap (λ (s : Converter). s.reading.writing.is_silent) c.announce_marker.ensures in
-    let quiet = c.next_marker.ensures.silent in
-    let behind = ap (λ (r : Reading). r.converter.reading.writing.is_silent) c.self-2.view_is ∙ quiet.silent ∙ same in
-    let source = device g.R.Source.left g.R.Source.failures c.args.source.now c.next_marker.new.source in
-    let sink = device g.W.Sink.taken g.W.Sink.failures c.args.out.now c.next_marker.new.out in
-    let last = device g.W.Sink.taken g.W.Sink.failures c.next_marker.new.out c.end_game.new.out in
+    let n = (goal.at.returns-in-Err-end_game g c).After-next_marker in
     let s = c.self.inside.converter.reading in
+    let last = device g.W.Sink.taken g.W.Sink.failures c.next_marker.new.out c.end_game.new.out in
+    let behind = ap (λ (r : Reading). r.converter.reading.writing.is_silent) c.self-2.view_is ∙ (silent g n).silent in
     let f = c.in-Err-end_game.fault in
-    let met = seen_alike (ReadsUpToMarker _ _ _ _) _ _ sink same (rw c.in-Ok-Some.field-0-is at c.in-Ok-Some.ensures.reads) in
-    rw (← c.self.view_is)
+    let counted = rw c.in-Ok-Some.is at (met g n).counted in
+    rw (← c.self.view_is, c.changed-in-Err-end_game.ensures)
     (record {
       writes = λ q left_old given here.
           let h = here.has_given in
-          let told = told_reading q left_old source.before _ given c.args.mark.marker c.announce_marker.new.self c.announce_marker.ensures h in
-          let by = ap (λ (r : Reading). as_written r.converter.reading) c.self-2.view_is ∙ met.written
-          ∙ told_by q c.self.inside.converter c.announce_marker.new.self c.args.mark.marker c.announce_marker.ensures h.takes h.has_read.profile in
-          let comes = subst (λ (r : Reading). MarkerComes q left_old source.after given c.in-Ok-Some.found r
-          (bytes_seen s.writing.is_silent sink.before) (bytes_seen s.writing.is_silent sink.after)) (sym c.self-2.view_is) (met.reads q left_old given told) in
-          let new : Reading = record { converter = c.end_game.new.self; unused = []; has_ended = false } in
-          rw c.changed-in-Err-end_game.ensures
-          (marker_refused_second q left_old source.after given c.args.mark c.tokens_rise.ensures h.takes h.has_read.passes here.between
-          c.in-Ok-Some.found _ new _ (sink_of s g.W.Sink.taken g.W.Sink.failures c.next_marker.new.out c.end_game.new.out) by comes
-          (sym c.is_other.ensures ∙ c.if-is_other.false) f
-          (seen_alike (EndsGame _ _ _ _) _ _ last behind c.in-Err-end_game.ensures.ends));
+          marker_refused_second q left_old _ given c.args.mark c.tokens_rise.ensures h.takes h.has_read.passes here.between
+          c.in-Ok-Some.found _ (record { converter = c.end_game.new.self; unused = []; has_ended = false }) _ (seen _ last) (rw (← c.self-2.view_is) at (by g n q left_old given here))
+          (rw (c.in-Ok-Some.is, c.in-Ok-Some.field-0-is, ← c.self-2.view_is) at (reads g n q left_old given here))
+          (sym c.is_other.ensures ∙ c.if-is_other.false) f (seen_alike (EndsGame _ _ _ _) _ _ _ behind c.in-Err-end_game.ensures.ends);
       going = tt;
-      counted = rw c.changed-in-Err-end_game.ensures (counts_changed f.reason _ _ _ _
-          (counts_then {A = Unit} (Err f) source
-          (sink_of s g.W.Sink.taken g.W.Sink.failures c.args.out.now c.next_marker.new.out)
-          (sink_of s g.W.Sink.taken g.W.Sink.failures c.next_marker.new.out c.end_game.new.out)
-          (sink_of s g.W.Sink.taken g.W.Sink.failures c.args.out.now c.end_game.new.out)
-          met.counted.0 met.counted.1 refl refl refl
-          (seen_alike (CountsFault {A = Unit} (Err f)) _ _ last behind c.in-Err-end_game.ensures.counts.counted)));
-      silent = silence_then _ _ _ _ _ _
-          (silence_then _ _ _ _ _ _ (record { silent = same; untouched = λ silent. refl }) quiet)
-          (subst (λ (r : Reading). KeepsSilence r.converter.reading c.end_game.new.self.reading c.next_marker.new.out c.end_game.new.out)
-          c.self-2.view_is c.end_game.ensures.silent);
+      counted = counts_changed f.reason _ _ _ _ (counts_then {A = Unit} (Err f) (source g n) (sink g n) (seen _ last)
+          (sink_of s g.W.Sink.taken g.W.Sink.failures c.args.out.now c.end_game.new.out) counted.0 counted.1 refl refl refl
+          (seen_alike (CountsFault {A = Unit} (Err f)) _ _ last behind c.in-Err-end_game.ensures.counts.counted));
+      silent = silence_then _ _ _ _ _ _ (silent g n) (rw (ap (λ (r : Reading). r.converter) c.self-2.view_is) at c.end_game.ensures.silent);
     })
 
 pub returns-in_default : goal.returns-in_default
 returns-in_default g c =
-    let same = ap (λ (s : Converter). s.reading.writing.is_silent) c.announce_marker.ensures in
-    let quiet = c.next_marker.ensures.silent in
-    let behind = ap (λ (r : Reading). r.converter.reading.writing.is_silent) c.self-2.view_is ∙ quiet.silent ∙ same in
-    let source = device g.R.Source.left g.R.Source.failures c.args.source.now c.next_marker.new.source in
-    let sink = device g.W.Sink.taken g.W.Sink.failures c.args.out.now c.next_marker.new.out in
+    let n = (goal.at.returns-in_default g c).After-next_marker in
     let last = device g.W.Sink.taken g.W.Sink.failures c.next_marker.new.out c.end_game.new.out in
-    let s = c.self.inside.converter.reading in
+    let behind = ap (λ (r : Reading). r.converter.reading.writing.is_silent) c.self-2.view_is ∙ (silent g n).silent in
     let ended = c.in_default.ensures in
-    let met = seen_alike (ReadsUpToMarker _ _ _ _) _ _ sink same (rw c.in-Ok-Some.field-0-is at c.in-Ok-Some.ensures.reads) in
+    let counted = rw c.in-Ok-Some.is at (met g n).counted in
     rw (← c.self.view_is)
     (record {
       writes = λ q left_old given here.
           let h = here.has_given in
-          let told = told_reading q left_old source.before _ given c.args.mark.marker c.announce_marker.new.self c.announce_marker.ensures h in
-          let by = ap (λ (r : Reading). as_written r.converter.reading) c.self-2.view_is ∙ met.written
-          ∙ told_by q c.self.inside.converter c.announce_marker.new.self c.args.mark.marker c.announce_marker.ensures h.takes h.has_read.profile in
-          let comes = subst (λ (r : Reading). MarkerComes q left_old source.after given c.in-Ok-Some.found r
-          (bytes_seen s.writing.is_silent sink.before) (bytes_seen s.writing.is_silent sink.after)) (sym c.self-2.view_is) (met.reads q left_old given told) in
-          game_written q left_old source.after given c.args.mark c.tokens_rise.ensures h.takes h.has_read.passes here.between
-          c.in-Ok-Some.found _ _ _ (sink_of s g.W.Sink.taken g.W.Sink.failures c.next_marker.new.out c.end_game.new.out) by comes
-          (sym c.is_other.ensures ∙ c.if-is_other.false)
-          (seen_alike (EndsGame _ _ _ _) _ _ last behind ended.ends)
+          game_written q left_old _ given c.args.mark c.tokens_rise.ensures h.takes h.has_read.passes here.between
+          c.in-Ok-Some.found _ _ _ (seen _ last) (rw (← c.self-2.view_is) at (by g n q left_old given here))
+          (rw (c.in-Ok-Some.is, c.in-Ok-Some.field-0-is, ← c.self-2.view_is) at (reads g n q left_old given here))
+          (sym c.is_other.ensures ∙ c.if-is_other.false) (seen_alike (EndsGame _ _ _ _) _ _ _ behind ended.ends)
           ended.counts.lexer refl refl ended.counts.games ended.counts.just_finished ended.counts.fault;
       going = record { not_finished = ended.counts.not_finished; no_fault = ended.counts.fault };
-      counted = (
-        met.counted.0,
-        seen_alike IsStill _ _ last behind ended.counts.counted ∙ met.counted.1,
-      );
-      silent = silence_then _ _ _ _ _ _
-          (silence_then _ _ _ _ _ _ (record { silent = same; untouched = λ silent. refl }) quiet)
-          (subst (λ (r : Reading). KeepsSilence r.converter.reading c.end_game.new.self.reading c.next_marker.new.out c.end_game.new.out)
-          c.self-2.view_is ended.silent);
+      counted = (counted.0, seen_alike IsStill _ _ last behind ended.counts.counted ∙ counted.1);
+      silent = silence_then _ _ _ _ _ _ (silent g n) (rw (ap (λ (r : Reading). r.converter) c.self-2.view_is) at ended.silent);
     })

@@ -1,5 +1,4 @@
-use Rattle.pgn_game.proofs.Words.{Converter, Reading, ap, subst, sym, ◌∙◌, []}
-use Rattle.pgn_game.specs.state.Readings.{HasGiven}
+use Rattle.pgn_game.proofs.Words.{Converter, Reading, ap, subst, sym, ◌∙◌, [], HasGiven}
 use Rattle.pgn_game.proofs.ReaderFitsInMemory.{reading_fits_converter}
 use Rattle.pgn_game.proofs.twice.GamesOfReadings.{silent_reading}
 use Rattle.pgn_game.proofs.checked.Reading.write_nothing.Goals as goal

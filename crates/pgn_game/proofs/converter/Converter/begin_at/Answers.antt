@@ -1,6 +1,5 @@
-use Rattle.pgn_game.proofs.Words.{◌-◌, [], arith, refl, sym, ap, subst, no_progress, no_part, ReaderState, Agrees, whole_plies}
+use Rattle.pgn_game.proofs.Words.{◌-◌, [], arith, refl, sym, ap, subst, no_progress, no_part, ReaderState, Agrees, whole_plies, MostTried, none}
 use Rattle.pgn_game.proofs.Words.{profile_of, false≢true}
-use Rattle.pgn_game.specs.calls.MostTried.{MostTried, none}
 use Rattle.pgn_game.proofs.ReaderFitsInMemory.{fits_reader}
 use Rattle.pgn_game.proofs.tokens.SoundAtStart.{sound_at_start}
 use Rattle.pgn_game.proofs.converter.Converter.begin_at.Goals as goal

@@ -1,5 +1,4 @@
-use Rattle.std.proofs.Common.{Option, sym, ap, subst, ◌∙◌}
-use Rattle.pgn_game.specs.calls.ConverterCalls.{CountsMissingAs, FinishedGame, counting_missing_as}
+use Rattle.pgn_game.proofs.Words.{Option, sym, ap, subst, ◌∙◌, CountsMissingAs, FinishedGame, counting_missing_as}
 use Rattle.pgn_game.proofs.ReaderFitsInMemory.{fits_reader}
 use Rattle.pgn_game.proofs.tokens.MissingCountsAs.{finished_alike, reader_counting, sound_counting, stands_counting}
 use Rattle.pgn_game.proofs.converter.Converter.count_missing_result_as.Goals as goal

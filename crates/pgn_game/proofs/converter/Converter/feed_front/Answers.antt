@@ -1,6 +1,5 @@
 use Rattle.pgn_game.specs.declared.converter.StepEnd.TheVariants.{Token as Other, Marker as AtMarker}
-use Rattle.pgn_game.specs.state.ConverterSteps.{Steps}
-use Rattle.pgn_game.proofs.Words.{◌≡◌, Ok, None, Some, arith, refl, sym, ap, subst, ◌∙◌, le_refl, length, length-drop, take_rest, waiting, Converter, Reaches}
+use Rattle.pgn_game.proofs.Words.{◌≡◌, Ok, None, Some, arith, refl, ap, ◌∙◌, le_refl, length, length-drop, take_rest, Steps}
 use Rattle.pgn_game.proofs.ReaderFitsInMemory.{fits_alike}
 use Rattle.pgn_game.proofs.putting.SilentReader.{seen_alike, silence_kept, silence_then}
 use Rattle.pgn_game.proofs.tokens.GoesToMarker.{goes_all, goes_fault, goes_marker, keeps_at_start}
@@ -11,20 +10,18 @@ use Rattle.pgn_game.proofs.converter.Converter.feed_front.Goals as goal
 
 pub loop-at-init : goal.loop-at-init
 loop-at-init g c =
-    record {
+    rw (← c.self.view_is) (record {
       goes = record {
         within = omega arith;
-        count = omega (arith, ap (λ (s : Converter). s.lexer.count) c.self.view_is);
+        count = omega arith;
         ready = tt;
-        keeps = keeps_at_start c.self.view_is c.requires.going;
+        keeps = keeps_at_start refl (rw (← c.self.view_is) at c.requires.going);
         counted = refl;
       };
-      sooner = omega (arith, ap (λ (s : Converter). waiting s.lexer) c.self.view_is);
-      silent = silence_kept _ _ _ (ap (λ (s : Converter). s.reading.writing) c.self.view_is);
-      feeds = λ p u b given reaches follows.
-          so_far_none p _ u b given c.args.piece.now _
-          (lets_go p _ u b given (subst (λ (s : Converter). Reaches p s u b given) (sym c.self.view_is) reaches)) follows;
-    }
+      sooner = omega arith;
+      silent = silence_kept _ _ _ refl;
+      feeds = λ p u b given reaches follows. so_far_none p _ u b given c.args.piece.now _ (lets_go p _ u b given reaches) follows;
+    })
 
 pub step-step-requires : goal.step-step-requires
 step-step-requires g c =

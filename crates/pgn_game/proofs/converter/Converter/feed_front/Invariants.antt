@@ -1,6 +1,5 @@
 use Rattle.pgn_game.specs.declared.converter.StepEnd.TheVariants.{Token as Other}
-use Rattle.pgn_game.specs.state.ConverterSteps.{StepGoes}
-use Rattle.pgn_game.proofs.Words.{◌≤◌, ◌+◌, ◌-◌, ◌*◌, Ok, Some, length, waiting, sink_of, KeepsSilence, FeedsSoFar}
+use Rattle.pgn_game.proofs.Words.{◌≤◌, ◌+◌, ◌-◌, ◌*◌, Ok, Some, length, waiting, sink_of, KeepsSilence, FeedsSoFar, StepGoes}
 use Rattle.pgn_game.proofs.converter.Converter.feed_front.Given as goal
 
 abbrev pub invariant-loop-at : goal.invariant-loop-at

@@ -1,7 +1,5 @@
 use Rattle.pgn_game.proofs.putting.SilentReader.{none_fails, seen_alike, silence_kept, silence_then}
-use Rattle.pgn_game.specs.state.ConverterSteps.{CountsGame, EndsGame, EndsToMarker}
-use Rattle.pgn_game.proofs.Words.{IsTrue, bytes_seen, sink_of, arith, ap, le_refl, le_trans, none-some, refl, same_Some, sym, subst, ◌∙◌, device, Converter, Err, Standing, StaysBetween, err_from_is_err_and, false≢true}
-use Rattle.pgn_game.specs.state.ConverterSteps.{ReadsToEnd}
+use Rattle.pgn_game.proofs.Words.{IsTrue, bytes_seen, sink_of, arith, ap, le_refl, le_trans, none-some, refl, same_Some, sym, subst, ◌∙◌, device, Converter, Err, Standing, StaysBetween, err_from_is_err_and, false≢true, CountsGame, EndsGame, EndsToMarker, ReadsToEnd}
 use Rattle.pgn_game.proofs.ReaderFitsInMemory.{fits_alike, fits_reader}
 use Rattle.pgn_game.proofs.tokens.GoesToMarker.{not_again}
 use Rattle.pgn_game.proofs.tokens.StepsAtEnd.{left_of, none_by_fault}
@@ -12,25 +10,23 @@ use Rattle.pgn_game.proofs.converter.Converter.finish.Goals.{then-finished_game,
 
 pub returns-in-Some : goal.returns-in-Some
 returns-in-Some g c =
-    let kept = ap (λ (s : Converter). s.fault) (sym c.self.view_is) ∙ c.in-Some.is in
-    record {
-      ends = λ p u b given stands. absurd (none-some _ (sym stands.has_read.no_fault ∙ kept));
-      finished = c.requires.not_finished;
+    rw (← c.self.view_is) (record {
+      ends = λ p u b given stands. absurd (none-some _ (sym stands.has_read.no_fault ∙ c.in-Some.is));
+      finished = rw (← c.self.view_is) at c.requires.not_finished;
       count = refl;
       probes = le_refl _;
-      fault = kept;
-      none_just_finished = ap (λ (s : Converter). s.just_finished) (sym c.self.view_is)
-          ∙ none_by_fault c.self.inside.has_finished_game c.self.inside.reader c.self.invariant.no_fault c.in-Some.is;
-      again = λ f is. (ap Err (same_Some _ _ (sym kept ∙ is)), refl, refl);
-      counted = λ none. absurd (none-some _ (sym none ∙ kept));
+      fault = c.in-Some.is;
+      none_just_finished = none_by_fault c.self.inside.has_finished_game c.self.inside.reader c.self.invariant.no_fault c.in-Some.is;
+      again = λ f is. (ap Err (same_Some _ _ (sym c.in-Some.is ∙ is)), refl, refl);
+      counted = λ none. absurd (none-some _ (sym none ∙ c.in-Some.is));
       silent = silence_kept _ _ _ refl;
-      no_write_fails = λ silent none. absurd (none-some _ (sym none ∙ kept));
-    }
+      no_write_fails = λ silent none. absurd (none-some _ (sym none ∙ c.in-Some.is));
+    })
 
 pub loop-mark-init : goal.loop-mark-init
 loop-mark-init g c =
     record {
-      going = record { no_fault = ap (λ (s : Converter). s.fault) (sym c.self.view_is) ∙ c.in_default.is; not_finished = c.requires.not_finished };
+      going = record { no_fault = rw (← c.self.view_is) c.in_default.is; not_finished = c.requires.not_finished };
       count = refl;
       probes = le_refl _;
       counted = refl;
@@ -68,7 +64,7 @@ returns-in_err-mark g c =
       probes = le_trans old.probes met.keeps.probes;
       fault = met.keeps.fault;
       none_just_finished = met.keeps.none_just_finished;
-      again = not_again (ap (λ (s : Converter). s.fault) (sym c.self.view_is) ∙ c.in_default.is);
+      again = not_again (rw (← c.self.view_is) c.in_default.is);
       counted = λ free. rw (← old.counted) met.counted;
       silent = silence_then _ _ _ _ _ _ old.silent c.finish_to_marker.ensures.silent;
       no_write_fails = λ silent free. none_failed silent;
@@ -96,7 +92,7 @@ returns-in_err-end_game-in-Some-2 g c =
       probes = le_trans old.probes (le_trans met.keeps.probes counts.probes);
       fault = counts.fault;
       none_just_finished = counts.just_finished;
-      again = not_again (ap (λ (s : Converter). s.fault) (sym c.self.view_is) ∙ c.in_default.is);
+      again = not_again (rw (← c.self.view_is) c.in_default.is);
       counted = λ free. rw (← old.counted, ← met.counted) counts.counted;
       silent = silence_then _ _ _ _ _ _ quiet c.end_game.ensures.silent;
       no_write_fails = λ silent free. none_failed silent;
@@ -149,7 +145,7 @@ returns-in-None g c =
       probes = omega (arith, ap (λ (s : Converter). s.reading.most_probes) self.view_is, met.keeps.probes, old.probes);
       fault = ap (λ (s : Converter). s.fault) self.view_is ∙ met.keeps.fault;
       none_just_finished = tt;
-      again = not_again (ap (λ (s : Converter). s.fault) (sym c.self.view_is) ∙ c.in_default.is);
+      again = not_again (rw (← c.self.view_is) c.in_default.is);
       counted = λ free. met.counted ∙ old.counted;
       silent = record {
         silent = ap (λ (s : Converter). s.reading.writing.is_silent) self.view_is ∙ quiet.silent;

@@ -1,5 +1,4 @@
-use Rattle.pgn_game.specs.state.ConverterSteps.{StepsAtEnd}
-use Rattle.pgn_game.proofs.Words.{Some, arith, refl, ap, ◌∙◌, err_from_is_err_and, waiting, Converter}
+use Rattle.pgn_game.proofs.Words.{Some, arith, refl, ap, ◌∙◌, err_from_is_err_and, le_refl, StepsAtEnd}
 use Rattle.pgn_game.proofs.ReaderFitsInMemory.{fits_alike}
 use Rattle.pgn_game.proofs.putting.SilentReader.{seen_alike, silence_kept, silence_then}
 use Rattle.pgn_game.proofs.tokens.GoesToMarker.{keeps_as, keeps_at_start}
@@ -10,14 +9,14 @@ use Rattle.pgn_game.proofs.converter.Converter.finish_to_marker.Goals as goal
 
 pub loop-mark-init : goal.loop-mark-init
 loop-mark-init g c =
-    record {
-      keeps = keeps_at_start c.self.view_is c.requires;
-      count = ap (λ (s : Converter). s.lexer.count) c.self.view_is;
-      nearer = omega (arith, ap (λ (s : Converter). waiting s.lexer) c.self.view_is);
+    rw (← c.self.view_is) (record {
+      keeps = keeps_at_start refl (rw (← c.self.view_is) at c.requires);
+      count = refl;
+      nearer = le_refl _;
       counted = refl;
-      silent = silence_kept _ _ _ (ap (λ (s : Converter). s.reading.writing) c.self.view_is);
-      ends = λ p u given left has_read. left_none p u given _ _ _ c.self.view_is left has_read;
-    }
+      silent = silence_kept _ _ _ refl;
+      ends = λ p u given left has_read. left_none p u given _ _ _ refl left has_read;
+    })
 
 pub returns-in_err-step_at_end : goal.returns-in_err-step_at_end
 returns-in_err-step_at_end g c =

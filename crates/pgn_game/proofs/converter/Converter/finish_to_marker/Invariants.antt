@@ -1,6 +1,5 @@
-use Rattle.pgn_game.proofs.Words.{◌≡◌, ◌≤◌, Option, Ok, None, false, waiting, IsStill, sink_of, KeepsSilence}
+use Rattle.pgn_game.proofs.Words.{◌≡◌, ◌≤◌, Option, Ok, None, false, waiting, IsStill, sink_of, KeepsSilence, EndsSoFar, KeepsRest}
 use Rattle.pgn_game.specs.declared.marker.Mark.{Mark}
-use Rattle.pgn_game.specs.state.ConverterSteps.{EndsSoFar, KeepsRest}
 use Rattle.pgn_game.proofs.converter.Converter.finish_to_marker.Given as goal
 
 abbrev pub invariant-loop-mark : goal.invariant-loop-mark

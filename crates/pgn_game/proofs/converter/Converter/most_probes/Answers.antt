@@ -1,5 +1,4 @@
-use Rattle.std.proofs.Common.{ap, ◌∙◌}
-use Rattle.pgn_game.specs.calls.ConverterCalls.{Converter}
+use Rattle.pgn_game.proofs.Words.{ap, ◌∙◌, Converter}
 use Rattle.pgn_game.proofs.ReaderFitsInMemory.{fits_reader}
 use Rattle.pgn_game.proofs.converter.Converter.most_probes.Goals as goal
 

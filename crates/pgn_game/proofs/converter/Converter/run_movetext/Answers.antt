@@ -1,7 +1,5 @@
 use Rattle.pgn_game.specs.declared.converter.StepEnd.TheVariants.{Token as Other}
-use Rattle.pgn_game.specs.state.ConverterSteps.{Steps, outcome_at}
-use Rattle.pgn_game.specs.state.PutResult.{MeetsEntry}
-use Rattle.pgn_game.proofs.Words.{sink_of, kind_of, ◌≡◌, ◌∙◌, arith, ap, sym, subst, None, Ok, Some, take_rest, device, Converter, drop, may_have_movetext, refl}
+use Rattle.pgn_game.proofs.Words.{sink_of, kind_of, ◌≡◌, ◌∙◌, arith, ap, sym, subst, None, Ok, Some, take_rest, device, Converter, drop, may_have_movetext, refl, Steps, outcome_at, MeetsEntry}
 use Rattle.pgn_game.proofs.ReaderFitsInMemory.{fits_alike, fits_reader}
 use Rattle.pgn_game.proofs.putting.SilentReader.{seen_alike, silence_kept, silence_then}
 use Rattle.pgn_game.proofs.tokens.PastNumbers.{meets_in_movetext}

@@ -1,5 +1,4 @@
-use Rattle.std.proofs.Common.{sym, ap, subst, ◌∙◌}
-use Rattle.pgn_game.specs.calls.ConverterCalls.{ReadsByMarker, writing_nothing}
+use Rattle.pgn_game.proofs.Words.{sym, ap, subst, ◌∙◌, ReadsByMarker, writing_nothing}
 use Rattle.pgn_game.proofs.tokens.MissingCountsAs.{stands_by_marker}
 use Rattle.pgn_game.proofs.converter.Converter.take_marker_for_missing_result.Goals as goal
 

@@ -1,6 +1,4 @@
-use Rattle.std.proofs.Common.{Option, sym, ap, subst, ◌∙◌}
-use Rattle.pgn_game.specs.calls.ConverterCalls.{FinishedGame, StillStands, writing_nothing}
-use Rattle.pgn_game.specs.state.ReaderState.{silenced}
+use Rattle.pgn_game.proofs.Words.{Option, sym, ap, subst, ◌∙◌, FinishedGame, StillStands, writing_nothing, silenced}
 use Rattle.pgn_game.proofs.ReaderFitsInMemory.{fits_reader}
 use Rattle.pgn_game.proofs.tokens.MissingCountsAs.{finished_silently, sound_silently, stands_silently}
 use Rattle.pgn_game.proofs.converter.Converter.write_nothing.Goals as goal

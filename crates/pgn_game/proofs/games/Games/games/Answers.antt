@@ -1,6 +1,5 @@
+use Rattle.pgn_game.proofs.Words.{ap, ◌∙◌, Games}
 use Rattle.pgn_game.proofs.ReaderFitsInMemory.{games_fit_converter}
-use Rattle.std.proofs.Common.{ap, ◌∙◌}
-use Rattle.pgn_game.specs.calls.GamesCalls.{Games}
 use Rattle.pgn_game.proofs.games.Games.games.Goals as goal
 
 pub games-requires : goal.games-requires

@@ -1,6 +1,5 @@
+use Rattle.pgn_game.proofs.Words.{ap, ◌∙◌, Games}
 use Rattle.pgn_game.proofs.ReaderFitsInMemory.{games_fit_converter}
-use Rattle.std.proofs.Common.{ap, ◌∙◌}
-use Rattle.pgn_game.specs.calls.GamesCalls.{Games}
 use Rattle.pgn_game.proofs.games.Games.most_probes.Goals as goal
 
 pub most_probes-requires : goal.most_probes-requires

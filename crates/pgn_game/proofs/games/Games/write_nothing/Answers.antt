@@ -1,6 +1,4 @@
-use Rattle.pgn_game.proofs.Words.{Converter, Games, ap, games_of, subst, sym, ◌∙◌}
-use Rattle.pgn_game.specs.calls.ConverterCalls.{writing_nothing}
-use Rattle.pgn_game.specs.calls.GamesCalls.{StillReadNone}
+use Rattle.pgn_game.proofs.Words.{Converter, Games, ap, games_of, subst, sym, ◌∙◌, writing_nothing, StillReadNone}
 use Rattle.pgn_game.proofs.ReaderFitsInMemory.{games_fit_converter}
 use Rattle.pgn_game.proofs.tokens.WholeInput.{read_none_silently}
 use Rattle.pgn_game.proofs.games.Games.write_nothing.Goals as goal

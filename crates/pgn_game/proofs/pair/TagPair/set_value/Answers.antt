@@ -1,7 +1,7 @@
-use Rattle.pgn_game.proofs.Words.{◌≡◌, ℕ, ◌+◌, ◌≤◌, List, ◌++◌, take, drop, length, refl, arith, ap, ◌∙◌, Result, Ok, Err}
+use Rattle.pgn_game.proofs.Words.{◌≡◌, ℕ, ◌+◌, ◌≤◌, List, ◌++◌, take, drop, length, refl, arith, ap, ◌∙◌, Result, Ok, Err, IsOk}
 use Rattle.pgn_game.proofs.Words.{length-take-le, Pair, take_at, drop_at}
 use Rattle.pgn_game.proofs.pairs.EscapedLength.{length-le-escaped}
-use Rattle.std.specs.Result.{IsOk, OnOk}
+use Rattle.std.specs.Result.{OnOk}
 use Rattle.pgn_game.proofs.pair.TagPair.set_value.Goals as goal
 
 -- a call that has the room it needs

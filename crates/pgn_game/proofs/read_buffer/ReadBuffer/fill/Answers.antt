@@ -1,5 +1,4 @@
-use Rattle.pgn_game.proofs.Words.{◌≡◌, ℕ, ◌-◌, ◌<◌, ◌≤◌, List, length, take, drop, Option, Consumes, arith, length-take-le}
-use Rattle.std.proofs.lemmas.Grind.{common_steps}
+use Rattle.pgn_game.proofs.Words.{◌≡◌, ℕ, ◌-◌, ◌<◌, ◌≤◌, List, length, take, drop, Option, Consumes, arith, length-take-le, common_steps}
 use Rattle.pgn_game.proofs.read_buffer.ReadBuffer.fill.Goals as goal
 
 -- the bytes that a read gave are those of the buffer

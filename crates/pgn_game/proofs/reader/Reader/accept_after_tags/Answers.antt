@@ -1,10 +1,18 @@
-use Rattle.pgn_game.proofs.Words.{mode_written, AreSound, Stage, ◌≡◌, ◌≤◌, length, true, false, refl, sym, ap, subst, ◌∙◌, arith, le-leb, lt-leb, false≢true, kind_of, TokenKind, SetUpWithoutFen, TooManyTags, UnexpectedEnd, AfterLeftBracket, AfterTags, Part, TagPairs, refusal, at_stage, next, ReaderState, Agrees, may_have_movetext, CostsToFind}
+use Rattle.pgn_game.proofs.Words.{nat_le, or_else, None, ◌≡◌, length, true, false, refl, sym, ap, ◌∙◌, arith, le-leb, lt-leb, false≢true, kind_of, TokenKind, SetUpWithoutFen, TooManyTags, UnexpectedEnd, AfterLeftBracket, AfterTags, Part, TagPairs, refusal, next, ReaderState, Agrees, may_have_movetext}
 use Rattle.pgn_game.proofs.ReaderLemmas.{tags_fit, hit, pass, textual, end_after_tags, open_refusal, open_next, refuses_set_up, entry_after_tags, lacks_of, part_stage, held_at, puts_left_bracket, to_stage, adds_same, counting_none, enters, refused_after, takes_step}
+use Rattle.pgn_game.proofs.reader.Reader.accept_after_tags.Given.{Over}
+use Rattle.pgn_game.proofs.reader.Reader.accept_after_tags.Goals.{In-LeftBracket}
 use Rattle.pgn_game.proofs.reader.Reader.accept_after_tags.Goals as goal
 
--- how many pairs the part has
-held_of : (old : ReaderState) (part : Part) → Agrees old part → old.stage ≡ AfterTags → length old.tags.held ≡ length part.pairs
-held_of old part agrees at = ap (λ (t : TagPairs). length t.held) (held_at old part AfterTags agrees at)
+-- what a `[` is rejected for, by the pairs that the reader holds
+opens : (g : Over) (c : In-LeftBracket g) (held : ReaderState) → held ≡ c.args.self.now → (part : Part) → Agrees c.args.self.now part
+    → refusal c.args.self.now.profile part (kind_of c.args.kind) ≡ or_else (nat_le held.profile.tags (length held.tags.held)) TooManyTags None
+opens g c held same part agrees =
+    let old = c.args.self.now in
+    ap (λ (k : TokenKind). refusal old.profile part (kind_of k)) c.in-LeftBracket.is
+    ∙ open_refusal old.profile part (part_stage old part AfterTags agrees c.requires)
+    ∙ ap (λ (t : TagPairs). or_else (nat_le old.profile.tags (length t.held)) TooManyTags None) (sym (held_at old part AfterTags agrees c.requires))
+    ∙ ap (λ (r : ReaderState). or_else (nat_le r.profile.tags (length r.tags.held)) TooManyTags None) (sym same)
 
 pub returns-in-End : goal.returns-in-End
 returns-in-End g c =
@@ -12,41 +20,29 @@ returns-in-End g c =
     λ o m. refused_after old old (Agrees old) (kind_of c.args.kind) UnexpectedEnd 0 o m (counting_none old) refl (λ part agrees.
     ap (λ (k : TokenKind). refusal old.profile part (kind_of k)) c.in-End.is
     ∙ end_after_tags old.profile part (part_stage old part AfterTags agrees c.requires))
-    (λ part agrees. subst (λ (k : TokenKind). CostsToFind part (kind_of k) 0) (sym c.in-End.is) refl)
-    (λ part agrees. refl)
+    (λ part agrees. rw c.in-End.is refl) (λ part agrees. refl)
 
 pub returns-then-is_full : goal.returns-then-is_full
 returns-then-is_full g c =
     let old = c.args.self.now in
-    let v = c.self.view_is in
-    let most : g.row.T ≡ old.profile.tags = ap (λ (r : ReaderState). r.profile.tags) v in
-    let full : length c.self.inside.tags.held ≡ g.row.T = c.if-is_full.ensures.full.0 refl in
-    let held : length c.self.inside.tags.held ≡ length old.tags.held = ap (λ (r : ReaderState). length r.tags.held) v in
-    λ o m. refused_after old old (Agrees old) (kind_of c.args.kind) TooManyTags 0 o m (counting_none old) refl (λ part agrees.
-    ap (λ (k : TokenKind). refusal old.profile part (kind_of k)) c.in-LeftBracket.is
-    ∙ open_refusal old.profile part (part_stage old part AfterTags agrees c.requires)
-    ∙ hit _ _ _ (le-leb old.profile.tags (length part.pairs) (omega (arith, most, full, held, held_of old part agrees c.requires))))
-    (λ part agrees. subst (λ (k : TokenKind). CostsToFind part (kind_of k) 0) (sym c.in-LeftBracket.is) refl)
-    (λ part agrees. refl)
+    let full = le-leb g.row.T (length c.self.inside.tags.held) (omega (arith, c.if-is_full.ensures.full.0 refl)) in
+    λ o m. refused_after old old (Agrees old) (kind_of c.args.kind) TooManyTags 0 o m (counting_none old) refl
+    (λ part agrees. opens g (goal.at.returns-then-is_full g c).In-LeftBracket _ c.self.view_is part agrees ∙ hit _ _ _ full)
+    (λ part agrees. rw c.in-LeftBracket.is refl) (λ part agrees. refl)
 
 pub returns-else-is_full : goal.returns-else-is_full
 returns-else-is_full g c =
     let old = c.args.self.now in
     let v = c.self.view_is in
-    let most : g.row.T ≡ old.profile.tags = ap (λ (r : ReaderState). r.profile.tags) v in
-    let full : length c.self.inside.tags.held ≡ g.row.T → ⊥ = λ e. false≢true (c.if-is_full.ensures.full.1 e) in
-    let room : length c.self.inside.tags.held ≤ g.row.T = c.if-is_full.ensures.room in
-    let held : length c.self.inside.tags.held ≡ length old.tags.held = ap (λ (r : ReaderState). length r.tags.held) v in
+    let differ : length c.self.inside.tags.held ≡ g.row.T → ⊥ = λ e. false≢true (c.if-is_full.ensures.full.1 e) in
+    let room = lt-leb g.row.T (length c.self.inside.tags.held) (omega (arith, differ, c.if-is_full.ensures.room)) in
     λ o m. takes_step old _ (kind_of c.args.kind) (to_stage AfterLeftBracket) o m
     (puts_left_bracket old _ o m c.requires (ap (λ (r : ReaderState). record r { stage = AfterLeftBracket }) v))
-    (ap (λ (r : ReaderState). r.most_probes) v) (λ part agrees.
-    let at = part_stage old part AfterTags agrees c.requires in (
-      ap (λ (k : TokenKind). refusal old.profile part (kind_of k)) c.in-LeftBracket.is ∙ open_refusal old.profile part at
-          ∙ pass _ _ _ (lt-leb old.profile.tags (length part.pairs) (omega (arith, most, full, room, held, held_of old part agrees c.requires))),
-      ap (λ (k : TokenKind). next part (kind_of k)) c.in-LeftBracket.is ∙ open_next part at,
+    (ap (λ (r : ReaderState). r.most_probes) v) (λ part agrees. (
+      opens g (goal.at.returns-else-is_full g c).In-LeftBracket _ v part agrees ∙ pass _ _ _ room,
+      ap (λ (k : TokenKind). next part (kind_of k)) c.in-LeftBracket.is ∙ open_next part (part_stage old part AfterTags agrees c.requires),
     ))
-    (λ part agrees. subst (λ (k : TokenKind). CostsToFind part (kind_of k) 0) (sym c.in-LeftBracket.is) refl)
-    (λ part. adds_same (mode_written old) part (at_stage AfterLeftBracket part) refl)
+    (λ part agrees. rw c.in-LeftBracket.is refl) (λ part. search adds_same)
 
 pub returns-then-lacks_fen : goal.returns-then-lacks_fen
 returns-then-lacks_fen g c =
@@ -68,6 +64,4 @@ returns-else-lacks_fen g c =
     (lacks_of old part false agrees c.requires (sym c.lacks_fen.ensures ∙ c.if-lacks_fen.false)) agrees)
 
 pub is_full-requires : goal.is_full-requires
-is_full-requires g c =
-    let at = ap (λ (r : ReaderState). r.stage) c.self.view_is ∙ c.requires in
-    (search tags_fit, subst (λ (stage : Stage). AreSound g.row.T stage c.self.inside.tags) at c.self.invariant.0)
+is_full-requires g c = (search tags_fit, rw (ap (λ (r : ReaderState). r.stage) c.self.view_is ∙ c.requires) at c.self.invariant.0)

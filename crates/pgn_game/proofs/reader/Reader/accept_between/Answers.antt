@@ -1,7 +1,5 @@
-use Rattle.pgn_game.proofs.Words.{◌≡◌, ◌||◌, Bool, true, refl, sym, ap, subst, ◌∙◌, or_right, kind_of, is_comment, is_end}
+use Rattle.pgn_game.proofs.Words.{◌≡◌, ◌||◌, Bool, true, refl, sym, ap, subst, ◌∙◌, or_right, kind_of, is_comment, is_end, option_map, continued}
 use Rattle.pgn_game.proofs.Words.{ReaderState, TakesOutside}
-use Rattle.std.specs.Prelude.{option_map}
-use Rattle.pgn_game.specs.state.PutResult.{continued}
 use Rattle.pgn_game.proofs.ReaderLemmas.{passes_first, takes_outside_first}
 use Rattle.pgn_game.proofs.reader.Reader.accept_between.Goals as goal
 use Rattle.pgn_game.proofs.reader.Reader.accept_between.Goals.{then-is_comment-via-then-is_comment, then-is_comment-via-else-is_comment+then-is_end}

@@ -1,22 +1,27 @@
-use Rattle.pgn_game.proofs.Words.{mode_written, AreSound, ◌≡◌, ℕ, List, Bor, has_pair, Part, Agrees, ◌&&◌, not, bytes_eq, codes, length, is_some, Some, refl, sym, ap, subst, ◌∙◌, kind_of, TokenKind, Mode, ExpectedName, BadTagName, DuplicateTag, TagLineTooLong, ReducedFen, Stage, AfterLeftBracket, AfterName, TagPairs, next, refusal, is_reduced, ReaderState, AreSound}
+use Rattle.pgn_game.proofs.Words.{IsFalse, Reason, Err, is_outside_the_table, ◌≡◌, has_pair, Part, Agrees, not, length, is_some, Some, refl, sym, ap, ◌∙◌, kind_of, TokenKind, ExpectedName, BadTagName, DuplicateTag, TagLineTooLong, ReducedFen, AfterLeftBracket, AfterName, TagPairs, next, refusal, ReaderState, TakesUnwritten}
 use Rattle.std.proofs.lemmas.Bool.{lt-ltb, le-ltb}
-use Rattle.pgn_lexer.specs.declared.token.TokenKind.TheVariants.{Symbol}
 use Rattle.pgn_game.proofs.ReaderLemmas.{name_rows, hit, pass, expected_name, name_refusal, name_next, part_stage, held_at, puts_name}
 use Rattle.pgn_game.proofs.ReaderLemmas.{to_name, adds_same, comment_in_pair, refused_in_pair, step_in_pair, tags_fit}
+use Rattle.pgn_game.proofs.reader.Reader.accept_name.Given.{Over}
+use Rattle.pgn_game.proofs.reader.Reader.accept_name.Goals.{In-Symbol}
 use Rattle.pgn_game.proofs.reader.Reader.accept_name.Goals as goal
 
--- what a name is rejected for, and whether a pair has it
-rows : (old : ReaderState) (k : TokenKind) (name : Bor (List ℕ))
-    → old.stage ≡ AfterLeftBracket → k ≡ Symbol name → (part : Part) → Agrees old part
-    → refusal old.profile part (kind_of k) ≡ name_rows old.profile part.pairs name.now
-rows old k name at is part agrees =
-    ap (λ (k : TokenKind). refusal old.profile part (kind_of k)) is ∙ name_refusal old.profile part name.now (part_stage old part _ agrees at)
+-- What a name is rejected for, by the mode and the pairs that the reader holds.
+rows : (g : Over) (c : In-Symbol g) (held : ReaderState) → held ≡ c.args.self.now → (part : Part) → Agrees c.args.self.now part
+    → refusal c.args.self.now.profile part (kind_of c.args.kind) ≡ name_rows held.profile held.tags.held c.in-Symbol.name.now
+rows g c held same part agrees =
+    let old = c.args.self.now in
+    let name = c.in-Symbol.name.now in
+    ap (λ (k : TokenKind). refusal old.profile part (kind_of k)) c.in-Symbol.is
+    ∙ name_refusal old.profile part name (part_stage old part _ agrees c.requires.stage)
+    ∙ ap (λ (t : TagPairs). name_rows old.profile t.held name) (sym (held_at old part _ agrees c.requires.stage))
+    ∙ ap (λ (r : ReaderState). name_rows r.profile r.tags.held name) (sym same)
 
--- a pair has it that the reader holds if one of the part does
-in_part : (old state : ReaderState) (name : List ℕ) → state ≡ old → old.stage ≡ AfterLeftBracket
-    → (part : Part) → Agrees old part → has_pair part.pairs name ≡ has_pair state.tags.held name
-in_part old state name v at part agrees =
-    ap (λ (t : TagPairs). has_pair t.held name) (sym (held_at old part _ agrees at)) ∙ ap (λ (r : ReaderState). has_pair r.tags.held name) (sym v)
+refused : (g : Over) (c : In-Symbol g) (held : ReaderState) (reason : Reason) → held ≡ c.args.self.now → IsFalse (is_outside_the_table reason)
+    → name_rows held.profile held.tags.held c.in-Symbol.name.now ≡ Some reason
+    → TakesUnwritten c.args.self.now (kind_of c.args.kind) c.args.self.now (Err reason)
+refused g c held reason same inside why =
+    refused_in_pair c.args.self.now _ _ AfterLeftBracket c.requires.stage (λ q. refl) reason refl inside (λ part agrees. rows g c held same part agrees ∙ why)
 
 pub returns-then-is_comment : goal.returns-then-is_comment
 returns-then-is_comment g c =
@@ -32,48 +37,30 @@ returns-in_default g c =
 
 pub returns-then-not-is_tag_name : goal.returns-then-not-is_tag_name
 returns-then-not-is_tag_name g c =
-    let old = c.args.self.now in
-    refused_in_pair old _ (kind_of c.args.kind) AfterLeftBracket c.requires.stage (λ q. refl) BadTagName refl refl (λ part agrees.
-    rows old _ _ c.requires.stage c.in-Symbol.is part agrees
-    ∙ hit _ _ _ (ap not (sym c.is_tag_name.ensures ∙ c.if-not-is_tag_name.true)))
+    refused g (goal.at.returns-then-not-is_tag_name g c).In-Symbol _ BadTagName refl refl
+    (hit _ _ _ (ap not (sym c.is_tag_name.ensures ∙ c.if-not-is_tag_name.true)))
 
 pub returns-in-Ok : goal.returns-in-Ok
 returns-in-Ok g c =
-    let old = c.args.self.now in
-    let v = c.self.view_is in
-    refused_in_pair old _ (kind_of c.args.kind) AfterLeftBracket c.requires.stage (λ q. refl) DuplicateTag refl refl (λ part agrees.
-    rows old _ _ c.requires.stage c.in-Symbol.is part agrees
-    ∙ pass _ _ _ (ap not (sym c.is_tag_name.ensures ∙ c.if-not-is_tag_name.false))
-    ∙ hit _ _ _ (in_part old _ _ v c.requires.stage part agrees ∙ ap is_some c.in-Ok.ensures.value))
+    refused g (goal.at.returns-in-Ok g c).In-Symbol _ DuplicateTag c.self.view_is refl
+    (pass _ _ _ (ap not (sym c.is_tag_name.ensures ∙ c.if-not-is_tag_name.false)) ∙ hit _ _ _ (ap is_some c.in-Ok.ensures.value))
 
 pub returns-then-name-gt-NAME_OR_VALUE_LENGTH : goal.returns-then-name-gt-NAME_OR_VALUE_LENGTH
 returns-then-name-gt-NAME_OR_VALUE_LENGTH g c =
-    let old = c.args.self.now in
-    let v = c.self.view_is in
-    refused_in_pair old _ (kind_of c.args.kind) AfterLeftBracket c.requires.stage (λ q. refl) TagLineTooLong refl refl (λ part agrees.
-    rows old _ _ c.requires.stage c.in-Symbol.is part agrees
-    ∙ pass _ _ _ (ap not (sym c.is_tag_name.ensures ∙ c.if-not-is_tag_name.false))
-    ∙ pass _ _ _ (in_part old _ _ v c.requires.stage part agrees ∙ c.in-Err.ensures.new)
+    refused g (goal.at.returns-then-name-gt-NAME_OR_VALUE_LENGTH g c).In-Symbol _ TagLineTooLong c.self.view_is refl
+    (pass _ _ _ (ap not (sym c.is_tag_name.ensures ∙ c.if-not-is_tag_name.false)) ∙ pass _ _ _ c.in-Err.ensures.new
     ∙ hit _ _ _ (lt-ltb 249 (length c.in-Symbol.name.now) c.if-name-gt-NAME_OR_VALUE_LENGTH.true))
 
 pub returns-then-is_reduced_fen : goal.returns-then-is_reduced_fen
 returns-then-is_reduced_fen g c =
-    let old = c.args.self.now in
-    let v = c.self.view_is in
-    refused_in_pair old _ (kind_of c.args.kind) AfterLeftBracket c.requires.stage (λ q. refl) ReducedFen refl refl (λ part agrees.
-    rows old _ _ c.requires.stage c.in-Symbol.is part agrees
-    ∙ pass _ _ _ (ap not (sym c.is_tag_name.ensures ∙ c.if-not-is_tag_name.false))
-    ∙ pass _ _ _ (in_part old _ _ v c.requires.stage part agrees ∙ c.in-Err.ensures.new)
+    refused g (goal.at.returns-then-is_reduced_fen g c).In-Symbol _ ReducedFen c.self.view_is refl
+    (pass _ _ _ (ap not (sym c.is_tag_name.ensures ∙ c.if-not-is_tag_name.false)) ∙ pass _ _ _ c.in-Err.ensures.new
     ∙ pass _ _ _ (le-ltb 249 (length c.in-Symbol.name.now) c.if-name-gt-NAME_OR_VALUE_LENGTH.false)
-    ∙ hit _ _ _ (ap (λ (m : Mode). is_reduced m && bytes_eq c.in-Symbol.name.now (codes "FEN")) (sym (ap (λ (r : ReaderState). r.profile.mode) v))
-    ∙ sym c.is_reduced_fen.ensures ∙ c.if-is_reduced_fen.true))
+    ∙ hit _ _ _ (sym c.is_reduced_fen.ensures ∙ c.if-is_reduced_fen.true))
 
 pub begin-requires : goal.begin-requires
 begin-requires g c =
-    let old = c.args.self.now in
-    let v = c.self.view_is in
-    let sound =
-    subst (λ (s : Stage). AreSound g.row.T s c.self.inside.tags) (ap (λ (r : ReaderState). r.stage) v ∙ c.requires.stage) c.self.invariant.0 in (
+    let sound = rw (ap (λ (r : ReaderState). r.stage) c.self.view_is ∙ c.requires.stage) at c.self.invariant.0 in (
       search tags_fit,
       record {
         whole = sound.0;
@@ -90,24 +77,19 @@ returns g c =
     let v = c.self.view_is in
     let name = c.in-Symbol.name.now in
     let held = c.begin.new.self in
-    let fresh = ap (λ (r : ReaderState). has_pair r.tags.held name) (sym v) ∙ c.in-Err.ensures.new in
     step_in_pair old _ (kind_of c.args.kind) AfterLeftBracket c.requires.stage (λ q. refl) (to_name name)
-    (λ o m. puts_name old _ name held o m c.requires.stage fresh
+    (λ o m. puts_name old _ name held o m c.requires.stage
+    (ap (λ (r : ReaderState). has_pair r.tags.held name) (sym v) ∙ c.in-Err.ensures.new)
     (c.begin.ensures ∙ ap (λ (r : ReaderState). record r.tags { pending_name = Some name }) v)
     (ap (λ (r : ReaderState). record r { stage = AfterName; tags = held }) v))
-    (ap (λ (r : ReaderState). r.most_probes) v)
-    (λ part. adds_same (mode_written old) part (record { stage = AfterName; pairs = part.pairs; name = name; items = part.items }) refl) (λ part agrees. (
-      rows old _ _ c.requires.stage c.in-Symbol.is part agrees
-          ∙ pass _ _ _ (ap not (sym c.is_tag_name.ensures ∙ c.if-not-is_tag_name.false))
-          ∙ pass _ _ _ (in_part old _ _ v c.requires.stage part agrees ∙ c.in-Err.ensures.new)
-          ∙ pass _ _ _ (le-ltb 249 (length c.in-Symbol.name.now) c.if-name-gt-NAME_OR_VALUE_LENGTH.false)
-          ∙ pass _ _ _ (ap (λ (m : Mode). is_reduced m && bytes_eq c.in-Symbol.name.now (codes "FEN"))
-          (sym (ap (λ (r : ReaderState). r.profile.mode) v)) ∙ sym c.is_reduced_fen.ensures ∙ c.if-is_reduced_fen.false),
+    (ap (λ (r : ReaderState). r.most_probes) v) (λ part. search adds_same) (λ part agrees. (
+      rows g (goal.at.returns g c).In-Symbol _ v part agrees
+          ∙ pass _ _ _ (ap not (sym c.is_tag_name.ensures ∙ c.if-not-is_tag_name.false)) ∙ pass _ _ _ c.in-Err.ensures.new
+          ∙ pass _ _ _ (le-ltb 249 (length name) c.if-name-gt-NAME_OR_VALUE_LENGTH.false)
+          ∙ pass _ _ _ (sym c.is_reduced_fen.ensures ∙ c.if-is_reduced_fen.false),
       ap (λ (k : TokenKind). next part (kind_of k)) c.in-Symbol.is
           ∙ name_next part name (part_stage old part AfterLeftBracket agrees c.requires.stage),
     ))
 
 pub find-requires : goal.find-requires
-find-requires g c =
-    let at = ap (λ (r : ReaderState). r.stage) c.self.view_is ∙ c.requires.stage in
-    (search tags_fit, (subst (λ (stage : Stage). AreSound g.row.T stage c.self.inside.tags) at c.self.invariant.0).0)
+find-requires g c = (search tags_fit, (rw (ap (λ (r : ReaderState). r.stage) c.self.view_is ∙ c.requires.stage) at c.self.invariant.0).0)

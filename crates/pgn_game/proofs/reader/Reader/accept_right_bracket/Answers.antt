@@ -1,4 +1,4 @@
-use Rattle.pgn_game.proofs.Words.{mode_written, refl, sym, ap, ◌∙◌, kind_of, TokenKind, ExpectedBracket, AfterTags, AfterValue, at_stage, next, refusal}
+use Rattle.pgn_game.proofs.Words.{refl, sym, ap, ◌∙◌, kind_of, TokenKind, ExpectedBracket, AfterTags, AfterValue, next, refusal}
 use Rattle.pgn_game.proofs.Words.{ReaderState}
 use Rattle.pgn_game.proofs.ReaderLemmas.{expected_bracket, close_refusal, close_next, part_stage, puts_right_bracket, to_stage, adds_same}
 use Rattle.pgn_game.proofs.ReaderLemmas.{comment_in_pair, refused_in_pair, step_in_pair}
@@ -22,7 +22,7 @@ returns-in-RightBracket g c =
     let v = c.self.view_is in
     step_in_pair old _ (kind_of c.args.kind) AfterValue c.requires.stage (λ q. refl) (to_stage AfterTags)
     (λ o m. puts_right_bracket old _ o m c.requires.stage (ap (λ (r : ReaderState). record r { stage = AfterTags }) v))
-    (ap (λ (r : ReaderState). r.most_probes) v) (λ part. adds_same (mode_written old) part (at_stage AfterTags part) refl) (λ part agrees.
+    (ap (λ (r : ReaderState). r.most_probes) v) (λ part. search adds_same) (λ part agrees.
     let at = part_stage old part AfterValue agrees c.requires.stage in (
       ap (λ (k : TokenKind). refusal old.profile part (kind_of k)) c.in-RightBracket.is ∙ close_refusal old.profile part at,
       ap (λ (k : TokenKind). next part (kind_of k)) c.in-RightBracket.is ∙ close_next part at,

@@ -1,6 +1,5 @@
-use Rattle.pgn_game.proofs.Words.{◌≡◌, ◌||◌, ℕ, List, [], Option, None, Some, Result, Err, is_some, true, false, refl, sym, ap, ◌∙◌}
-use Rattle.pgn_game.proofs.Words.{err_from_is_err_and, Device, symbol, Reason, ReaderState, Accepted, Marker, marker_of, is_number, is_score}
-use Rattle.pgn_game.specs.state.PutResult.{PutsItems, TakesOther}
+use Rattle.pgn_game.proofs.Words.{More, Ok, ◌≡◌, ◌||◌, ℕ, List, [], Option, None, Some, Result, Err, is_some, true, false, refl, sym, ap, ◌∙◌, PutsItems, TakesOther, ReaderCall}
+use Rattle.pgn_game.proofs.Words.{err_from_is_err_and, symbol, Reason, ReaderState, Accepted, Marker, marker_of, is_number, is_score}
 use Rattle.pgn_game.proofs.ReaderLemmas.{reader_alike, number_no_score, number_free, number_leads, number_untried, passes_entry}
 use Rattle.pgn_game.proofs.putting.SilentReader.{unused_call}
 use Rattle.pgn_game.proofs.reader.Reader.accept_symbol.Goals as goal
@@ -10,30 +9,27 @@ use Rattle.pgn_game.proofs.reader.Reader.accept_symbol.Goals.{then-may_be_score_
 unmarked : (s : List ℕ) → is_score s ≡ false → marker_of (symbol s) ≡ None
 unmarked s is = rw (is, marker_of) refl
 
-number_entry : (old new : ReaderState) (s : List ℕ) (r : Result Accepted Reason) (d : Device)
-    → is_number s ≡ true → PutsItems old [] new r d → TakesOther old (symbol s) new r d
-number_entry old new s r d number puts =
+number_entry : {S : Type 0} {taken : S → Option (List ℕ)} {failures : S → ℕ} {old new : ReaderState} {a b : S} (s : List ℕ) (r : Result Accepted Reason)
+    → is_number s ≡ true → ReaderCall taken failures old new a b (PutsItems old [] new r)
+    → ReaderCall taken failures old new a b (TakesOther old (symbol s) new r)
+number_entry {old} {new} s r number call =
     let score = number_no_score s number in
     record {
-      no_marker = unmarked s score;
-      takes = passes_entry old new (symbol s) r d puts
-          (λ part is. (number_free old.profile part s number score, number_leads part s number score)) (λ part. number_untried part s number);
+      takes = record {
+        no_marker = unmarked s score;
+        takes = passes_entry old new (symbol s) r _ call.takes
+            (λ part is. (number_free old.profile part s number score, number_leads part s number score)) (λ part. number_untried part s number);
+      };
+      silent = call.silent;
     }
 
 pub returns-in_err-pass : goal.returns-in_err-pass
 returns-in_err-pass g c =
     let p = err_from_is_err_and c.from_residual.result c.from_residual.ensures.1 in
-    rw (p.1 ∙ ap Err p.2)
-    (record {
-      takes = number_entry c.args.self.now _ c.args.text.now _ _ (sym c.is_number.ensures ∙ c.if-is_number.true) c.in_err-pass.ensures.takes;
-      silent = c.in_err-pass.ensures.silent;
-    })
+    rw (p.1 ∙ ap Err p.2) (number_entry c.args.text.now (Err _) (sym c.is_number.ensures ∙ c.if-is_number.true) c.in_err-pass.ensures)
 
 pub returns-then-is_number : goal.returns-then-is_number
-returns-then-is_number g c = record {
-  takes = number_entry c.args.self.now _ c.args.text.now _ _ (sym c.is_number.ensures ∙ c.if-is_number.true) c.in_ok-pass.ensures.takes;
-  silent = c.in_ok-pass.ensures.silent;
-}
+returns-then-is_number g c = number_entry c.args.text.now (Ok More) (sym c.is_number.ensures ∙ c.if-is_number.true) c.in_ok-pass.ensures
 
 pub returns-in-Some : goal.returns-in-Some
 returns-in-Some g c =

@@ -1,5 +1,4 @@
-use Rattle.pgn_game.proofs.Words.{ap, subst, ◌∙◌, Parts, ReaderState}
-use Rattle.pgn_game.specs.calls.FoundMove.{NamesMove}
+use Rattle.pgn_game.proofs.Words.{ap, subst, ◌∙◌, Parts, ReaderState, NamesMove}
 use Rattle.pgn_game.proofs.ReaderLemmas.{text_fits}
 use Rattle.pgn_game.proofs.reader.Reader.find.Goals as goal
 
