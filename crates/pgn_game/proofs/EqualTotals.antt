@@ -1,5 +1,5 @@
 -- Two equal readings: the most pairs tried are those of the second one.
-use Rattle.pgn_game.proofs.Words.{◌≡◌, ℕ, max, Bool, true, false, List, [], ◌∷◌, ◌++◌, Option, None, Some, refl, sym, ap, subst, ◌∙◌, append-nil, arith, Token, TokensRise, RisesTo, tokens_of, Fault, Profile, takes_the_marker, Game, no_part, Next, going, whole, next, Progress, no_progress, progress_with, progress_after, Read, read, read_from, verdict, verdict_of, Mark, Comparison, compared, compared_from, marks_after, marks_from, is_changed, MostFrom, MostTried, Totals, Device, verdict_in, IsTotalled, IsTrue, play_moves, append_cancel_left, AreTotalled, HasTaken, MostOfBoth, EqualTotals, common_steps}
+use Rattle.pgn_game.proofs.Words.{◌≡◌, ℕ, max, Bool, true, false, List, [], ◌∷◌, ◌++◌, None, refl, sym, ap, subst, ◌∙◌, append-nil, arith, Token, TokensRise, RisesTo, tokens_of, Profile, takes_the_marker, Game, no_part, Next, going, whole, next, Progress, no_progress, progress_with, progress_after, Read, read, read_from, verdict, verdict_of, Mark, Comparison, compared, compared_from, marks_after, marks_from, is_changed, MostFrom, MostTried, Totals, Device, verdict_in, IsTotalled, IsTrue, play_moves, append_cancel_left, AreTotalled, HasTaken, MostOfBoth, EqualTotals, common_steps}
 use Rattle.pgn_game.proofs.EqualReadings.{equal_readings, after_change, change_test, compared_same, ends, Same}
 use Rattle.pgn_game.proofs.reading.RunsToEnd.{Runs, kinds, from_read}
 use Rattle.pgn_game.proofs.tokens.NoneBeforeFault.{reads_behind}

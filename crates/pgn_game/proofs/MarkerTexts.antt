@@ -1,5 +1,5 @@
 -- The texts of the markers: a result is one of the four, and what holds of each.
-use Rattle.pgn_game.proofs.Words.{◌≡◌, ℕ, ◌+◌, ◌≤◌, Bool, true, false, ◌||◌, List, length, ap, refl, arith, codes, bytes_eq, list_all, bytes_eq-Decides, escaped, in_name, is_number, is_result, is_score, Marker, WhiteWins, BlackWins, Draw, Unknown, marker_text, common_steps}
+use Rattle.pgn_game.proofs.Words.{◌≡◌, ℕ, ◌+◌, ◌≤◌, Bool, true, false, ◌||◌, List, length, ap, refl, arith, codes, bytes_eq, list_all, bytes_eq-Decides, escaped, in_name, is_number, is_result, is_score, Marker, WhiteWins, Unknown, marker_text, common_steps}
 
 -- the marker that a result is
 pub result_marker : (s : List ℕ) → is_result s ≡ true → (m : Marker) × (s ≡ marker_text m)

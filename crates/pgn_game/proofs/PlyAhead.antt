@@ -1,5 +1,5 @@
 -- The next ply of a line of play, by the next word that is to name a move.
-use Rattle.pgn_game.proofs.Words.{◌≡◌, ◌<◌, ℕ, List, ◌∷◌, length, sym, ap, ◌∙◌, subst, arith, Result, Ok, Err, Some, Parts, Played, Reason, san, text_of_move, Ahead, NextPly, behind_ply, line_ahead, line_of, no_plies, bytes_between, moves_from, word_in, common_steps}
+use Rattle.pgn_game.proofs.Words.{◌≡◌, ℕ, List, ◌∷◌, arith, Result, Ok, Err, Some, Parts, Played, Reason, san, text_of_move, Ahead, NextPly, behind_ply, line_ahead, line_of, no_plies, bytes_between, moves_from, word_in, common_steps}
 use Rattle.pgn_game.specs.declared.line_of_play.Ply.{Ply as CodePly}
 use Rattle.pgn_game.specs.declared.line_of_play.Span.{Span}
 use Rattle.pgn_game.specs.declared.notation.Notation.{Notation}

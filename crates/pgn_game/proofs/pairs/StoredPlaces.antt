@@ -1,5 +1,5 @@
 -- Pairs that are stored in another order.
-use Rattle.pgn_game.proofs.Words.{◌≡◌, IfSome, IsSomeAnd, length-map, length-set, refill, take-append_seam, subst, insert_pair, IsSome, ℕ, suc, zero, ◌+◌, ◌<◌, ◌≤◌, Bool, true, false, List, [], ◌∷◌, ◌++◌, length, refl, sym, ap, ◌∙◌, arith, Option, None, Some, insert, take, drop, get_or, set, map-append, Pair, has_pair, TagPairs, AllBelow, AreInOrder, FitsPairStore, HasBegun, InOrder, index_of, pair_at, placed, pairs_seen, get_or-set_other, get_or-set_same, get_or_append_left, get_or_read, length_push, take-map, drop-map, common_steps}
+use Rattle.pgn_game.proofs.Words.{◌≡◌, IfSome, IsSomeAnd, length-map, length-set, refill, take-append_seam, insert_pair, IsSome, ℕ, suc, zero, ◌+◌, ◌<◌, ◌≤◌, Bool, true, false, List, [], ◌∷◌, ◌++◌, length, refl, sym, ap, ◌∙◌, arith, Option, None, Some, insert, take, drop, get_or, set, map-append, Pair, has_pair, TagPairs, AllBelow, AreInOrder, FitsPairStore, HasBegun, InOrder, index_of, pair_at, placed, pairs_seen, get_or-set_other, get_or-set_same, get_or_append_left, get_or_read, length_push, take-map, drop-map, common_steps}
 use Rattle.std.proofs.lemmas.List.Edits.{length-insert}
 use Rattle.pgn_game.proofs.pairs.NameOrder.{order-insert}
 use Rattle.pgn_game.proofs.pairs.SortedPairs.{index_of-le, insert-place, all-take, all-drop, order-take, order-drop}

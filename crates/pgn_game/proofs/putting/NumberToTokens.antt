@@ -1,5 +1,5 @@
 -- Numbers in movetext as tokens, and one token put in turn.
-use Rattle.pgn_game.proofs.Words.{◌≡◌, ℕ, ◌<◌, ◌≤◌, ◌^◌, List, [], ◌∷◌, ◌++◌, length, decimal, Result, OnOk, sym, subst, append-nil, length-append, arith, All-nil, All-cons, Counts, Device, Writes, IsToken, Put, text_at, line_at, PutsTokens, common_steps}
+use Rattle.pgn_game.proofs.Words.{◌≡◌, ℕ, ◌<◌, ◌≤◌, ◌^◌, List, [], ◌∷◌, ◌++◌, length, decimal, Result, OnOk, append-nil, length-append, arith, Counts, Device, Writes, IsToken, Put, text_at, line_at, PutsTokens, common_steps}
 use Rattle.std.proofs.lemmas.Fmt.{decimal_nonempty, length-decimal-le}
 
 -- the digits of a move number, and its periods

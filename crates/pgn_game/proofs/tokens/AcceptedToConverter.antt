@@ -1,7 +1,7 @@
 -- One token that the lexer gave, and what the reader answered to it.
 use Rattle.pgn_lexer.specs.PartialToken.{refusal as refusal_token}
 use Rattle.pgn_lexer.specs.Scanned.{token}
-use Rattle.pgn_game.proofs.Words.{Writing, Reason, Lexical, WriteFault, Profile, Game, Part, ◌≡◌, ℕ, ◌+◌, ◌<◌, ◌≤◌, ◌⊎◌, Bool, false, true, List, [], ◌∷◌, ◌++◌, length, take, drop, Option, None, Some, Result, Ok, Err, refl, sym, ap, subst, ◌∙◌, append_assoc, append-nil, length-append, le_refl, arith, IsTrue, map, sum, take-append-drop, map-append, list_any-append, or_cases, Appends-nil, Appends, Token, EndsAt, tokens_of, Standing, coming, StandsAfter, Follows, AfterScan, first, still, More, Finished, refusal, marker_of, position_if_move, position_in, Next, going, whole, next, Progress, progress_with, progress_after, Read, read, gain, text_next, Gains, plies_of, has_move, ReaderState, Agrees, as_written, IsBehind, whole_plies, plies_next, Leads, Answers, AppendsFront, MostTried, Raises, Tries, TriesUnwritten, sum_by-append, sum_by-cons, LexFault, finished_game_of, Converter, game_in_reader, play_moves, has_played_move, HasRead, IsLastGame, refused_stop as refused, unwritten, AreNext, reported_position, FaultAtEnd, SameGames, OneGame, AfterStep, EndsWithin, GainsAs, Meets, NotTaken, Reaches, ReadsMore, due_as, part_after, outcome_at, fault_of, TakesToken, Device, Marker, rules, inl, inr, position_at_fault, due, torn, text_of_games as text_of, ◌||◌, more, fault, MeetsMarker, TakesUnlessMarker, common_steps}
+use Rattle.pgn_game.proofs.Words.{Writing, Reason, Lexical, WriteFault, Profile, Game, Part, ◌≡◌, ℕ, ◌+◌, ◌<◌, ◌≤◌, ◌⊎◌, Bool, List, [], ◌∷◌, ◌++◌, length, take, drop, Option, None, Some, Result, Ok, Err, refl, sym, ap, subst, ◌∙◌, append_assoc, append-nil, length-append, le_refl, arith, IsTrue, map, sum, take-append-drop, map-append, list_any-append, or_cases, Appends-nil, Appends, Token, EndsAt, tokens_of, Standing, coming, StandsAfter, Follows, AfterScan, first, still, More, Finished, refusal, marker_of, position_if_move, position_in, Next, going, whole, next, Progress, progress_with, progress_after, Read, read, gain, text_next, Gains, plies_of, has_move, ReaderState, Agrees, as_written, IsBehind, whole_plies, plies_next, Leads, Answers, AppendsFront, MostTried, Raises, Tries, TriesUnwritten, sum_by-append, sum_by-cons, LexFault, finished_game_of, Converter, game_in_reader, play_moves, has_played_move, HasRead, IsLastGame, refused_stop as refused, unwritten, AreNext, reported_position, FaultAtEnd, SameGames, OneGame, AfterStep, EndsWithin, GainsAs, Meets, NotTaken, Reaches, ReadsMore, due_as, part_after, outcome_at, fault_of, TakesToken, Device, Marker, rules, inl, inr, position_at_fault, due, torn, text_of_games as text_of, more, fault, MeetsMarker, TakesUnlessMarker, common_steps}
 use Rattle.pgn_game.specs.state.ReaderState as reader_state
 use Rattle.pgn_game.proofs.tokens.PairsTriedForToken.{most_with, most_to_refused, part_probed, raises_none}
 use Rattle.pgn_game.proofs.tokens.OneMoreToken.{read-passes, read-refuses, due-passes}

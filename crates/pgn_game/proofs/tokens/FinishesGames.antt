@@ -1,6 +1,5 @@
 -- Behind the last piece: up to a marker, to the game that it ends, and to the end.
-use Rattle.pgn_lexer.specs.Tokens as tokens
-use Rattle.pgn_game.proofs.Words.{Token, Kind, Between, Fault, Profile, Part, Game, ◌≡◌, ℕ, ◌+◌, ◌<◌, Bool, true, false, IsTrue, List, [], ◌∷◌, ◌++◌, length, Option, None, Some, Ok, Err, refl, sym, ap, subst, ◌∙◌, arith, append-nil, append_assoc, length-append, Appends-nil, ◌↔◌, Device, tokens_of, Standing, coming, HasLeft, refusal, is_end, next, progress_with, Progress, Read, read, due, written_so_far as written, Gains, ReaderState, as_written, Converter, HasRead, IsLastGame as IsLast, game_in_reader, game_in_reader_if, Finishes, FinishesToFault, SameGames, ReadsMore, EndsGame, StaysBetween, FaultAtEnd, AtEndSoFar, AfterStepAtEnd, part_after, Stands, false≢true, le_refl, CountsGame, LeftSoFar, ReadsToLeftMarker, ReadsToEnd, FailsAtEnd, IsSound, common_steps}
+use Rattle.pgn_game.proofs.Words.{Token, Kind, Between, Fault, Profile, Part, Game, ◌≡◌, ℕ, ◌+◌, ◌<◌, Bool, true, false, IsTrue, List, [], ◌∷◌, ◌++◌, length, Option, None, Some, Ok, Err, refl, sym, ap, subst, ◌∙◌, arith, append-nil, append_assoc, length-append, Appends-nil, ◌↔◌, Device, tokens_of, Standing, coming, HasLeft, refusal, is_end, next, progress_with, Progress, read, due, written_so_far as written, Gains, ReaderState, as_written, Converter, HasRead, IsLastGame as IsLast, game_in_reader, game_in_reader_if, Finishes, FinishesToFault, SameGames, ReadsMore, EndsGame, StaysBetween, FaultAtEnd, AtEndSoFar, AfterStepAtEnd, part_after, Stands, false≢true, le_refl, CountsGame, LeftSoFar, ReadsToLeftMarker, ReadsToEnd, FailsAtEnd, IsSound, common_steps}
 use Rattle.pgn_game.specs.declared.marker.Mark.{Mark}
 use Rattle.pgn_game.specs.declared.converter.StepEnd.TheVariants.{Token as Other, Marker as AtMarker}
 use Rattle.pgn_game.proofs.tokens.AcceptedToConverter.{read_as}

@@ -2,7 +2,7 @@
 use Rattle.pgn_game.specs.declared.marker.Mark.{Mark}
 use Rattle.pgn_game.specs.declared.converter.StepEnd.TheVariants.{Marker as AtMarker}
 use Rattle.pgn_game.specs.declared.converter.FedUpTo.TheVariants.{All, Marker as ToMarker}
-use Rattle.pgn_game.proofs.Words.{Fault, Converter, Device, InputTooLong, waiting, as_written, ◌≡◌, ℕ, ◌+◌, ◌*◌, ◌^◌, ◌<◌, ◌≤◌, Bool, false, List, [], length, take, Option, None, Some, Result, Ok, Err, IfOk, ap, refl, sym, ◌∙◌, arith, length-take, none-some, take-nil, StepEnd, FedUpTo, Again, GoesToMarker, IsGoing, KeepsRest, StepGoes, fault_of, used_to, common_steps}
+use Rattle.pgn_game.proofs.Words.{Fault, Converter, Device, InputTooLong, waiting, as_written, ◌≡◌, ℕ, ◌+◌, ◌*◌, ◌^◌, ◌<◌, ◌≤◌, Bool, false, List, [], length, take, Option, None, Some, Result, Ok, Err, sym, ◌∙◌, arith, length-take, none-some, take-nil, StepEnd, FedUpTo, Again, GoesToMarker, IsGoing, KeepsRest, StepGoes, fault_of, used_to, common_steps}
 
 -- a converter without a fault does not repeat one
 pub not_again : {A S : Type 0} {old new : Converter} {result : Result A Fault} {a b : S} → old.fault ≡ None → Again old new result a b

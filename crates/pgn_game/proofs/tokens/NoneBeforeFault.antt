@@ -1,7 +1,7 @@
 -- Behind the last piece no game is finished before a token that is rejected, or a write that fails.
-use Rattle.pgn_game.proofs.Words.{Token, Fault, Profile, ◌≡◌, ℕ, ◌+◌, List, [], ◌∷◌, ◌++◌, length, Option, None, refl, sym, ap, subst, ◌∙◌, inl, inr, ◌⊎◌, append-nil, append_assoc, length-append, arith, tokens_of, Standing, coming, HasLeft, Progress, progress_after, no_progress, Read, read, read_from, due, Stops, refused_stop as refused, unwritten, StopsWriting, games_before, rules, common_steps}
+use Rattle.pgn_game.proofs.Words.{Token, Fault, Profile, ◌≡◌, ℕ, ◌+◌, List, [], ◌∷◌, ◌++◌, length, Option, None, refl, sym, ap, ◌∙◌, inl, inr, ◌⊎◌, append-nil, append_assoc, length-append, arith, tokens_of, Standing, coming, HasLeft, Progress, progress_after, no_progress, Read, read, read_from, due, Stops, refused_stop as refused, unwritten, StopsWriting, games_before, rules, common_steps}
 use Rattle.pgn_game.proofs.tokens.OneMoreToken.{first_passes, goes_on, due_grows}
-use Rattle.pgn_game.proofs.tokens.LastTokens.{AddsOne, left_games, none_finished_before}
+use Rattle.pgn_game.proofs.tokens.LastTokens.{left_games, none_finished_before}
 
 -- behind tokens that pass the rest is read from where they led
 pub reads_behind : (p : Profile) (b : Progress) (ts us : List Token) → (read_from p b ts).fault ≡ None

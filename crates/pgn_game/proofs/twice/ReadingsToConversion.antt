@@ -1,5 +1,5 @@
 -- From what the calls of each game return, in both readings, to the conversion.
-use Rattle.pgn_game.proofs.Words.{Token, Reason, Changed, ReadFault, Fault, Profile, Missing, takes_the_marker, Game, no_part, ◌≡◌, ℕ, ◌+◌, ◌^◌, ◌<◌, ◌≤◌, max, Bool, true, false, List, [], ◌∷◌, ◌++◌, length, take, Option, None, Some, Ok, IfSome, refl, sym, ap, subst, ◌∙◌, append_assoc, append-nil, length-append, arith, IsTrue, map, sum, take-append-add, Appends-nil, Appends-trans, and_parts, not-false, bytes_eq-Decides, Appends, Device, FailsOnce, tokens_of, decided, coming, plies_of, text_next, gain, refusal, whole_plies, play_moves, verdict_in, MostTried, Mark, marks_from, is_other, is_changed, marks_after, Comparison, compared_from, compared, with_mark, torn_before, written_by, earlier_fault, BothSoFar, HasMarked, Reading, changed_reason, model_mark, part_after, IfSome_then, Totals, game_text, torn, Next, going, whole, next, Progress, progress_with, progress_after, Read, read, totals, verdict_of, Decides, IsTokenPrefix, AreConverted, AreRefused, AreTotalled, HasTaken, MatchesAllMarks, FirstStops, SecondStops, WriteStops, TwoReadingsFail, TwoReadingsConvert, AllRead, ComesNext, FirstFails, GameRead, GameWritten, HasCome, HasGiven, ReadFails, SecondFails, StandsIn, WhyFirst, WhySecond, as_changed, AreShown, common_steps}
+use Rattle.pgn_game.proofs.Words.{Token, Reason, Changed, ReadFault, Fault, Profile, takes_the_marker, Game, no_part, ◌≡◌, ℕ, ◌+◌, ◌^◌, ◌<◌, ◌≤◌, max, Bool, true, false, List, [], ◌∷◌, ◌++◌, length, take, Option, None, Some, Ok, IfSome, refl, sym, ap, subst, ◌∙◌, append_assoc, append-nil, length-append, arith, IsTrue, map, sum, take-append-add, Appends-nil, Appends-trans, and_parts, not-false, bytes_eq-Decides, Appends, Device, FailsOnce, tokens_of, decided, coming, plies_of, text_next, gain, refusal, whole_plies, play_moves, verdict_in, MostTried, Mark, marks_from, is_other, is_changed, marks_after, Comparison, compared_from, compared, with_mark, torn_before, written_by, earlier_fault, BothSoFar, HasMarked, Reading, changed_reason, model_mark, part_after, IfSome_then, Totals, game_text, torn, Next, going, whole, next, Progress, progress_with, progress_after, Read, read, totals, verdict_of, Decides, IsTokenPrefix, AreConverted, AreRefused, AreTotalled, HasTaken, MatchesAllMarks, FirstStops, SecondStops, WriteStops, TwoReadingsFail, TwoReadingsConvert, AllRead, ComesNext, FirstFails, GameRead, GameWritten, HasCome, HasGiven, ReadFails, SecondFails, StandsIn, WhyFirst, WhySecond, as_changed, AreShown, common_steps}
 use Rattle.pgn_game.specs.declared.marker.Mark.{Mark as CodeMark}
 use Rattle.pgn_game.specs.export.Text.{text_of}
 use Rattle.pgn_game.specs.games.Progress.{refused as is_refused}
