@@ -1,5 +1,5 @@
 -- The name of a file gives its number back, and a log by names is one by numbers.
-use Rattle.pgn_tool.proofs.Words.{◌≡◌, ℕ, ◌-◌, ◌^◌, ◌<◌, suc, List, [], ◌∷◌, ◌++◌, length, take, Option, None, Some}
+use Rattle.pgn_tool.proofs.Words.{◌≡◌, ℕ, ◌-◌, ◌^◌, ◌<◌, suc, List, [], ◌∷◌, ◌++◌, length, take, Option, None, Some, common_steps}
 use Rattle.pgn_tool.proofs.Words.{Result, refl, ap, ◌∙◌, length-append, arith, codes, decimal, map-append, SystemFault, added}
 use Rattle.std.specs.Str.Parse.{digits_value}
 use Rattle.std.proofs.lemmas.Fmt.{digits_value-decimal}
@@ -13,9 +13,7 @@ zeros_add_nothing (suc (suc (suc (suc (suc (suc count)))))) digits = ap (λ l. d
 zeros_add_nothing _ digits = refl
 
 without_ending : (name ending : List ℕ) → length ending ≡ 4 → take (length (name ++ ending) - 4) (name ++ ending) ≡ name
-without_ending name ending four =
-    let short : length (name ++ ending) - 4 ≡ length name = omega (arith, length-append name ending) in
-    ap (λ n. take n (name ++ ending)) short ∙ take-append_seam name ending
+without_ending name ending four = grind (arith, common_steps, length-append, take-append_seam)
 
 number_of-name : (number : ℕ) → number < 2 ^ 64 → number_of (file_name number) ≡ number
 number_of-name number fits =
@@ -32,6 +30,4 @@ numbered-added (Some steps) step = ap Some (map-append step_of steps (step ∷ [
 pub numbered-making : (old new : Option (List NameStep)) (name : List ℕ) (number : ℕ)
     (outcome : Result Unit SystemFault) → number < 2 ^ 64 → name ≡ file_name number
     → new ≡ added old (making name outcome ∷ []) → numbered new ≡ added (numbered old) (step_at number outcome ∷ [])
-numbered-making old new name number outcome fits is more =
-    ap numbered more ∙ numbered-added old (making name outcome) ∙ ap (λ n. added (numbered old) (step_at n outcome ∷ []))
-    (ap number_of is ∙ number_of-name number fits)
+numbered-making old new name number outcome fits is more = grind (arith, common_steps, numbered-added, added, number_of-name)

@@ -12,12 +12,12 @@ pub use Rattle.std.specs.Prelude.{Err, IfOk, Ok, OnOk, String, codes, ifâ—Œthenâ
 pub use Rattle.pgn_arguments.specs.declared.arguments.Task.TheVariants.{Export, Split}
 pub use Rattle.pgn_game.specs.calls.CheckedConversion.{AreConverted, CountsThree, FirstStops, HasTaken, OneFails, SecondStops, TwoReadingsConvert, TwoReadingsFail, WriteStops, first_too_long, first_unread, second_too_long, second_unread, unwritten}
 pub use Rattle.pgn_game.specs.calls.Conversion.{AfterConversion, CountsDevices, Decides, Fails, IsConverted, IsTokenPrefix}
-pub use Rattle.pgn_game.specs.calls.ConverterCalls.{AreNext, FinishedGame, HasRead, Stops, StopsWriting, games_before, profile_of}
+pub use Rattle.pgn_game.specs.calls.ConverterCalls.{AreNext, FinishedGame, HasRead, Stops, StopsWriting, games_before, profile_of, AreShown, IsRefused, so_far, within_limit}
 pub use Rattle.pgn_game.specs.laws.EqualReadings.{EqualReadings, InterruptedReadings}
 pub use Rattle.pgn_game.specs.games.FaultTable.{Row, first_holding, result_for, rows}
 unfoldable pub use Rattle.pgn_game.specs.games.FaultTable.{refusal}
 pub use Rattle.pgn_game.specs.games.Game.{Game, Part}
-pub use Rattle.pgn_game.specs.calls.GamesCalls.{Games, HaveRead, NextGame, NextStops, NoGame, ReadsNoGame, at_end, most_left, within}
+pub use Rattle.pgn_game.specs.calls.GamesCalls.{Games, HaveRead, NextGame, NextStops, NoGame, ReadsNoGame, at_end, most_left, within, CountsNext, ReadsNext}
 pub use Rattle.pgn_game.specs.games.Levels.{start_of}
 pub use Rattle.pgn_game.specs.games.Profile.{Profile, takes_the_marker}
 pub use Rattle.pgn_game.specs.games.Progress.{Progress, Read, Verdict, due, no_progress, output, progress_after, read}
@@ -32,12 +32,12 @@ pub use Rattle.pgn_game.specs.declared.mode.Mode.TheVariants.{Full, Reduced}
 pub use Rattle.pgn_game.specs.declared.reason.Fault.{Fault}
 pub use Rattle.pgn_game.specs.declared.reason.Reason.{Reason}
 pub use Rattle.pgn_game.specs.declared.reason.Reason.TheVariants.{InputTooLong, ReadFault, UnexpectedEnd, UnmatchedClose, WriteFault}
-pub use Rattle.pgn_layout.specs.Device.{AppendsFront, Counts, Device, IsStill, Writes, device, one_more}
+pub use Rattle.pgn_layout.specs.Device.{AppendsFront, Counts, Device, IsStill, Writes, device, one_more, nowhere}
 pub use Rattle.pgn_lexer.specs.Decided.{decided}
 pub use Rattle.pgn_lexer.specs.Tokens.{Kind, Token}
 pub use Rattle.pgn_lexer.specs.TokensOf.{tokens_of}
 pub use Rattle.pgn_tool.specs.CheckedRun.{AnswersSame, AnswersTwice, BlamesTwice, EndsTwice, Gives, RunsTwice, profile_twice}
-pub use Rattle.pgn_tool.specs.Files.{FileStep, IsBegun, IsNew, added, bytes_in, closed, failures_in, file_steps, has_bytes, is_text, made}
+pub use Rattle.pgn_tool.specs.Files.{FileStep, IsBegun, IsNew, added, bytes_in, closed, failures_in, file_steps, has_bytes, is_text, made, file_sink}
 pub use Rattle.pgn_tool.specs.Files.{number_after, refusal_step, taken_by, whole_files}
 pub use Rattle.pgn_tool.specs.ListLines.{CountsReadFault, IsListed, ListResult, ListStops, ListsNoMore, game_line, line_just_finished, lines_from}
 pub use Rattle.pgn_tool.specs.ListLines.{lines_of, list_profile, listed_value, six_fields, too_long, unread}
@@ -58,3 +58,6 @@ pub use Rattle.pgn_tool.specs.declared.split.Unsplit.{Unsplit}
 pub use Rattle.pgn_tool.specs.declared.split.Unsplit.TheVariants.{NoMemory}
 pub use Rattle.std.proofs.lemmas.Option.{IfSome_then, none-some}
 pub use Rattle.pgn_tool.specs.declared.files.CreateFault.{CreateFault}
+pub use Rattle.pgn_game.specs.calls.Written.{seen}
+pub use Rattle.pgn_game.specs.state.ReaderState.{ReaderState}
+pub use Rattle.std.proofs.lemmas.Grind.{common_steps}

@@ -1,5 +1,5 @@
 -- What a piece attacks it reaches over empty squares, whatever its kind.
-use Rattle.chess_rules.proofs.Words.{Colour, Kind, King, Queen, Rook, Bishop, Knight, Pawn, Piece, Square, squares, gap, same_square, is_adjacent, is_jump, in_line, on_diagonal, strictly_between, between_on_rank, between_on_file, between_on_diagonal, Board, at, is_empty, has_colour, same_colour, same_kind, is_clear, is_ahead, kind_attacks, cell_attacks, attacks, is_attacked, has_kind, is_aligned, is_near, may_attack, reaches, reaches_from, ◌≡◌, ℕ, ◌<◌, ◌≤◌, Bool, true, false, not, ◌&&◌, ◌||◌, ◌⊎◌, inl, inr, refl, sym, ◌∙◌, ap, arith, Option, None, Some, is_none, is_some, nat_le, list_any, nat_tests, leb-true, or_cases, and_from, other, rules, common_steps}
+use Rattle.chess_rules.proofs.Words.{Colour, Kind, King, Queen, Rook, Bishop, Knight, Pawn, Piece, Square, squares, gap, same_square, is_adjacent, is_jump, in_line, on_diagonal, strictly_between, between_on_rank, between_on_file, between_on_diagonal, Board, at, is_empty, has_colour, same_colour, same_kind, is_clear, is_ahead, kind_attacks, cell_attacks, attacks, is_attacked, has_kind, is_aligned, is_near, may_attack, reaches, reaches_from, ◌≡◌, ℕ, ◌<◌, ◌≤◌, Bool, true, false, not, ◌&&◌, ◌||◌, ◌⊎◌, refl, sym, ◌∙◌, ap, arith, Option, None, Some, is_none, is_some, list_any, nat_tests, or_cases, and_from, other, rules, common_steps}
 use Rattle.chess_rules.proofs.sets.AllSquares.{first_true, second_true, all_squares, any_same, implied}
 
 -- a piece is on s, and all squares between s and t are empty
@@ -42,7 +42,7 @@ clear_if b s t h =
 
 pub between_cases : {A : Type 0} (s u t : Square) → strictly_between s u t ≡ true → (between_on_rank s u t ≡ true → A)
     → (between_on_file s u t ≡ true → A) → (between_on_diagonal s u t ≡ true → A) → A
-between_cases s u t h rank file cross = search (rules, or_cases, between_on_rank, between_on_file, between_on_diagonal, inl, inr)
+between_cases s u t h rank file cross = search (rules, or_cases)
 
 near_clear : (b : Board) (s t : Square) → gap s.file t.file ≤ 1 → gap s.rank t.rank ≤ 1 → is_clear b s t ≡ true
 near_clear b s t files ranks = clear_if b s t (λ u _ _ h. absurd (between_cases s u t h (on_rank u) (on_file u) (on_cross u)))
@@ -87,7 +87,7 @@ pub ahead_gap : (c : Colour) (a b : ℕ) → is_ahead c a b ≡ true → gap a b
 ahead_gap c a b h = grind arith
 
 pub adjacent_seen : (b : Board) (s t : Square) → is_adjacent s t ≡ true → (is_aligned s t && is_clear b s t) ≡ true
-adjacent_seen b s t h = grind (arith, common_steps, nat_le, gap, first_true, same_square, near, leb-true, second_true)
+adjacent_seen b s t h = grind (arith, common_steps, first_true, near)
 
 pub pawn_seen : (c : Colour) (b : Board) (s t : Square) → reaches Pawn c s t ≡ true → (is_aligned s t && is_clear b s t) ≡ true
 pawn_seen c b s t h = grind (arith, ahead_gap, near, apart_by_file)
@@ -126,7 +126,7 @@ reached cell s t out = grind (arith, nat_tests)
 
 module _ (b : Board) (c : Colour) where
   pub attacker_is : (s t : Square) → (has_colour c (at b s) && attacks b s t) ≡ (may_attack b c t s && is_clear b s t)
-  attacker_is s t = grind (arith, common_steps, has_colour, cell_attack_is, reaches_from, is_clear)
+  attacker_is s t = grind (arith, common_steps, cell_attack_is)
 
   pub attacked_is : (t : Square) → is_attacked b c t ≡ list_any (λ s. may_attack b c t s && is_clear b s t) squares
   attacked_is t =
@@ -134,7 +134,7 @@ module _ (b : Board) (c : Colour) where
 
   -- of the pieces that may attack, those that see the square do, and those a jump away
   pub seen_attacker : (t s : Square) → (may_attack b c t s && ((is_aligned s t && is_clear b s t) || is_jump s t)) ≡ (may_attack b c t s && is_clear b s t)
-  seen_attacker t s = grind (arith, common_steps, has_colour, reaches_from, is_aligned, is_jump, is_clear, reached, jump_clear, reaches)
+  seen_attacker t s = grind (arith, common_steps, reached, jump_clear)
 
 -- The sets of the code, piece by piece.
 
@@ -143,7 +143,7 @@ pub slider_is : (c : Colour) (cell : Option Piece) (s t : Square)
     && has_colour c cell)
     ≡ ((has_colour c cell && reaches_from cell s t) && not (is_near cell))
 slider_is c None s t = grind arith
-slider_is c (Some x) s t = search (rules, in_line, same_kind, on_diagonal, same_colour, reaches)
+slider_is c (Some x) s t = search rules
 
 -- whether a piece of the kind reaches a square that is a jump away, adjacent, and so on
 abbrev reach_of : Kind → Bool → Bool → Bool → Bool → Bool → Bool
@@ -168,7 +168,7 @@ pub attacker_of : (c : Colour) (cell : Option Piece) (s t : Square)
     && has_colour c cell)
     || ((has_colour c cell && reaches_from cell s t) && not (is_near cell)))
     ≡ (has_colour c cell && reaches_from cell s t)
-attacker_of c None s t = grind (arith, common_steps, is_jump, is_adjacent, reaches)
+attacker_of c None s t = grind (arith, common_steps)
 attacker_of c (Some x) s t = by_colour (same_colour c x.colour) refl
   where
     by_kind : (k : Kind) (j a p l d : Bool) → (((((j && same_kind Knight k) || (a && same_kind King k)) || (p && same_kind Pawn k)) && true)

@@ -1,7 +1,6 @@
 -- All squares between two are empty exactly if the set of them has no piece; and the squares of a
 -- set from which the way is so clear.
 use Rattle.chess_rules.proofs.Words.{Piece, Square, squares, strictly_between, Board, at, cell_of, is_empty, is_clear, square_at, Bits, has, has_any, HasNone, Places, ◌≡◌, ℕ, ◌<◌, Bool, not, ◌&&◌, ◌||◌, List, [], ◌∷◌, refl, sym, ◌∙◌, ap, arith, Option, is_none, is_some, list_all, list_any, common_steps}
-use Rattle.chess_rules.proofs.sets.AllSquares.{cell_of-square_at}
 use Rattle.chess_rules.proofs.sets.SetsToSquares.{any_of_set, places_and}
 
 all_unless : {X : Type 0} (p q r : X → Bool) (xs : List X) → ((x : X) → q x ≡ not (r x))
@@ -29,4 +28,4 @@ module _ (test : Square → Bool) (set : ℕ) where
     pub of : (i : ℕ) → i < 64 → has kept i ≡ (has set i && (has left i || test (square_at i)))
 
   pub none_left : (left kept : ℕ) → HasNone left → Keeps left kept → Places kept (λ s. has set (cell_of s) && test s)
-  none_left left kept none w = grind (arith, common_steps, square_at, has, cell_of-square_at)
+  none_left left kept none w = grind (arith, common_steps)

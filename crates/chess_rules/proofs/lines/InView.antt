@@ -125,4 +125,4 @@ few_in_view b t tf =
 
 pub line_of_set : {line : Square → Bool} {t : Square} {w : ℕ} → t.file < 8
     → t.rank < 8 → IsLine line t → Places w line → IsLine (λ s. has w (cell_of s)) t
-line_of_set {line} {t} {w} tf tr on h = grind (arith, common_steps, apart, at_square, inside, cell_of)
+line_of_set {line} {t} {w} tf tr on h = grind (arith, common_steps, apart, at_square)

@@ -1,6 +1,6 @@
 -- The squares that are seen from a square: on each line through it, those up to the nearest pieces.
-use Rattle.chess_rules.proofs.Words.{Square, squares, gap, same_square, inside, on_diagonal, between_on_rank, between_on_file, between_on_diagonal, strictly_between, Board, at, cell_of, is_empty, is_clear, is_aligned, IsLine, square_at, Bits, has, IsFrom, IsUpTo, Places, ◌≡◌, ◌≢◌, ℕ, ◌+◌, ◌<◌, ◌≤◌, Bool, true, false, not, ◌&&◌, ◌||◌, ◌⊎◌, inl, inr, List, sym, ◌∙◌, ap, ap₂, arith, is_some, nat_lt, list_all, not-true, and_from, nat_tests, false_from_ne_true, common_steps, ltb-true, lt-ltb, ltb-false, le-ltb}
-use Rattle.chess_rules.proofs.sets.AllSquares.{first_true, second_true, same_tests, equal_from, equal_tests, cell_of-square_at}
+use Rattle.chess_rules.proofs.Words.{Square, gap, same_square, inside, on_diagonal, between_on_rank, between_on_file, between_on_diagonal, strictly_between, Board, at, cell_of, is_empty, is_clear, is_aligned, IsLine, square_at, Bits, has, IsFrom, IsUpTo, Places, ◌≡◌, ◌≢◌, ℕ, ◌+◌, ◌<◌, ◌≤◌, Bool, true, false, not, ◌&&◌, ◌||◌, ◌⊎◌, inl, inr, List, sym, ◌∙◌, ap, ap₂, arith, is_some, nat_lt, list_all, not-true, and_from, nat_tests, false_from_ne_true, common_steps, ltb-true, lt-ltb, ltb-false, le-ltb}
+use Rattle.chess_rules.proofs.sets.AllSquares.{first_true, second_true, same_tests, equal_from}
 use Rattle.chess_rules.proofs.lines.InView.{strict, blocked, clear_when, not_there, on_falling, on_file, on_rank, on_rising, four_lines}
 use Rattle.chess_rules.proofs.lines.LinesThrough.{inside_means, inside_up, inside_down}
 
@@ -60,7 +60,7 @@ module _ (b : Board) (t : Square) (line occupied up down high low : ℕ) (tf : t
   pub seen_places : (seen : ℕ) → ((i : ℕ) → i < 64 → has seen i ≡ (has line i && (has high i && has low i)))
       → Places seen (λ s. has line (cell_of s) && is_clear b s t)
   seen_places seen all =
-      grind (arith, common_steps, has, is_clear, square_at, same_tests, seen_clear, first_true, second_true, and_from, clear_up, clear_down, cell_of-square_at)
+      grind (arith, common_steps, same_tests, seen_clear, first_true, second_true, and_from, clear_up, clear_down)
 
 -- The way back is the same.
 
@@ -86,11 +86,11 @@ apart_by s u differ = grind (arith, nat_tests)
 rest_of_diagonal : (s u t : Square) → on_diagonal s t ≡ true → on_diagonal s u ≡ true
     → inside s.file u.file t.file ≡ true → inside s.rank u.rank t.rank ≡ true → on_diagonal t u ≡ true
 rest_of_diagonal s u t whole part files ranks =
-    grind (arith, common_steps, gap_rest, gap, equal_from, first_true, same_square, and_from, equal_tests, apart_by)
+    grind (arith, common_steps, gap_rest, equal_from, first_true, and_from)
 
 diagonal_there : (s u t : Square) → between_on_diagonal s u t ≡ true → between_on_diagonal t u s ≡ true
 diagonal_there s u t h =
-    grind (arith, common_steps, on_diagonal, first_true, inside, second_true, and_from, diagonal_back, rest_of_diagonal, inside_back)
+    grind (arith, common_steps, first_true, second_true, and_from, diagonal_back)
 
 between_back : (s u t : Square) → strictly_between s u t ≡ strictly_between t u s
 between_back s u t =
@@ -101,7 +101,7 @@ all_same : (f g : Square → Bool) (xs : List Square) → ((s : Square) → f s 
 all_same f g xs h = grind arith
 
 pub clear_back : (b : Board) (s t : Square) → is_clear b s t ≡ is_clear b t s
-clear_back b s t = grind (arith, common_steps, all_same, strictly_between, is_empty, squares, between_back)
+clear_back b s t = grind (arith, common_steps, all_same, between_back)
 
 pub aligned_back : (s t : Square) → is_aligned s t ≡ is_aligned t s
 aligned_back s t = grind arith

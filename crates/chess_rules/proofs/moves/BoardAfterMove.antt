@@ -131,4 +131,4 @@ put_stays p m b s x stays on free plain =
 -- a square but the target that had no king has none
 pub carried_free : (p : Parts) (m : Move) → Sound p → Lands p m → (u : Square) → OnBoard u → u ≢ m.to
     → ((c : Colour) → has_piece c King (at p.board u) ≡ false) → (c : Colour) → has_piece c King (at (carried p m) u) ≡ false
-carried_free p m sound lands u on apart free c = grind (arith, common_steps, at_moved, on_target, on_origin, has_piece, on_other)
+carried_free p m sound lands u on apart free c = grind (arith, common_steps, at_moved, on_target, on_origin)

@@ -1,5 +1,5 @@
 -- In check, a move to no square that meets the attack is not legal.
-use Rattle.chess_rules.proofs.Words.{Colour, King, Knight, Pawn, Piece, Move, Parts, Square, same_square, strictly_between, is_adjacent, squares, Board, at, cell_of, is_empty, other, has_colour, attacks, cell_attacks, is_attacked, is_clear, king_attacked, is_position, is_target, own, on_board, short_right, short_wing, long_right, long_wing, Wing, castles, carried, is_legal, is_check, king_square, has, members, is_king_step, is_untried, one_move, is_legal_pair, has_untried_move, Bits, ◌≡◌, ◌≢◌, ℕ, Bool, true, false, not, ◌&&◌, ◌||◌, refl, sym, ◌∙◌, ap, ap₂, subst, arith, length, Option, None, is_none, list_any, false≢true, and_from, false_from_ne_true, not-true, common_steps, HasAttacker, MeetsAttack, is_king_move, is_unattacked, stand_ready}
+use Rattle.chess_rules.proofs.Words.{Colour, King, Knight, Pawn, Piece, Move, Parts, Square, same_square, strictly_between, is_adjacent, squares, Board, at, cell_of, is_empty, other, has_colour, attacks, cell_attacks, is_attacked, is_clear, king_attacked, is_position, is_target, own, short_right, short_wing, long_right, long_wing, Wing, castles, carried, is_legal, is_check, king_square, has, members, is_king_step, is_untried, one_move, is_legal_pair, has_untried_move, Bits, ◌≡◌, ◌≢◌, ℕ, Bool, true, false, not, ◌&&◌, ◌||◌, refl, sym, ◌∙◌, ap, ap₂, subst, arith, length, Option, None, is_none, list_any, false≢true, and_from, false_from_ne_true, not-true, common_steps, HasAttacker, MeetsAttack, is_king_move, is_unattacked, stand_ready}
 use Rattle.chess_rules.proofs.moves.WaysToStep.{PieceStep, Castles, piece_step_means, pawn_step_means, passing_means, castles_means, way_of, by_piece, by_pawn, by_passing, by_short, by_long}
 use Rattle.chess_rules.proofs.sets.AllSquares.{first_true, second_true, each_square, Passes, some_square, any_square, not_true, cell_of-square_at}
 use Rattle.chess_rules.proofs.lines.AttackToReach.{clear_if, squares_same, other-other, adjacent_back}
@@ -54,7 +54,7 @@ pub check_met : (p : Parts) (b : Board) (c : Colour) (k : Square) (set : ℕ) �
     → c ≡ other p.side → k ≡ king_square p.side p.board → MeetsAttack b c k set
     → HasAttacker p.board (other p.side) (king_square p.side p.board) set
 check_met p b c k set position check same_board same_colour same_king h =
-    grind (arith, common_steps, sound_from_position, on_board, other, attack_on_king)
+    grind (arith, common_steps, sound_from_position, attack_on_king)
 
 -- A position in check, with no en passant target, and the targets that may meet the check.
 module _ (p : Parts) (set : ℕ) (position : is_position p ≡ true) (check : is_check p ≡ true) (no_target : p.target ≡ None)

@@ -1,9 +1,9 @@
 -- A step is of one kind, obeys the rules of that kind, and has its board.
-use Rattle.chess_rules.proofs.Words.{King, Rook, Pawn, Kind, Colour, Piece, Move, Parts, StepKind, Plain, EnPassant, ShortCastling, LongCastling, Square, gap, is_adjacent, attacks, Board, at, cell_of, put, some_piece, is_empty, other, has_colour, has_piece, Wing, own, home, captured_pawn, castles, is_piece_step, is_pawn_way, is_pawn_step, promotion_fits, is_target, is_en_passant, castles_short, castles_long, short_right, long_right, short_wing, long_wing, carried, en_passant_board, castled, board_after, reaches, step_kind, ◌≡◌, ◌≢◌, ℕ, Bool, true, false, not, ◌&&◌, ◌||◌, ◌⊎◌, inl, inr, sym, ◌∙◌, ap, arith, nat_lt, ◌==◌, Option, None, Some, is_some, if◌then◌else◌, false≢true, false_from_ne_true, and_from, nat_tests, get_or-set_other, or_right, rules, common_steps}
+use Rattle.chess_rules.proofs.Words.{King, Rook, Pawn, Kind, Colour, Piece, Move, Parts, StepKind, Plain, EnPassant, ShortCastling, LongCastling, Square, gap, attacks, Board, at, cell_of, some_piece, is_empty, other, has_colour, has_piece, Wing, own, home, captured_pawn, castles, is_piece_step, is_pawn_way, is_pawn_step, promotion_fits, is_target, is_en_passant, castles_short, castles_long, short_right, long_right, short_wing, long_wing, carried, en_passant_board, castled, board_after, reaches, step_kind, ◌≡◌, ◌≢◌, ℕ, Bool, true, false, not, ◌&&◌, ◌||◌, ◌⊎◌, inl, inr, sym, ◌∙◌, ap, arith, nat_lt, ◌==◌, Option, None, Some, is_some, if◌then◌else◌, false≢true, false_from_ne_true, and_from, nat_tests, get_or-set_other, or_right, rules, common_steps}
 use Rattle.chess_rules.proofs.moves.WaysToStep.{PieceStep, PawnStep, Passing, Castles, piece_step_means, pawn_step_means, passing_means, castles_means, way_of, by_piece, by_pawn, by_passing, by_short, by_long, some_of}
 use Rattle.chess_rules.proofs.sets.AllSquares.{first_true, second_true, same_tests, equal_tests}
 use Rattle.chess_rules.proofs.lines.AttackToReach.{kinds_same, colours_same}
-use Rattle.chess_rules.proofs.moves.StepsKeepBoard.{one_kind, not_both, attacks_as, pawn_attack}
+use Rattle.chess_rules.proofs.moves.StepsKeepBoard.{one_kind, not_both, attacks_as}
 
 -- a king goes further than to the next file
 abbrev king_goes_far : Parts → Move → Bool
@@ -52,11 +52,11 @@ passes_by far short passes e = grind arith
 
 module _ (p : Parts) (m : Move) where
   no_far_pawn : own p Pawn m.from ≡ true → king_goes_far p m ≡ false
-  no_far_pawn pawn = grind (arith, common_steps, false_from_ne_true, one_kind, second_true, nat_lt, gap)
+  no_far_pawn pawn = grind (arith, common_steps, false_from_ne_true, one_kind, second_true)
 
   piece_is_plain : PieceStep p m → step_kind p m ≡ Plain
   unfolding step_kind
-  piece_is_plain h = search (rules, false_from_ne_true, attacks_as, second_true, nat_lt, gap, false≢true, own, first_true, is_adjacent, nat_tests)
+  piece_is_plain h = search (rules, false_from_ne_true, attacks_as, second_true, false≢true, first_true)
 
   -- a pawn that keeps to its rules goes ahead, or finds a piece
   file_or_full : is_pawn_way p m ≡ true → (m.from.file ≡ m.to.file) ⊎ (is_empty p.board m.to ≡ false)
@@ -65,11 +65,11 @@ module _ (p : Parts) (m : Move) where
   pawn_is_plain : PawnStep p m → step_kind p m ≡ Plain
   unfolding step_kind
   pawn_is_plain h =
-      grind (arith, common_steps, no_far_pawn, false_from_ne_true, is_empty, file_or_full, inl, false≢true, equal_tests, first_true, inr, second_true, is_target, own)
+      grind (arith, common_steps, no_far_pawn, false_from_ne_true, file_or_full, false≢true, equal_tests, first_true, second_true)
 
   passing_is_en_passant : Passing p m → step_kind p m ≡ EnPassant
   unfolding step_kind
-  passing_is_en_passant h = grind (arith, common_steps, no_far_pawn, gap, and_from, first_true, pawn_attack)
+  passing_is_en_passant h = grind (arith, common_steps, no_far_pawn, and_from)
 
   castling_is_short : Castles p m short_wing → step_kind p m ≡ ShortCastling
   unfolding step_kind
@@ -154,4 +154,4 @@ home_apart p a b s is differ e = differ (let f : cell_of (home p a) ≡ cell_of 
 
 pub rook_waits : (p : Parts) (m : Move) (right : Bool) (wing : Wing) → wing.rook ≢ 4 → wing.rook ≢ wing.end
     → castles p m right wing ≡ true → at (carried p m) (home p wing.rook) ≡ some_piece p.side Rook
-rook_waits p m right wing apart differ h = grind (arith, common_steps, castles_means, get_or-set_other, put, cell_of, home, home_apart, piece_there)
+rook_waits p m right wing apart differ h = grind (arith, common_steps, castles_means, get_or-set_other, piece_there)

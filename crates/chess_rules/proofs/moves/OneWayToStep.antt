@@ -2,7 +2,6 @@
 use Rattle.chess_rules.proofs.Words.{Pawn, Move, Parts, gap, at, is_empty, other, has_piece, attacks, own, is_piece_step, is_pawn_way, is_pawn_step, promotion_fits, is_target, captured_pawn, is_en_passant, castles_short, castles_long, short_wing, long_wing, Wing, CasesApart, ◌≡◌, ◌≤◌, Bool, true, ◌&&◌, arith, [], ◌∷◌, count_by, or_cases, short_right, long_right}
 use Rattle.chess_rules.proofs.moves.WaysToStep.{Castles, castles_means}
 use Rattle.chess_rules.proofs.sets.AllSquares.{first_true, second_true, equal_from}
-use Rattle.chess_rules.proofs.moves.StepsKeepBoard.{pawn_attack}
 
 module _ (p : Parts) (m : Move) where
   pub no_pawn_moves : is_piece_step p m ≡ true → own p Pawn m.from ≡ true → ⊥
@@ -23,7 +22,7 @@ module _ (p : Parts) (m : Move) where
 
   -- a pawn that goes ahead keeps its file, and one that captures finds a piece
   pub pawn_steps_apart : is_pawn_step p m ≡ true → is_en_passant p m ≡ true → ⊥
-  pawn_steps_apart h g = grind (arith, or_cases, first_true, second_true, equal_from, en_passant_stands, pawn_attack, pawn_of_en_passant)
+  pawn_steps_apart h g = grind (arith, or_cases, first_true, second_true, equal_from, en_passant_stands)
 
   -- a king steps to a square beside it
   king_steps_apart : (wing : Wing) → 2 ≤ gap 4 wing.end → is_piece_step p m ≡ true → Castles p m wing → ⊥

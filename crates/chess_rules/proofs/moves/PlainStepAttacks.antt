@@ -1,6 +1,6 @@
 -- A plain step gives an attack only by the piece that moves, or along the line that it leaves.
 use Rattle.chess_rules.proofs.Words.{Colour, Piece, Promotion, Move, Parts, Square, same_square, between_on_rank, between_on_file, between_on_diagonal, strictly_between, squares, Board, at, put, is_empty, other, has_colour, attacks, cell_attacks, is_attacked, is_clear, king_attacked, is_position, is_on_board, promoted, carried, board_after, after, legal, if_safe, is_legal, is_check, is_aligned, is_near, king_square, may_attack, reaches_from, slides, Plain, step_kind, ◌≡◌, Bool, true, false, not, ◌&&◌, ◌||◌, ◌⊎◌, inl, inr, refl, sym, ◌∙◌, ap, ap₂, subst, arith, length, Option, None, Some, is_none, is_some, option_map, if◌then◌else◌, list_any, false≢true, and_from, false_from_ne_true, nat_tests, common_steps}
-use Rattle.chess_rules.proofs.sets.AllSquares.{first_true, second_true, each_square, all_squares, Passes, some_square, any_square, not_true, implied}
+use Rattle.chess_rules.proofs.sets.AllSquares.{first_true, each_square, all_squares, Passes, some_square, any_square, not_true, implied}
 use Rattle.chess_rules.proofs.lines.AttackToReach.{attacker_is, none_or_all, between_cases, other-other}
 use Rattle.chess_rules.proofs.positions.OneKing.{StandsAt}
 use Rattle.chess_rules.proofs.moves.CellsAfterPut.{OnBoard, at_put_here, length-put, moved, at_moved, on_target, on_origin, on_other}
@@ -64,7 +64,7 @@ module _ (b : Board) (from to k : Square) (cell : Option Piece) (c : Colour)
   attacked_before : (s : Square) → OnBoard s → is_none cell ≡ false → Opens
       → (has_colour c (at b s) && cell_attacks (at b s) (moved b from to cell) s k) ≡ true → (has_colour c (at b s) && attacks b s k) ≡ true
   attacked_before s on full (inl apart) h =
-      grind (arith, common_steps, and_from, first_true, cell_still, moved, clear_before, second_true, has_colour)
+      grind (arith, common_steps, and_from, first_true, cell_still, clear_before)
   attacked_before s on full (inr none) h =
       sym (no_slide c (at b s) (moved b from to cell) b s k
       (false_from_ne_true (slides b c k s)
@@ -138,7 +138,7 @@ safe_when_plain p m b k position on h plain is calm_before apart unseen =
 pub check_is_seen : (p : Parts) (m : Move) (b : Board) (k : Square)
     → is_position p ≡ true → is_on_board m ≡ true → board_after p m ≡ Some b
     → k ≡ king_square (other p.side) p.board → king_attacked b (other p.side) ≡ is_attacked b p.side k
-check_is_seen p m b k position on h is = grind (arith, common_steps, king_seen, other, is_attacked, other-other, other_king_stays)
+check_is_seen p m b k position on h is = grind (arith, common_steps, king_seen, other-other, other_king_stays)
 
 -- the other king is not attacked, if the piece that arrives does not attack it, and it sees no
 -- square that is left

@@ -1,8 +1,8 @@
 -- Each of the ways to step leaves the board in order.
-use Rattle.chess_rules.proofs.Words.{Colour, Kind, King, Rook, Pawn, Piece, Promotion, Move, Parts, Square, square, gap, strictly_between, Board, some_piece, at, put, is_empty, other, has_colour, has_piece, is_pawn, is_clear, is_ahead, kind_attacks, cell_attacks, attacks, is_attacked, king_attacked, target_fits, target_rank, own, home, home_rank, pawn_rank, double_rank, last_rank, is_advance, is_double_step, is_pawn_capture, is_pawn_way, is_target, captured_pawn, crossed, Wing, short_wing, long_wing, kind_of, promoted, carried, en_passant_board, castled, ◌≡◌, ◌≢◌, ℕ, ◌<◌, true, false, not, ◌&&◌, ◌||◌, ◌⊎◌, inl, inr, refl, sym, ◌∙◌, ap, subst, arith, ◌==◌, Option, None, is_none, is_some, nat_tests, or_cases, and_from, false_from_ne_true, rules, common_steps}
+use Rattle.chess_rules.proofs.Words.{Colour, Kind, King, Rook, Pawn, Piece, Promotion, Move, Parts, Square, square, gap, strictly_between, Board, some_piece, at, put, is_empty, other, has_colour, has_piece, is_pawn, is_clear, is_ahead, kind_attacks, cell_attacks, attacks, is_attacked, king_attacked, target_fits, target_rank, own, home, home_rank, pawn_rank, double_rank, last_rank, is_double_step, is_pawn_way, is_target, captured_pawn, Wing, short_wing, long_wing, kind_of, carried, en_passant_board, castled, ◌≡◌, ◌≢◌, ℕ, ◌<◌, true, false, not, ◌&&◌, ◌||◌, ◌⊎◌, inl, inr, refl, sym, ◌∙◌, ap, subst, arith, ◌==◌, Option, None, is_none, nat_tests, or_cases, and_from, false_from_ne_true, rules, common_steps}
 use Rattle.chess_rules.proofs.moves.WaysToStep.{PieceStep, PawnStep, Passing, Castles}
 use Rattle.chess_rules.proofs.sets.AllSquares.{first_true, second_true, each_square, any_square, equal_tests, not_true}
-use Rattle.chess_rules.proofs.lines.AttackToReach.{kinds_same, colours_same, ahead_gap, other-other}
+use Rattle.chess_rules.proofs.lines.AttackToReach.{kinds_same, ahead_gap, other-other}
 use Rattle.chess_rules.proofs.moves.CellsAfterPut.{OnBoard, at_put}
 use Rattle.chess_rules.proofs.positions.RulesOfPosition.{Sound, is_edge}
 use Rattle.chess_rules.proofs.moves.BoardAfterMove.{arriving, Lands, Stays, IsPlain, carried_stays, put_stays, carried_free}
@@ -18,7 +18,7 @@ module _ (c : Colour) where
 
   -- a cell has pieces of one kind
   pub one_kind : (d : Colour) (k l : Kind) (cell : Option Piece) → has_piece c k cell ≡ true → has_piece d l cell ≡ true → k ≡ l
-  one_kind d k l cell h g = grind (arith, kinds_same, second_true)
+  one_kind d k l cell h g = grind (arith, second_true)
 
   no_king_with : (d : Colour) (k : Kind) (cell : Option Piece) → (King ≡ k → ⊥) → has_piece d k cell ≡ true → has_piece c King cell ≡ false
   no_king_with d k cell differ h = grind arith
@@ -37,7 +37,7 @@ module _ (c : Colour) where
 
   -- the piece on a square attacks as its kind and colour do
   pub attacks_as : (k : Kind) (cell : Option Piece) (b : Board) (s t : Square) → has_piece c k cell ≡ true → cell_attacks cell b s t ≡ true → kind_attacks k c b s t ≡ true
-  attacks_as k cell b s t h g = grind (arith, kinds_same, second_true, colours_same, first_true)
+  attacks_as k cell b s t h g = grind (arith, kinds_same, second_true)
 
 -- The other king is never taken.
 
@@ -65,7 +65,7 @@ module _ (p : Parts) (m : Move) where
   -- A king, queen, rook, bishop or knight.
 
   pub piece_lands : Sound p → OnBoard m.from → OnBoard m.to → PieceStep p m → Lands p m
-  piece_lands sound on_from on_to h = grind (arith, common_steps, own, free_of, king_not_taken, has_piece, arrives_as, is_pawn, no_pawn_but_own)
+  piece_lands sound on_from on_to h = grind (arith, common_steps, free_of, king_not_taken, arrives_as)
 
   -- A pawn.
 
@@ -85,7 +85,7 @@ module _ (p : Parts) (m : Move) where
 
   way_free : Sound p → OnBoard m.from → OnBoard m.to → own p Pawn m.from ≡ true → is_pawn_way p m ≡ true → (c : Colour) → has_piece c King (at p.board m.to) ≡ false
   way_free sound on_from on_to pawn h =
-      grind (arith, common_steps, or_cases, is_advance, is_double_step, is_pawn_capture, inl, empty_free, second_true, is_ahead, inr, is_empty, crossed, pawn_rank, double_rank, first_true, attacks, has_colour, other, has_piece, free_of, false_from_ne_true, not_both, king_not_taken, colour_of_piece)
+      grind (arith, common_steps, or_cases, empty_free, second_true, first_true, free_of, false_from_ne_true, not_both, king_not_taken)
 
 last_of : (c : Colour) (a b : ℕ) → a < 8 → (is_ahead c a b ≡ true) ⊎ ((a ≡ pawn_rank c) × (b ≡ double_rank c))
     → is_edge b ≡ true → b ≡ last_rank c
@@ -93,7 +93,7 @@ last_of c a b low h edge = grind arith
 
 pub pawn_lands : (p : Parts) (m : Move) → Sound p → OnBoard m.from → OnBoard m.to → PawnStep p m → Lands p m
 pawn_lands p m sound on_from on_to h =
-    search (rules, own, colour_of_piece, way_free, equal_tests, last_rank, last_of, way_goes, has_piece, promoted, promoted_is_no_king, no_king_with, is_some, is_none, is_pawn)
+    search (rules, colour_of_piece, way_free, equal_tests, last_of, way_goes, promoted_is_no_king, no_king_with)
 
 target_line : (c : Colour) (o : Option Square) (t : Square) → target_fits c o ≡ true → is_target o t ≡ true → t.rank ≡ target_rank c
 target_line c o t fits hits = grind arith
@@ -103,7 +103,7 @@ inner_line c rank h = grind arith
 
 pub passing_lands : (p : Parts) (m : Move) → Sound p → OnBoard m.from → OnBoard m.to → Passing p m → Lands p m
 passing_lands p m sound on_from on_to h =
-    grind (arith, common_steps, own, colour_of_piece, empty_free, has_piece, arrives_as, last_rank, is_edge, inner_line, target_line, is_none, is_some)
+    grind (arith, common_steps, colour_of_piece, empty_free, arrives_as, inner_line, target_line)
 
 nothing_plain : IsPlain None
 nothing_plain = record { no_king = λ c. refl; no_pawn = refl }
@@ -161,11 +161,11 @@ long_is_wing = grind arith
 
 module _ (p : Parts) (m : Move) (wing : Wing) where
   pub castling_ends_empty : IsWing wing → Castles p m wing → is_empty p.board m.to ≡ true
-  castling_ends_empty is_wing h = grind (arith, common_steps, is_empty, between_empty, home, home_below)
+  castling_ends_empty is_wing h = grind (arith, common_steps, between_empty)
 
   pub castling_lands : IsWing wing → OnBoard m.from → OnBoard m.to → Castles p m wing → Lands p m
   castling_lands is_wing on_from on_to h =
-      grind (arith, common_steps, own, colour_of_piece, empty_free, castling_ends_empty, has_piece, arrives_as, is_pawn, king_is_no_pawn)
+      grind (arith, common_steps, colour_of_piece, empty_free, castling_ends_empty, arrives_as, king_is_no_pawn)
 
 pub castling_stays : (p : Parts) (m : Move) (wing : Wing) → Sound p → IsWing wing → OnBoard m.from
     → OnBoard m.to → Castles p m wing → Stays p m (castled p m wing.rook wing.crossing)

@@ -1,5 +1,5 @@
 -- Where the one king of a colour stands.
-use Rattle.chess_rules.proofs.Words.{Colour, King, Square, Board, at, cell_of, kings, other, has_piece, is_attacked, king_attacked, square_at, king_square, ◌≡◌, ℕ, zero, suc, ◌+◌, ◌<◌, ◌≤◌, Bool, true, not, ◌&&◌, refl, ap, subst, arith, List, [], ◌∷◌, length, get_or, cond, Some, unwrap_or, position, count_by, position_or_len, position-Some, is_count_by, and_from, common_steps}
+use Rattle.chess_rules.proofs.Words.{Colour, King, Square, Board, at, kings, other, has_piece, is_attacked, king_attacked, king_square, ◌≡◌, ℕ, zero, suc, ◌+◌, ◌<◌, ◌≤◌, Bool, true, not, ◌&&◌, refl, ap, subst, arith, List, [], ◌∷◌, length, get_or, cond, Some, unwrap_or, position, count_by, position_or_len, position-Some, is_count_by, and_from, common_steps}
 use Rattle.chess_rules.proofs.sets.AllSquares.{first_true, second_true, same_tests, Passes, some_square, any_square, cell_of-square_at, square_at-cell_of}
 
 -- How many elements pass, an element at a time.
@@ -51,7 +51,7 @@ module _ {X : Type 0} (p : X → Bool) where
 
   -- the first place, where there is one
   pub place_found : (xs : List X) → 1 ≤ count_by p xs → position p xs ≡ Some (position_or_len p xs)
-  place_found xs h = grind (arith, length, some_place)
+  place_found xs h = grind (arith, some_place)
 
 -- The king's square.
 
@@ -63,12 +63,12 @@ pub record StandsAt (c : Colour) (b : Board) (k : Square) : Type 0 where
 -- the one king stands where it is said to
 pub king_stands : (c : Colour) (b : Board) → length b ≡ 64 → kings c b ≡ 1 → StandsAt c b (king_square c b)
 king_stands c b long one =
-    grind (arith, common_steps, position, has_piece, position_or_len, place_found, square_at, unwrap_or, get_or, position-Some, cell_of-square_at)
+    grind (arith, common_steps, position, place_found, unwrap_or, position-Some, cell_of-square_at)
 
 -- a king of the colour stands nowhere else
 pub king_only_there : (c : Colour) (b : Board) (k l : Square) → length b ≡ 64
     → kings c b ≡ 1 → StandsAt c b k → StandsAt c b l → k ≡ l
-king_only_there c b k l long one h g = grind (arith, common_steps, square_at-cell_of, square_at, one_place, has_piece, cell_of)
+king_only_there c b k l long one h g = grind (arith, common_steps, square_at-cell_of, one_place)
 
 -- whether the king is attacked is seen from its square
 pub king_attacked_there : (c : Colour) (b : Board) → length b ≡ 64 → kings c b ≡ 1

@@ -1,5 +1,5 @@
 -- The rules of a position, one by one.
-use Rattle.chess_rules.proofs.Words.{Colour, White, Black, King, Parts, PositionFault, Kings, PawnOnEdge, KingCapturable, TargetRank, NumberRange, Square, same_square, Board, at, other, kings, is_pawn, is_attacked, king_attacked, is_position, one_king, pawn_on_edge, target_fits, own, king_square, is_check, parts_of, FitsPosition, ◌≡◌, ℕ, ◌<◌, ◌≤◌, Bool, true, false, not, ◌&&◌, ◌||◌, refl, sym, ◌∙◌, ap, subst, arith, length, ◌==◌, nat_le, Option, None, Some, is_none, if◌then◌else◌, and_from, false_from_ne_true, leb-true, rules}
+use Rattle.chess_rules.proofs.Words.{Colour, White, Black, King, Parts, PositionFault, Kings, PawnOnEdge, KingCapturable, TargetRank, NumberRange, Square, same_square, Board, at, other, kings, is_pawn, is_attacked, king_attacked, is_position, one_king, pawn_on_edge, target_fits, own, king_square, is_check, parts_of, FitsPosition, ◌≡◌, ℕ, ◌<◌, ◌≤◌, Bool, true, false, not, ◌&&◌, ◌||◌, refl, sym, ◌∙◌, ap, subst, arith, length, ◌==◌, nat_le, Option, None, Some, is_none, if◌then◌else◌, and_from, false_from_ne_true, rules}
 use Rattle.chess_rules.specs.declared.position.Position.TheInside.{Inside}
 use Rattle.chess_rules.proofs.sets.AllSquares.{first_true, second_true, same_tests, Passes, some_square, any_square, equal_from, equal_tests}
 use Rattle.chess_rules.proofs.lines.AttackToReach.{squares_same, other-other}
@@ -51,7 +51,7 @@ at_most_holds m n h = grind arith
 
 pub sound_from_position : (p : Parts) → is_position p ≡ true → Sound p
 sound_from_position p h =
-    search (rules, one_king, pawn_on_edge, king_attacked, other, target_fits, nat_le, no_fault, second_true, equal_from, first_true, leb-true, kings)
+    search (rules, no_fault, second_true, equal_from, first_true)
 
 pub position_from_sound : (p : Parts) → Sound p → is_position p ≡ true
 position_from_sound p s =

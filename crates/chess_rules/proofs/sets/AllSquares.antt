@@ -49,7 +49,7 @@ each_square test u h file rank =
     ∙ AllPass-from_list_all test squares h (cell_of u) u (omega (arith, squares_long))
 
 pub all_squares : (test : Square → Bool) → ((u : Square) → u.file < 8 → u.rank < 8 → test u ≡ true) → list_all test squares ≡ true
-all_squares test h = grind (arith, common_steps, list_all-from_AllPass, squares, squares_long, square_in_place, square_at)
+all_squares test h = grind (arith, common_steps, list_all-from_AllPass, squares_long, square_in_place)
 
 -- An element that passes.
 

@@ -1,5 +1,5 @@
 -- The lowest and the highest place of a set that is not empty.
-use Rattle.chess_rules.proofs.Words.{has, IsHighest, IsLowest, ◌≡◌, ℕ, zero, suc, ◌+◌, ◌-◌, ◌*◌, ◌^◌, ◌<◌, ◌≤◌, pow-suc, w64, sym, ◌∙◌, ap, arith, ◌==◌, bit_at, leading_zeros, trailing_zeros, leading_length, bit_at_above, bit_at-trailing_zeros, HasNone, IsFrom, IsUpTo, true, not, ◌||◌, nat_lt, false≢true, rules, lt-ltb}
+use Rattle.chess_rules.proofs.Words.{has, IsHighest, IsLowest, ◌≡◌, ℕ, zero, suc, ◌+◌, ◌-◌, ◌*◌, ◌^◌, ◌<◌, ◌≤◌, pow-suc, w64, sym, ◌∙◌, ap, arith, ◌==◌, bit_at, leading_zeros, trailing_zeros, leading_length, bit_at_above, bit_at-trailing_zeros, HasNone, IsFrom, IsUpTo, true, not, ◌||◌, nat_lt, rules, lt-ltb}
 use Rattle.chess_rules.proofs.sets.WordsToCells.{has_below, has_zero}
 
 pub lowest_place : (n : ℕ) → 0 < n → n < 2 ^ 64 → IsLowest n (trailing_zeros w64 n)
@@ -45,7 +45,7 @@ at_or_before : (i n : ℕ) → (n < i → ⊥) → ((i == n) || nat_lt i n) ≡ 
 at_or_before i n h = grind arith
 
 pub up_to_lowest : (w n r : ℕ) → IsLowest w n → ((i : ℕ) → i < 64 → has r i ≡ ((i == n) || nat_lt i n)) → IsUpTo w r
-up_to_lowest w n r lowest is = search (rules, not_after, at_or_before, false≢true)
+up_to_lowest w n r lowest is = search (rules, not_after)
 
 not_before : (i n : ℕ) → not (nat_lt i n) ≡ true → (i < n → ⊥)
 not_before i n h less = grind arith
@@ -54,4 +54,4 @@ at_or_after : (i n : ℕ) → (i < n → ⊥) → not (nat_lt i n) ≡ true
 at_or_after i n h = grind arith
 
 pub highest_onward : (w n r : ℕ) → IsHighest w n → ((i : ℕ) → i < 64 → has r i ≡ not (nat_lt i n)) → IsFrom w r
-highest_onward w n r highest is = search (rules, not_before, at_or_after, false≢true)
+highest_onward w n r highest is = search (rules, not_before)

@@ -54,7 +54,7 @@ itself w = record { of = λ i low. ap (has w) (sym (cell_of-square_at i)) }
 
 pub empty_test : (w : ℕ) → w < 2 ^ 64 → (w == 0) ≡ not (has_any w)
 unfolding has_any
-empty_test w fits = grind (arith, common_steps, set_test, has, cell_of, itself)
+empty_test w fits = grind (arith, common_steps, set_test)
 
 -- The members in turn.
 
@@ -88,7 +88,7 @@ any_of_set w test h = as_found (λ s. has w (cell_of s)) ∙ (any_member w (λ s
 -- a set of which none is said to be empty
 pub full_when : (w : ℕ) (test : Square → Bool) (empty : Bool) → Places w test
     → empty ≡ not (has_any w) → not empty ≡ list_any test squares
-full_when w test empty h e = grind (arith, common_steps, has_any, any_of_set)
+full_when w test empty h e = grind (arith, common_steps, any_of_set)
 
 -- nothing is in a set that is empty
 pub none_of_set : (w : ℕ) → not (has_any w) ≡ true → (i : ℕ) → i < 64 → has w i ≡ false
@@ -176,7 +176,7 @@ unfolding members has_any
 lone_first w rest s first sets = ap lone (takes_lowest w rest s first sets).next ∙ lone_after (λ t. has rest (cell_of t)) squares s
 
 pub first_place : (w : ℕ) (s : Square) → 0 < w → w < 2 ^ 64 → s ≡ square_at (trailing_zeros w64 w) → IsFirst w s
-first_place w s some fits is = grind (arith, common_steps, trailing_zeros, w64, lowest_place, cell_of, cell_of-square_at)
+first_place w s some fits is = grind (arith, common_steps, trailing_zeros, w64, lowest_place)
 
 -- At most one square passes, if any two that pass are one.
 

@@ -1,5 +1,5 @@
 -- Words as sets of places, and what the four words of a board say of its cells.
-use Rattle.chess_rules.proofs.Words.{Colour, White, Black, Kind, King, Queen, Rook, Bishop, Knight, Pawn, Piece, AreWords, cell_in, cells, has, Places, Sets, coded, straight_of, diagonal_of, word, has_kind, is_near, square_at, at, has_colour, has_piece, ◌≡◌, ℕ, zero, suc, ◌+◌, ◌-◌, ◌*◌, ◌^◌, ◌<◌, ◌≢◌, min, max, Bool, true, false, not, ◌&&◌, ◌||◌, ◌⊎◌, List, [], ◌∷◌, get_or, set, length, length-set, pow-suc, refl, subst, sym, ◌∙◌, ap, ap₂, w64, arith, Option, None, ◌==◌, is_some, nat_lt, if◌then◌else◌, bit_at, bit_not, get_or-set_at, get_or-map-range_with_len, length-map-range_with_len, ext_get_or, get_or-set_other, and_le_r, or_lt, bit_at_and, bit_at_or, bit_at_not, bit_at_lowest, bit_at-suc, bit_at-lt, same_from_bits_below, bit_at-pow_same, bit_at-pow_other, bit_at_ones, bit_at_ones_above, common_steps, bit_and, bit_or}
+use Rattle.chess_rules.proofs.Words.{Colour, White, Black, Kind, King, Queen, Rook, Bishop, Knight, Pawn, Piece, AreWords, cell_in, cells, has, Places, Sets, coded, straight_of, diagonal_of, word, has_kind, is_near, square_at, at, has_colour, has_piece, ◌≡◌, ℕ, zero, suc, ◌+◌, ◌-◌, ◌*◌, ◌^◌, ◌<◌, ◌≢◌, min, max, Bool, true, false, not, ◌&&◌, ◌||◌, ◌⊎◌, List, [], ◌∷◌, get_or, set, length, length-set, pow-suc, refl, subst, sym, ◌∙◌, ap, ap₂, w64, arith, Option, None, ◌==◌, is_some, nat_lt, if◌then◌else◌, bit_at, bit_not, get_or-set_at, get_or-map-range_with_len, length-map-range_with_len, ext_get_or, get_or-set_other, and_le_r, or_lt, bit_at_and, bit_at_or, bit_at_not, bit_at-suc, bit_at-lt, same_from_bits_below, bit_at-pow_same, bit_at-pow_other, bit_at_ones, bit_at_ones_above, common_steps, bit_and, bit_or}
 use Rattle.chess_rules.proofs.sets.AllSquares.{cell_of-square_at}
 use Rattle.chess_rules.specs.declared.board.Board.TheInside.{Inside}
 
@@ -98,7 +98,7 @@ piece_is c k cell = grind arith
 pub has_word : {X : Type 0} (test : X → Bool) (xs : List X) (i : ℕ) (d : X) → i < length xs → has (word test xs) i ≡ test (get_or xs i d)
 unfolding has word
 has_word test [] i d low = absurd (omega arith)
-has_word test (x ∷ xs) zero d low = grind (arith, common_steps, word, bit_at, bit_at_lowest)
+has_word test (x ∷ xs) zero d low = grind (arith, common_steps)
 has_word test (x ∷ xs) (suc i) d low = next (test x) (word test xs) ∙ has_word test xs i d (omega arith)
   where
     next : (b : Bool) (n : ℕ) → (bit_at ((if b then 1 else 0) + 2 * n) (suc i) == 1) ≡ (bit_at n i == 1)
@@ -134,7 +134,7 @@ word_at : (w : Inside) (test : Option Piece → Bool) (i : ℕ) → i < 64 → h
 word_at w test i low = has_word test (cells w) i None (omega (arith, cells_long w)) ∙ ap test (cell_at w i low)
 
 cell_bits : (w : Inside) (i : ℕ) → i < 64 → AreWords w → BitsOf w i (cell_in w i)
-cell_bits w i low h = grind (arith, common_steps, has, word_at, straight_of, diagonal_of, is_near, has_colour)
+cell_bits w i low h = grind (arith, common_steps, has, word_at, straight_of, diagonal_of)
 
 word_again : (test : Option Piece → Bool) (w : Inside) (n : ℕ) → n < 2 ^ 64
     → ((i : ℕ) → i < 64 → has n i ≡ test (cell_in w i)) → word test (cells w) ≡ n

@@ -1,5 +1,5 @@
 -- The origin of each step is a candidate, and so is that of each legal move.
-use Rattle.chess_rules.proofs.Words.{Colour, Kind, Pawn, Move, Parts, Square, square, gap, inside, same_square, strictly_between, between_on_rank, Board, at, is_empty, is_clear, is_ahead, kind_attacks, attacks, own, home, home_rank, pawn_rank, double_rank, is_advance, is_double_step, is_pawn_step, crossed, short_right, long_right, short_wing, long_wing, Wing, sees, is_aligned, step, if_safe, is_on_board, board_after, after, CandidatesComplete, StepsFromCandidates, ◌≡◌, ℕ, ◌+◌, ◌/◌, ◌<◌, Bool, true, false, Option, None, Some, option_map, if◌then◌else◌, not, ◌&&◌, ◌||◌, refl, sym, ap₂, subst, arith, ◌==◌, nat_tests, or_cases, or_left, or_right, and_from, King, Knight, Piece, Promotion, squares, is_jump, same_kind, has_colour, has_piece, is_position, is_legal, every_promotion, has_legal_move, king_square, one_move, is_legal_pair, is_king_step, is_untried, has_untried_move, has_king_step, inl, inr, List, [], ◌∷◌, ◌∙◌, filter, list_any, false_from_ne_true, rules, common_steps}
+use Rattle.chess_rules.proofs.Words.{Colour, Kind, Pawn, Move, Parts, Square, square, gap, inside, same_square, strictly_between, between_on_rank, Board, at, is_empty, is_clear, kind_attacks, attacks, own, home, home_rank, pawn_rank, double_rank, is_advance, is_double_step, is_pawn_step, short_right, long_right, short_wing, long_wing, Wing, sees, is_aligned, step, if_safe, is_on_board, board_after, after, CandidatesComplete, StepsFromCandidates, ◌≡◌, ℕ, ◌+◌, ◌/◌, ◌<◌, Bool, true, false, Option, None, Some, option_map, if◌then◌else◌, not, ◌&&◌, ◌||◌, refl, sym, ap₂, subst, arith, ◌==◌, nat_tests, or_cases, or_left, or_right, and_from, King, Knight, Piece, Promotion, squares, is_jump, same_kind, has_colour, has_piece, is_position, is_legal, every_promotion, has_legal_move, king_square, one_move, is_legal_pair, is_king_step, is_untried, has_untried_move, has_king_step, inl, inr, List, [], ◌∷◌, ◌∙◌, filter, list_any, false_from_ne_true, rules, common_steps}
 use Rattle.chess_rules.proofs.moves.WaysToStep.{Castles, piece_step_means, passing_means, castles_means, way_of, by_piece, by_pawn, by_passing, by_short, by_long}
 use Rattle.chess_rules.proofs.sets.AllSquares.{first_true, second_true, each_square, equal_from, equal_tests, not_true, same_tests, Passes, some_square, any_square}
 use Rattle.chess_rules.proofs.lines.AttackToReach.{near, ahead_gap, attack_seen, clear_if}
@@ -20,7 +20,7 @@ apart_by_rank : (s t : Square) → 0 < gap s.rank t.rank → not (same_square s 
 apart_by_rank s t h = grind arith
 
 advance_seen : (p : Parts) (m : Move) → is_advance p m ≡ true → sees Pawn p m.from m.to ≡ true
-advance_seen p m h = grind (arith, common_steps, is_ahead, first_true, is_empty, equal_from, gap, ahead_gap, second_true, near, apart_by_rank)
+advance_seen p m h = grind (arith, common_steps, first_true, equal_from, ahead_gap, second_true, near)
 
 -- what lies between two squares of one file, or of one rank
 
@@ -37,7 +37,7 @@ middle c a b x low high h = grind arith
 -- a pawn's double step is seen: the one square between is empty
 double_seen : (p : Parts) (m : Move) → is_double_step p m ≡ true → sees Pawn p m.from m.to ≡ true
 double_seen p m h =
-    search (rules, pawn_rank, double_rank, first_true, is_empty, crossed, second_true, equal_from, double_ranks, gap, and_from, or_left, or_right, equal_tests, apart_by_rank, clear_if, inside, file_means, square, middle)
+    search (rules, first_true, second_true, equal_from, double_ranks, and_from, or_left, or_right, equal_tests, apart_by_rank, clear_if, file_means)
 
 -- Castling: the king sees its end over the square that it crosses.
 
@@ -77,7 +77,7 @@ module _ (p : Parts) where
   by_attack m k h g = seen_by k p.side p m.from m.to (attacks_as p.side k (at p.board m.from) p.board m.from m.to h g)
 
   seen_by_pawn : (m : Move) (k : Kind) → own p k m.from ≡ true → is_pawn_step p m ≡ true → sees k p m.from m.to ≡ true
-  seen_by_pawn m k h g = grind (arith, or_cases, sees_pawn, advance_seen, double_seen, by_attack, first_true, second_true)
+  seen_by_pawn m k h g = grind (arith, or_cases, sees_pawn, advance_seen, double_seen, by_attack, first_true)
 
   by_castling : (m : Move) (k : Kind) (wing : Wing) → (is_clear p.board (home p 4) (home p wing.rook) ≡ true → (is_aligned (home p 4) (home p wing.end) && is_clear p.board (home p 4) (home p wing.end)) ≡ true) → own p k m.from ≡ true → Castles p m wing → sees k p m.from m.to ≡ true
   by_castling m k wing way h g = grind arith

@@ -1,6 +1,5 @@
 -- The pairs that are tried, origin by origin, are those that are tried target by target.
 use Rattle.chess_rules.proofs.Words.{King, Knight, Parts, Square, squares, is_jump, at, cell_of, has_colour, own, is_clear, is_aligned, square_at, has, members, Places, Bits, TakesLowest, is_king_step, is_untried, count_untried, ◌≡◌, ℕ, ◌+◌, ◌<◌, Bool, true, false, not, cond, ◌&&◌, ◌||◌, List, [], ◌∷◌, length, refl, sym, ◌∙◌, ap, ap₂, arith, filter, sum_by, sum_by-cons, rules, common_steps}
-use Rattle.chess_rules.proofs.sets.AllSquares.{cell_of-square_at, square_at-cell_of}
 use Rattle.chess_rules.proofs.lines.SeenAlong.{clear_back, aligned_back}
 use Rattle.chess_rules.proofs.sets.SetsToSquares.{members_are}
 use Rattle.chess_rules.proofs.trying.PairCounts.{bit, length_by_bits, sum_none, sum_same, sum_swap}
@@ -13,7 +12,7 @@ jump_back s t = grind arith
 
 module _ (p : Parts) (s t : Square) where
   pub knight_pair : own p Knight s ≡ true → is_jump t s ≡ is_untried p t s
-  knight_pair knight = search (rules, jump_back, own, is_jump, has_colour, is_aligned, is_king_step, is_clear)
+  knight_pair knight = search (rules, jump_back)
 
   seen_back : (is_aligned t s && is_clear p.board t s) ≡ (is_aligned s t && is_clear p.board s t)
   seen_back = ap₂ (λ x y. x && y) (aligned_back t s) (clear_back p.board t s)
@@ -103,14 +102,14 @@ pub record OriginsLeft (p : Parts) (targets left old now : ℕ) : Type 0 where
 
 pub targets_counted : (p : Parts) (targets : ℕ) (s : Square) {from both : ℕ} → Bits both (λ i. has targets i && has from i)
     → Places from (λ t. is_untried p t s) → length (members both) ≡ count_from p targets s
-targets_counted p targets s {from} {both} meets h = grind (arith, common_steps, members_are, has, cell_of, is_untried, cell_of-square_at)
+targets_counted p targets s {from} {both} meets h = grind (arith, common_steps, members_are)
 
 pub origins_begin : {p : Parts} {targets own old : ℕ} → Places own (λ s. has_colour p.side (at p.board s)) → OriginsLeft p targets own old old
-origins_begin {p} {targets} {own} {old} h = grind (arith, common_steps, sum_by, members_are, has_colour)
+origins_begin {p} {targets} {own} {old} h = grind (arith, common_steps, members_are)
 
 module _ {p : Parts} {targets left rest old now : ℕ} {s : Square} (taken : TakesLowest left rest s) (w : OriginsLeft p targets left old now) where
   pub origin_mine : has_colour p.side (at p.board s) ≡ true
-  origin_mine = grind (arith, common_steps, has_colour, square_at-cell_of, cell_of)
+  origin_mine = grind (arith, common_steps)
 
   -- the count after this origin
   pub origin_counts : now + (count_from p targets s + sum_by (count_from p targets) (members rest))
@@ -118,4 +117,4 @@ module _ {p : Parts} {targets left rest old now : ℕ} {s : Square} (taken : Tak
   origin_counts = next_counts taken w.counts
 
   pub origins_go_on : {later : ℕ} → later ≡ now + count_from p targets s → OriginsLeft p targets rest old later
-  origins_go_on more = grind (arith, common_steps, origin_counts, has, cell_of)
+  origins_go_on more = grind (arith, common_steps, origin_counts)

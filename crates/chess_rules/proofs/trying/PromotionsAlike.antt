@@ -1,6 +1,6 @@
 -- Whether a pair is legal does not depend on what a pawn becomes: the piece that arrives is no king
 -- and is there, whichever it is.
-use Rattle.chess_rules.proofs.Words.{Colour, King, Rook, Pawn, Piece, Promotion, Move, Parts, Square, squares, strictly_between, Board, at, put, some_piece, is_empty, other, has_colour, has_piece, is_clear, cell_attacks, attacks, is_attacked, king_attacked, is_position, own, home, last_rank, is_on_board, promotion_fits, short_right, long_right, short_wing, long_wing, captured_pawn, kind_of, carried, en_passant_board, castled, board_after, after, legal, is_legal, if_safe, one_move, is_legal_pair, PromotionsAlike, ◌≡◌, ℕ, ◌<◌, Bool, true, false, not, ◌&&◌, inl, inr, refl, sym, ◌∙◌, ap, arith, length, Option, None, Some, is_none, is_some, option_map, ◌==◌, if◌then◌else◌, list_any, list_all, Wing, rules, common_steps}
+use Rattle.chess_rules.proofs.Words.{Colour, King, Rook, Pawn, Piece, Promotion, Move, Parts, Square, squares, Board, at, put, some_piece, other, has_colour, has_piece, is_clear, cell_attacks, attacks, king_attacked, is_position, own, home, last_rank, is_on_board, promotion_fits, short_right, long_right, short_wing, long_wing, captured_pawn, kind_of, carried, en_passant_board, castled, board_after, after, legal, is_legal, if_safe, one_move, is_legal_pair, PromotionsAlike, ◌≡◌, ℕ, ◌<◌, Bool, true, false, not, ◌&&◌, refl, sym, ◌∙◌, ap, arith, length, Option, None, Some, is_none, is_some, option_map, ◌==◌, if◌then◌else◌, list_any, list_all, Wing, rules, common_steps}
 use Rattle.chess_rules.proofs.lines.AttackToReach.{other-other}
 use Rattle.chess_rules.proofs.moves.WaysToStep.{Castles, piece_step_means, pawn_step_means, passing_means, castles_means, way_of, by_piece, by_pawn, by_passing, by_short, by_long, some_of}
 use Rattle.chess_rules.specs.declared.piece.Promotion.TheVariants as promotions
@@ -32,7 +32,7 @@ itself_too c b long = record { left = long; right = long; cells = λ u on. itsel
 
 put_alike : (c : Colour) (b d : Board) (s : Square) (x y : Option Piece) → Alike c b d
     → OnBoard s → CellsAlike c x y → Alike c (put b s x) (put d s y)
-put_alike c b d s x y alike on cells = grind (arith, common_steps, length-put, at_put, inl, inr)
+put_alike c b d s x y alike on cells = grind (arith, common_steps, length-put, at_put)
 
 any_same : (f g : Square → Bool) → ((u : Square) → OnBoard u → f u ≡ g u) → list_any f squares ≡ list_any g squares
 any_same f g h = same_tests _ _ (λ a. one f g h (some_square f a)) (λ a. one g f (λ u on. sym (h u on)) (some_square g a))
@@ -47,7 +47,7 @@ all_same f g h = same_tests _ _ (λ a. each f g h a) (λ a. each g f (λ u on. s
     each e k same a = all_squares k (λ u file rank. sym (same u (record { file = file; rank = rank })) ∙ each_square e u a file rank)
 
 clear_alike : (c : Colour) (b d : Board) (s t : Square) → Alike c b d → is_clear b s t ≡ is_clear d s t
-clear_alike c b d s t alike = grind (arith, common_steps, all_same, strictly_between, is_empty)
+clear_alike c b d s t alike = grind (arith, common_steps, all_same)
 
 cell_alike : (cell : Option Piece) (b d : Board) (s t : Square)
     → is_clear b s t ≡ is_clear d s t → cell_attacks cell b s t ≡ cell_attacks cell d s t
@@ -71,7 +71,7 @@ attack_alike c b d s t alike on = by_colours (has_colour (other c) (at b s)) ref
     by_colours false e false f = refl
 
 pub king_alike : (c : Colour) (b d : Board) → Alike c b d → king_attacked b c ≡ king_attacked d c
-king_alike c b d alike = search (rules, any_same, has_piece, is_attacked, other, has_colour, attacks, attack_alike)
+king_alike c b d alike = search (rules, any_same, attack_alike)
 
 -- What arrives.
 

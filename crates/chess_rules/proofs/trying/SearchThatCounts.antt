@@ -26,7 +26,7 @@ module _ (test : Square → Bool) (whole : List Square) where
 
   pub none_left : (left old now : ℕ) → LeftOf left old now → HasNone left
       → (false ≡ list_any test whole) × Counts false old now (length whole)
-  none_left left old now w none = grind (arith, common_steps, list_any, counts_exactly)
+  none_left left old now w none = grind (arith, common_steps)
 
 -- The same, where a member costs some pairs.
 
@@ -46,14 +46,14 @@ module _ {test : Square → Bool} {cost : Square → ℕ} {whole : List Square} 
 
     pub fewer_targets : {hit : Bool} {later : ℕ} → hit ≡ test s → hit ≡ false
         → Counts hit now later (cost s) → TargetsLeft test cost whole rest old later
-    fewer_targets tested misses more = grind (arith, common_steps, next_counted, list_any, members)
+    fewer_targets tested misses more = grind (arith, common_steps, next_counted)
 
     pub target_hit : {hit : Bool} {later : ℕ} → hit ≡ test s → hit ≡ true → Counts hit now later (cost s)
         → (true ≡ list_any test whole) × Counts true old later (sum_by cost whole)
-    target_hit tested passes more = grind (arith, common_steps, list_any, members, next_counted)
+    target_hit tested passes more = grind (arith, common_steps)
 
   pub no_target : HasNone left → (false ≡ list_any test whole) × Counts false old now (sum_by cost whole)
-  no_target none = grind (arith, common_steps, list_any, counts_exactly, sum_by, members)
+  no_target none = grind (arith, common_steps, counts_exactly)
 
 -- The same, where the members are only counted.
 

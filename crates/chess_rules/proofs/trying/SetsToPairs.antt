@@ -20,7 +20,7 @@ module _ (p : Parts) where
   sees_is Pawn s t = refl
 
   pub jumps_are : (k : Kind) (t : Square) (r : ℕ) → k ≡ Knight → Places r (λ s. own p k s && may_see k s t) → members r ≡ candidates p k t
-  jumps_are k t r knight h = grind (arith, common_steps, members_are, is_candidate, own, square_at, may_see, sees)
+  jumps_are k t r knight h = grind (arith, common_steps, members_are)
 
   pub clear_are : (k : Kind) (t : Square) (b : Board) (r clear : ℕ) → b ≡ p.board → Places r (λ s. own p k s && may_see k s t) → Places clear (λ s. has r (cell_of s) && is_clear b s t) → members clear ≡ candidates p k t
   clear_are k t b r clear board h f =
@@ -51,7 +51,7 @@ module _ (p : Parts) where
       one_of (x ∷ (y ∷ xs)) e = cc
 
       seen : (s : Square) → is_candidate p k t s ≡ true → (own p k s && may_see k s t) ≡ true
-      seen s e = grind (arith, sees_is)
+      seen s e = grind arith
 
   pub few_there : (k : Kind) (t : Square) → t.file < 8 → t.rank < 8 → length (candidates p k t) ≤ 8
   few_there k t tf tr = grind (arith, few_candidates)
@@ -73,11 +73,11 @@ module _ (p : Parts) where
   -- The pieces that are still to be tried for a target.
 
   pub king_left_out : (t : Square) (pieces kings rest left : ℕ) → is_king_step p t ≡ true → Bits rest (λ i. not (has kings i)) → Bits left (λ i. has pieces i && has rest i) → Places kings (own p King) → Places left (λ s. has pieces (cell_of s) && not (is_king_step p t && own p King s))
-  king_left_out t pieces kings rest left step misses meets h = grind (arith, cell_of-square_at)
+  king_left_out t pieces kings rest left step misses meets h = grind arith
 
   pub aligned_left : (t : Square) (b : Board) (owns knights rest others lines pieces left clear : ℕ) → b ≡ p.board → Bits rest (λ i. not (has knights i)) → Bits others (λ i. has owns i && has rest i) → Bits pieces (λ i. has others i && has lines i) → Places owns (λ s. has_colour p.side (at p.board s)) → Places knights (own p Knight) → Places lines (λ s. is_aligned s t) → Places left (λ s. has pieces (cell_of s) && not (is_king_step p t && own p King s)) → Places clear (λ s. has left (cell_of s) && is_clear b s t) → Places clear (is_untried_aligned p t)
   aligned_left t b owns knights rest others lines pieces left clear board misses meets both of_owns of_knights of_lines of_left of_clear =
-      grind (arith, cell_of-square_at)
+      grind arith
 
 -- The members of a set, and then all other squares.
 

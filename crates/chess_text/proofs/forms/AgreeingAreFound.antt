@@ -1,6 +1,6 @@
 -- The moves that agree with a form are those that are found, and none is found twice.
-use Rattle.chess_text.proofs.Words.{◌≡◌, ◌≢◌, ℕ, ◌<◌, inl, inr, Bool, true, false, not, ◌&&◌, List, [], ◌∷◌, map, refl, sym, ◌∙◌, ap, subst, arith, Option, None, Some, Ok, Err, is_some, is_none, nat_lt, flat_map, filter_map, cons_option, list_any, list_any_at, Contains, both_ways, not-true, and_parts, and_from, ltb-true, get_or-range_with_len, length-range_with_len, Contains-append_left, Contains-append_right, Promotion, Move, Parts, Square, square, squares, lines, on_board, same_square, short_wing, long_wing, short_right, long_right, legal, is_legal, Form, Castle, Man, Played, NoMove, Ambiguous, same_promotion, describes, agrees, with_next, played, castling_move, move_from, moves_to_try, agreeing, only, TheOneMoveIsRead, NoMoveIsRead, TwoMovesAreAmbiguous, hints_fit, is_castling, own, Kind, common_steps}
-use Rattle.chess_text.proofs.forms.CastlingMoves.{stepped, squares_same, castles_ends, legal_next, played_some}
+use Rattle.chess_text.proofs.Words.{◌≡◌, ◌≢◌, ℕ, ◌<◌, inl, inr, Bool, true, false, not, ◌&&◌, List, [], ◌∷◌, map, refl, sym, ◌∙◌, ap, subst, arith, Option, None, Some, Ok, Err, is_some, is_none, nat_lt, flat_map, filter_map, cons_option, list_any, list_any_at, Contains, both_ways, not-true, and_parts, and_from, ltb-true, get_or-range_with_len, length-range_with_len, Contains-append_left, Contains-append_right, Promotion, Move, Parts, Square, square, squares, lines, on_board, same_square, short_wing, long_wing, short_right, long_right, legal, is_legal, Form, Castle, Man, Played, NoMove, Ambiguous, same_promotion, describes, agrees, with_next, played, castling_move, move_from, moves_to_try, agreeing, only, TheOneMoveIsRead, NoMoveIsRead, TwoMovesAreAmbiguous, hints_fit, own, Kind, common_steps}
+use Rattle.chess_text.proofs.forms.CastlingMoves.{stepped, castles_ends, legal_next, played_some}
 use Rattle.chess_text.proofs.forms.OnlyElement.{here, only_in, later, element, none_in, in_map, of_map, in_found, found_in}
 use Rattle.chess_text.proofs.forms.PieceForms.{same_square-refl}
 
@@ -90,7 +90,7 @@ pub record Said (p : Parts) (k : Kind) (file rank : Option ℕ) (to : Square) (p
 pub said : (p : Parts) (k : Kind) (file rank : Option ℕ) (to : Square) (promotion : Option Promotion) (n : Move)
     → describes p (Man k file rank to promotion) n ≡ true → Said p k file rank to promotion n
 said p k file rank to promotion n h =
-    grind (arith, common_steps, five_hold, own, hints_fit, same_square, same_promotion, is_castling, squares_same, promotions_same)
+    grind (arith, common_steps, five_hold)
 
 pub is_possible : (p : Parts) (f : Form) (m : Move) → is_legal p m ≡ true → describes p f m ≡ true → Contains (moves_to_try p f) m
 is_possible p (Castle false) m legal h =

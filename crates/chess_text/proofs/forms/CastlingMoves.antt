@@ -1,5 +1,5 @@
 -- Which steps and legal moves are castling.
-use Rattle.chess_text.proofs.Words.{◌≡◌, ℕ, ◌<◌, ◌≤◌, Bool, true, false, not, ◌&&◌, ◌||◌, inl, inr, refl, sym, ◌∙◌, arith, nat_lt, Option, None, Some, is_none, is_some, option_map, if◌then◌else◌, abs_diff, and_parts, and_from, or_cases, eqb-true, lt-ltb, ltb-true, Colour, King, Pawn, Piece, Move, Parts, Square, square, same_square, is_adjacent, Board, at, has_colour, has_piece, attacks, cell_attacks, own, Kind, home, Wing, short_wing, long_wing, short_right, long_right, is_pawn_way, is_en_passant, captured_pawn, other, castles, castles_short, castles_long, on_board, step, is_legal, if_safe, is_castling, nat_tests, is_empty, [], subst, Ok, Err, cons_option, legal, Castle, Played, NoMove, describes, with_next_position, played, castling_move, agreeing, only, move_of_form, false_from_ne_true, rules, common_steps, after, board_after, carried, castled, en_passant_board, is_on_board, is_pawn_step, is_piece_step, promotion_fits, stand_ready}
+use Rattle.chess_text.proofs.Words.{◌≡◌, ℕ, ◌<◌, ◌≤◌, Bool, true, false, not, ◌&&◌, ◌||◌, inl, inr, refl, sym, ◌∙◌, arith, nat_lt, Option, None, Some, is_none, is_some, option_map, if◌then◌else◌, abs_diff, and_parts, and_from, or_cases, ltb-true, Colour, King, Pawn, Piece, Move, Parts, Square, same_square, is_adjacent, Board, at, has_colour, has_piece, attacks, cell_attacks, own, Kind, home, Wing, short_wing, long_wing, short_right, long_right, is_pawn_way, is_en_passant, captured_pawn, other, castles, castles_short, castles_long, on_board, step, is_legal, if_safe, is_castling, nat_tests, [], subst, Ok, Err, cons_option, legal, Castle, Played, NoMove, describes, with_next_position, played, castling_move, agreeing, only, move_of_form, false_from_ne_true, rules, common_steps, after, board_after, carried, castled, en_passant_board, is_on_board, is_pawn_step, is_piece_step, promotion_fits, stand_ready}
 
 -- what each way of a step says
 pub data StepWay (p : Parts) (m : Move) : Type 0 where
@@ -24,7 +24,7 @@ four_hold a b c d e h = grind arith
 
 pub passing_parts : (p : Parts) (m : Move) → is_en_passant p m ≡ true → (own p Pawn m.from ≡ true)
     × (attacks p.board m.from m.to ≡ true) × (has_piece (other p.side) Pawn (at p.board (captured_pawn m)) ≡ true)
-passing_parts p m h = grind (arith, common_steps, six_hold, own, is_empty, attacks)
+passing_parts p m h = grind (arith, common_steps, six_hold)
 
 pub way_of_step : (p : Parts) (m : Move) → is_some (step p m) ≡ true → Stepped p m
 way_of_step p m h = by_on _ refl h
@@ -66,7 +66,7 @@ pub stepped : (p : Parts) (m : Move) → is_legal p m ≡ true → Stepped p m
 stepped p m h = way_of_step p m (legal_is_step p m h)
 
 pub squares_same : (s t : Square) → same_square s t ≡ true → s ≡ t
-squares_same s t h = grind (arith, common_steps, and_parts, square, eqb-true)
+squares_same s t h = grind (arith, common_steps)
 
 -- a king is no pawn
 module _ (c : Colour) (cell : Option Piece) where
@@ -97,10 +97,10 @@ module _ (p : Parts) (m : Move) where
 
   -- where castling leads, and that king and rook are ready
   pub castles_ends : (right : Bool) (wing : Wing) → castles p m right wing ≡ true → (m.from ≡ home p 4) × (m.to ≡ home p wing.end) × (is_none m.promotion ≡ true) × (stand_ready p wing.rook ≡ true)
-  castles_ends right wing h = grind (arith, common_steps, six_hold, is_none, same_square, home, squares_same)
+  castles_ends right wing h = grind (arith, common_steps, six_hold)
 
   castles_far : (right : Bool) (wing : Wing) → 1 < abs_diff 4 wing.end → castles p m right wing ≡ true → goes_far p m ≡ true
-  castles_far right wing far h = grind (arith, common_steps, castles_ends, and_from, own, nat_lt, and_parts, lt-ltb)
+  castles_far right wing far h = grind (arith, common_steps, castles_ends, and_from)
 
   pub castling_goes_far : is_castling p m ≡ true → goes_far p m ≡ true
   castling_goes_far h =
@@ -132,7 +132,7 @@ castling_by_files p m king files steps seen stands count =
 
 -- only a king castles
 pub castles_by_king : (p : Parts) (m : Move) (k : Kind) → own p k m.from ≡ true → (k ≡ King → ⊥) → is_castling p m ≡ false
-castles_by_king p m k stands other = search (rules, false_from_ne_true, and_parts, own, castling_goes_far, has_piece, nat_tests)
+castles_by_king p m k stands other = search (rules, false_from_ne_true, and_parts)
 
 -- what the code asks, which looks for castling only where the piece is a king
 pub fits_by_kind : (legal fit asked castles : Bool) → legal ≡ true → fit ≡ true → asked ≡ castles → not asked ≡ (legal && (fit && not castles))
@@ -152,8 +152,8 @@ second_alone x y h = grind arith
 
 -- the castling that the form names is the only one to its target
 pub described : (p : Parts) (long : Bool) (m : Move) → m.to ≡ (castling_move p.side long).to → describes p (Castle long) m ≡ is_castling p m
-described p false m to = search (rules, first_alone, castles_short, castles_long, castles_ends)
-described p true m to = grind (arith, common_steps, second_alone, castles_short, castles_long, castles_ends)
+described p false m to = search (rules, first_alone)
+described p true m to = grind (arith, common_steps, second_alone)
 
 reads_one : (p : Parts) (long : Bool) → move_of_form p (Castle long)
     ≡ only (cons_option (played (describes p (Castle long) (castling_move p.side long)) p (castling_move p.side long)) [])

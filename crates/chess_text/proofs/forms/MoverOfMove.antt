@@ -1,6 +1,6 @@
 -- Whose move a legal move is, and which ones take.
 use mathlib.Core.Bool.{or-false, or-true}
-use Rattle.chess_text.proofs.Words.{◌≡◌, ℕ, List, Bool, true, false, not, ◌||◌, refl, sym, ◌∙◌, ap, arith, ◌==◌, Option, None, Some, is_none, is_some, codes, if◌then◌else◌, ◌++◌, false≢true, and_parts, and_from, nat_tests, Colour, Kind, King, Pawn, Piece, Move, Parts, Square, at, has_colour, has_piece, same_colour, same_kind, is_empty, own, is_en_passant, castles_short, castles_long, is_legal, square_text, is_castling, is_capture, capture_text, castling_text, king_text, has_rivals, or_parts, false_from_ne_true, inl, inr, ◌&&◌, or_cases, eq-eqb, gap, Board, other, attacks, cell_attacks, is_ahead, is_advance, is_double_step, is_pawn_capture, is_pawn_way, captured_pawn, crossed, pawn_rank, double_rank, rules, common_steps}
+use Rattle.chess_text.proofs.Words.{◌≡◌, ℕ, List, Bool, true, false, not, ◌||◌, refl, sym, ◌∙◌, ap, arith, ◌==◌, Option, None, Some, is_none, is_some, codes, if◌then◌else◌, ◌++◌, false≢true, and_parts, and_from, nat_tests, Colour, Kind, King, Pawn, Piece, Move, Parts, Square, at, has_colour, has_piece, same_kind, is_empty, own, is_en_passant, castles_short, castles_long, is_legal, square_text, is_castling, is_capture, capture_text, castling_text, king_text, has_rivals, or_parts, false_from_ne_true, ◌&&◌, or_cases, eq-eqb, gap, Board, other, cell_attacks, is_ahead, captured_pawn, crossed, pawn_rank, double_rank, rules, common_steps}
 use Rattle.chess_text.proofs.forms.CastlingMoves.{piece_goes, pawn_goes, pawn_passes, king_castles, passing_parts, stepped, castles_ends, castling_goes_far}
 
 -- The piece that moves is of the side to move.
@@ -9,7 +9,7 @@ coloured : (c : Colour) (k : Kind) (cell : Option Piece) → has_piece c k cell 
 coloured c k cell h = grind arith
 
 pub mover_colour : (p : Parts) (m : Move) → is_legal p m ≡ true → has_colour p.side (at p.board m.from) ≡ true
-mover_colour p m h = search (rules, stepped, piece_goes, pawn_goes, coloured, pawn_passes, king_castles, and_parts, castling_goes_far)
+mover_colour p m h = search (rules, stepped, piece_goes, pawn_goes, pawn_passes, and_parts)
 
 -- it stands on the origin
 pub mover_stands : (p : Parts) (m : Move) → is_legal p m ≡ true → at p.board m.from ≡ None → ⊥
@@ -19,7 +19,7 @@ same_kind-refl : (k : Kind) → same_kind k k ≡ true
 same_kind-refl k = grind arith
 
 pub mover : (p : Parts) (m : Move) (x : Piece) → is_legal p m ≡ true → at p.board m.from ≡ Some x → own p x.kind m.from ≡ true
-mover p m x h there = grind (arith, common_steps, and_from, same_colour, same_kind, has_colour, mover_colour, same_kind-refl)
+mover p m x h there = grind (arith, common_steps, and_from, mover_colour)
 
 -- a piece of one kind is of no other
 pub other_kind : (c : Colour) (j k : Kind) (cell : Option Piece)
@@ -47,7 +47,7 @@ may_have_rivals k h g = grind arith
 -- as the code asks
 pub something : (p : Parts) (m : Move) (cell : Option Piece) (b : Bool)
     → cell ≡ at p.board m.to → b ≡ is_some cell → b ≡ not (is_empty p.board m.to)
-something p m cell b e f = grind (arith, common_steps, is_some, is_none)
+something p m cell b e f = grind arith
 
 -- The king.
 
@@ -94,7 +94,7 @@ full c cell g = grind arith
 
 pub pawn_way : (p : Parts) (m : Move) → is_legal p m ≡ true → own p Pawn m.from ≡ true → PawnWay p m
 pawn_way p m h pawn_stands =
-    search (rules, stepped, piece_goes, false≢true, pawn_goes, pawn_passes, passing_parts, king_castles, attacks, gap, is_ahead, pawn_attack, is_castling, other_kind, and_parts, own, castling_goes_far, is_advance, advance_parts, is_empty, is_double_step, double_parts, pawn_rank, double_rank, crossed, is_pawn_capture, has_colour, other, full, is_pawn_way, or_cases, inl, inr)
+    search (rules, stepped, piece_goes, false≢true, pawn_goes, pawn_passes, passing_parts, king_castles, pawn_attack, other_kind, and_parts, castling_goes_far, advance_parts, double_parts, full, or_cases)
 
 pub gap_apart : (a b : ℕ) → a ≡ b → gap a b ≡ 1 → ⊥
 gap_apart a b e h = omega arith

@@ -20,7 +20,7 @@ module _ (p : Parts) (k : Kind) (file rank : Option ℕ) (to : Square) (promotio
   -- from a square with such a piece
   pub describes_own : (s : Square) → own p k s ≡ true
       → describes p (Man k file rank to promotion) (move_from to promotion s) ≡ piece_move_fits p file rank (move_from to promotion s)
-  describes_own s stands = grind (arith, common_steps, rest_of, same_square, same_promotion, same_square-refl, same_promotion-refl)
+  describes_own s stands = grind (arith, common_steps, rest_of)
 
   pub tried_own : (s : Square) → own p k s ≡ true → played (piece_move_fits p file rank (move_from to promotion s)) p (move_from to promotion s)
       ≡ from_square p (Man k file rank to promotion) to promotion s

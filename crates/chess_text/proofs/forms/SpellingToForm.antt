@@ -1,6 +1,6 @@
 -- What stands before the marks of a move.
 use mathlib.Core.Bool.{and-true, or-false}
-use Rattle.chess_text.proofs.Words.{◌≡◌, ℕ, ◌+◌, ◌-◌, ◌<◌, ◌≤◌, true, false, List, [], ◌∷◌, ◌++◌, ◌⊎◌, inl, inr, length, get_or, take, drop, refl, sym, ◌∙◌, ap, arith, list_all, take-append-drop, take_more, is_mark, before_marks, and_right, and_left, list_all-append, ◌&&◌, nat_lt, ◌==◌, append-nil, append_assoc, or_cases, length-append, Option, None, Some, bytes_eq, codes, nat_tests, and_parts, take_all, bytes_eq-Decides, Kind, King, Pawn, Promotion, Square, on_board, Form, Castle, Man, file_letter, rank_digit, square_text, SpellsPieceMove, SpellsBare, Spells, is_among, letter_texts, hint_text, capture_texts, promotion_letter, promotion_texts, below_eight, is_form, last_byte, front, file_of, rank_of, promotion_of, promotion_at_end, before_sign, before_promotion, target_at_end, before_capture, before_target, rank_at_end, before_rank, file_at_end, before_file, kind_of_text, piece_move_of, castle_of, bare_form, form_of, false_from_ne_true, common_steps, get_or-append_seam, take-append_seam}
+use Rattle.chess_text.proofs.Words.{◌≡◌, ℕ, ◌+◌, ◌-◌, ◌<◌, ◌≤◌, true, false, List, [], ◌∷◌, ◌++◌, ◌⊎◌, inl, inr, length, get_or, take, drop, refl, sym, ◌∙◌, ap, arith, list_all, take-append-drop, take_more, is_mark, before_marks, and_right, and_left, list_all-append, ◌&&◌, nat_lt, ◌==◌, append-nil, append_assoc, or_cases, length-append, Option, None, Some, bytes_eq, codes, nat_tests, and_parts, bytes_eq-Decides, Kind, King, Pawn, Promotion, Square, on_board, Form, Castle, Man, file_letter, rank_digit, square_text, SpellsPieceMove, SpellsBare, Spells, is_among, letter_texts, hint_text, capture_texts, promotion_letter, promotion_texts, below_eight, is_form, last_byte, front, file_of, rank_of, promotion_of, promotion_at_end, before_sign, before_promotion, target_at_end, before_capture, before_target, rank_at_end, before_rank, file_at_end, before_file, kind_of_text, piece_move_of, castle_of, bare_form, form_of, false_from_ne_true, common_steps, get_or-append_seam, take-append_seam}
 
 pub marks_alone-none : (s : List ℕ) → list_all is_mark s ≡ true → before_marks s ≡ []
 marks_alone-none [] h = refl
@@ -55,7 +55,7 @@ module _ (t : List ℕ) (c : ℕ) where
   front-snoc = cc (end_of, take-append_seam t (c ∷ []))
 
 pub snoc_again : (s : List ℕ) → 0 < length s → s ≡ front s ++ last_byte s ∷ []
-snoc_again s h = grind (arith, common_steps, take_all, take_more)
+snoc_again s h = grind (arith, common_steps)
 
 no_mark_end : (s : List ℕ) → is_mark (last_byte s) ≡ false → before_marks s ≡ s
 no_mark_end [] h = refl
@@ -111,7 +111,7 @@ record FileRead (s t : List ℕ) (file : Option ℕ) : Type 0 where
 file_read : (s : List ℕ) (k : Kind) (file : Option ℕ) → below_eight file ≡ true
     → Letters s k → FileRead s (s ++ hint_text file_letter file) file
 file_read s k None h l = rw append-nil (record { told = l.no_file; before = cc; no_rank = l.no_rank; no_x = l.no_x })
-file_read s k (Some n) h l = grind (arith, common_steps, last_byte-snoc, file_letters, file_at_end, front-snoc)
+file_read s k (Some n) h l = grind (arith, common_steps, last_byte-snoc)
 
 record RankRead (s t : List ℕ) (rank : Option ℕ) : Type 0 where
   told : rank_at_end t ≡ rank
@@ -121,12 +121,12 @@ record RankRead (s t : List ℕ) (rank : Option ℕ) : Type 0 where
 rank_read : (s : List ℕ) (rank : Option ℕ) → below_eight rank ≡ true → rank_of (last_byte s) ≡ None
     → (last_byte s == 120) ≡ false → RankRead s (s ++ hint_text rank_digit rank) rank
 rank_read s None h none no_x = rw append-nil (record { told = none; before = cc; no_x = no_x })
-rank_read s (Some n) h none no_x = grind (arith, common_steps, last_byte-snoc, rank_digits, rank_at_end, front-snoc)
+rank_read s (Some n) h none no_x = grind (arith, common_steps, last_byte-snoc)
 
 -- The x.
 
 capture_read : (s x : List ℕ) → is_among x capture_texts ≡ true → (last_byte s == 120) ≡ false → before_capture (s ++ x) ≡ s
-capture_read s x h no_x = grind (arith, common_steps, two_of, codes, inl, append-nil, inr, last_byte-snoc, front-snoc)
+capture_read s x h no_x = grind (arith, common_steps, two_of, append-nil)
 
 -- The target.
 
@@ -136,7 +136,7 @@ record TargetRead (s t : List ℕ) (to : Square) : Type 0 where
   last : last_byte t ≡ 49 + to.rank
 
 target_read : (s : List ℕ) (to : Square) → on_board to ≡ true → TargetRead s (s ++ square_text to) to
-target_read s to h = grind (arith, common_steps, and_parts, nat_lt, last_byte-snoc, front-snoc, append_assoc, file_letters, rank_digits)
+target_read s to h = grind (arith, common_steps, and_parts, last_byte-snoc, front-snoc)
 
 -- The promotion.
 
@@ -154,7 +154,7 @@ record PromotionRead (s t : List ℕ) (promotion : Option Promotion) : Type 0 wh
 -- behind the digit of a rank
 promotion_read : (s p : List ℕ) (n : ℕ) (promotion : Option Promotion) → is_among p (promotion_texts promotion) ≡ true
     → nat_lt n 8 ≡ true → last_byte s ≡ 49 + n → PromotionRead s (s ++ p) promotion
-promotion_read s p n None h low last = grind (arith, common_steps, rank_digits, promotion_at_end, one_of, append-nil)
+promotion_read s p n None h low last = grind (arith, common_steps, rank_digits)
 promotion_read s p n (Some q) h low last =
     let d = rank_digits n low in
     elim (two_of p (promotion_letter q ∷ []) (61 ∷ promotion_letter q ∷ []) h) [
@@ -208,4 +208,4 @@ bare_read s (Castle true) h g = elim (two_of s (codes "O-O-O") (codes "0-0-0") h
 bare_read s (Man k file rank to promotion) h g = piece_move_read s k file rank to promotion h g
 
 pub form_read : (s : List ℕ) (f : Form) → Spells s f → is_form f ≡ true → form_of s ≡ Some f
-form_read s f h g = grind (arith, common_steps, bare_read, before_marks-append)
+form_read s f h g = grind (arith, bare_read, before_marks-append)

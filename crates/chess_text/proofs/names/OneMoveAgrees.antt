@@ -123,7 +123,7 @@ is_it_rival p m n g to named apart =
 
 pub among_rivals : (p : Parts) (k : Kind) (m n : Move) (test : Square → Bool) → is_legal p n ≡ true
     → own p k n.from ≡ true → is_rival p m n.from ≡ true → test n.from ≡ true → list_any test (rivals p k m) ≡ true
-among_rivals p k m n test g stands rival found = grind (arith, common_steps, any-filter, squares, any_contained, in_squares, stepped, and_from)
+among_rivals p k m n test g stands rival found = grind (arith, common_steps, any-filter, any_contained, in_squares, stepped)
 
 pub turn : (x y : ℕ) → (x == y) ≡ true → (y == x) ≡ true
 turn x y h = grind (arith, nat_tests)
@@ -171,7 +171,7 @@ module _ (p : Parts) (x y : Move) (there : y.to ≡ x.to) (ahead : is_ahead p.si
     (file : x.from.file ≡ x.to.file) (low : x.from.rank ≡ pawn_rank p.side)
     (high : x.to.rank ≡ double_rank p.side) (free : is_empty p.board (crossed x) ≡ true) where
   onto : (f : ℕ) → f ≡ y.to.file → square f y.from.rank ≡ crossed x
-  onto f e = grind (arith, common_steps, between, square, pawn_rank)
+  onto f e = grind (arith, common_steps)
 
   over : own p Pawn y.from ≡ true → y.from.file ≡ y.to.file → ⊥
   over pawn straight = no_one p.side _ free (subst (λ s. own p Pawn s ≡ true) (onto _ straight) pawn)
@@ -206,7 +206,7 @@ module _ (p : Parts) (m n : Move) (pawn_m : own p Pawn m.from ≡ true) (pawn_n 
   straight_alone (takes g a e) wn file = absurd (gap_apart _ _ file g)
   straight_alone (passes g a e f) wn file = absurd (gap_apart _ _ file g)
   straight_alone (advances s a e) (takes h b f) file = absurd (not_empty f e)
-  straight_alone (advances s a e) (passes h b f g) file = grind (arith, common_steps, not_both, has_piece, other, square, same_rank)
+  straight_alone (advances s a e) (passes h b f g) file = grind (arith, common_steps, not_both)
   straight_alone (advances s a e) (advances t b f) file = ap₂ square (file_of_target t s) (same_rank a b)
   straight_alone (advances s a e) (doubles t b c f g) file = absurd (over p n m (sym there) a t b c f pawn_m s)
   straight_alone (doubles s a b e f) (takes h c g) file = absurd (not_empty g f)

@@ -1,5 +1,5 @@
 -- What the texts of legal moves name.
-use Rattle.chess_text.proofs.Words.{◌≡◌, ◌≢◌, ℕ, zero, suc, ◌<◌, Bool, true, false, not, ◌&&◌, List, [], ◌∷◌, ◌++◌, append-nil, refl, sym, ◌∙◌, ap, arith, ◌==◌, nat_lt, Option, None, Some, slice_index_or, list_any, Any, false≢true, and_parts, and_from, ltb-true, Any-from_list_any, Kind, King, Pawn, Move, Parts, Square, squares, same_square, same_kind, own, is_legal, OneKing, Man, letter, file_letter, rank_digit, square_text, Spells, is_form, below_eight, hint_text, hints_fit, capture_text, from_square, is_rival, rivals, on_file, on_rank, disambiguation_by, has_rivals, mark, san, Names, SingleReading, disambiguations, text_with, ShorterIsAmbiguous, same_Some, ◌+◌, ◌≤◌, length, subst, length-append, is_some, option_map, codes, bytes_eq, list_all, list_all-append, nat_tests, false_from_ne_true, bytes_eq-Decides, Promotion, legal, on_board, move_of_form, is_digit, capture_if, pawn_capture, promotion_text, king_text, disambiguated_text, kind_text, piece_text, is_letter, is_move_byte, begins_with_letter, is_marker, IsMoveSymbol, WrittenMoveIsSymbol, WrittenMoveIsRead, and_left, or_right, or_from, rules, common_steps}
+use Rattle.chess_text.proofs.Words.{◌≡◌, ◌≢◌, ℕ, zero, suc, ◌<◌, Bool, true, false, not, ◌&&◌, List, [], ◌∷◌, ◌++◌, append-nil, refl, sym, ◌∙◌, ap, arith, ◌==◌, nat_lt, Option, None, Some, slice_index_or, list_any, Any, false≢true, and_parts, and_from, ltb-true, Any-from_list_any, Kind, King, Pawn, Move, Parts, Square, squares, same_square, same_kind, own, is_legal, OneKing, Man, letter, file_letter, rank_digit, square_text, Spells, is_form, below_eight, hint_text, hints_fit, capture_text, from_square, is_rival, rivals, on_file, on_rank, disambiguation_by, has_rivals, mark, san, Names, SingleReading, disambiguations, text_with, ShorterIsAmbiguous, same_Some, ◌+◌, ◌≤◌, length, subst, is_some, option_map, codes, bytes_eq, list_all, list_all-append, nat_tests, false_from_ne_true, Promotion, legal, on_board, move_of_form, is_digit, capture_if, pawn_capture, promotion_text, king_text, disambiguated_text, kind_text, piece_text, is_letter, is_move_byte, begins_with_letter, is_marker, IsMoveSymbol, WrittenMoveIsSymbol, WrittenMoveIsRead, and_left, or_right, rules, common_steps}
 use Rattle.chess_text.proofs.forms.CastlingMoves.{stepped}
 use Rattle.chess_text.proofs.forms.SpellingToForm.{form_read}
 use Rattle.chess_text.proofs.forms.PieceForms.{same_square-refl}
@@ -86,7 +86,7 @@ module _ (p : Parts) (k : Kind) (m : Move) (h : is_legal p m ≡ true) (stands :
 
   two_named : hints_fit file rank m.from ≡ true → Rival p k m (λ s. hints_fit file rank s)
       → Names p (text_with p k m apart) m × ((n : Move) × (n ≢ m) × Names p (text_with p k m apart) n)
-  two_named fits r = search (rules, names, from_square, another)
+  two_named fits r = search (rules, names, another)
 
 -- which rivals there are, by what is written
 record Flags (j : ℕ) (any file rank : Bool) : Type 0 where
@@ -132,7 +132,7 @@ record Bytes (most : ℕ) (s : List ℕ) : Type 0 where
   fits : length s ≤ most
 
 bytes_append : (m n : ℕ) (xs ys : List ℕ) → Bytes m xs → Bytes n ys → Bytes (m + n) (xs ++ ys)
-bytes_append m n xs ys a b = grind (arith, common_steps, list_all-append, is_move_byte, and_from, length-append)
+bytes_append m n xs ys a b = grind (arith, common_steps, list_all-append)
 
 -- the bytes of squares
 file_is_letter : (s : Square) → on_board s ≡ true → is_letter (file_letter s.file) ≡ true
@@ -151,7 +151,7 @@ file_bytes : (s : Square) → on_board s ≡ true → Bytes 1 (file_letter s.fil
 file_bytes s on = letter_byte _ (file_is_letter s on)
 
 rank_bytes : (s : Square) → on_board s ≡ true → Bytes 1 (rank_digit s.rank ∷ [])
-rank_bytes s on = grind (arith, common_steps, or_right, is_letter, rank_digit, rank_is_digit, one_byte)
+rank_bytes s on = grind (arith, common_steps, or_right)
 
 square_bytes : (s : Square) → on_board s ≡ true → Bytes 2 (square_text s)
 square_bytes s on = bytes_append 1 1 (file_letter _ ∷ []) (rank_digit _ ∷ []) (file_bytes s on) (rank_bytes s on)
@@ -174,7 +174,7 @@ promotion_bytes q = grind arith
 
 mark_bytes : (o : Option Parts) → Bytes 1 (mark o)
 mark_bytes None = grind arith
-mark_bytes (Some q) = grind (arith, common_steps, codes)
+mark_bytes (Some q) = grind arith
 
 letter_is_letter : (k : Kind) → is_letter (letter k) ≡ true
 letter_is_letter k = grind arith
@@ -216,9 +216,9 @@ king_symbol p m to = by_wing _ _
 pawn_symbol : (takes : Bool) (m : Move) → on_board m.from ≡ true → on_board m.to ≡ true
     → Unmarked (pawn_capture takes m ++ square_text m.to ++ promotion_text m.promotion)
 pawn_symbol true m from to =
-    grind (arith, common_steps, bytes_append, file_letter, codes, file_bytes, capture_bytes, square_text, square_bytes, file_is_letter, promotion_text, promotion_bytes)
+    grind (arith, common_steps, bytes_append, file_bytes, capture_bytes, square_bytes, promotion_bytes)
 pawn_symbol false m from to =
-    grind (arith, common_steps, bytes_append, square_text, promotion_text, square_bytes, promotion_bytes, file_is_letter, more)
+    grind (arith, common_steps, bytes_append, square_bytes, promotion_bytes, more)
 
 kind_symbol : (k : Kind) (p : Parts) (m : Move) → on_board m.from ≡ true → on_board m.to ≡ true → Unmarked (kind_text k p m)
 kind_symbol King p m from to = king_symbol p m to
@@ -233,10 +233,10 @@ no_number [] e = cc
 no_number (c ∷ s) e = and_left (is_digit c) (list_all _ s) (letter_is_no_digit c e)
 
 other_text : (s t : List ℕ) → begins_with_letter s ≡ true → begins_with_letter t ≡ false → bytes_eq s t ≡ false
-other_text s t e other = grind (arith, common_steps, false_from_ne_true, bytes_eq, false≢true, begins_with_letter, bytes_eq-Decides)
+other_text s t e other = grind (arith, common_steps, false_from_ne_true)
 
 no_marker : (s : List ℕ) → begins_with_letter s ≡ true → is_marker s ≡ false
-no_marker s e = grind (arith, common_steps, or_from, other_text)
+no_marker s e = grind arith
 
 -- with the mark
 begins_append : (s t : List ℕ) → begins_with_letter s ≡ true → begins_with_letter (s ++ t) ≡ true
@@ -244,7 +244,7 @@ begins_append [] t e = cc
 begins_append (c ∷ s) t e = e
 
 marked : (s t : List ℕ) → Unmarked s → Bytes 1 t → IsMoveSymbol (s ++ t)
-marked s t h last = grind (arith, common_steps, begins_append, bytes_append, no_number, no_marker)
+marked s t h last = grind (arith, common_steps, begins_append)
 
 pub written_move_is_symbol : WrittenMoveIsSymbol
 written_move_is_symbol p m h =

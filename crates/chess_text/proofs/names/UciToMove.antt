@@ -1,5 +1,5 @@
 -- A text in UCI, and the one move whose text it is.
-use Rattle.chess_text.proofs.Words.{◌≡◌, ◌≢◌, ℕ, ◌+◌, Bool, true, false, List, [], ◌∷◌, ◌++◌, inl, inr, refl, sym, ◌∙◌, ap, ap₂, subst, arith, Option, None, Some, Result, Ok, Err, find, bytes_eq, list_all, Contains, bytes_eq-Decides, false≢true, and_parts, and_from, ok_or, is_some, Promotion, Move, Parts, Square, square, squares, on_board, every_promotion, legal, is_legal, Played, with_next, square_text, file_of, rank_of, square_of, nat_tests, same_Some, common_steps, IfOk, is_on_board, uci_promotion, uci, square_named, promotion_named, move_if, move_with_text, if_legal, move_of_uci, UciIsExact, WrittenUciIsRead, UciTextsDiffer, UciFault, NotAMove, IllegalMove}
+use Rattle.chess_text.proofs.Words.{◌≡◌, ◌≢◌, ℕ, ◌+◌, Bool, true, false, List, [], ◌∷◌, ◌++◌, inl, inr, refl, sym, ◌∙◌, ap, ap₂, subst, arith, Option, None, Some, Result, Ok, Err, find, bytes_eq, list_all, Contains, bytes_eq-Decides, false≢true, and_parts, and_from, ok_or, is_some, Promotion, Move, Parts, Square, squares, on_board, every_promotion, legal, is_legal, Played, with_next, square_text, file_of, rank_of, square_of, nat_tests, same_Some, common_steps, IfOk, is_on_board, uci_promotion, uci, square_named, promotion_named, move_if, move_with_text, if_legal, move_of_uci, UciIsExact, WrittenUciIsRead, UciTextsDiffer, UciFault, NotAMove, IllegalMove}
 use Rattle.chess_rules.specs.declared.piece.Promotion.TheVariants.{Queen, Rook, Bishop, Knight}
 use Rattle.chess_text.proofs.forms.AgreeingAreFound.{in_squares}
 use Rattle.chess_text.proofs.forms.CastlingMoves.{stepped}
@@ -39,7 +39,7 @@ unfolding squares
 all_on_board = refl
 
 square_text_once : (s t : Square) → square_text s ≡ square_text t → s ≡ t
-square_text_once s t h = grind (arith, common_steps, square)
+square_text_once s t h = grind arith
 
 square_read : (s : Square) → on_board s ≡ true → square_named (97 + s.file) (49 + s.rank) ≡ Some s
 square_read s on =
@@ -48,7 +48,7 @@ square_read s on =
     (λ t e. square_text_once t s (same_bytes (square_text t) (square_text s) e))
 
 square_spelled : (a b : ℕ) (s : Square) → square_named a b ≡ Some s → (a ∷ b ∷ [] ≡ square_text s) × (on_board s ≡ true)
-square_spelled a b s h = grind (arith, common_steps, bytes_eq, square_text, same_bytes, found, squares, found_among, on_board, all_on_board)
+square_spelled a b s h = grind (arith, common_steps, same_bytes, found, found_among, all_on_board)
 
 square_in_form : (s : Square) → on_board s ≡ true → square_of (file_of (97 + s.file)) (rank_of (49 + s.rank)) ≡ Some s
 square_in_form s on = grind (arith, nat_tests)
@@ -90,7 +90,7 @@ promotion_spelled s q h = sym (same_bytes (uci_promotion q) s (found (λ x. byte
 -- The move.
 
 move_read : (m : Move) → is_on_board m ≡ true → move_with_text (uci m) ≡ Some m
-move_read m on = grind (arith, common_steps, and_parts, on_board, square_read, promotion_read)
+move_read m on = grind (arith, common_steps, and_parts, square_read)
 
 move_spelled : (s : List ℕ) (m : Move) → move_with_text s ≡ Some m → (s ≡ uci m) × (is_on_board m ≡ true)
 move_spelled (a ∷ b ∷ c ∷ d ∷ s) m h = by_parts _ _ _ refl refl refl h

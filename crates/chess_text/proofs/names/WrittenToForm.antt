@@ -1,6 +1,6 @@
 -- The form that the text of a legal move spells.
-use Rattle.chess_text.proofs.Words.{◌||◌, ◌≡◌, ℕ, inl, inr, Bool, true, false, not, [], ◌∷◌, ◌++◌, append-nil, refl, sym, ◌∙◌, ap, ap₂, ◌==◌, Option, None, Some, codes, if◌then◌else◌, list_all, list_any, false≢true, and_parts, and_from, or_cases, eq-eqb, Kind, King, Pawn, Piece, Promotion, Move, Parts, Square, on_board, at, has_colour, same_kind, own, castles_short, castles_long, short_right, long_right, short_wing, long_wing, legal, is_legal, Form, Castle, Man, letter, file_letter, rank_digit, square_text, SpellsBare, Spells, is_among, letter_texts, hint_text, capture_texts, promotion_texts, is_mark, is_form, hints_fit, is_castling, describes, agrees, is_capture, capture_if, capture_text, pawn_capture, promotion_text, king_text, disambiguated_text, kind_text, mark, san, disambiguation_by, rivals, on_file, on_rank, has_rivals, false_from_ne_true, arith, nat_tests, rules, common_steps}
-use Rattle.chess_text.proofs.forms.CastlingMoves.{piece_goes, pawn_goes, pawn_passes, king_castles, stepped, castles_ends, castling_goes_far}
+use Rattle.chess_text.proofs.Words.{◌||◌, ◌≡◌, ℕ, inl, inr, Bool, true, false, not, [], ◌∷◌, ◌++◌, append-nil, refl, sym, ◌∙◌, ap, ap₂, ◌==◌, Option, None, Some, codes, if◌then◌else◌, list_all, list_any, false≢true, and_parts, and_from, or_cases, eq-eqb, Kind, King, Pawn, Piece, Promotion, Move, Parts, Square, on_board, at, has_colour, same_kind, own, castles_short, castles_long, short_right, long_right, short_wing, long_wing, is_legal, Form, Castle, Man, letter, file_letter, rank_digit, square_text, SpellsBare, Spells, is_among, letter_texts, hint_text, capture_texts, promotion_texts, is_mark, is_form, hints_fit, is_castling, describes, agrees, is_capture, capture_if, capture_text, pawn_capture, promotion_text, king_text, disambiguated_text, kind_text, mark, san, disambiguation_by, rivals, on_file, on_rank, has_rivals, false_from_ne_true, arith, nat_tests, rules, common_steps}
+use Rattle.chess_text.proofs.forms.CastlingMoves.{piece_goes, pawn_goes, pawn_passes, king_castles, stepped, castles_ends}
 use Rattle.chess_text.proofs.forms.PieceForms.{same_square-refl, same_promotion-refl}
 use Rattle.chess_text.proofs.forms.MoverOfMove.{king_text_by, mover, mover_colour, other_kind}
 use Rattle.chess_text.proofs.forms.AgreeingAreFound.{no_promotion}
@@ -78,7 +78,7 @@ kind_spelled k p m = disambiguated_spelled k p m refl
 
 pub marks_alone : (o : Option Parts) → list_all is_mark (mark o) ≡ true
 marks_alone None = refl
-marks_alone (Some q) = grind (arith, common_steps, list_all, is_mark, codes)
+marks_alone (Some q) = grind (arith, common_steps)
 
 -- the piece that moves
 pub record Moved (p : Parts) (m : Move) : Type 0 where
@@ -94,7 +94,7 @@ moved p m h = by_cell _ refl (mover_colour p m h)
     by_cell (Some x) e g = record { piece = x; there = e; stands = mover p m x h e }
 
 pub san_spelled : (p : Parts) (m : Move) (v : Moved p m) → Spells (san p m) (written v.piece.kind p m)
-san_spelled p m v = grind (arith, common_steps, kind_text, mark, legal, kind_spelled, marks_alone)
+san_spelled p m v = grind (arith, common_steps, kind_spelled, marks_alone)
 
 -- It is a form.
 
@@ -109,13 +109,13 @@ pawn_good : (b : Bool) (m : Move) → on_board m.from ≡ true → on_board m.to
 pawn_good b m h g = grind arith
 
 pub good_form : (k : Kind) (p : Parts) (m : Move) → is_legal p m ≡ true → is_form (written k p m) ≡ true
-good_form k p m h = search (rules, stepped, is_form, king_good, pawn_good, hinted_good, list_any, rivals, on_file, on_rank)
+good_form k p m h = search (rules, stepped, king_good, pawn_good, hinted_good)
 
 -- The move agrees with it.
 
 module _ (p : Parts) (m : Move) (k : Kind) where
   pub no_castling : own p k m.from ≡ true → same_kind King k ≡ false → is_castling p m ≡ false
-  no_castling h apart = search (rules, false_from_ne_true, false≢true, other_kind, and_parts, castling_goes_far)
+  no_castling h apart = search (rules, false_from_ne_true, false≢true, and_parts)
 
   -- only a pawn is promoted
   pub unpromoted : is_legal p m ≡ true → own p k m.from ≡ true → same_kind k Pawn ≡ false → m.promotion ≡ None
@@ -161,7 +161,7 @@ pawn_described p m false stands = piece_move_described p m Pawn None None _ stan
 disambiguated_described : (p : Parts) (m : Move) (k : Kind) → is_legal p m ≡ true → own p k m.from ≡ true
     → same_kind k Pawn ≡ false → same_kind King k ≡ false → describes p (disambiguated_form k p m) m ≡ true
 disambiguated_described p m k h stands a b =
-    grind (arith, common_steps, rivals, piece_move_described, own_hints, list_any, on_file, on_rank, unpromoted, no_castling)
+    grind (arith, common_steps, piece_move_described, own_hints, unpromoted, no_castling)
 
 pub written_agrees : (k : Kind) (p : Parts) (m : Move) → is_legal p m ≡ true → own p k m.from ≡ true → agrees p (written k p m) m ≡ true
-written_agrees k p m h stands = search (rules, and_from, own, describes, king_described, pawn_described, disambiguated_described)
+written_agrees k p m h stands = search (rules, and_from, king_described, pawn_described, disambiguated_described)

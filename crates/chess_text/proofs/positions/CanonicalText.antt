@@ -1,5 +1,5 @@
 -- The canonical text of a position spells it.
-use Rattle.chess_text.proofs.Words.{◌≡◌, ℕ, zero, suc, ◌+◌, ◌-◌, ◌*◌, ◌<◌, ◌≤◌, ◌==◌, nat_le, Bool, true, false, not, ◌&&◌, List, [], ◌∷◌, ◌++◌, length, get_or, drop, reverse, replicate, drop-cons, add-one, append_assoc, append-nil, refl, sym, ◌∙◌, ap, arith, rules, None, Some, decimal, flat_map, map, fold, is_none, if◌then◌else◌, list_all, eqb-true, nat_tests, replicate_more, drop_all, flat_map-append, list_all-append, decimal_nonempty, digits_decimal, digits_value-decimal, IsNumeralModel, numerals_by_fold, White, Black, Kind, King, Colour, Piece, Parts, Kings, PawnOnEdge, KingCapturable, TargetRank, NumberRange, lines, Board, other, king_attacked, is_position, one_king, pawn_on_edge, target_fits, piece_letter, is_run, is_item, is_rank, cells_at, cells_of, run_text, rank_text, row, placement_text, is_digit, value, SpellsBoard, SpellsNumber, Fen, fen_text, length-append, join_with_byte, and_parts, length-decimal-le, append_cancel_left, reverse-append, reverse-reverse, length-reverse, map-append, digits_value_short, side_text, rights_text, target_text, common_steps, leb-true, take-append_seam}
+use Rattle.chess_text.proofs.Words.{◌≡◌, ℕ, zero, suc, ◌+◌, ◌-◌, ◌*◌, ◌<◌, ◌≤◌, ◌==◌, nat_le, Bool, true, false, not, ◌&&◌, List, [], ◌∷◌, ◌++◌, length, get_or, drop, reverse, replicate, drop-cons, add-one, append_assoc, append-nil, refl, sym, ◌∙◌, ap, arith, rules, None, Some, decimal, flat_map, map, fold, is_none, if◌then◌else◌, list_all, eqb-true, nat_tests, replicate_more, drop_all, flat_map-append, list_all-append, decimal_nonempty, digits_decimal, digits_value-decimal, IsNumeralModel, numerals_by_fold, White, Black, Kind, King, Colour, Piece, Parts, Kings, PawnOnEdge, KingCapturable, TargetRank, NumberRange, lines, Board, is_position, target_fits, piece_letter, is_run, is_item, is_rank, cells_at, cells_of, run_text, rank_text, row, placement_text, is_digit, value, SpellsBoard, SpellsNumber, Fen, fen_text, length-append, join_with_byte, and_parts, length-decimal-le, append_cancel_left, reverse-append, reverse-reverse, length-reverse, map-append, digits_value_short, side_text, rights_text, target_text, common_steps, leb-true, take-append_seam}
 use Rattle.chess_text.proofs.positions.FieldsOfText.{length-number, first_of_two, second_of_two}
 use Rattle.chess_text.proofs.positions.BoardToText.{run_is_short}
 use Rattle.chess_text.proofs.positions.ReadingToSpelling.{some_digit}
@@ -36,7 +36,7 @@ record RankStands (n : ℕ) (cells : Board) : Type 0 where
   spelled : cells_of (rank_text n cells) ≡ replicate n None ++ cells
 
 rank_stands : (n : ℕ) (cells : Board) → n + length cells ≤ 8 → RankStands n cells
-rank_stands n [] h = grind (arith, common_steps, run_stands, append-nil)
+rank_stands n [] h = grind arith
 rank_stands n (None ∷ cells) h =
     let more = rank_stands _ cells (omega arith) in
     record {
@@ -53,7 +53,7 @@ pub rank_spelled : (cells : Board) → length cells ≡ 8 → cells_of (rank_tex
 rank_spelled cells h = (rank_stands 0 cells (omega arith)).spelled
 
 rank_good : (cells : Board) → length cells ≡ 8 → is_rank (rank_text 0 cells) ≡ true
-rank_good cells h = grind (arith, common_steps, rank_stands, cells_of, rank_text)
+rank_good cells h = grind (arith, common_steps, rank_stands)
 
 -- A board: its rows one after another.
 
@@ -108,7 +108,7 @@ fourth_and_fifth a b c d e h = grind arith
 
 module _ (p : Parts) where
   pub last_rules : is_position p ≡ true → (target_fits p.side p.target ≡ true) × ((nat_le p.half 99999 && nat_le p.full 99999) ≡ true)
-  last_rules h = grind (arith, common_steps, fourth_and_fifth, one_king, pawn_on_edge, king_attacked, other, second_of_two)
+  last_rules h = grind (arith, common_steps, fourth_and_fifth)
 
   pub half_low : is_position p ≡ true → p.half ≤ 99999
   half_low h = leb-true _ 99999 (first_of_two _ (nat_le _ 99999) (last_rules h).1)
@@ -120,7 +120,7 @@ module _ (p : Parts) where
   long_board h = eqb-true _ 64 (first_of_two _ _ h)
 
   pub canonical_spells : is_position p ≡ true → Fen (fen_text p) p
-  canonical_spells h = search (rules, placement_text, decimal, board_spelled, long_board, number_spelled, half_low, full_low)
+  canonical_spells h = search (rules, decimal, board_spelled, long_board, number_spelled, half_low, full_low)
 
 -- No text of a position is shorter than the canonical one.
 
@@ -206,7 +206,7 @@ board_is_short s b spells long =
 -- A number, and the whole.
 
 number_is_short : (s : List ℕ) (n : ℕ) → SpellsNumber s n → length (decimal n) ≤ length s
-number_is_short s n spells = search (rules, and_parts, list_all, is_digit, some_digit, nat_tests, digits_value_short, numerals, length-decimal-le)
+number_is_short s n spells = search (rules, and_parts, some_digit, nat_tests, digits_value_short, numerals, length-decimal-le)
 
 length_six : (a b c d e f : List ℕ)
     → length (join_with_byte 32 (a ∷ b ∷ c ∷ d ∷ e ∷ f ∷ [])) ≡ length a + length b + length c + length d + length e + length f + 5

@@ -1,5 +1,5 @@
 -- The laws of the definitions of texts.
-use Rattle.chess_text.proofs.Words.{◌≡◌, ℕ, ◌+◌, ◌-◌, ◌==◌, nat_le, true, List, [], ◌∷◌, sym, ◌∙◌, ap, arith, inl, inr, or_cases, and_parts, cond_some, nat_tests, Option, None, Some, Err, is_some, prefix_len, Colour, Rights, White, Square, square, Board, target_fits, target_rank, FenFault, side_of, rights_of, target_of, is_target, parts_or_fault, if_position, common_steps, CanonicalFits, FaultIsLowest, FenOnce, FieldsAreSpellings, ReadingIsSpelling}
+use Rattle.chess_text.proofs.Words.{◌≡◌, ℕ, ◌+◌, ◌-◌, ◌==◌, true, List, [], ◌∷◌, sym, ◌∙◌, ap, arith, or_cases, and_parts, cond_some, nat_tests, Option, None, Some, Err, is_some, prefix_len, Colour, Rights, White, Square, square, Board, target_fits, target_rank, FenFault, side_of, rights_of, target_of, is_target, parts_or_fault, if_position, common_steps, CanonicalFits, FaultIsLowest, FenOnce, FieldsAreSpellings, ReadingIsSpelling}
 use Rattle.chess_text.proofs.positions.FieldsOfText.{length-fen_text}
 use Rattle.chess_text.proofs.positions.SpellingToReading.{spelled_is_read, board_read, side_read, rights_read, target_read, number_read}
 use Rattle.chess_text.proofs.positions.ReadingToSpelling.{read_is_spelled, board_spelled, side_spelled, rights_spelled, target_spelled}
@@ -31,7 +31,7 @@ fits_on c file rank h e = grind (arith, nat_tests)
 target_side : (s : List ℕ) (t : Option Square) → target_of s ≡ Some t → (c : Colour) × (target_fits c t ≡ true)
 target_side (c ∷ []) t h = (White, ap (target_fits White) (sym (cond_some (c == 45) None t h).1))
 target_side (file ∷ rank ∷ []) t h =
-    grind (arith, common_steps, fits, cond_some, is_target, or_cases, and_parts, nat_le, inl, target_fits, fits_on, inr)
+    grind (arith, common_steps, fits, cond_some, or_cases, and_parts)
 target_side s t h = cc
 
 pub fields : FieldsAreSpellings

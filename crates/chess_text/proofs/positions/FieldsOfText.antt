@@ -1,5 +1,5 @@
 -- The fields of a text, which stand between its spaces.
-use Rattle.chess_text.proofs.Words.{◌≡◌, ℕ, Bool, true, not, ◌&&◌, List, [], ◌∷◌, ◌++◌, length, refl, arith, list_all, before_first, after_first, position_or_len, join_with_byte, is_space, rest, field, ◌≤◌, append_assoc, ap, length-append, Option, decimal, length-decimal-le, Colour, Rights, Parts, Square, placement_text, side_text, rights_text, or_dash, right_letter, target_text, fen_text, common_steps, take-append_seam, drop-append-add}
+use Rattle.chess_text.proofs.Words.{◌≡◌, ℕ, Bool, true, not, ◌&&◌, List, [], ◌∷◌, ◌++◌, length, refl, arith, list_all, before_first, after_first, position_or_len, join_with_byte, is_space, field, ◌≤◌, ap, length-append, Option, decimal, length-decimal-le, Colour, Rights, Parts, Square, placement_text, side_text, rights_text, or_dash, right_letter, target_text, fen_text, common_steps, take-append_seam, drop-append-add}
 use Rattle.chess_text.proofs.positions.BoardToText.{length-placement_text}
 
 -- no byte of the text passes
@@ -39,7 +39,7 @@ pub record SixFields (s a b c d e f : List ℕ) : Type 0 where
 pub six_fields : (a b c d e f : List ℕ) → lacks is_space a ≡ true
     → lacks is_space b ≡ true → lacks is_space c ≡ true → lacks is_space d ≡ true
     → lacks is_space e ≡ true → SixFields (join_with_byte 32 (a ∷ b ∷ c ∷ d ∷ e ∷ f ∷ [])) a b c d e f
-six_fields a b c d e f ha hb hc hd he = grind (arith, common_steps, after_it, rest, is_space, before_it)
+six_fields a b c d e f ha hb hc hd he = grind (arith, common_steps, after_it, before_it)
 
 -- The six fields of the canonical text, one after another, and how long they are.
 
@@ -56,7 +56,7 @@ length-or_dash : (s : List ℕ) → length s ≤ 4 → length (or_dash s) ≤ 4
 length-or_dash s h = grind arith
 
 length-rights_text : (r : Rights) → length (rights_text r) ≤ 4
-length-rights_text r = grind (arith, common_steps, length-or_dash, length-append, length-held)
+length-rights_text r = grind (arith, common_steps)
 
 pub length-number : (n : ℕ) → n ≤ 99999 → length (decimal n) ≤ 5
 length-number n h = length-decimal-le 5 n (omega arith) (omega arith) (omega arith)
@@ -79,7 +79,7 @@ length-five p text five h =
 
 six_joined : (a b c d e f : List ℕ)
     → a ++ 32 ∷ b ++ 32 ∷ c ++ 32 ∷ d ++ 32 ∷ e ++ 32 ∷ f ≡ join_with_byte 32 (a ∷ b ∷ c ∷ d ∷ e ∷ f ∷ [])
-six_joined a b c d e f = grind (arith, common_steps, append_assoc)
+six_joined a b c d e f = grind (arith, common_steps)
 
 pub six_written : (p : Parts) (text : List ℕ) → FiveWritten p text → text ++ 32 ∷ decimal p.full ≡ fen_text p
 six_written p text five = cc (six_joined _ _ _ _ _ _)

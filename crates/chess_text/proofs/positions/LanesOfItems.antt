@@ -3,7 +3,7 @@ use Rattle.std.proofs.Math.Pow.{pow_mono}
 use Rattle.chess_rules.specs.Reach.{is_near}
 use Rattle.chess_rules.specs.Words.{diagonal_of, lanes_of, straight_of}
 unfoldable use Rattle.chess_rules.specs.Words.{lanes, word}
-use Rattle.chess_text.proofs.Words.{◌≡◌, ℕ, ◌+◌, ◌*◌, ◌<◌, ◌≤◌, Bool, false, List, [], ◌∷◌, ◌++◌, length, take, replicate, refl, sym, ◌∙◌, ap, ap₂, arith, append_assoc, length-append, None, Option, if◌then◌else◌, Board, Piece, Black, has_colour, common_steps, ◌^◌, pow-suc, zero, suc, get_or, map, length-replicate, replicate-append-replicate, take_at}
+use Rattle.chess_text.proofs.Words.{◌≡◌, ℕ, ◌+◌, ◌*◌, ◌<◌, ◌≤◌, Bool, false, List, [], ◌∷◌, ◌++◌, length, take, replicate, refl, sym, ◌∙◌, ap, ap₂, arith, append_assoc, length-append, None, Option, if◌then◌else◌, Board, Piece, Black, has_colour, ◌^◌, pow-suc, zero, suc, get_or, map, length-replicate, replicate-append-replicate, take_at}
 
 pub lanes_nil : lanes [] ≡ 0
 unfolding lanes word
@@ -42,7 +42,7 @@ with_item test (y ∷ b) x none k h =
 
 pub lanes_with_item : (b : Board) (x : Option Piece) (k : ℕ) → lanes (b ++ (x ∷ replicate k None)) ≡ lanes b + lanes_of x * 2 ^ length b
 unfolding lanes
-lanes_with_item b x k = grind (arith, common_steps, has_colour, with_item)
+lanes_with_item b x k = grind (arith, with_item)
 
 -- Every rank goes up by one, where the lowest rank is empty.
 pub ranks_above : (b : Board) (k : ℕ) → length b + k ≡ 56 → take 56 (b ++ replicate (k + 8) None) ≡ b ++ replicate k None

@@ -73,7 +73,7 @@ module _ (whole : List ℕ) (most : ℕ) (text : List ℕ) (end word : ℕ) (cel
   -- the digit of a run goes behind what is before the run
   end_of_run : (more byte : ℕ) (w : RankWritten whole most text end word (None ∷ cells)) → Step word more byte
       → end + more ≡ length w.before + 1
-  end_of_run more byte w s = grind (arith, common_steps, run_first, zero, run_text, suc, digit_long)
+  end_of_run more byte w s = grind (arith, common_steps, run_first, zero)
 
   empty_written : (more byte : ℕ) → most ≤ 72 → Step word more byte → RankWritten whole most text end word (None ∷ cells)
       → RankWritten whole most (set text (end + more - 1) byte) (end + more) (word / 256) cells

@@ -1,5 +1,5 @@
 -- What is read of a text is spelled by it.
-use Rattle.chess_text.proofs.Words.{◌≡◌, ℕ, ◌+◌, ◌-◌, ◌<◌, ◌≤◌, Bool, true, false, List, [], ◌∷◌, ◌++◌, length, get_or, refl, sym, ◌∙◌, ap, ap₂, arith, length-drop, Option, None, Some, Result, Ok, Err, codes, if◌then◌else◌, list_all, before_first, after_first, position_or_len, and_parts, cond_some, eqb-true, nat_tests, ◌==◌, length-take, join_with_byte-slice_split, split_at_first, passes_at_first, Colour, Rights, Parts, Square, square, Board, is_position, FenFault, ranks, placement_of, side_text, side_of, or_dash, rights_text, rights_of, target_text, target_of, is_target, number_of, SpellsBoard, SpellsNumber, Fen, is_space, rest, field, at_field, parts_or_fault, parts_read, if_position, read, common_steps}
+use Rattle.chess_text.proofs.Words.{◌≡◌, ℕ, ◌+◌, ◌-◌, ◌<◌, ◌≤◌, Bool, true, false, List, [], ◌∷◌, ◌++◌, length, get_or, refl, sym, ◌∙◌, ap, ap₂, arith, length-drop, Option, None, Some, Result, Ok, Err, if◌then◌else◌, list_all, before_first, after_first, position_or_len, and_parts, cond_some, eqb-true, nat_tests, ◌==◌, length-take, join_with_byte-slice_split, split_at_first, passes_at_first, Colour, Rights, Parts, Square, Board, is_position, FenFault, ranks, placement_of, side_text, side_of, rights_text, rights_of, target_text, target_of, is_target, number_of, SpellsBoard, SpellsNumber, Fen, is_space, rest, field, at_field, parts_or_fault, parts_read, if_position, read, common_steps}
 use Rattle.chess_text.proofs.forms.SpellingToForm.{same_bytes}
 
 -- Each field from what is read of it.
@@ -17,7 +17,7 @@ board_spelled s b h =
     }
 
 pub side_spelled : (s : List ℕ) (c : Colour) → side_of s ≡ Some c → s ≡ side_text c
-side_spelled s c h = grind (arith, common_steps, same_bytes, codes)
+side_spelled s c h = grind (arith, same_bytes)
 
 pub rights_spelled : (s : List ℕ) (r : Rights) → rights_of s ≡ Some r → s ≡ rights_text r
 rights_spelled s r h = let (named, is) = cond_some _ _ r h in same_bytes s _ named ∙ ap rights_text is
@@ -27,7 +27,7 @@ shifted file rank h = grind (arith, nat_tests)
 
 pub target_spelled : (s : List ℕ) (t : Option Square) → target_of s ≡ Some t → s ≡ target_text t
 target_spelled (c ∷ []) t h = let (dash, is) = cond_some (c == 45) None t h in cc (eqb-true c 45 dash)
-target_spelled (file ∷ rank ∷ []) t h = grind (arith, common_steps, cond_some, square, shifted)
+target_spelled (file ∷ rank ∷ []) t h = grind (arith, common_steps)
 target_spelled s t h = cc
 
 pub number_spelled : (s : List ℕ) (n : ℕ) → number_of s ≡ Some n → SpellsNumber s n
@@ -39,7 +39,7 @@ some_side : (c : Colour) → 0 < length (side_text c)
 some_side c = grind arith
 
 some_rights : (r : Rights) → 0 < length (rights_text r)
-some_rights r = grind (arith, common_steps, or_dash)
+some_rights r = grind arith
 
 some_target : (t : Option Square) → 0 < length (target_text t)
 some_target t = grind arith

@@ -1,7 +1,7 @@
 -- The board that a text spells, rank by rank from its first one.
 unfoldable use Rattle.chess_rules.specs.Words.{lanes}
 use Rattle.chess_text.proofs.positions.LanesOfItems.{lanes_fit, lanes_nil, lanes_with_item, ranks_above}
-use Rattle.chess_text.proofs.Words.{◌^◌, ◌≡◌, ℕ, zero, suc, ◌+◌, ◌-◌, ◌*◌, ◌<◌, ◌≤◌, ◌==◌, Bool, true, false, ◌&&◌, ◌||◌, List, [], ◌∷◌, ◌++◌, length, take, drop, reverse, reverse-append, inl, inr, refl, sym, ◌∙◌, ap, ap₂, subst, arith, append-nil, append_assoc, length-append, None, Some, flat_map, flat_map-append, if◌then◌else◌, list_all, nat_tests, nat_le, nat_lt, false≢true, false_from_ne_true, Board, Piece, Option, ranks, is_item, is_rank, cells_of, placement_of, get_or, drop-cons, drop_all, cases_lt, onto_first, slice_split-cons_no, slice_split-cons_yes, length-slice_split, is_slash, is_space, is_some, before_first, position_or_len, replicate, is_run, cells_at, item, common_steps, ◌%◌, length-replicate, piece_of, one_cell}
+use Rattle.chess_text.proofs.Words.{◌^◌, ◌≡◌, ℕ, zero, suc, ◌+◌, ◌-◌, ◌*◌, ◌<◌, ◌≤◌, ◌==◌, Bool, true, false, ◌&&◌, ◌||◌, List, [], ◌∷◌, ◌++◌, length, take, drop, reverse, reverse-append, inl, inr, refl, sym, ◌∙◌, ap, ap₂, subst, arith, append-nil, append_assoc, length-append, None, Some, flat_map, if◌then◌else◌, list_all, nat_tests, nat_le, nat_lt, false≢true, false_from_ne_true, Board, Piece, Option, ranks, is_item, is_rank, cells_of, placement_of, get_or, drop-cons, drop_all, cases_lt, onto_first, slice_split-cons_no, length-slice_split, is_slash, is_space, is_some, before_first, replicate, is_run, cells_at, item, common_steps, ◌%◌, length-replicate, piece_of, one_cell}
 
 -- The reading, byte by byte: `row` has the squares of the rank so far, `done` those of the ranks
 -- above.
@@ -40,7 +40,7 @@ means_if false w None h none some = absurd (false≢true h)
 means_if false w (Some x) h none some = (refl, refl)
 
 pub means : (c : ℕ) → is_item c ≡ true → Means c
-means c h = grind (arith, common_steps, means_if, is_run, run_none, run_some)
+means c h = grind (arith, common_steps, means_if)
 
 no_width : (run : Bool) (w : ℕ) (o : Option Piece) → (run || is_some o) ≡ false → width_if run w o ≡ 9
 no_width run w o h = grind arith
@@ -49,7 +49,7 @@ no_item : (c : ℕ) → is_item c ≡ false → (item c).width ≡ 9
 no_item c h = no_width (is_run c) (c - 48) (piece_of c) h
 
 item_by_width : (c : ℕ) → (item c).width ≤ 8 → is_item c ≡ true
-item_by_width c h = grind (arith, common_steps, is_item, no_item)
+item_by_width c h = grind arith
 
 space_is : (c : ℕ) → is_space c ≡ true → c ≡ 32
 space_is c h = grind arith
@@ -80,17 +80,17 @@ before-yes : (c : ℕ) (s : List ℕ) → is_space c ≡ true → before_first i
 before-yes c s h = rw h refl
 
 before-no : (c : ℕ) (s : List ℕ) → is_space c ≡ false → before_first is_space (c ∷ s) ≡ c ∷ before_first is_space s
-before-no c s h = grind (arith, common_steps, position_or_len, is_space, suc)
+before-no c s h = grind (arith, common_steps)
 
 if_same : {X : Type 0} (a b : Bool) (v w : X) → a ≡ b → v ≡ w → (if a then Some v else None) ≡ (if b then Some w else None)
 if_same a b v w e f = ap₂ (λ x y. if x then Some y else None) e f
 
 at_end : (row done : Board) → finish row done ≡ joined row done ([] ∷ [])
-at_end row done = grind (arith, common_steps, if_same, append-nil, nat_tests)
+at_end row done = grind (arith, common_steps)
 
 -- the first rank of the text is the last one of the board
 first_last : (rank : List ℕ) (below : List (List ℕ)) → flat_map cells_of (reverse (rank ∷ below)) ≡ flat_map cells_of (reverse below) ++ cells_of rank
-first_last rank below = grind (arith, common_steps, flat_map, cells_of, reverse-append, flat_map-append, reverse, append-nil)
+first_last rank below = grind (arith, common_steps, reverse-append)
 
 nested : {X : Type 0} (a b : Bool) (v : X) → (if a then (if b then Some v else None) else None) ≡ (if a && b then Some v else None)
 nested true b v = refl
@@ -101,13 +101,13 @@ module _ (row done : Board) where
   with_slash : (texts : List (List ℕ)) → 0 < length texts → (if (length row == 8) && nat_lt (length done) 56 then joined [] (row ++ done) texts else None) ≡ joined row done ([] ∷ texts)
   with_slash [] some = absurd (omega arith)
   with_slash (rank ∷ below) some =
-      grind (arith, common_steps, cells_of, list_all, is_item, is_rank, length-append, flat_map, reverse, append-nil, append_assoc, first_last, nat_lt, suc, nat_tests, nested, if_same)
+      grind (arith, common_steps, length-append, append-nil, append_assoc, first_last, suc)
 
   -- a digit or a letter
   with_item : (c : ℕ) (texts : List (List ℕ)) → 0 < length texts → is_item c ≡ true → (if nat_le (length row + (item c).width) 8 then joined (row ++ cells_at c) done texts else None) ≡ joined row done (onto_first c texts)
   with_item c [] some good = absurd (omega arith)
   with_item c (rank ∷ below) some good =
-      grind (arith, common_steps, means, nested, nat_le, item, cells_at, if_same, cells_of, is_item, list_all, is_rank, suc, length-append, flat_map, reverse, append_assoc, nat_tests)
+      grind (arith, common_steps, means, nested, if_same, suc, length-append)
 
   -- any other byte
   with_other : (c : ℕ) (texts : List (List ℕ)) → 0 < length texts → is_item c ≡ false → None ≡ joined row done (onto_first c texts)
@@ -119,7 +119,7 @@ some_rank s = omega (arith, length-slice_split is_slash s)
 
 -- the texts, by the first byte
 split_slash : (c : ℕ) (s : List ℕ) → is_slash c ≡ true → ranks (before_first is_space (c ∷ s)) ≡ [] ∷ ranks (before_first is_space s)
-split_slash c s h = grind (arith, common_steps, ranks, before-no, is_space, slash_is, slice_split-cons_yes, is_slash, before_first)
+split_slash c s h = grind (arith, common_steps, before-no, slash_is)
 
 split_other : (c : ℕ) (s : List ℕ) → is_space c ≡ false → is_slash c ≡ false
     → ranks (before_first is_space (c ∷ s)) ≡ onto_first c (ranks (before_first is_space s))
@@ -132,7 +132,7 @@ read_on row done s = joined row done (ranks (before_first is_space s))
 pub placement_is : (s : List ℕ) → read_on [] [] s ≡ placement_of (before_first is_space s)
 unfolding read_on
 placement_is s =
-    grind (arith, common_steps, ranks, before_first, is_space, some_rank, suc, nat_tests, list_all, is_rank, flat_map, cells_of, reverse, if_same, is_item, append-nil, first_last)
+    grind (arith, common_steps, some_rank, suc, nat_tests, if_same)
 
 -- One byte.
 
@@ -153,7 +153,7 @@ module _ (row done : Board) (c : ℕ) (s : List ℕ) where
 
   on_slash : is_slash c ≡ true → length row ≡ 8 → length done < 56 → read_on row done (c ∷ s) ≡ read_on [] (row ++ done) s
   unfolding read_on
-  on_slash h full more = grind (arith, common_steps, nat_lt, nat_tests, split_slash, with_slash, some_text)
+  on_slash h full more = grind (arith, common_steps, nat_tests, split_slash)
 
   on_space : is_space c ≡ true → read_on row done (c ∷ s) ≡ finish row done
   unfolding read_on
@@ -190,7 +190,7 @@ pub record ReadSoFar (text : List ℕ) (i : ℕ) (board : Board) (below file lan
   pub no_space : (k : ℕ) → k < i → is_space (get_or text k 0) ≡ false
 
 pub nothing_read : (text : List ℕ) (board : Board) → board ≡ replicate 64 None → ReadSoFar text 0 board 7 0 0
-nothing_read text board h = grind (arith, common_steps, lanes_nil)
+nothing_read text board h = grind (arith, lanes_nil)
 
 module _ {text : List ℕ} {i : ℕ} {board : Board} {below file lanes_read : ℕ} (so_far : ReadSoFar text i board below file lanes_read) where
   -- the board with the rank that is read
@@ -252,7 +252,7 @@ module _ {text : List ℕ} {i : ℕ} {board : Board} {below file lanes_read : �
 
     -- the lanes with a digit or a letter
     lanes_after : file + (item byte).width ≤ 8 → lanes_read + (item byte).lanes * 2 ^ file ≡ lanes (so_far.row ++ cells_at byte)
-    lanes_after fits = grind (arith, common_steps, item, means, is_item_here, lanes_with_item)
+    lanes_after fits = grind (arith, common_steps, means, lanes_with_item)
 
     long_after : file + (item byte).width ≤ 8 → length (so_far.row ++ cells_at byte) ≡ file + (item byte).width
     long_after fits = omega (arith, length-append so_far.row (cells_at byte), so_far.long, (means byte (is_item_here fits)).width)
@@ -270,7 +270,7 @@ module _ {text : List ℕ} {i : ℕ} {board : Board} {below file lanes_read : �
     pub item_read : file + (item byte).width ≤ 8
         → ReadSoFar text (i + 1) board below (file + (item byte).width) (lanes_read + ((item byte).lanes * 2 ^ file) % 2 ^ 32)
     item_read fits =
-        grind (arith, common_steps, cells_at, shifted, lanes_after, long_after, next, on_item, suc, here, no_space_here, item_no_space, is_item_here)
+        grind (arith, common_steps, shifted, lanes_after, long_after, on_item, suc)
 
     -- a slash after eight squares
     pub slash_read : (new : Board) → byte ≡ 47 → file ≡ 8 → 0 < below → new ≡ so_far.row ++ take 56 board → ReadSoFar text (i + 1) new (below - 1) 0 0
@@ -303,4 +303,4 @@ module _ {text : List ℕ} {i : ℕ} {board : Board} {below file lanes_read : �
     -- any other byte
     pub other_read : 8 < file + (item byte).width → ((byte == 47) && ((file == 8) && nat_lt 0 below)) ≡ false
         → ((byte == 32) && ((file == 8) && (below == 0))) ≡ false → placement_of (before_first is_space text) ≡ None
-    other_read wide no_slash no_space = grind (arith, common_steps, placement_is, here, on_other, suc, nat_lt, is_slash, nat_tests, is_space)
+    other_read wide no_slash no_space = grind (arith, common_steps, placement_is, on_other, suc)

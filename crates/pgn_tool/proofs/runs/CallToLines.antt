@@ -1,7 +1,5 @@
 -- Games listed one by one.
-use Rattle.pgn_tool.proofs.Words.{◌≡◌, ℕ, ◌+◌, ◌^◌, ◌≤◌, false, List, [], ◌∷◌, ◌++◌, drop, length, length-take, take-append-drop, Option, None, Some, IfSome, refl, sym, ap, subst, ◌∙◌, append-nil, append_assoc, length-append, arith, Appends, Consumes, IsAtEnd, Appends-trans, Consumes-trans, AppendsFront, Token, tokens_of, InputTooLong, Fault, Game, Read, no_progress, read, HasRead, CountsDevices, Games, HaveRead, within, at_end, NextGame, NoGame, NextStops, ReadsNoGame, IsListed, ListsNoMore, ListStops, game_line, line_just_finished, lines_from, lines_of, list_profile, too_long, unread, Decides, ListedSoFar, Refused, Unwritten, Consumes-whole, Stops, games_before, AreNext}
-use Rattle.pgn_game.specs.calls.ConverterCalls.{AreShown, IsRefused, so_far, within_limit}
-use Rattle.pgn_game.specs.state.ReaderState.{ReaderState}
+use Rattle.pgn_tool.proofs.Words.{◌≡◌, ℕ, ◌+◌, ◌^◌, ◌≤◌, false, List, [], ◌∷◌, ◌++◌, drop, length, length-take, take-append-drop, Option, None, Some, IfSome, refl, sym, ap, subst, ◌∙◌, append-nil, append_assoc, length-append, arith, Appends, Consumes, IsAtEnd, Appends-trans, Consumes-trans, AppendsFront, Token, tokens_of, InputTooLong, Fault, Game, Read, no_progress, read, HasRead, CountsDevices, Games, HaveRead, within, at_end, NextGame, NoGame, NextStops, ReadsNoGame, IsListed, ListsNoMore, ListStops, game_line, line_just_finished, lines_from, lines_of, list_profile, too_long, unread, Decides, ListedSoFar, Refused, Unwritten, Consumes-whole, Stops, games_before, AreNext, common_steps, AreShown, IsRefused, so_far, within_limit, ReaderState}
 use Rattle.pgn_tool.proofs.runs.PartsOfText.{front_after}
 use Rattle.pgn_tool.proofs.runs.TokensInTwoParts.{read_stops}
 
@@ -122,12 +120,7 @@ module _ (left_old left left_new : Option (List ℕ)) (old new : Games) (a b : O
       )
 
   no_more : (u : List ℕ) → ReadsNoGame list_profile so.tokens u None None → ListsNoMore u a b
-  no_more u none =
-      record {
-        passes = subst (λ ts. (read list_profile ts).fault ≡ None) none.reads.decided none.reads.passes;
-        written =
-            subst (λ ts. Appends a b (lines_of ts)) none.reads.decided (subst (λ gs. Appends a b (lines_from 1 gs)) (sym none.no_game) so.written);
-      }
+  no_more u none = grind (arith, common_steps, read, list_profile, lines_of, lines_from)
 
   pub list_stops : (r : ReaderState) (f : Fault) (s t : ℕ)
       → NextStops list_profile so.bytes so.tokens left left_new r None None f → CountsDevices f.reason s t 0 0

@@ -1,9 +1,8 @@
 -- A run that reads the same text twice has written a prefix of its output, whichever device fails.
-use Rattle.pgn_tool.proofs.Words.{◌≡◌, ◌∙◌, ℕ, List, ◌∷◌, ◌++◌, length, take, Option, Some, None, [], ap, append_assoc, append-nil, subst, sym, take-append_seam, Result, Ok, Err, Appends, Consumes, Device, Token, tokens_of, decided, Fault, Totals, Profile, takes_the_marker, Verdict, due, output, AreConverted, IsTokenPrefix, TwoReadingsConvert, Decides, FirstStops, SecondStops, TwoReadingsFail, HasTaken, first_too_long, first_unread, second_too_long, second_unread, unwritten, EqualReadings, InterruptedReadings, HasFront, Gives}
+use Rattle.pgn_tool.proofs.Words.{◌≡◌, ◌∙◌, ℕ, List, ◌∷◌, ◌++◌, length, take, Option, Some, None, [], ap, append_assoc, append-nil, subst, sym, take-append_seam, Result, Ok, Err, Appends, Consumes, Device, Token, tokens_of, decided, Fault, Totals, Profile, takes_the_marker, Verdict, due, output, AreConverted, IsTokenPrefix, TwoReadingsConvert, Decides, FirstStops, SecondStops, TwoReadingsFail, HasTaken, first_too_long, first_unread, second_too_long, second_unread, unwritten, EqualReadings, InterruptedReadings, HasFront, Gives, arith, common_steps, AreShown}
 use Rattle.pgn_lexer.specs.Laws.{DecidedIsPrefix}
 use Rattle.pgn_game.specs.laws.Laws.{DueGrows, IsPrefix}
 use Rattle.pgn_game.specs.calls.Checked.{compared, written_by}
-use Rattle.pgn_game.specs.calls.ConverterCalls.{AreShown}
 
 front_is : (out : Device) (written whole : List ℕ) → IsPrefix written whole → HasTaken out written → HasFront out whole
 front_is out written whole prefix taken =
@@ -47,9 +46,7 @@ module _ (decides : DecidedIsPrefix) (grows : DueGrows) (equal : EqualReadings) 
   begins ts (Decides.so_far u more consumed few goes) =
       let x = front_left u more (rest_of first first_gives (u ++ more) consumed) in
       subst (λ (t : List ℕ). IsTokenPrefix ts (tokens_of t)) (sym x.1) (goes x.0)
-  begins ts (Decides.at_end u consumed few all goes) =
-      let same : s ≡ u = rw first_gives at all in
-      subst (λ (t : List ℕ). IsTokenPrefix ts (tokens_of t)) (sym same) goes
+  begins ts (Decides.at_end u consumed few all goes) = grind (arith, common_steps, tokens_of)
 
   ends_second : (u : List ℕ) → ((x : List ℕ) × (s ≡ u ++ x)) → SecondStops p first u out → HasFront out (output p s)
   ends_second u x ends =

@@ -1,5 +1,5 @@
 -- What follows of a run from the conversion in it, of an input that is read twice.
-use Rattle.pgn_tool.proofs.Words.{◌≡◌, ◌∙◌, ℕ, ◌≤◌, List, Option, ◌⊎◌, inl, inr, ap, refl, subst, arith, Result, Ok, Err, Appends, Keeps, Counts, Device, IsStill, Mode, Reason, ReadFault, WriteFault, Fault, Totals, Profile, refused, AreConverted, TwoReadingsConvert, CountsThree, FirstStops, SecondStops, TwoReadingsFail, HasTaken, OneFails, WriteStops, first_too_long, first_unread, second_too_long, second_unread, unwritten, EqualReadings, FlushCounts, HasFailed, IsCalm, IsSmooth, TellsVerdict, status_of, AnswersSame, AnswersTwice, BlamesTwice, EndsTwice, RunsTwice, profile_twice, Appends-kept, IfSome_then}
+use Rattle.pgn_tool.proofs.Words.{◌≡◌, ◌∙◌, ℕ, ◌≤◌, List, Option, ◌⊎◌, inl, inr, ap, refl, subst, arith, Result, Ok, Err, Appends, Keeps, Counts, Device, IsStill, Mode, Reason, ReadFault, WriteFault, Fault, Totals, Profile, refused, AreConverted, TwoReadingsConvert, CountsThree, FirstStops, SecondStops, TwoReadingsFail, HasTaken, OneFails, WriteStops, first_too_long, first_unread, second_too_long, second_unread, unwritten, EqualReadings, FlushCounts, HasFailed, IsCalm, IsSmooth, TellsVerdict, status_of, AnswersSame, AnswersTwice, BlamesTwice, EndsTwice, RunsTwice, profile_twice, Appends-kept, IfSome_then, common_steps}
 use Rattle.pgn_tool.proofs.runs.ConversionToRun.{calm_fails, concludes_by_verdict, longer, refuses_by_verdict, risen}
 
 -- ---- a conversion, and a flush after it
@@ -13,11 +13,7 @@ module _ (p : Profile) (first second d : Device) (after : Option (List ℕ)) (fa
   taken_on text taken = Appends-kept d.before d.after after text taken keeps
 
   first_on : (u : List ℕ) → FirstStops p u second d → FirstStops p u second e
-  first_on u ends = record {
-    passes = ends.passes;
-    matched = IfSome_then second.before ends.matched
-        (λ r known. record { fault = known.fault; no_mark_left = known.no_mark_left; appended = taken_on _ known.appended });
-  }
+  first_on u ends = grind (arith, common_steps, taken_on)
 
   second_on : (u : List ℕ) → SecondStops p first u d → SecondStops p first u e
   second_on u ends = record {
@@ -110,14 +106,8 @@ module _ (s r : List ℕ) (first second out : Device) (one : IsSmooth s first ou
   texts_answer : (mode : Mode) (err : Device) (code : ℕ) (answer : Result Totals Fault)
       → TwoReadingsConvert (profile_twice mode) first second out answer
       → EndsTwice answer first second out err code → AnswersTwice mode s r out err code
-  texts_answer mode err code (Ok t) works ends =
-      let converted = (rw (one.gives, other.gives) at works).converted in
-      let by = concludes_by_verdict _ first out err code _ converted.0 one.writes ends.0 in
-      record { ends = by.0; written = converted.1; told = by.1 }
-  texts_answer mode err code (Err f) works ends =
-      let converted = own_fault (profile_twice mode) f works ends.blames in
-      let by = refuses_by_verdict _ err code f converted.0 ends.ends ends.told in
-      record { ends = by.0; written = converted.1; told = by.1 }
+  texts_answer mode err code (Ok t) works ends = grind (arith, common_steps, concludes_by_verdict)
+  texts_answer mode err code (Err f) works ends = grind (arith, common_steps, own_fault, profile_twice, refuses_by_verdict)
 
   pub twice_answers : (mode : Mode) (err : Device) (code : ℕ) → RunsTwice mode first second out err code → AnswersTwice mode s r out err code
   twice_answers mode err code runs = texts_answer mode err code runs.answer runs.works runs.ends
@@ -125,13 +115,7 @@ module _ (s r : List ℕ) (first second out : Device) (one : IsSmooth s first ou
 -- two readings of one text are one reading of it
 pub same_answers : (mode : Mode) (s : List ℕ) (out err : Device) (code : ℕ)
     → EqualReadings → AnswersTwice mode s s out err code → AnswersSame mode s out err code
-same_answers mode s out err code law answers =
-    let same = law (profile_twice mode) s refl in
-    record {
-      ends = answers.ends ∙ ap status_of same.0;
-      written = subst (Appends out.before out.after) same.1 answers.written;
-      told = subst (TellsVerdict err) same.0 answers.told;
-    }
+same_answers mode s out err code law answers = grind (arith, common_steps, profile_twice, status_of)
 
 -- ---- the status
 

@@ -1,5 +1,5 @@
 -- What follows of a run from the conversion in it.
-use Rattle.pgn_tool.proofs.Words.{◌≡◌, ◌∙◌, ℕ, ◌^◌, ◌<◌, ◌≤◌, Bool, true, false, List, [], ◌++◌, length, ap, refl, subst, sym, arith, take, length-append, Option, None, Some, inl, inr, take-length, Result, Ok, Err, OnOk, is_ok, codes, ◌⊎◌, if◌then◌else◌, Appends, Appends-nil, Counted, line_of, Consumes, Keeps, Counts, Device, IsStill, Writes, one_more, Full, Reason, ReadFault, WriteFault, Fault, Totals, Profile, tokens_of, Read, read, refused, totals, verdict_of, profile_of, AfterConversion, CountsDevices, Fails, IsConverted, Stopped, CountsReadFault, ListResult, ListStops, list_profile, Answers, Blames, Concludes, Ends, EndsList, FlushCounts, HasFailed, IsCalm, IsSmooth, Job, Runs, Tells, TellsVerdict, Works, checking, exporting, line, listing, status_of, Appends-kept, device, Verdict, IfSome_then}
+use Rattle.pgn_tool.proofs.Words.{◌≡◌, ◌∙◌, ℕ, ◌^◌, ◌<◌, ◌≤◌, Bool, true, false, List, [], ◌++◌, length, ap, refl, subst, sym, arith, take, length-append, Option, None, Some, inl, inr, take-length, Result, Ok, Err, OnOk, is_ok, codes, ◌⊎◌, if◌then◌else◌, Appends, Appends-nil, Counted, line_of, Consumes, Keeps, Counts, Device, IsStill, Writes, one_more, Full, Reason, ReadFault, WriteFault, Fault, Totals, Profile, tokens_of, Read, read, refused, totals, verdict_of, profile_of, AfterConversion, CountsDevices, Fails, IsConverted, Stopped, CountsReadFault, ListResult, ListStops, list_profile, Answers, Blames, Concludes, Ends, EndsList, FlushCounts, HasFailed, IsCalm, IsSmooth, Job, Runs, Tells, TellsVerdict, Works, checking, exporting, line, listing, status_of, Appends-kept, device, Verdict, IfSome_then, common_steps}
 
 -- ---- devices
 
@@ -25,18 +25,8 @@ pub concludes_as : {S : Type 0}
     → (is_written ≡ false → HasFailed out) → status ≡ (if is_written then 0 else 1) → (is_written ≡ true → new ≡ old)
     → (is_written ≡ false → Tells (device taken failures old new) (line (codes "output cannot be written")))
     → Concludes source out (device taken failures old new) status
-concludes_as taken failures old new true source out status read still failed is untouched told = record {
-  read = read;
-  ends = omega (arith, is);
-  well = λ zero. (still refl, (ap taken (untouched refl), ap failures (untouched refl)));
-  ill = λ one. absurd (omega (arith, one, is));
-}
-concludes_as taken failures old new false source out status read still failed is untouched told = record {
-  read = read;
-  ends = omega (arith, is);
-  well = λ zero. absurd (omega (arith, zero, is));
-  ill = λ one. (failed refl, told refl);
-}
+concludes_as taken failures old new true source out status read still failed is untouched told = grind (arith, common_steps)
+concludes_as taken failures old new false source out status read still failed is untouched told = grind (arith, common_steps)
 
 -- the same where a flush says it: one that did well leaves the count, and one that failed raises it
 pub concludes_flushed : {A E S : Type 0}
@@ -153,17 +143,12 @@ flushed_well is_written old new status Empty is (inr (failed, ill)) = inr (faile
 pub longer : (s : List ℕ) (left_new : Option (List ℕ)) (u rest : List ℕ)
     → Consumes (Some s) left_new (u ++ rest) → length u ≡ 2 ^ 62 → 0 < length rest → length s ≤ 2 ^ 62 → ⊥
 longer s None u rest consumed long more short = absurd consumed
-longer s (Some ys) u rest consumed long more short =
-    let whole = simp length-append at (ap length consumed) in
-    omega (arith, whole)
+longer s (Some ys) u rest consumed long more short = grind (arith, common_steps, length-append)
 
 -- a run without a fault, and its status if it has written all
 pub concludes_by_verdict : (v : Verdict) (source out err : Device) (code : ℕ) (c : Counted)
     → v ≡ totals c → IsCalm out → Concludes source out err code → (code ≡ status_of v) × TellsVerdict err v
-concludes_by_verdict v source out err code c is calm ends =
-    let written : code ≡ 1 → ⊥ = λ one. calm_fails out calm (ends.ill one).0 in
-    let zero : code ≡ 0 = omega (arith, ends.ends, written) in
-    (zero ∙ sym (ap status_of is), subst (TellsVerdict err) (sym is) (ends.well zero).1)
+concludes_by_verdict v source out err code c is calm ends = grind (arith, common_steps, calm_fails, status_of)
 
 -- a run with a fault
 pub refuses_by_verdict : (v : Verdict) (err : Device) (code : ℕ) (f : Fault) → v ≡ refused f → code ≡ 1 → Tells err (line (line_of f))
@@ -197,30 +182,15 @@ module _ (s : List ℕ) (source out : Device) (smooth : IsSmooth s source out) w
   module _ (err : Device) (code : ℕ) where
     job_answers : (job : Job) (answer : Result Totals Fault) → Works job answer source out
         → Ends answer source out err code → Answers job s out err code
-    job_answers (exporting mode) (Ok t) works ends =
-        let converted = (rw smooth.gives at works).converted in
-        let by = concludes_by_verdict _ source out err code _ converted.0 smooth.writes ends in
-        record { ends = by.0; written = converted.1; told = by.1 }
-    job_answers (exporting mode) (Err f) works ends =
-        let converted = own_fault (profile_of 64 32 mode) out.before out.after f works ends.blames in
-        let by = refuses_by_verdict _ err code f converted.0 ends.ends ends.told in
-        record { ends = by.0; written = converted.1; told = by.1 }
-    job_answers checking (Ok t) works ends =
-        let converted = (rw smooth.gives at works.0.0).converted in
-        let by = concludes_by_verdict _ source out err code _ converted.0 smooth.writes ends in
-        record { ends = by.0; written = rw converted.0 (works.1.0 smooth.writes); told = by.1 }
-    job_answers checking (Err f) works ends =
-        let converted = own_fault (profile_of 64 32 Full) None None f works.0.0 ends.blames in
-        let by = refuses_by_verdict _ err code f converted.0 ends.ends ends.told in
-        record { ends = by.0; written = rw converted.0 (Appends-kept _ _ _ [] (Appends-nil out.before) works.1); told = by.1 }
+    job_answers (exporting mode) (Ok t) works ends = grind (arith, common_steps, concludes_by_verdict)
+    job_answers (exporting mode) (Err f) works ends = grind (arith, common_steps, own_fault, profile_of, refuses_by_verdict)
+    job_answers checking (Ok t) works ends = grind (arith, common_steps, concludes_by_verdict)
+    job_answers checking (Err f) works ends = grind (arith, common_steps, own_fault, profile_of, refuses_by_verdict)
     job_answers listing answer works ends = absurd works
 
     stopped_answers : (stopped : Stopped) → ListStops source.before source.after out.before out.after stopped
         → EndsList (Err stopped) source out err code → Answers listing s out err code
-    stopped_answers _ (ListStops.refused f known) ends =
-        let listed = (rw smooth.gives at known).1 in
-        let by = refuses_by_verdict _ err code f (verdict_is (read list_profile (tokens_of s)) (Some f) listed.fault) ends.ends ends.told in
-        record { ends = by.0; written = listed.written; told = by.1 }
+    stopped_answers _ (ListStops.refused f known) ends = grind (arith, common_steps, refuses_by_verdict, verdict_is, read, list_profile, tokens_of)
     stopped_answers _ (ListStops.unread u consumed few listed) ends = absurd (calm_fails source smooth.reads ends.blames)
     stopped_answers _ (ListStops.too_long u rest consumed long more listed) ends =
         absurd (longer s source.after u rest (rw smooth.gives at consumed) long more smooth.short)
@@ -228,10 +198,7 @@ module _ (s : List ℕ) (source out : Device) (smooth : IsSmooth s source out) w
 
     list_answers : (answer : Result Unit Stopped) → ListResult source.before source.after answer out.before out.after
         → EndsList answer source out err code → Answers listing s out err code
-    list_answers (Ok x) works ends =
-        let listed = (rw smooth.gives at works).1 in
-        let by = concludes_by_verdict _ source out err code _ (verdict_is (read list_profile (tokens_of s)) None listed.fault) smooth.writes ends in
-        record { ends = by.0; written = listed.written; told = by.1 }
+    list_answers (Ok x) works ends = grind (arith, common_steps, concludes_by_verdict, verdict_is, read, list_profile, tokens_of)
     list_answers (Err stopped) works ends = stopped_answers stopped works ends
 
     pub runs_answers : (job : Job) → Runs job source out err code → Answers job s out err code

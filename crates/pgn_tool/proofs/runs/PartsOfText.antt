@@ -1,5 +1,5 @@
 -- Texts that are written in parts, and the line of the game just finished.
-use Rattle.pgn_tool.proofs.Words.{◌≡◌, ℕ, ◌+◌, List, [], ◌++◌, length, Option, None, Some, Result, Ok, Err, ap, subst, sym, codes, decimal, unwrap_or, length-append, arith, option_map, Appends, Appends-trans, take-append-add, take-append-le, AppendsFront, Writes, Profile, exported, FinishedGame, finished_game_line, six_fields, listed_value, result_for}
+use Rattle.pgn_tool.proofs.Words.{◌≡◌, ℕ, ◌+◌, List, [], ◌++◌, length, Option, None, Some, Result, Ok, Err, ap, subst, sym, codes, decimal, unwrap_or, length-append, arith, option_map, Appends, Appends-trans, take-append-add, take-append-le, AppendsFront, Writes, Profile, exported, FinishedGame, finished_game_line, six_fields, listed_value, result_for, common_steps}
 use Rattle.chess_rules.specs.declared.position.Parts.{Parts}
 use Rattle.chess_text.specs.Fen.{fen_text}
 use Rattle.pgn_game.specs.games.Pairs.{value_of}
@@ -37,6 +37,4 @@ pub line_told : (o : Option FinishedGame) (number : ℕ) (by : Profile) (p : Par
     (decimal (elim o [ None ↦ 0 | Some finished ↦ finished.plies ])) (fen_text p)
 unfolding finished_game_line
 line_told None number by p e = absurd (cc)
-line_told (Some finished) number by p e =
-    ap (λ q. six_fields (decimal number) (listed_value by finished (codes "White")) (listed_value by finished (codes "Black"))
-    (listed_value by finished (codes "Result")) (decimal finished.plies) (fen_text q)) (ap (λ o. unwrap_or o p) (sym e))
+line_told (Some finished) number by p e = grind (arith, common_steps, six_fields, decimal, listed_value, codes, unwrap_or)

@@ -1,5 +1,5 @@
 -- The files of a split hold the export texts of the games.
-use Rattle.pgn_tool.proofs.Words.{◌≡◌, ◌∙◌, ℕ, ◌+◌, List, [], ◌∷◌, ◌++◌, length, Option, None, Some, refl, sym, ap, arith, append_assoc, append-nil, length-append, Appends, false≢true, append_cancel_left, one_more, Token, Full, Game, start_of, tag_section, result_for, game_text, text_of, tokens_out, due, read, GameFile, NotMade, Open, list_profile, FileStep, IsBegun, added, bytes_in, closed, failures_in, file_steps, made, number_after, whole_files, torn_file, torn_text}
+use Rattle.pgn_tool.proofs.Words.{◌≡◌, ◌∙◌, ℕ, ◌+◌, List, [], ◌∷◌, ◌++◌, length, Option, None, Some, refl, sym, ap, arith, append_assoc, append-nil, length-append, Appends, false≢true, append_cancel_left, one_more, Token, Full, Game, start_of, tag_section, result_for, game_text, text_of, tokens_out, due, read, GameFile, NotMade, Open, list_profile, FileStep, IsBegun, added, bytes_in, closed, failures_in, file_steps, made, number_after, whole_files, torn_file, torn_text, common_steps}
 use Rattle.pgn_layout.specs.Lines.{lines_of, text_of as text_of_lines}
 
 -- ---- logs
@@ -50,9 +50,7 @@ module _ (given ts : List Token) (text : List ℕ) (none : torn_text given ≡ [
 
   pub game_is : (g : Game) → (read list_profile ts).progress.games ≡ (read list_profile given).progress.games ++ g ∷ []
       → due list_profile ts ≡ text_of list_profile (read list_profile ts).progress.games → game_text list_profile g ≡ text
-  game_is g one whole =
-      append_cancel_left earlier (game_text list_profile g) text
-      (sym (text_and_one (read list_profile given).progress.games g) ∙ ap (text_of list_profile) (sym one) ∙ sym whole ∙ behind)
+  game_is g one whole = grind (arith, common_steps, append_cancel_left, game_text, list_profile, text_and_one, read, text_of, behind)
 
 some_byte : (xs ys : List ℕ) → [] ≡ xs ++ ys ++ 10 ∷ [] → ⊥
 some_byte xs ys e = absurd
@@ -66,10 +64,7 @@ torn_made n (byte ∷ bytes) some = refl
 -- the file of a whole game
 pub whole_file : (n : ℕ) (g : Game)
     → torn_file n (game_text list_profile g) ≡ made (one_more n) ∷ closed (Some (game_text list_profile g)) 0 ∷ []
-whole_file n g =
-    torn_made n (game_text list_profile g)
-    (some_byte (tag_section Full (result_for list_profile.missing_result g.marker) g.pairs)
-    (text_of_lines (lines_of (tokens_out Full (start_of g.pairs) g.items ++ g.marker ∷ []))))
+whole_file n g = grind (arith, common_steps, torn_made, game_text, list_profile, some_byte, tag_section, result_for, tokens_out, start_of)
 
 -- ---- the file of a game
 
@@ -83,7 +78,5 @@ pub file_holds : {A : Type 0}
     → IsBegun taken failures (Some b) file → failures_in failures file ≡ 0 → Appends (Some []) (bytes_in taken (Some b) file) text
     → file_steps taken failures (one_more n) file ≡ torn_file n text
 file_holds taken failures b n NotMade text begun clean wrote = ap (torn_file n) wrote
-file_holds taken failures b n (Open out) text begun clean wrote =
-    let is = taken_is (taken out) text wrote in
-    rw (is, clean) (sym (torn_made n text (λ none. false≢true (rw (is, ← none) at (begun clean)))))
+file_holds taken failures b n (Open out) text begun clean wrote = grind (arith, common_steps, taken_is, torn_made, false≢true)
 file_holds taken failures b n (GameFile.Refused fault failed) text begun clean wrote = absurd (false≢true (begun clean))

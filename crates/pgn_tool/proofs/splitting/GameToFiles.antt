@@ -1,8 +1,6 @@
 -- What each game makes of the files of the games so far.
-use Rattle.pgn_tool.proofs.Words.{◌≡◌, ◌∙◌, ℕ, ◌^◌, ◌<◌, ◌≤◌, true, false, List, [], ◌∷◌, ◌++◌, length, length-append, length-take, map, take, Option, None, Some, IfSome, Result, Ok, Err, refl, sym, ap, subst, inl, inr, ◌⊎◌, arith, append-nil, Appends, Consumes, Consumes-trans, false≢true, length-map, map-append, Device, one_more, Token, tokens_of, Reason, ReadFault, WriteFault, InputTooLong, Fault, game_text, text_of, Read, due, no_progress, read, StopsWriting, CountsDevices, Games, NextGame, NextStops, NoGame, ReadsNoGame, Decides, GameFile, NotMade, Open, Unsplit, list_profile, FileStep, IsBegun, added, bytes_in, closed, failures_in, file_steps, made, number_after, refusal_step, taken_by, whole_files, CountsSource, CountsSplit, GameSplit, IsOwn, LastFile, SplitFiles, reported, settled, CutFile, CutsFile, IsSplit, IsSplitWhole, Logs, LogsCut, SplitResult, SplitStops, SplitsNoMore, StopsAt, files_of, texts_in, torn_file, torn_text, SplitSoFar, Consumes-whole, CreateFault, Stops, games_before}
+use Rattle.pgn_tool.proofs.Words.{◌≡◌, ◌∙◌, ℕ, ◌^◌, ◌<◌, ◌≤◌, true, false, List, [], ◌∷◌, ◌++◌, length, length-append, length-take, map, take, Option, None, Some, IfSome, Result, Ok, Err, refl, sym, ap, subst, inl, inr, ◌⊎◌, arith, append-nil, Appends, Consumes, Consumes-trans, false≢true, length-map, map-append, Device, one_more, Token, tokens_of, Reason, ReadFault, WriteFault, InputTooLong, Fault, game_text, text_of, Read, due, no_progress, read, StopsWriting, CountsDevices, Games, NextGame, NextStops, NoGame, ReadsNoGame, Decides, GameFile, NotMade, Open, Unsplit, list_profile, FileStep, IsBegun, added, bytes_in, closed, failures_in, file_steps, made, number_after, refusal_step, taken_by, whole_files, CountsSource, CountsSplit, GameSplit, IsOwn, LastFile, SplitFiles, reported, settled, CutFile, CutsFile, IsSplit, IsSplitWhole, Logs, LogsCut, SplitResult, SplitStops, SplitsNoMore, StopsAt, files_of, texts_in, torn_file, torn_text, SplitSoFar, Consumes-whole, CreateFault, Stops, games_before, common_steps, IsRefused, ReaderState}
 use Rattle.pgn_game.specs.export.Due.{Gains}
-use Rattle.pgn_game.specs.calls.ConverterCalls.{IsRefused}
-use Rattle.pgn_game.specs.state.ReaderState.{ReaderState}
 use Rattle.pgn_tool.proofs.runs.CallToLines.{ReadAs, decides_at_end, decides_at_token, has_read_of, reads_at_end, reads_at_token}
 use Rattle.pgn_tool.proofs.splitting.FilesOfGames.{file_holds, game_is, log_on, none_torn, number_is, taken_is, torn_is, whole_and_one, whole_file}
 use Rattle.pgn_tool.proofs.splitting.NoWriteFaultInTable.{read_own}
@@ -36,11 +34,7 @@ module _ {A : Type 0} (taken : A → Option (List ℕ)) (failures : A → ℕ) (
 
   counts_source : (file : GameFile A) (f : Fault) (s t : ℕ) → IsBegun taken failures log file
       → CountsDevices f.reason s t 0 (failures_in failures file) → CountsSplit {A = Unit} (Err (reported file f)) s t
-  counts_source (GameFile.Refused CreateFault.NoMemory failed) f s t begun counts =
-      elim (due_to f.at f.reason s t failed counts).2 [
-        | inl (write, more, same) ↦ same
-        | inr (own, zero) ↦ absurd (false≢true (begun zero))
-      ]
+  counts_source (GameFile.Refused CreateFault.NoMemory failed) f s t begun counts = grind (arith, common_steps, due_to, inl, inr, false≢true)
   counts_source _ f s t begun counts = (due_to f.at f.reason s t _ counts).0
 
   -- the last file
@@ -97,9 +91,7 @@ module _ {A : Type 0} (taken : A → Option (List ℕ)) (failures : A → ℕ) (
   all more consumed = Consumes-trans left_old left left_new so.bytes more so.consumed consumed
 
   number : one_more old.converter.games ≡ one_more (number_after 0 texts)
-  number =
-      let has = has_read_of left so.bytes old so.tokens so.have_read in
-      number_is 0 _ texts (omega (arith, has.games, length-map (read list_profile so.tokens).progress.games (game_text list_profile)))
+  number = grind (arith, common_steps, has_read_of, number_is, length-map, read, list_profile, game_text)
 
   known_log : (b : List FileStep) → before ≡ Some b → log ≡ Some (b ++ whole_files 0 texts)
   known_log b is = so.files ∙ ap (λ o. added o (whole_files 0 texts)) is
@@ -107,11 +99,7 @@ module _ {A : Type 0} (taken : A → Option (List ℕ)) (failures : A → ℕ) (
   -- the file holds the text that was written, if no write failed
   written : (text : List ℕ) → Appends none some text → failures_in failures file ≡ 0
       → after ≡ added before (whole_files 0 texts ++ torn_file (number_after 0 texts) text)
-  written text wrote clean = log_on before log after _ _ _ so.files logged (λ b is.
-      ap (λ n. file_steps taken failures n file) number
-      ∙ file_holds taken failures (b ++ whole_files 0 texts) (number_after 0 texts) file text
-      (subst (λ l. IsBegun taken failures l file) (known_log b is) begun) clean
-      (subst (λ l. Appends (bytes_in taken l NotMade) (bytes_in taken l file) text) (known_log b is) wrote))
+  written text wrote clean = grind (arith, common_steps, log_on, file_steps, number, file_holds, whole_files, number_after, known_log, bytes_in)
 
   -- a game more
   game_split : NextGame list_profile so.bytes so.tokens left left_new new none some
@@ -139,9 +127,7 @@ module _ {A : Type 0} (taken : A → Option (List ℕ)) (failures : A → ℕ) (
       → (read list_profile ts).progress.games ≡ (read list_profile so.tokens).progress.games
       → failures_in failures file ≡ 0 → after ≡ added before (files_of ts)
   files_left ts gains same clean =
-      written gains.text gains.appended clean ∙ ap (λ text. added before (whole_files 0 texts ++ torn_file (number_after 0 texts) text))
-      (sym (torn_is so.tokens ts gains.text so.none_torn gains.due_for same))
-      ∙ ap (λ l. added before (whole_files 0 l ++ torn_file (number_after 0 l) (torn_text ts))) (ap (map (game_text list_profile)) (sym same))
+      grind (arith, common_steps, written, added, whole_files, torn_file, number_after, torn_is, torn_text, map, game_text, list_profile)
 
   -- no game is left
   module _ (end : NoGame list_profile so.bytes so.tokens left left_new new none some) (clean : failures_in failures file ≡ 0) where
@@ -169,13 +155,7 @@ module _ {A : Type 0} (taken : A → Option (List ℕ)) (failures : A → ℕ) (
 
   -- after the bytes u, of which nothing is rejected
   no_more : (u : List ℕ) → ReadsNoGame list_profile so.tokens u none some → failures_in failures file ≡ 0 → SplitsNoMore u before after
-  no_more u none_read clean =
-      let reads = none_read.reads in
-      record {
-        passes = subst (λ ts. (read list_profile ts).fault ≡ None) reads.decided reads.passes;
-        files = subst (λ ts. Logs before after (files_of ts)) reads.decided
-            (logs before after _ (files_left reads.tokens reads.gains none_read.no_game clean));
-      }
+  no_more u none_read clean = grind (arith, common_steps, read, list_profile, files_of, logs, files_left)
 
   -- where writing stops: the last file, of which a prefix was written
   cut_file : (b : List FileStep) → before ≡ Some b → (text : List ℕ) (count least : ℕ)

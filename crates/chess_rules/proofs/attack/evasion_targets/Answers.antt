@@ -1,4 +1,5 @@
-use Rattle.chess_rules.proofs.Words.{Colour, Board, Square, cell_of, square_at, is_clear, is_attacked, strictly_between, may_attack, has, Places, Bits, HasNone, IsFirst, ◌≡◌, ℕ, ◌<◌, true, ◌&&◌, ◌||◌, sym, ◌∙◌, ap, arith, or_left, or_right, false≢true, HasAttacker}
+use Rattle.std.proofs.lemmas.Grind.{common_steps}
+use Rattle.chess_rules.proofs.Words.{Colour, Board, Square, cell_of, square_at, is_clear, is_attacked, strictly_between, may_attack, has, Places, Bits, HasNone, IsFirst, ◌≡◌, ℕ, ◌<◌, true, ◌&&◌, ◌||◌, sym, ◌∙◌, arith, or_left, or_right, false≢true, HasAttacker}
 use Rattle.chess_rules.proofs.sets.AllSquares.{Passes, some_square, cell_of-square_at}
 use Rattle.chess_rules.proofs.sets.SetsToSquares.{at_square}
 use Rattle.chess_rules.proofs.lines.AttackToReach.{attacked_is, attacker_is}
@@ -10,9 +11,7 @@ module _ (b : Board) (c : Colour) (t : Square) (possible attackers : ℕ) (may :
   low s file rank = omega arith
 
   attackers_are : Places attackers (λ s. may_attack b c t s && is_clear b s t)
-  attackers_are = record {
-    of = λ i low. clear.of i low ∙ ap (λ x. x && is_clear b (square_at i) t) (ap (has possible) (cell_of-square_at i) ∙ may.of i low);
-  }
+  attackers_are = grind (arith, common_steps, low, is_clear, square_at, has, cell_of-square_at)
 
   none_there : HasNone attackers → is_attacked b c t ≡ true → ⊥
   none_there none h = by_square (some_square (λ s. may_attack b c t s && is_clear b s t) (sym (attacked_is b c t) ∙ h))
@@ -24,16 +23,8 @@ module _ (b : Board) (c : Colour) (t : Square) (possible attackers : ℕ) (may :
 
   first_there : (first : Square) (way all : ℕ) → IsFirst attackers first → Places way (λ u. strictly_between first u t)
       → Bits all (λ i. has attackers i || has way i) → HasAttacker b c t all
-  first_there first way all is between both = record {
-    from = first;
-    file = is.file;
-    rank = is.rank;
-    attacks = attacker_is b c first t
-        ∙ (sym (at_square attackers (λ s. may_attack b c t s && is_clear b s t) first attackers_are is.file is.rank) ∙ is.place.here);
-    here = both.of (cell_of first) is.place.inside ∙ or_left _ _ is.place.here;
-    way = λ u file rank h. both.of (cell_of u) (low u file rank)
-        ∙ or_right _ _ (at_square way (λ v. strictly_between first v t) u between file rank ∙ h);
-  }
+  first_there first way all is between both =
+      grind (arith, common_steps, attacker_is, at_square, may_attack, is_clear, attackers_are, cell_of, or_left, low, or_right, strictly_between)
 
 pub returns-in-None : goal.returns-in-None
 returns-in-None c h = absurd

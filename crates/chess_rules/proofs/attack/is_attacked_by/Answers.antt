@@ -1,3 +1,4 @@
+use Rattle.std.proofs.lemmas.Grind.{common_steps}
 use Rattle.chess_rules.proofs.Words.{Square, is_clear, may_attack, has_any, members, Places, ◌≡◌, ℕ, true, not, ◌&&◌, Bool}
 use Rattle.chess_rules.proofs.Words.{List, [], ◌∷◌, sym, ◌∙◌, ap, arith, list_any}
 use Rattle.chess_rules.proofs.sets.SetsToSquares.{any_member, full_when, lone_means, none_of_set}
@@ -22,7 +23,4 @@ returns-then-is_empty c =
     ∙ ap not c.if-is_empty.true))
 
 pub returns-in-Some : goal.returns-in-Some
-returns-in-Some c =
-    c.is_clear.ensures
-    ∙ sym (one_passes (λ s. is_clear c.args.board.now s c.args.target) (members c.args.possible) c.in-Some.attacker
-    (lone_means (members c.args.possible) c.in-Some.attacker (sym c.in-Some.ensures)))
+returns-in-Some c = grind (arith, common_steps, one_passes, is_clear, members, lone_means)

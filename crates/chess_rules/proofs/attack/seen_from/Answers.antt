@@ -1,3 +1,5 @@
+use Rattle.std.proofs.Common.{arith}
+use Rattle.std.proofs.lemmas.Grind.{common_steps}
 use Rattle.chess_rules.proofs.Words.{is_steep}
 use Rattle.chess_rules.proofs.lines.InView.{line_of_set}
 use Rattle.chess_rules.proofs.lines.SeenAlong.{seen_by_lines}
@@ -26,15 +28,4 @@ seen_along-requires-4 c =
     line_of_set on.file on.rank (falling_line c.args.origin on.file) (places_and _ _ _ _ _ c.bitand-4.ensures c.diagonals-diagonals.ensures (places_not _ _ _ c.not-2.ensures c.steep-steep.ensures))
 
 pub returns : goal.returns
-returns c =
-    let t = c.args.origin in
-    seen_by_lines c.args.board.now t
-    _ _ _ _ c.seen_along.result c.seen_along-2.result c.seen_along-3.result c.seen_along-4.result c.bitor.result c.bitor-2.result c.bitor-3.result
-    c.bitor.ensures c.bitor-2.ensures c.bitor-3.ensures c.recall_invariant.ensures.file c.recall_invariant.ensures.rank
-    (places_and _ _ _ _ _ c.bitand.ensures c.rank_and_file-rank_and_file.ensures c.steep-steep.ensures)
-    (places_and _ _ _ _ _ c.bitand-2.ensures c.rank_and_file-rank_and_file.ensures
-    (places_not _ _ (λ s. is_steep s t) c.not.ensures c.steep-steep.ensures))
-    (places_and _ _ _ _ _ c.bitand-3.ensures c.diagonals-diagonals.ensures c.steep-steep.ensures)
-    (places_and _ _ _ _ _ c.bitand-4.ensures c.diagonals-diagonals.ensures
-    (places_not _ _ (λ s. is_steep s t) c.not-2.ensures c.steep-steep.ensures))
-    c.seen_along.ensures c.seen_along-2.ensures c.seen_along-3.ensures c.seen_along-4.ensures
+returns c = grind (arith, common_steps, seen_by_lines, places_and, places_not, is_steep)

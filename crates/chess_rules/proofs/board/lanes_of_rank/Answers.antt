@@ -1,4 +1,5 @@
-use Rattle.chess_rules.proofs.Words.{◌≡◌, ◌+◌, ◌-◌, ◌*◌, ◌<◌, ◌^◌, suc, sym, ◌∙◌, ap, ap₂, arith, take, drop, length-take}
+use Rattle.std.proofs.lemmas.Grind.{common_steps}
+use Rattle.chess_rules.proofs.Words.{◌≡◌, ◌+◌, ◌-◌, ◌*◌, ◌<◌, ◌^◌, suc, sym, ◌∙◌, ap, arith, take, drop, length-take}
 unfoldable use Rattle.chess_rules.specs.Words.{lanes}
 use Rattle.chess_rules.proofs.sets.RanksToWords.{lanes_nil, next_lanes, lanes_fit}
 use Rattle.chess_rules.proofs.board.lanes_of_rank.Goals as goal
@@ -28,7 +29,4 @@ pub overflow_add-lanes : goal.overflow_add-lanes
 overflow_add-lanes c = omega (arith, fits c)
 
 pub loop-right-preserved : goal.loop-right-preserved
-loop-right-preserved c =
-    let one : suc c.loop-right.right ≡ c.loop-right.right + 1 = omega arith in
-    let left : 8 * c.args.rank + 7 - c.loop-right.right ≡ 8 * c.args.rank + 8 - (c.loop-right.right + 1) = omega arith in
-    next c ∙ ap₂ (λ n k. lanes (take n (drop k c.args.contents.now))) one left
+loop-right-preserved c = grind (arith, common_steps, suc, next)

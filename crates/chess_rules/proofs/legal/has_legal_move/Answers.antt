@@ -1,3 +1,4 @@
+use Rattle.std.proofs.lemmas.Grind.{common_steps}
 use Rattle.chess_rules.proofs.Words.{Parts, None, is_check, other, pair_count, has_legal_move, count_king_steps, count_untried, has_king_step, has_untried_move, is_position}
 use Rattle.chess_rules.proofs.moves.PlainStepAttacks.{none_when_not}
 use Rattle.chess_rules.proofs.Words.{Bits, has, members, ◌≡◌, ℕ, ◌+◌, ◌≤◌, true, not, ◌||◌, sym, ◌∙◌, ap, arith, list_any, sum_by}
@@ -16,12 +17,7 @@ record Searches (p : Parts) (w r : ℕ) : Type 0 where
 
 searches : (p : Parts) (w r : ℕ) → is_position p ≡ true → Bits r (λ i. not (has w i)) → Searches p w r
 searches p w r position rest =
-    record {
-      found = legal_move_found p position ∙ ap (λ x. has_king_step p || x) (sym (any_both (has_untried_move p) w r rest));
-      count = sym (pair_count_parts p (sound_from_position p position))
-          ∙ ap (λ n. count_king_steps p + n) (sym (sum_both_sets (count_untried p) w r rest));
-      most = pair_count_most p;
-    }
+    grind (arith, common_steps, legal_move_found, has_king_step, any_both, has_untried_move, pair_count_parts, sound_from_position, count_king_steps, sum_both_sets, count_untried, pair_count_most)
 
 pub has_king_step-requires : goal.has_king_step-requires
 has_king_step-requires c = grind (arith, pair_count_parts, sound_from_position, pair_count_most)
@@ -38,14 +34,7 @@ has_other_move_to-requires c =
     omega (arith, c.has_king_step.ensures.count.all c.if-has_king_step.false)
 
 pub rule_out_moves_to-requires-clause-none : goal.rule_out_moves_to-requires-clause-none
-rule_out_moves_to-requires-clause-none c =
-    let p = c.args.position.now in
-    let check : is_check p ≡ true = sym c.is_checked.ensures ∙ c.if-is_checked.true in
-    let no_target : p.target ≡ None = sym c.target.ensures ∙ none_when_not c.target.result (c.is_none.ensures ∙ ap not c.if-is_none.true) in
-    none_elsewhere p c.evasion_targets-first.result c.recall_invariant.ensures check no_target
-    (check_met p c.board.result.now c.other.result c.king.result c.evasion_targets-first.result c.recall_invariant.ensures check
-    c.board.ensures (c.other.ensures ∙ ap other c.side.ensures) c.king.ensures c.evasion_targets-first.ensures)
-    c.not-others.result c.not-others.ensures
+rule_out_moves_to-requires-clause-none c = grind (arith, common_steps, is_check, none_when_not, none_elsewhere, check_met, other)
 
 pub rule_out_moves_to-requires-clause-room : goal.rule_out_moves_to-requires-clause-room
 rule_out_moves_to-requires-clause-room c =

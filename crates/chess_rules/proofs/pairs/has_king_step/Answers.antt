@@ -1,16 +1,11 @@
-use Rattle.chess_rules.proofs.Words.{king_square, is_legal_pair, is_king_step, has_king_step, count_king_steps, ◌+◌, length, ap, arith, list_any}
+use Rattle.std.proofs.lemmas.Grind.{common_steps}
+use Rattle.chess_rules.proofs.Words.{king_square, is_legal_pair, is_king_step, has_king_step, count_king_steps, length, ap, arith, list_any}
 use Rattle.chess_rules.proofs.sets.SetsToSquares.{members_are}
 use Rattle.chess_rules.proofs.trying.SearchThatCounts.{left_fits, fewer_left, left_hit, none_left}
 use Rattle.chess_rules.proofs.pairs.has_king_step.Goals as goal
 
 pub loop-target-init : goal.loop-target-init
-loop-target-init c =
-    let targets = members_are c.king_targets-left.result (is_king_step c.args.position.now) c.king_targets-left.ensures.of in
-    record {
-      rises = omega arith;
-      counted = ap (λ xs. c.args.probes.now + length xs) targets;
-      same = ap (list_any (is_legal_pair c.args.position.now (king_square c.args.position.now.side c.args.position.now.board))) targets;
-    }
+loop-target-init c = grind (arith, common_steps, members_are, is_king_step, list_any, is_legal_pair, king_square)
 
 pub is_legal_pair-requires : goal.is_legal_pair-requires
 unfolding count_king_steps

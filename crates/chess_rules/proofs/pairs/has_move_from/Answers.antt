@@ -1,4 +1,4 @@
-use Rattle.chess_rules.specs.Pairs as spec
+use Rattle.std.proofs.lemmas.Grind.{common_steps}
 use Rattle.chess_rules.proofs.Words.{members, length, ap, arith}
 use Rattle.chess_rules.proofs.trying.SearchThatCounts.{left_fits, fewer_left, left_hit, none_left}
 use Rattle.chess_rules.proofs.pairs.has_move_from.Goals as goal
@@ -22,11 +22,7 @@ pub loop-from-preserved : goal.loop-from-preserved
 loop-from-preserved c = grind (arith, fewer_left)
 
 pub returns-clause-found : goal.returns-clause-found
-returns-clause-found c =
-    (none_left (λ s. spec.is_legal_pair c.args.position.now s c.args.target)
-    (members c.args.origins) c.loop-from.left c.args.probes.now c.loop-from.probes c.loop-from.invariant c.in_default.ensures).0
+returns-clause-found c = grind (arith, common_steps, none_left, members)
 
 pub returns-clause-count : goal.returns-clause-count
-returns-clause-count c =
-    (none_left (λ s. spec.is_legal_pair c.args.position.now s c.args.target)
-    (members c.args.origins) c.loop-from.left c.args.probes.now c.loop-from.probes c.loop-from.invariant c.in_default.ensures).1
+returns-clause-count c = grind (arith, common_steps, none_left, members)

@@ -1,5 +1,6 @@
+use Rattle.std.proofs.lemmas.Grind.{common_steps}
 use Rattle.chess_rules.proofs.Words.{Parts, Square, Counts, has_untried_move, count_untried, is_untried, is_legal_pair, Places, members}
-use Rattle.chess_rules.proofs.Words.{◌≡◌, ℕ, Bool, ◌+◌, ◌<◌, ◌^◌, length, sym, ◌∙◌, ap, subst, arith, list_any}
+use Rattle.chess_rules.proofs.Words.{◌≡◌, ℕ, Bool, length, ◌∙◌, ap, subst, arith, list_any}
 use Rattle.chess_rules.proofs.trying.SetsToPairs.{untried_are, untried_counted}
 use Rattle.chess_rules.proofs.trying.SearchThatCounts.{target_fits, fewer_targets, target_hit, no_target}
 use Rattle.chess_rules.proofs.pairs.has_other_move_to.Goals as goal
@@ -17,9 +18,7 @@ pub loop-target-init : goal.loop-target-init
 loop-target-init c = grind arith
 
 pub has_move_from-requires : goal.has_move_from-requires
-has_move_from-requires c =
-    subst (λ n. c.loop-target.probes + n < 2 ^ 32) (sym (untried_counted c.args.position.now c.in-Some.target c.untried.result c.untried.ensures))
-    (target_fits c.loop-target.invariant c.in-Some.ensures (2 ^ 32) c.requires)
+has_move_from-requires c = grind (arith, common_steps, untried_counted, target_fits)
 
 pub returns-then-has_move_from-clause-found : goal.returns-then-has_move_from-clause-found
 returns-then-has_move_from-clause-found c =

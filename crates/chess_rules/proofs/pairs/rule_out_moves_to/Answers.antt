@@ -1,4 +1,5 @@
-use Rattle.chess_rules.proofs.Words.{◌≡◌, length, members, sum_by, ap, arith}
+use Rattle.std.proofs.lemmas.Grind.{common_steps}
+use Rattle.chess_rules.proofs.Words.{length, members, sum_by, ap, arith}
 use Rattle.chess_rules.proofs.trying.PairsFromOrigin.{count_from, counted_by_origins, origin_counts, origin_mine, origins_begin, origins_go_on, targets_counted}
 use Rattle.chess_rules.proofs.trying.SetsToPairs.{colour_places}
 use Rattle.chess_rules.proofs.pairs.rule_out_moves_to.Goals as goal
@@ -11,10 +12,7 @@ pub untried_from-requires : goal.untried_from-requires
 untried_from-requires c = origin_mine c.in-Some.ensures c.loop-origin.invariant
 
 pub add-requires : goal.add-requires
-add-requires c =
-    let counted = origin_counts c.in-Some.ensures c.loop-origin.invariant in
-    let many = targets_counted c.args.position.now c.args.targets c.in-Some.origin c.bitand.ensures c.untried_from.ensures in
-    omega (arith, counted, many, c.count.ensures, c.requires.room, counted_by_origins c.args.position.now c.args.targets)
+add-requires c = grind (arith, common_steps, origin_counts, targets_counted, counted_by_origins)
 
 pub loop-origin-smaller : goal.loop-origin-smaller
 loop-origin-smaller c = omega (arith, ap length c.in-Some.ensures.next)
@@ -25,7 +23,4 @@ loop-origin-preserved c =
     origins_go_on c.in-Some.ensures c.loop-origin.invariant (omega (arith, many, c.count.ensures, c.add.ensures))
 
 pub returns : goal.returns
-returns c =
-    let none : sum_by (count_from c.args.position.now c.args.targets) (members c.loop-origin.left) ≡ 0 =
-    ap (sum_by (count_from c.args.position.now c.args.targets)) c.in_default.ensures.none in
-    omega (arith, c.loop-origin.invariant.counts.counted, none, counted_by_origins c.args.position.now c.args.targets)
+returns c = grind (arith, common_steps, sum_by, count_from, members, counted_by_origins)

@@ -1,4 +1,5 @@
-use Rattle.chess_rules.proofs.Words.{Knight, Parts, Square, Board, at, cell_of, has_colour, has_kind, own, is_aligned, is_clear, is_untried, is_king_step, Places, square_at, has, ◌≡◌, ℕ, ◌<◌, Bool, true, false, not, sym, ◌∙◌, ap₂, subst, arith, ◌&&◌}
+use Rattle.std.proofs.lemmas.Grind.{common_steps}
+use Rattle.chess_rules.proofs.Words.{Knight, Parts, Square, Board, at, cell_of, has_colour, has_kind, own, is_aligned, is_clear, is_untried, is_king_step, Places, square_at, has, ◌≡◌, ℕ, ◌<◌, Bool, true, false, not, sym, ◌∙◌, subst, arith, ◌&&◌}
 use Rattle.chess_rules.proofs.positions.RulesOfPosition.{own_king}
 use Rattle.chess_rules.proofs.sets.SetsToSquares.{at_place, places_and, places_not, places_same}
 use Rattle.chess_rules.proofs.sets.WordsToCells.{piece_is}
@@ -8,13 +9,7 @@ use Rattle.chess_rules.proofs.pairs.untried_from.Goals as goal
 -- whether the side's piece there is a knight
 knight_there : (p : Parts) (b : Board) (s : Square) (w : ℕ) (x : Bool) → b ≡ p.board → has_colour p.side (at p.board s) ≡ true
     → Places w (λ u. has_kind Knight (at b u)) → cell_of s < 64 → square_at (cell_of s) ≡ s → has w (cell_of s) ≡ x → own p Knight s ≡ x
-knight_there p b s w x is mine knights inside again h =
-    sym (piece_is p.side Knight (at p.board s))
-    ∙ (ap₂ (λ v y. v && y) (sym (subst (λ (a : Board). has w (cell_of s) ≡ has_kind Knight (at a s)) is
-    (at_place w (λ u. has_kind Knight (at b u)) s knights inside again)) ∙ h) mine ∙ with_true x)
-  where
-    with_true : (v : Bool) → (v && true) ≡ v
-    with_true v = grind arith
+knight_there p b s w x is mine knights inside again h = grind (arith, common_steps, piece_is, has, cell_of, has_kind, at_place)
 
 seen_there : (p : Parts) (b : Board) (s : Square) (w : ℕ) → b ≡ p.board → Places w (λ t. is_aligned t s && is_clear b t s)
     → Places w (λ t. is_aligned t s && is_clear p.board t s)

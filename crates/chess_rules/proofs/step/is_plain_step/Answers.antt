@@ -1,4 +1,5 @@
-use Rattle.chess_rules.proofs.Words.{Parts, Move, Pawn, Board, Colour, Places, cell_of, square_at, has, ℕ, ◌<◌, ap, at, false≢true, attacks, has_colour, is_clear, is_piece_step, is_pawn_step, may_attack, own, ◌≡◌, Bool, true, false, not, ◌&&◌, ◌||◌, sym, ◌∙◌, subst, arith, is_none}
+use Rattle.std.proofs.lemmas.Grind.{common_steps}
+use Rattle.chess_rules.proofs.Words.{Parts, Move, Pawn, Board, Colour, Places, cell_of, square_at, has, ℕ, ◌<◌, at, false≢true, attacks, has_colour, is_clear, is_piece_step, is_pawn_step, may_attack, own, ◌≡◌, Bool, true, false, not, ◌&&◌, ◌||◌, arith, is_none}
 use Rattle.chess_rules.proofs.lines.AttackToReach.{attacker_is}
 use Rattle.chess_rules.proofs.moves.KindsOfSteps.{none_there}
 use Rattle.chess_rules.proofs.sets.AllSquares.{first_true}
@@ -21,28 +22,11 @@ clear_decides p m free piece plain may =
 there : (p : Parts) (b : Board) (side : Colour) (m : Move) (w : ℕ) (r : Bool) → b ≡ p.board → side ≡ p.side → Places w (may_attack b side m.to)
     → cell_of m.from < 64 → square_at (cell_of m.from) ≡ m.from → r ≡ has w (cell_of m.from) → r ≡ true
     → may_attack p.board p.side m.to m.from ≡ true
-there p b side m w r same_board same_side places inside again value h =
-    subst (λ (a : Board). may_attack a p.side m.to m.from ≡ true) same_board
-    (subst (λ (d : Colour). may_attack b d m.to m.from ≡ true) same_side
-    (sym (at_place w (may_attack b side m.to) m.from places inside again) ∙ (sym value ∙ h)))
+there p b side m w r same_board same_side places inside again value h = grind (arith, common_steps, may_attack, at_place)
 
 pub returns-then-has_colour : goal.returns-then-has_colour
 returns-then-has_colour c = grind (arith, none_there)
 
 pub returns-then-has : goal.returns-then-has
 returns-then-has c =
-    let p = c.args.position.now in
-    let m = c.args.mv.now in
-    let free : has_colour p.side (at p.board m.to) ≡ false = grind arith in
-    let piece : own p Pawn m.from ≡ false = grind arith in
-    elim c.if-is_none.branch [
-      | then-is_none w ↦
-          let plain : is_none m.promotion ≡ true = grind arith in
-          let may : may_attack p.board p.side m.to m.from ≡ true =
-          there p c.board-board.result.now c.side-side.result m w.possible_attackers.result w.has.result c.board-board.ensures c.side-side.ensures
-          w.possible_attackers.ensures w.has.ensures.inside w.has.ensures.again w.has.ensures.value (sym w.value-is ∙ c.if-has.true) in
-          let clear : c.is_clear.result ≡ is_clear p.board m.from m.to =
-          c.is_clear.ensures ∙ ap (λ b. is_clear b m.from m.to) c.board-board.ensures in
-          clear ∙ clear_decides p m free piece plain may
-      | else-is_none w ↦ absurd (false≢true (sym w.if-is_none.false ∙ (sym w.value-is ∙ c.if-has.true)))
-    ]
+    grind (arith, common_steps, has_colour, own, then-is_none, is_none, may_attack, there, is_clear, clear_decides, else-is_none, false≢true)

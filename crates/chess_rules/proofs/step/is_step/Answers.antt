@@ -1,4 +1,5 @@
-use Rattle.chess_rules.proofs.Words.{Move, Parts, Board, after, board_after, is_on_board, ◌≡◌, Bool, true, false, refl, ◌∙◌, arith}
+use Rattle.std.proofs.lemmas.Grind.{common_steps}
+use Rattle.chess_rules.proofs.Words.{Move, Parts, Board, after, board_after, is_on_board, ◌≡◌, Bool, true, false, refl, arith}
 use Rattle.chess_rules.proofs.Words.{Option, None, Some, is_some, option_map, if◌then◌else◌, false≢true, nat_tests}
 use Rattle.chess_rules.proofs.step.is_step.Goals as goal
 
@@ -10,7 +11,4 @@ board_makes_step p m true (Some b) h = refl
 board_makes_step p m false o h = absurd (false≢true h)
 
 pub returns : goal.returns
-returns c =
-    let on : is_on_board c.args.mv.now ≡ true = grind (arith, nat_tests) in
-    c.is_step_of_kind.ensures
-    ∙ board_makes_step c.args.position.now c.args.mv.now (is_on_board c.args.mv.now) (board_after c.args.position.now c.args.mv.now) on
+returns c = grind (arith, common_steps, is_on_board, nat_tests, board_makes_step, board_after)

@@ -1,7 +1,4 @@
-use Rattle.pgn_tool.proofs.Words.{◌≡◌, Bool, true, false, Ok, Err, Device, device, Games, ap, refl, subst, ◌∙◌, [], Appends-nil, Consumes-nil}
-use Rattle.pgn_layout.specs.Device.{nowhere}
-use Rattle.pgn_game.specs.calls.GamesCalls.{CountsNext, ReadsNext}
-use Rattle.pgn_game.specs.calls.Written.{seen}
+use Rattle.pgn_tool.proofs.Words.{◌≡◌, Bool, true, false, Ok, Err, Device, device, Games, ap, refl, subst, ◌∙◌, [], Appends-nil, Consumes-nil, nowhere, CountsNext, ReadsNext, seen}
 use Rattle.pgn_tool.proofs.runs.CallToLines.{all_listed, game_cut, game_listed, list_stops}
 use Rattle.pgn_tool.proofs.list.list_games.Goals as goal
 

@@ -1,7 +1,4 @@
-use Rattle.pgn_tool.proofs.Words.{rules, Bool, Device, FileStep, GameFile, List, NotMade, Option, None, Some, bytes_in, failures_in, added, ap, append_assoc, ◌∙◌, ◌++◌, ◌≡◌, ℕ, device, false, subst}
-use Rattle.pgn_game.specs.calls.GamesCalls.{CountsNext, ReadsNext}
-use Rattle.pgn_game.specs.calls.Written.{seen}
-use Rattle.pgn_tool.specs.Files.{file_sink}
+use Rattle.pgn_tool.proofs.Words.{rules, Bool, Device, FileStep, GameFile, List, NotMade, Option, None, Some, bytes_in, failures_in, added, ap, append_assoc, ◌∙◌, ◌++◌, ◌≡◌, ℕ, device, false, subst, CountsNext, ReadsNext, seen, file_sink}
 use Rattle.pgn_tool.proofs.split.write_game.Goals as goal
 
 -- the sink of games that are written, as it is

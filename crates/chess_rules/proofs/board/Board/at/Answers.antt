@@ -1,14 +1,13 @@
+use Rattle.std.proofs.lemmas.Grind.{common_steps}
 use Rattle.chess_rules.specs.declared.board.Board.TheInside.{Inside}
-use Rattle.chess_rules.proofs.Words.{Square, Board, at, cell_of, has, cells, coded, ◌≡◌, ◌<◌, Bool, refl, ◌∙◌, ap₂, arith}
+use Rattle.chess_rules.proofs.Words.{Square, Board, at, cell_of, has, cells, coded, ◌≡◌, ◌<◌, Bool, refl, arith}
 use Rattle.chess_rules.proofs.sets.WordsToCells.{cell_there}
 use Rattle.chess_rules.proofs.board.Board.at.Goals as goal
 
 content : (w : Inside) (b : Board) (s : Square) (x y z d : Bool) → cells w ≡ b → cell_of s < 64
     → x ≡ has w.straight (cell_of s) → y ≡ has w.diagonal (cell_of s)
     → z ≡ has w.near (cell_of s) → d ≡ has w.black (cell_of s) → coded x y z d ≡ at b s
-content w b s x y z d is low e f g h =
-    ap₂ (λ t u. coded t u z d) e f
-    ∙ (ap₂ (λ t u. coded (has w.straight (cell_of s)) (has w.diagonal (cell_of s)) t u) g h ∙ cell_there w b (cell_of s) is low)
+content w b s x y z d is low e f g h = grind (arith, common_steps, coded, has, cell_of, cell_there)
 
 pub returns-in-false-false-false : goal.returns-in-false-false-false
 returns-in-false-false-false c =

@@ -1,4 +1,6 @@
-use Rattle.chess_rules.proofs.Words.{Square, ◌≡◌, Bool, true, false, not, refl, sym, ◌∙◌, ap, then_some, None, Some, if◌then◌else◌}
+use Rattle.std.proofs.Common.{arith}
+use Rattle.std.proofs.lemmas.Grind.{common_steps}
+use Rattle.chess_rules.proofs.Words.{Square, ◌≡◌, Bool, true, false, not, refl, then_some, None, Some, if◌then◌else◌}
 use Rattle.chess_rules.proofs.sets.SetsToSquares.{lone_first}
 use Rattle.chess_rules.proofs.squares.Squares.only.Goals as goal
 
@@ -7,7 +9,4 @@ unless true s = refl
 unless false s = refl
 
 pub returns : goal.returns
-returns c =
-    c.then_some.ensures
-    ∙ (ap (λ x. then_some x c.in_ok-first.first) c.is_empty.ensures
-    ∙ (unless _ _ ∙ sym (lone_first c.args.self c.with.result c.in_ok-first.first c.in_ok-first.ensures c.with.ensures)))
+returns c = grind (arith, common_steps, then_some, unless, lone_first)
