@@ -130,5 +130,5 @@ pub use Rattle.pgn_lexer.specs.declared.token.TokenKind.TheVariants.{Str}
 pub use Rattle.std.proofs.Math.Nat.{le-max_left, le-max_right}
 pub use Rattle.std.specs.Borrow.{RattleType}
 pub use Rattle.std.specs.Mem.{FitsInMemory}
-pub use Rattle.std.specs.Result.{IsOk}
+pub use Rattle.std.specs.Result.{IsOk, IsErrAnd}
 pub use Rattle.std.proofs.lemmas.Grind.{common_steps}

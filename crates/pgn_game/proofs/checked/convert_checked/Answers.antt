@@ -1,7 +1,8 @@
-use Rattle.pgn_game.proofs.Words.{Profile, ◌-◌, max, refl, ap, ◌∙◌, arith, err_from_is_err_and, device, Device, one_more, checked_profile, CountsReading, WritesGame}
+use Rattle.pgn_game.proofs.Words.{Profile, ◌-◌, max, refl, ap, ◌∙◌, arith, device, Device, one_more, checked_profile, CountsReading, WritesGame}
 use Rattle.pgn_game.proofs.putting.SilentReader.{unseen}
 use Rattle.pgn_game.proofs.twice.FailuresOfSteps.{first_counts, second_counts, source_fails}
 use Rattle.pgn_game.proofs.twice.ReadingsToConversion.{both_end, both_more, both_none, first_stops, second_stops}
+use Rattle.pgn_game.proofs.reader.ErrorReturned.{error_returned}
 use Rattle.pgn_game.proofs.checked.convert_checked.Given.{Over}
 use Rattle.pgn_game.proofs.checked.convert_checked.Goals.{After-read_game, After-write_game}
 use Rattle.pgn_game.proofs.checked.convert_checked.Goals as goal
@@ -61,8 +62,7 @@ returns-in_err-mark-clause-converts g c =
     let n = (goal.at.returns-in_err-mark-clause-converts g c).After-read_game in
     let so = c.loop-mark.invariant in
     let f = c.in_err-mark.field-0.0 in
-    let e = err_from_is_err_and c.from_residual.result c.from_residual.ensures.1 in
-    rw (e.1, e.2)
+    rw (error_returned _ c.from_residual.ensures.1)
     (first_stops (q g n) (first g n) (second g n) (sink g n) _ c.loop-mark.ahead c.loop-mark.behind so.both f
     (λ is. source_fails f.reason _ _ _ _ c.in_err-mark.ensures.counted is ∙ ap one_more so.first)
     (c.in_err-mark.ensures.reads (q g n) _ so.both.first_tokens so.both.first_stands))
@@ -71,8 +71,7 @@ pub returns-in_err-mark-clause-counted : goal.returns-in_err-mark-clause-counted
 returns-in_err-mark-clause-counted g c =
     let n = (goal.at.returns-in_err-mark-clause-counted g c).After-read_game in
     let so = c.loop-mark.invariant in
-    let e = err_from_is_err_and c.from_residual.result c.from_residual.ensures.1 in
-    rw (e.1, e.2)
+    rw (error_returned _ c.from_residual.ensures.1)
     (first_counts c.in_err-mark.field-0.0.reason (first g n) (second g n) (sink g n) _ so.first so.second so.sink c.in_err-mark.ensures.counted)
 
 pub returns-clause-converts : goal.returns-clause-converts
@@ -117,8 +116,7 @@ returns-in_err-write_game-clause-converts g c =
     let so = c.loop-mark.invariant in
     let x = so.both in
     let f = c.in_err-write_game.field-0.0 in
-    let e = err_from_is_err_and c.from_residual-in_err-write_game.result c.from_residual-in_err-write_game.ensures.1 in
-    rw (e.1, e.2)
+    rw (error_returned _ c.from_residual-in_err-write_game.ensures.1)
     (second_stops (q g n) (first g n) (second_read g w) (written g w) _ _ _ c.loop-mark.ahead c.loop-mark.behind x c.in-Some.mark c.read_game.new.self f
     ((rw c.in-Some.is at c.in_ok-mark.ensures.reads) (q g n) _ x.first_tokens x.first_stands)
     ((rw c.in_err-write_game.was at (writes g w)) (q g n) _ x.second_tokens x.second_stands)
@@ -129,12 +127,6 @@ returns-in_err-write_game-clause-counted g c =
     let here = goal.at.returns-in_err-write_game-clause-counted g c in
     let w = here.After-write_game in
     let so = c.loop-mark.invariant in
-    let e = err_from_is_err_and c.from_residual-in_err-write_game.result c.from_residual-in_err-write_game.ensures.1 in
-    rw (e.1, e.2)
+    rw (error_returned _ c.from_residual-in_err-write_game.ensures.1)
     (second_counts c.in_err-write_game.field-0.0.reason (first g here.After-read_game) (second_read g w) (written g w) _ _
     (c.in_ok-mark.ensures.counted.0 ∙ so.first) so.second so.sink (rw c.in_err-write_game.was at (counted g w)))
-
-pub loop-mark-smaller : goal.loop-mark-smaller
-loop-mark-smaller g c =
-    let goes_on = rw c.in-Some.is at c.in_ok-mark.ensures.going in
-    omega (arith, goes_on.1, goes_on.2)

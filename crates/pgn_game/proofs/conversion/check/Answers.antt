@@ -1,14 +1,8 @@
-use Rattle.pgn_game.proofs.Words.{◌-◌, Bool, true, ap, subst, Converter, AfterConversion, profile_of, bytes_seen, device, None, nowhere, CountsResult}
-use Rattle.pgn_game.proofs.putting.SilentReader.{ready_silently, seen_alike}
+use Rattle.pgn_game.proofs.Words.{◌-◌, true, ap, Converter, profile_of, device, None}
+use Rattle.pgn_game.proofs.putting.SilentReader.{ready_silently}
 use Rattle.pgn_game.proofs.tokens.WholeInput.{is_short}
 use Rattle.pgn_game.proofs.twice.FailuresOfSteps.{no_write_in}
 use Rattle.pgn_game.proofs.conversion.check.Goals as goal
-
-pub new-converter-requires : goal.new-converter-requires
-new-converter-requires g c = (c.requires.memory, c.requires.levels)
-
-pub write_nothing-requires : goal.write_nothing-requires
-write_nothing-requires g c = c.requires.memory
 
 pub convert_all-requires : goal.convert_all-requires
 convert_all-requires g c = (
@@ -21,9 +15,8 @@ returns g c =
     let p = profile_of g.row.T (g.row.L - 1) c.args.mode in
     let source = device g.R.Source.left g.R.Source.failures c.args.reader.now c.convert_all.new.reader in
     let silent = ap (λ (s : Converter). s.reading.writing.is_silent) c.write_nothing.ensures.only_switch in
-    let converts = subst (λ (b : Bool). AfterConversion b p source.before source.after c.convert_all.result (bytes_seen b None) (bytes_seen b None)) silent
-    (c.convert_all.ensures.converts p (c.write_nothing.ensures.stands p _ _ c.new-converter.ensures.stands)) in
-    let counted = seen_alike (CountsResult c.convert_all.result source) _ true nowhere silent c.convert_all.ensures.counted in
+    let converts = rw silent at (c.convert_all.ensures.converts p (c.write_nothing.ensures.stands p _ _ c.new-converter.ensures.stands)) in
+    let counted = rw silent at c.convert_all.ensures.counted in
     record {
       checks = (converts, no_write_in c.convert_all.result source counted);
       short = is_short true p _ source.after None None c.convert_all.result converts;

@@ -1,14 +1,8 @@
-use Rattle.pgn_game.proofs.Words.{◌-◌, Bool, true, ap, subst, AfterSlice, profile_of, bytes_seen, None, Converter, nowhere, CountsSink}
-use Rattle.pgn_game.proofs.putting.SilentReader.{ready_silently, seen_alike}
+use Rattle.pgn_game.proofs.Words.{◌-◌, true, ap, profile_of, None, Converter}
+use Rattle.pgn_game.proofs.putting.SilentReader.{ready_silently}
 use Rattle.pgn_game.proofs.tokens.WholeInput.{is_short_slice}
 use Rattle.pgn_game.proofs.twice.FailuresOfSteps.{no_write_to}
 use Rattle.pgn_game.proofs.conversion.check_slice.Goals as goal
-
-pub new-converter-requires : goal.new-converter-requires
-new-converter-requires g c = (c.requires.memory, c.requires.levels)
-
-pub write_nothing-requires : goal.write_nothing-requires
-write_nothing-requires g c = c.requires.memory
 
 pub convert_text-requires : goal.convert_text-requires
 convert_text-requires g c = (
@@ -20,12 +14,8 @@ pub returns : goal.returns
 returns g c =
     let p = profile_of g.row.T (g.row.L - 1) c.args.mode in
     let silent = ap (λ (s : Converter). s.reading.writing.is_silent) c.write_nothing.ensures.only_switch in
-    let checks = subst (λ (b : Bool). AfterSlice b p c.args.text.now c.convert_text.result (bytes_seen b None) (bytes_seen b None)) silent
-    (c.convert_text.ensures.converts p (c.write_nothing.ensures.stands p _ _ c.new-converter.ensures.stands)) in
+    let checks = rw silent at (c.convert_text.ensures.converts p (c.write_nothing.ensures.stands p _ _ c.new-converter.ensures.stands)) in
     record {
-      checks = (
-        checks,
-        no_write_to c.convert_text.result (seen_alike (CountsSink c.convert_text.result) _ true nowhere silent c.convert_text.ensures.counted),
-      );
+      checks = (checks, no_write_to c.convert_text.result (rw silent at c.convert_text.ensures.counted));
       short = is_short_slice true p _ None None c.convert_text.result checks;
     }

@@ -1,5 +1,5 @@
-use Rattle.pgn_game.proofs.Words.{refl, err_from_is_err_and, Reason, ReadFault, Changed, WriteFault, Fault, Device, device, Result, Ok, Err, ◌≡◌, sym, subst, Bool, CountsSink, CountsWriting}
-use Rattle.pgn_game.proofs.Words.{◌∙◌, arith, CountsReason, CountsFault, Totals, AfterEnd, bytes_seen}
+use Rattle.pgn_game.proofs.Words.{refl, err_from_is_err_and, Reason, ReadFault, Changed, WriteFault, Fault, Device, device, Result, Ok, Err, ◌≡◌, sym, CountsSink, CountsWriting}
+use Rattle.pgn_game.proofs.Words.{◌∙◌, arith, CountsReason, CountsFault, Totals}
 use Rattle.pgn_game.proofs.ReaderFitsInMemory.{fits_alike}
 use Rattle.pgn_game.proofs.putting.SilentReader.{seen_alike}
 use Rattle.pgn_game.proofs.tokens.WholeInput.{slice_stops, slice_ends}
@@ -40,8 +40,7 @@ returns g c =
       converts = λ p stands.
           let fed = c.in_ok-feed_all.ensures.feeds p _ _ stands refl in
           slice_ends s _ c.end.result fed (omega (arith, fed.stands.lexer.count, c.in_ok-feed_all.ensures.goes.short))
-          (subst (λ (b : Bool). AfterEnd b p c.args.text.now fed.tokens c.end.result (bytes_seen b sink.before) (bytes_seen b sink.after)) same
-          (c.end.ensures.ends p _ _ fed.stands));
+          (rw same at (c.end.ensures.ends p _ _ fed.stands));
       counted = counts_sink c.end.result _ _ c.in_ok-feed_all.ensures.goes.counted refl
           (seen_alike (CountsFault c.end.result) _ _ sink same c.end.ensures.counted);
     }

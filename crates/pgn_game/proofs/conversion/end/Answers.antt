@@ -1,4 +1,4 @@
-use Rattle.pgn_game.proofs.Words.{err_from_is_err_and, AfterEnd, Bool, Ok, bytes_seen, subst}
+use Rattle.pgn_game.proofs.Words.{err_from_is_err_and}
 use Rattle.pgn_game.proofs.ReaderFitsInMemory.{fits_alike}
 use Rattle.pgn_game.proofs.tokens.WholeInput.{ended}
 use Rattle.pgn_game.proofs.conversion.end.Goals as goal
@@ -15,10 +15,7 @@ pub returns : goal.returns
 returns g c =
     record {
       ends = λ p u given stands.
-          let s = c.args.converter.now.reading.writing.is_silent in
-          subst (λ (b : Bool). AfterEnd b p u given (Ok c.totals_of.result) (bytes_seen s (g.W.Sink.taken c.args.out.now)) (bytes_seen s (g.W.Sink.taken c.finish.new.out)))
-          c.finish.ensures.silent.silent
-          (ended c.totals_of.result (c.in_ok-finish.ensures.ends p u _ given stands) c.totals_of.ensures.games c.totals_of.ensures.plies
+          rw c.finish.ensures.silent.silent at (ended c.totals_of.result (c.in_ok-finish.ensures.ends p u _ given stands) c.totals_of.ensures.games c.totals_of.ensures.plies
           c.totals_of.ensures.probes c.totals_of.ensures.bound);
       counted = c.in_ok-finish.ensures.counted c.requires.no_fault;
     }

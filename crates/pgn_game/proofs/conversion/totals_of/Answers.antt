@@ -9,12 +9,3 @@ whole_plies-requires g c = (search fits_alike, c.requires.no_fault)
 
 pub most_probes-requires : goal.most_probes-requires
 most_probes-requires g c = search fits_alike
-
-pub returns : goal.returns
-returns g c =
-    record {
-      games = c.games.ensures;
-      plies = c.whole_plies.ensures;
-      probes = c.most_probes.ensures.value;
-      bound = c.most_probes.ensures.bound;
-    }

@@ -1,56 +1,47 @@
 use Rattle.std.specs.Result.{is_ok}
-use Rattle.pgn_game.proofs.Words.{ap, err_from_is_err_and, false≢true, refl}
+use Rattle.pgn_game.proofs.Words.{ap, false≢true, refl}
 use Rattle.pgn_game.proofs.ReaderFitsInMemory.{fits_alike}
 use Rattle.pgn_game.proofs.tokens.GoesToMarker.{keeps_as}
+use Rattle.pgn_game.proofs.reader.ErrorReturned.{error_returned}
 use Rattle.pgn_game.proofs.games.feed_rest.Goals as goal
 
 pub feed_to_marker-requires : goal.feed_to_marker-requires
 feed_to_marker-requires g c = (search fits_alike, c.requires.not_finished)
 
-pub returns-in-All : goal.returns-in-All
-returns-in-All g c =
+pub returns-in-All-clause-feeds : goal.returns-in-All-clause-feeds
+returns-in-All-clause-feeds g c =
     let fed = c.in_ok-feed_to_marker.ensures in
     record {
-      feeds = record {
-        feeds = (c.clear.ensures, rw (c.in-All.is, c.unused.ensures) at fed.feeds);
-        used =
-            let count = rw (c.in-All.is, c.unused.ensures) at fed.goes.count in
-            λ same. count;
-        ready = tt;
-        short = fed.short;
-        keeps = keeps_as fed.goes.keeps refl;
-        counted = fed.goes.counted c.requires.no_fault;
-      };
-      silent = fed.silent;
+      feeds = (c.clear.ensures, rw (c.in-All.is, c.unused.ensures) at fed.feeds);
+      used =
+          let count = rw (c.in-All.is, c.unused.ensures) at fed.goes.count in
+          λ same. count;
+      ready = tt;
+      short = fed.short;
+      keeps = keeps_as fed.goes.keeps refl;
+      counted = fed.goes.counted c.requires.no_fault;
     }
 
-pub returns-in-Marker : goal.returns-in-Marker
-returns-in-Marker g c =
+pub returns-in-Marker-clause-feeds : goal.returns-in-Marker-clause-feeds
+returns-in-Marker-clause-feeds g c =
     let fed = c.in_ok-feed_to_marker.ensures in
     record {
-      feeds = record {
-        feeds = (c.in-Marker.used, c.skip.ensures, rw (c.in-Marker.is, c.unused.ensures) at fed.feeds);
-        used = λ same. absurd (cc);
-        ready = rw c.in-Marker.is at fed.goes.ready;
-        short = fed.short;
-        keeps = keeps_as fed.goes.keeps refl;
-        counted = fed.goes.counted c.requires.no_fault;
-      };
-      silent = fed.silent;
+      feeds = (c.in-Marker.used, c.skip.ensures, rw (c.in-Marker.is, c.unused.ensures) at fed.feeds);
+      used = λ same. absurd (cc);
+      ready = rw c.in-Marker.is at fed.goes.ready;
+      short = fed.short;
+      keeps = keeps_as fed.goes.keeps refl;
+      counted = fed.goes.counted c.requires.no_fault;
     }
 
-pub returns-in_err-feed_to_marker : goal.returns-in_err-feed_to_marker
-returns-in_err-feed_to_marker g c =
-    let e = err_from_is_err_and c.from_residual.result c.from_residual.ensures.1 in
+pub returns-in_err-feed_to_marker-clause-feeds : goal.returns-in_err-feed_to_marker-clause-feeds
+returns-in_err-feed_to_marker-clause-feeds g c =
     let fed = c.in_err-feed_to_marker.ensures in
-    record {
-      feeds = rw (e.1, e.2) (record {
-        feeds = rw c.unused.ensures at fed.feeds;
-        used = λ same. absurd (false≢true (ap is_ok same));
-        ready = tt;
-        short = fed.short;
-        keeps = keeps_as fed.goes.keeps refl;
-        counted = fed.goes.counted c.requires.no_fault;
-      });
-      silent = fed.silent;
-    }
+    rw (error_returned _ c.from_residual.ensures.1) (record {
+      feeds = rw c.unused.ensures at fed.feeds;
+      used = λ same. absurd (false≢true (ap is_ok same));
+      ready = tt;
+      short = fed.short;
+      keeps = keeps_as fed.goes.keeps refl;
+      counted = fed.goes.counted c.requires.no_fault;
+    })

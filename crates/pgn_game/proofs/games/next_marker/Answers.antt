@@ -1,9 +1,10 @@
-use Rattle.pgn_game.proofs.Words.{None, [], ℕ, Ok, Err, refl, ap, ◌∙◌, device, le_refl, le_trans, err_from_is_err_and, games_of, one_more, sink_of, FeedsRest, ReadsSoFar}
+use Rattle.pgn_game.proofs.Words.{None, [], ℕ, Ok, Err, refl, ap, ◌∙◌, device, le_refl, le_trans, games_of, one_more, sink_of, FeedsRest, ReadsSoFar}
 use Rattle.pgn_game.proofs.twice.MarkerToReading.{counts_then}
 use Rattle.pgn_game.proofs.tokens.AcceptedToConverter.{follows_own}
 use Rattle.pgn_game.proofs.tokens.GoesToMarker.{keeps_behind, keeps_failing}
 use Rattle.pgn_game.proofs.tokens.BytesToMarker.{none_yet, reaches, marker_read, rest_read, rest_stops, filled, at_source_end, unread}
 use Rattle.pgn_game.proofs.putting.SilentReader.{seen_alike, silence_kept, silence_then}
+use Rattle.pgn_game.proofs.reader.ErrorReturned.{error_returned}
 use Rattle.pgn_game.proofs.games.next_marker.Given.{Over}
 use Rattle.pgn_game.proofs.games.next_marker.Goals.{In_default}
 use Rattle.pgn_game.proofs.games.next_marker.Goals as goal
@@ -37,15 +38,14 @@ loop-mark-init g c =
 
 pub returns-in_err-mark : goal.returns-in_err-mark
 returns-in_err-mark g c =
-    let e = err_from_is_err_and c.from_residual.result c.from_residual.ensures.1 in
     let so = c.loop-mark.invariant in
     let fed = seen_alike (FeedsRest _ _ _) _ _ _ so.silent.silent c.in_err-mark.ensures.feeds in
     record {
       reads = λ p u given stands has_read.
           let x = so.reads p u given stands has_read in
-          rw (e.1, e.2) (rest_stops p u given _ _ _ _ _ x _ c.feed_rest.new.converter fed.keeps.written _
+          rw (error_returned _ c.from_residual.ensures.1) (rest_stops p u given _ _ _ _ _ x _ c.feed_rest.new.converter fed.keeps.written _
           (fed.feeds p _ _ _ (reaches p u given _ _ _ _ _ x) (follows_own c.loop-mark.buffer)));
-      goes = rw (e.1, e.2) (record {
+      goes = rw (error_returned _ c.from_residual.ensures.1) (record {
         ready = tt;
         short = tt;
         keeps = keeps_behind so.games so.written so.probes fed.keeps refl;
@@ -80,10 +80,9 @@ returns-in-Some g c =
 pub returns-in_err-read_more : goal.returns-in_err-read_more
 returns-in_err-read_more g c =
     let n = (goal.at.returns-in_err-read_more g c).In_default in
-    let e = err_from_is_err_and c.from_residual-in_err-read_more.result c.from_residual-in_err-read_more.ensures.1 in
     let so = c.loop-mark.invariant in
     let more = c.in_err-read_more.ensures.more in
-    rw (e.1, e.2, more.1) (record {
+    rw (error_returned _ c.from_residual-in_err-read_more.ensures.1, more.1) (record {
       reads = λ p u given stands has_read.
           unread p u given _ _ _ c.feed_rest.new.converter _ _ (all_fed g n p u given stands has_read) _ _ refl (fed g n).short more.2 more.0;
       goes = record {

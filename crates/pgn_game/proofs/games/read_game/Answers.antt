@@ -1,8 +1,9 @@
-use Rattle.pgn_game.proofs.Words.{seen, Reason, ReadFault, WriteFault, Changed, Fault, ◌≡◌, ℕ, Bool, Result, Ok, Err, refl, ap, subst, ◌∙◌, arith, err_from_is_err_and, Device, device, one_more, CountsDevices, CountsReason, CountsFault, CountsNext, EndsGame, Ends, CountsGame}
+use Rattle.pgn_game.proofs.Words.{seen, Reason, ReadFault, WriteFault, Changed, Fault, ◌≡◌, ℕ, Bool, Result, Ok, Err, refl, ap, subst, ◌∙◌, arith, Device, device, one_more, CountsDevices, CountsReason, CountsFault, CountsNext, EndsGame, Ends, CountsGame}
 use Rattle.pgn_game.proofs.ReaderFitsInMemory.{fits_alike}
 use Rattle.pgn_game.proofs.tokens.GamesInTurn.{begins, game_read, marker_stops, stops_before, stands_at_end, finished}
 use Rattle.pgn_game.proofs.putting.SilentReader.{none_fails, seen_alike, silence_then}
 use Rattle.pgn_game.proofs.twice.FailuresOfSteps.{no_write_seen}
+use Rattle.pgn_game.proofs.reader.ErrorReturned.{error_returned}
 use Rattle.pgn_game.proofs.games.read_game.Goals as goal
 
 -- a fault of the converter, whose source counts no failure
@@ -22,35 +23,30 @@ counts_result (Err f) source sink last still before after h =
 pub next_marker-requires : goal.next_marker-requires
 next_marker-requires g c = (search fits_alike, c.requires)
 
-pub returns-in_err-mark : goal.returns-in_err-mark
-returns-in_err-mark g c =
-    let e = err_from_is_err_and c.from_residual.result c.from_residual.ensures.1 in
-    record {
-      goes = rw (e.1, e.2) (record {
-        reads = λ p u given have.
-            let begun = begins p u given _ _ have c.requires.not_finished in
-            stops_before p _ begun.0 u given _ _ _ c.next_marker.new.converter _ _
-            (λ silent. no_write_seen {A = Unit} (Err c.in_err-mark.field-0.0)
-            (device g.R.Source.left g.R.Source.failures c.args.source.now c.next_marker.new.source)
-            (device g.W.Sink.taken g.W.Sink.failures c.args.out.now c.next_marker.new.out) _ silent c.in_err-mark.ensures.goes.counted)
-            (c.in_err-mark.ensures.reads p u given begun.1 begun.2);
-        fewer = λ same. absurd (cc);
-        fault = c.in_err-mark.ensures.goes.keeps.fault;
-        counted = λ free. c.in_err-mark.ensures.goes.counted;
-      });
-      silent = c.next_marker.ensures.silent;
-    }
+pub returns-in_err-mark-clause-goes : goal.returns-in_err-mark-clause-goes
+returns-in_err-mark-clause-goes g c =
+    rw (error_returned _ c.from_residual.ensures.1) (record {
+      reads = λ p u given have.
+          let begun = begins p u given _ _ have c.requires.not_finished in
+          stops_before p _ begun.0 u given _ _ _ c.next_marker.new.converter _ _
+          (λ silent. no_write_seen {A = Unit} (Err c.in_err-mark.field-0.0)
+          (device g.R.Source.left g.R.Source.failures c.args.source.now c.next_marker.new.source)
+          (device g.W.Sink.taken g.W.Sink.failures c.args.out.now c.next_marker.new.out) _ silent c.in_err-mark.ensures.goes.counted)
+          (c.in_err-mark.ensures.reads p u given begun.1 begun.2);
+      fewer = λ same. absurd (cc);
+      fault = c.in_err-mark.ensures.goes.keeps.fault;
+      counted = λ free. c.in_err-mark.ensures.goes.counted;
+    })
 
 pub returns-in_err-end_game-in-Some : goal.returns-in_err-end_game-in-Some
 returns-in_err-end_game-in-Some g c =
-    let e = err_from_is_err_and c.from_residual-in_err-end_game-in-Some.result c.from_residual-in_err-end_game-in-Some.ensures.1 in
     let same = c.next_marker.ensures.silent.silent in
     let sink = device g.W.Sink.taken g.W.Sink.failures c.next_marker.new.out c.end_game.new.out in
     let f = c.in_err-end_game-in-Some.field-0.0 in
     let counted = seen_alike (CountsFault {A = Unit} (Err f)) _ _ sink same c.in_err-end_game-in-Some.ensures.counts.counted in
     let goes = c.in_ok-mark.ensures.goes.counted in
     record {
-      goes = rw (e.1, e.2) (record {
+      goes = rw (error_returned _ c.from_residual-in_err-end_game-in-Some.ensures.1) (record {
         reads = λ p u given have.
             let begun = begins p u given _ _ have c.requires.not_finished in
             marker_stops p _ begun.0 u given _ _ _ c.in-Some.mark _ (seen _ sink)

@@ -8,21 +8,8 @@ filled : (c : Converter) (left_old left_new : Option (List ℕ)) (unused : List 
 filled c left_old left_new unused true (some, consumed) = (refl, some, consumed)
 filled c left_old left_new unused false (empty, consumed, at_end) = (refl, empty, consumed, at_end)
 
-pub returns-in-Ok : goal.returns-in-Ok
-returns-in-Ok g c =
-    record {
-      more = filled _ _ _ _ _ c.in-Ok.ensures.fills;
-      fits = c.fill.ensures.fits;
-      counted = c.in-Ok.ensures.counted;
-    }
-
-pub returns-in-Err : goal.returns-in-Err
-returns-in-Err g c =
-    record {
-      more = (c.keep_failed_read.ensures.fault, c.keep_failed_read.ensures.kept, c.in-Err.ensures.fills);
-      fits = c.fill.ensures.fits;
-      counted = c.in-Err.ensures.counted;
-    }
+pub returns-in-Ok-clause-more : goal.returns-in-Ok-clause-more
+returns-in-Ok-clause-more g c = filled _ _ _ _ _ c.in-Ok.ensures.fills
 
 pub keep_failed_read-requires : goal.keep_failed_read-requires
 keep_failed_read-requires g c = search fits_alike

@@ -1,4 +1,4 @@
-use Rattle.pgn_game.proofs.Words.{◌-◌, ap, ◌∙◌, Converter, profile_of}
+use Rattle.pgn_game.proofs.Words.{◌-◌, profile_of}
 use Rattle.pgn_game.proofs.ReaderFitsInMemory.{reading_fits_converter}
 use Rattle.pgn_game.proofs.twice.MarkerToReading.{given_none}
 use Rattle.pgn_game.proofs.checked.Reading.new.Goals as goal
@@ -13,7 +13,3 @@ pub returns-clause-given : goal.returns-clause-given
 returns-clause-given g c = λ left.
     given_none (profile_of g.row.T (g.row.L - 1) c.args.mode) c.new-converter.result c.take_announced_marker.new.self c.new.result left
     c.new-converter.ensures.stands c.take_announced_marker.ensures c.new.ensures
-
-pub returns-clause-writes : goal.returns-clause-writes
-returns-clause-writes g c =
-    ap (λ (s : Converter). s.reading.writing.is_silent) c.take_announced_marker.ensures ∙ c.new-converter.ensures.writes

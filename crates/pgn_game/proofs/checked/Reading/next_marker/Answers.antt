@@ -1,8 +1,9 @@
-use Rattle.pgn_game.proofs.Words.{IsGoing, Reading, bytes_seen, device, err_from_is_err_and, le_trans, refl, sink_of, subst, sym, ◌∙◌, EndsToMarker}
+use Rattle.pgn_game.proofs.Words.{IsGoing, Reading, bytes_seen, device, le_trans, refl, sink_of, subst, sym, ◌∙◌, EndsToMarker}
 use Rattle.pgn_game.proofs.ReaderFitsInMemory.{reading_fits_converter}
 use Rattle.pgn_game.proofs.putting.SilentReader.{seen_alike, silence_then}
 use Rattle.pgn_game.proofs.tokens.MarkerToGame.{reads_none}
 use Rattle.pgn_game.proofs.twice.MarkerToReading.{all_used, behind_source, counts_behind, counts_then, met_at_end, met_in_source, stops_in_source, within_source}
+use Rattle.pgn_game.proofs.reader.ErrorReturned.{error_returned}
 use Rattle.pgn_game.proofs.checked.Reading.next_marker.Goals as goal
 
 pub next_marker-requires : goal.next_marker-requires
@@ -40,20 +41,18 @@ returns-then-self g c =
 
 pub returns-in_err-mark : goal.returns-in_err-mark
 returns-in_err-mark g c =
-    let e = err_from_is_err_and c.from_residual.result c.from_residual.ensures.1 in
     let read = c.next_marker.ensures in
-    rw (← c.self.view_is)
+    rw (← c.self.view_is, error_returned _ c.from_residual.ensures.1)
     (record {
       reads = record {
         reads = λ q left_old given h.
-            rw (e.1, e.2)
-            (stops_in_source q left_old _ _ given h.come.bytes h.come.consumed _ _ _ _
-            (c.in_err-mark.ensures.reads q h.come.bytes given (within_source q left_old _ _ given h c.if-self.false) h.has_read));
-        ready = rw e.1 tt;
+            stops_in_source q left_old _ _ given h.come.bytes h.come.consumed _ _ _ _
+            (c.in_err-mark.ensures.reads q h.come.bytes given (within_source q left_old _ _ given h c.if-self.false) h.has_read);
+        ready = tt;
         games = read.goes.keeps.games;
         written = read.goes.keeps.written;
         probes = read.goes.keeps.probes;
-        counted = rw (e.1, e.2) c.in_err-mark.ensures.goes.counted;
+        counted = c.in_err-mark.ensures.goes.counted;
       };
       silent = read.silent;
     })

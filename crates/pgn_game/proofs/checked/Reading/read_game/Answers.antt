@@ -1,7 +1,8 @@
-use Rattle.pgn_game.proofs.Words.{◌≡◌, List, Option, ℕ, Profile, Token, Reading, ap, err_from_is_err_and, refl, subst, ◌∙◌, ◌+◌, ◌<◌, ◌^◌, false, None, [], Device, device, Err, EndsGame, CountsFault, IsStill, CountsReading, MarkerComes, StandsBetween, no_sink}
+use Rattle.pgn_game.proofs.Words.{◌≡◌, List, Option, ℕ, Profile, Token, Reading, ap, refl, subst, ◌∙◌, ◌+◌, ◌<◌, ◌^◌, false, None, [], Device, device, Err, EndsGame, CountsFault, IsStill, CountsReading, MarkerComes, StandsBetween, no_sink}
 use Rattle.pgn_game.proofs.ReaderFitsInMemory.{reading_alike, reading_fits_converter}
 use Rattle.pgn_game.proofs.twice.FailuresOfSteps.{behind_still, no_write, reader_reason, seen_none}
 use Rattle.pgn_game.proofs.twice.GamesOfReadings.{all_read, first_fails, game_read, marker_refused_first}
+use Rattle.pgn_game.proofs.reader.ErrorReturned.{error_returned}
 use Rattle.pgn_game.proofs.checked.Reading.read_game.Given.{Over}
 use Rattle.pgn_game.proofs.checked.Reading.read_game.Goals.{After-end_game}
 use Rattle.pgn_game.proofs.checked.Reading.read_game.Goals as goal
@@ -34,34 +35,28 @@ next_marker-requires g c = (search reading_alike, c.requires.going)
 
 pub returns-in_err-mark : goal.returns-in_err-mark
 returns-in_err-mark g c =
-    let e = err_from_is_err_and c.from_residual.result c.from_residual.ensures.1 in
     let f = c.in_err-mark.field-0.0 in
-    let s = c.args.self.now.converter.reading.writing.is_silent in
     let source = device g.R.Source.left g.R.Source.failures c.args.source.now c.next_marker.new.source in
-    let counted = seen_none (λ (d : Device). CountsReading {A = Unit} (Err f) source d) s c.in_err-mark.ensures.reads.counted in
-    record {
+    let counted = seen_none (λ (d : Device). CountsReading {A = Unit} (Err f) source d) _ c.in_err-mark.ensures.reads.counted in
+    rw (error_returned _ c.from_residual.ensures.1) (record {
       reads = λ q left_old given stands.
-          rw (e.1, e.2)
-          (first_fails q left_old _ given stands.has_given.has_read.passes c.next_marker.new.self f _ _ (no_write f.reason _ _ counted)
-          (c.in_err-mark.ensures.reads.reads q left_old given stands.has_given));
-      going = rw e.1 tt;
-      silent = c.next_marker.ensures.silent.silent;
-      counted = rw (e.1, e.2) counted;
-    }
-
-pub returns-in_default : goal.returns-in_default
-returns-in_default g c =
-    record {
-      reads = λ q left_old given stands.
-          let reads = rw c.in_default.is at c.in_ok-mark.ensures.reads.reads in
-          all_read q left_old (g.R.Source.left c.next_marker.new.source) given stands.has_given.has_read.passes c.next_marker.new.self _ _ (reads q left_old given stands.has_given);
+          first_fails q left_old _ given stands.has_given.has_read.passes c.next_marker.new.self f _ _ (no_write f.reason _ _ counted)
+          (c.in_err-mark.ensures.reads.reads q left_old given stands.has_given);
       going = tt;
       silent = c.next_marker.ensures.silent.silent;
-      counted = (
-        c.in_ok-mark.ensures.reads.counted.0,
-        seen_none IsStill c.args.self.now.converter.reading.writing.is_silent c.in_ok-mark.ensures.reads.counted.1,
-      );
-    }
+      counted = counted;
+    })
+
+pub returns-in_default-clause-reads : goal.returns-in_default-clause-reads
+returns-in_default-clause-reads g c = λ q left_old given stands.
+    all_read q left_old (g.R.Source.left c.next_marker.new.source) given stands.has_given.has_read.passes c.next_marker.new.self _ _
+    ((rw c.in_default.is at c.in_ok-mark.ensures.reads.reads) q left_old given stands.has_given)
+
+pub returns-in_default-clause-counted : goal.returns-in_default-clause-counted
+returns-in_default-clause-counted g c = (
+  c.in_ok-mark.ensures.reads.counted.0,
+  seen_none IsStill c.args.self.now.converter.reading.writing.is_silent c.in_ok-mark.ensures.reads.counted.1,
+)
 
 pub end_game-requires : goal.end_game-requires
 end_game-requires g c =
@@ -70,11 +65,10 @@ end_game-requires g c =
 pub returns-in_err-end_game : goal.returns-in_err-end_game
 returns-in_err-end_game g c =
     let n = (goal.at.returns-in_err-end_game g c).After-end_game in
-    let e = err_from_is_err_and c.from_residual-in_err-end_game.result c.from_residual-in_err-end_game.ensures.1 in
     let f = c.in_err-end_game.field-0.0 in
     let counted = reader_reason f.reason (g.R.Source.failures c.next_marker.new.source) 0 0
     (seen_none (CountsFault {A = Unit} (Err f)) c.self.inside.converter.reading.writing.is_silent c.in_err-end_game.ensures.counts.counted) in
-    rw (e.1, e.2) (record {
+    rw (error_returned _ c.from_residual-in_err-end_game.ensures.1) (record {
       reads = λ q left_old given stands.
           marker_refused_first q left_old _ given _ _ (record { converter = c.end_game.new.self; unused = []; has_ended = false }) None no_sink
           stands.has_given.takes stands.has_given.has_read.passes (met g n q left_old given stands) f (no_write f.reason _ _ counted)

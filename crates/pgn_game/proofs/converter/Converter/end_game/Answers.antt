@@ -51,7 +51,7 @@ returns-in-Ok g c =
 pub invariant_of-self : goal.invariant_of-self
 invariant_of-self g c =
     let flag = not_just_finished _ _ (rw (← c.self.view_is) at c.requires).before.none_just_finished in
-    rw flag (sound_behind_fault c.self.inside.lexer c.end_game.new.self c.self.inside.games c.self.inside.is_finished _ c.self.invariant.count)
+    rw flag (sound_behind_fault _ _ _ _ _ c.self.invariant.count)
 
 pub invariant_of-self-in-Ok : goal.invariant_of-self-in-Ok
 invariant_of-self-in-Ok g c =

@@ -1,5 +1,5 @@
 use Rattle.pgn_game.proofs.putting.SilentReader.{none_fails, seen_alike, silence_then}
-use Rattle.pgn_game.proofs.Words.{CountsFault, IsTrue, None, device, Fault, ◌≡◌, Result, Ok, arith, ap, le_trans, refl, same_Some, sym, ◌∙◌, Err, Standing, err_from_is_err_and, at_token, FedUpTo, CountsGame, EndsGame}
+use Rattle.pgn_game.proofs.Words.{CountsFault, IsTrue, None, device, Fault, ◌≡◌, Result, Ok, arith, ap, le_trans, same_Some, sym, ◌∙◌, Err, Standing, err_from_is_err_and, at_token, FedUpTo, CountsGame, EndsGame}
 use Rattle.pgn_game.proofs.ReaderFitsInMemory.{fits_alike}
 use Rattle.pgn_game.proofs.tokens.PieceToGame.{reaches, fed_all, fed_game, fed_stops, marker_fails}
 use Rattle.pgn_game.proofs.converter.Converter.feed.Goals as goal
@@ -46,30 +46,12 @@ returns-in_err-feed_to_marker g c =
       no_write_fails = none_failed;
     })
 
-pub returns-in-All : goal.returns-in-All
-returns-in-All g c =
+pub returns-in-All-clause-feeds : goal.returns-in-All-clause-feeds
+returns-in-All-clause-feeds g c =
     let fed = c.feed_to_marker.ensures in
-    let reads = rw c.in-All.is at c.in_ok-feed_to_marker.ensures in
-    record {
-      used = reads.goes.used;
-      feeds = λ p u b given stands follows.
-          fed_all p _ stands.known u b given _ c.args.piece.now c.feed_to_marker.new.self _ fed.silent.silent
-          (reads.feeds p u b given (reaches stands) follows) fed.goes.keeps.none_just_finished;
-      empty = λ is none. refl;
-      count = reads.goes.count;
-      grows = fed.goes.grows;
-      within = fed.goes.within;
-      short = fed.short;
-      advances = tt;
-      not_finished = fed.goes.keeps.finished;
-      fault = reads.goes.keeps.fault;
-      games = (fed.goes.keeps.games, fed.goes.keeps.none_just_finished);
-      probes = fed.goes.keeps.probes;
-      again = λ f is. absurd (not_again f c.in_ok-feed_to_marker.was (fed.again f is).0);
-      counted = reads.goes.counted;
-      silent = fed.silent;
-      no_write_fails = λ silent free. tt;
-    }
+    λ p u b given stands follows.
+    fed_all p _ stands.known u b given _ c.args.piece.now c.feed_to_marker.new.self _ fed.silent.silent
+    ((rw c.in-All.is at c.in_ok-feed_to_marker.ensures.feeds) p u b given (reaches stands) follows) fed.goes.keeps.none_just_finished
 
 pub returns-in_err-end_game-in-Marker : goal.returns-in_err-end_game-in-Marker
 returns-in_err-end_game-in-Marker g c =

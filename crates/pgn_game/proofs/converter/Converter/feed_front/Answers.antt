@@ -1,5 +1,5 @@
 use Rattle.pgn_game.specs.declared.converter.StepEnd.TheVariants.{Token as Other, Marker as AtMarker}
-use Rattle.pgn_game.proofs.Words.{◌≡◌, Ok, None, Some, arith, refl, ap, ◌∙◌, le_refl, length, length-drop, take_rest, Steps}
+use Rattle.pgn_game.proofs.Words.{KeepsSilence, ◌+◌, drop, sink_of, ◌≡◌, Ok, None, Some, arith, refl, ap, ◌∙◌, length, length-drop, take_rest, StepGoes, Steps}
 use Rattle.pgn_game.proofs.ReaderFitsInMemory.{fits_alike}
 use Rattle.pgn_game.proofs.putting.SilentReader.{seen_alike, silence_kept, silence_then}
 use Rattle.pgn_game.proofs.tokens.GoesToMarker.{goes_all, goes_fault, goes_marker, keeps_at_start}
@@ -7,6 +7,7 @@ use Rattle.pgn_game.proofs.tokens.RunsInPiece.{before_rest, goes_then}
 use Rattle.pgn_game.proofs.tokens.StepsAtEnd.{sound_at_none}
 use Rattle.pgn_game.proofs.tokens.StepsInPiece.{lets_go, so_far_none, reads_behind, stands_here, so_far_on, all_on, marker_on, fails_on}
 use Rattle.pgn_game.proofs.converter.Converter.feed_front.Goals as goal
+use Rattle.pgn_game.proofs.converter.Converter.feed_front.Goals.{After-step-step, In-Ok-Some-Token}
 
 pub loop-at-init : goal.loop-at-init
 loop-at-init g c =
@@ -23,6 +24,25 @@ loop-at-init g c =
       feeds = λ p u b given reaches follows. so_far_none p _ u b given c.args.piece.now _ (lets_go p _ u b given reaches) follows;
     })
 
+-- The step over the rest of the piece, as the call sees the sink, and how far the call gets with it.
+module _ (g : _) (c : After-step-step g) where
+  step : Steps c.loop-at.self (drop c.loop-at.at c.args.piece.now) c.step-step.new.self c.step-step.result.used c.step-step.result.outcome
+      (sink_of c.args.self.now.reading g.W.Sink.taken g.W.Sink.failures c.loop-at.out c.step-step.new.out)
+  step = rw take_rest at (seen_alike (Steps _ _ _ _ _) _ _ _ c.loop-at.invariant.silent.silent c.step-step.ensures.steps)
+
+  goes : StepGoes c.args.self.now c.args.piece.now c.step-step.new.self (c.loop-at.at + c.step-step.result.used) c.step-step.result.outcome
+      (sink_of c.args.self.now.reading g.W.Sink.taken g.W.Sink.failures c.args.out.now c.step-step.new.out)
+  goes = goes_then _ _ _ _ _ _ _ _ _ _ c.loop-at-test.true c.loop-at.invariant.goes step.goes
+
+  silent : KeepsSilence c.args.self.now.reading c.step-step.new.self.reading c.args.out.now c.step-step.new.out
+  silent = silence_then _ _ _ _ _ _ c.loop-at.invariant.silent c.step-step.ensures.silent
+
+took : (g : _) (c : In-Ok-Some-Token g) → c.step-step.result.outcome ≡ Ok (Some Other)
+took g c =
+    let read : c.step-step.result.outcome ≡ Ok c.in-Ok-Some-Token.field-0 = c.in-Ok-Some-Token.is in
+    let some : c.in-Ok-Some-Token.field-0 ≡ Some c.in-Ok-Some-Token.field-0-0 = rw read at c.in-Ok-Some-Token.field-0-is in
+    read ∙ ap Ok (some ∙ ap Some (rw (read, some) at c.in-Ok-Some-Token.field-0-0-is))
+
 pub step-step-requires : goal.step-step-requires
 step-step-requires g c =
     (search fits_alike, rw take_rest (before_rest c.requires.short c.loop-at.invariant.goes c.loop-at-test.true))
@@ -31,42 +51,33 @@ pub returns-in-Ok-None : goal.returns-in-Ok-None
 returns-in-Ok-None g c =
     let read : c.step-step.result.outcome ≡ Ok c.in-Ok-None.field-0 = c.in-Ok-None.is in
     let is : c.step-step.result.outcome ≡ Ok None = read ∙ ap Ok (rw read at c.in-Ok-None.field-0-is) in
-    let so = c.loop-at.invariant in
-    let step = rw (is, take_rest) at (seen_alike (Steps _ _ _ _ _) _ _ _ so.silent.silent c.step-step.ensures.steps) in
+    let after = (goal.at.returns-in-Ok-None g c).After-step-step in
+    let step = rw is at (step g after) in
     record {
       feeds = λ p u b given reaches follows.
-          let here = so.feeds p u b given reaches follows in
+          let here = c.loop-at.invariant.feeds p u b given reaches follows in
           all_on p u b given c.args.piece.now c.loop-at.at _ _ _ _ here c.loop-at-test.true _ step.goes.keeps.written
           (step.after p _ _ (stands_here p u b given c.args.piece.now c.loop-at.at _ _ _ here c.loop-at-test.true)).1;
-      goes = goes_all (goes_then _ _ _ _ _ _ _ _ _ _ c.loop-at-test.true so.goes step.goes)
-          (omega (arith, step.advances, length-drop c.loop-at.at c.args.piece.now, c.loop-at-test.true));
-      silent = silence_then _ _ _ _ _ _ so.silent c.step-step.ensures.silent;
+      goes = goes_all (rw is at (goes g after)) (omega (arith, step.advances, length-drop c.loop-at.at c.args.piece.now, c.loop-at-test.true));
+      silent = silent g after;
     }
 
 pub loop-at-smaller : goal.loop-at-smaller
 loop-at-smaller g c =
-    let read : c.step-step.result.outcome ≡ Ok c.in-Ok-Some-Token.field-0 = c.in-Ok-Some-Token.is in
-    let some : c.in-Ok-Some-Token.field-0 ≡ Some c.in-Ok-Some-Token.field-0-0 = rw read at c.in-Ok-Some-Token.field-0-is in
-    let is : c.step-step.result.outcome ≡ Ok (Some Other) =
-    read ∙ ap Ok (some ∙ ap Some (rw (read, some) at c.in-Ok-Some-Token.field-0-0-is)) in
-    let advances = rw is at c.step-step.ensures.steps.advances in
-    let used = rw take_rest at c.step-step.ensures.steps.goes.within in
-    omega (arith, advances, used, length-drop c.loop-at.at c.args.piece.now, c.loop-at-test.true)
+    let step = rw (took g (goal.at.loop-at-smaller g c).In-Ok-Some-Token) at (step g (goal.at.loop-at-smaller g c).After-step-step) in
+    omega (arith, step.advances, step.goes.within, length-drop c.loop-at.at c.args.piece.now, c.loop-at-test.true)
 
 pub loop-at-preserved : goal.loop-at-preserved
 loop-at-preserved g c =
-    let read : c.step-step.result.outcome ≡ Ok c.in-Ok-Some-Token.field-0 = c.in-Ok-Some-Token.is in
-    let some : c.in-Ok-Some-Token.field-0 ≡ Some c.in-Ok-Some-Token.field-0-0 = rw read at c.in-Ok-Some-Token.field-0-is in
-    let is : c.step-step.result.outcome ≡ Ok (Some Other) =
-    read ∙ ap Ok (some ∙ ap Some (rw (read, some) at c.in-Ok-Some-Token.field-0-0-is)) in
-    let so = c.loop-at.invariant in
-    let step = rw (is, take_rest) at (seen_alike (Steps _ _ _ _ _) _ _ _ so.silent.silent c.step-step.ensures.steps) in
+    let is = took g (goal.at.loop-at-preserved g c).In-Ok-Some-Token in
+    let after = (goal.at.loop-at-preserved g c).After-step-step in
+    let step = rw is at (step g after) in
     record {
-      goes = goes_then _ _ _ _ _ _ _ _ _ _ c.loop-at-test.true so.goes step.goes;
-      sooner = omega (arith, step.advances, so.sooner);
-      silent = silence_then _ _ _ _ _ _ so.silent c.step-step.ensures.silent;
+      goes = rw is at (goes g after);
+      sooner = omega (arith, step.advances, c.loop-at.invariant.sooner);
+      silent = silent g after;
       feeds = λ p u b given reaches follows.
-          let here = so.feeds p u b given reaches follows in
+          let here = c.loop-at.invariant.feeds p u b given reaches follows in
           so_far_on p u b given c.args.piece.now c.loop-at.at _ _ _ _ here c.loop-at-test.true _ step.goes.keeps.written _
           (step.after p _ _ (stands_here p u b given c.args.piece.now c.loop-at.at _ _ _ here c.loop-at-test.true));
     }
@@ -77,30 +88,29 @@ returns-in-Ok-Some-Marker g c =
     let some : c.in-Ok-Some-Marker.field-0 ≡ Some c.in-Ok-Some-Marker.field-0-0 = rw read at c.in-Ok-Some-Marker.field-0-is in
     let is : c.step-step.result.outcome ≡ Ok (Some (AtMarker c.in-Ok-Some-Marker.mark)) =
     read ∙ ap Ok (some ∙ ap Some (rw (read, some) at c.in-Ok-Some-Marker.field-0-0-is)) in
-    let so = c.loop-at.invariant in
-    let step = rw (is, take_rest) at (seen_alike (Steps _ _ _ _ _) _ _ _ so.silent.silent c.step-step.ensures.steps) in
+    let after = (goal.at.returns-in-Ok-Some-Marker g c).After-step-step in
+    let step = rw is at (step g after) in
     record {
       feeds = λ p u b given reaches follows.
-          let here = so.feeds p u b given reaches follows in
+          let here = c.loop-at.invariant.feeds p u b given reaches follows in
           marker_on p u b given c.args.piece.now c.loop-at.at _ _ _ _ here c.loop-at-test.true _ step.goes.keeps.written _ _
           (step.after p _ _ (stands_here p u b given c.args.piece.now c.loop-at.at _ _ _ here c.loop-at-test.true));
-      goes = goes_marker (goes_then _ _ _ _ _ _ _ _ _ _ c.loop-at-test.true so.goes step.goes) (omega (arith, step.advances, so.sooner))
-          (omega (arith, c.loop-at-test.true));
-      silent = silence_then _ _ _ _ _ _ so.silent c.step-step.ensures.silent;
+      goes = goes_marker (rw is at (goes g after)) (omega (arith, step.advances, c.loop-at.invariant.sooner)) (omega (arith, c.loop-at-test.true));
+      silent = silent g after;
     }
 
 pub returns-in-Err : goal.returns-in-Err
 returns-in-Err g c =
-    let so = c.loop-at.invariant in
-    let step = rw (c.in-Err.is, take_rest) at (seen_alike (Steps _ _ _ _ _) _ _ _ so.silent.silent c.step-step.ensures.steps) in
+    let after = (goal.at.returns-in-Err g c).After-step-step in
+    let step = rw c.in-Err.is at (step g after) in
     record {
       feeds = λ p u b given reaches follows.
-          let here = so.feeds p u b given reaches follows in
+          let here = c.loop-at.invariant.feeds p u b given reaches follows in
           fails_on p u b given c.args.piece.now c.loop-at.at _ _ _ _ here c.loop-at-test.true
           c.step-step.new.self step.goes.keeps.written c.in-Err.fault
           (step.after p _ _ (stands_here p u b given c.args.piece.now c.loop-at.at _ _ _ here c.loop-at-test.true));
-      goes = goes_fault (goes_then _ _ _ _ _ _ _ _ _ _ c.loop-at-test.true so.goes step.goes) (omega (arith, c.loop-at-test.true));
-      silent = silence_then _ _ _ _ _ _ so.silent c.step-step.ensures.silent;
+      goes = goes_fault (rw c.in-Err.is at (goes g after)) (omega (arith, c.loop-at-test.true));
+      silent = silent g after;
     }
 
 pub returns : goal.returns
@@ -115,20 +125,9 @@ returns g c =
     }
 
 pub invariant_of-self : goal.invariant_of-self
-invariant_of-self g c =
-    sound_at_none c.self.inside.lexer c.self.inside.reader c.self.inside.games
-    c.self.inside.has_finished_game c.self.inside.is_finished c.self.inside.fault c.self.invariant
+invariant_of-self g c = sound_at_none _ _ _ _ _ _ c.self.invariant
 
 pub overflow_add-at : goal.overflow_add-at
 overflow_add-at g c =
     let used = rw take_rest at c.step-step.ensures.steps.goes.within in
     omega (arith, used, c.requires.short, length-drop c.loop-at.at c.args.piece.now, c.loop-at-test.true)
-
-pub slice_bounds-step-count : goal.slice_bounds-step-count
-slice_bounds-step-count g c = c.loop-at.invariant.goes.within
-
-pub slice_bounds-step-start : goal.slice_bounds-step-start
-slice_bounds-step-start g c = c.loop-at.invariant.goes.within
-
-pub slice_bounds-step-end : goal.slice_bounds-step-end
-slice_bounds-step-end g c = le_refl (length c.args.piece.now)

@@ -92,9 +92,6 @@ returns-else-front-piece g c =
       silent = c.feed_front.ensures.silent;
     }
 
-pub within_limit-front-requires : goal.within_limit-front-requires
-within_limit-front-requires g c = omega (arith, c.count.ensures, c.self.invariant.count)
-
 pub feed_front-requires : goal.feed_front-requires
 feed_front-requires g c =
     let front = ap (length {A = ℕ}) c.within_limit-front.ensures in
@@ -109,5 +106,4 @@ feed_front-requires g c =
 pub invariant_of-self : goal.invariant_of-self
 invariant_of-self g c =
     let flag = not_just_finished _ _ (rw (← c.self-2.view_is) at c.feed_front.ensures.goes.keeps.none_just_finished) in
-    rw (c.too_long.ensures.kept, flag) (sound_behind_fault c.self-2.inside.lexer c.self-2.inside.reader
-    c.self-2.inside.games c.self-2.inside.is_finished c.too_long.result c.self-2.invariant.count)
+    rw (c.too_long.ensures.kept, flag) (sound_behind_fault _ _ _ _ _ c.self-2.invariant.count)

@@ -1,5 +1,5 @@
 use Rattle.pgn_game.proofs.putting.SilentReader.{none_fails, seen_alike, silence_kept, silence_then}
-use Rattle.pgn_game.proofs.Words.{IsTrue, bytes_seen, sink_of, arith, ap, le_refl, le_trans, none-some, refl, same_Some, sym, subst, ◌∙◌, device, Converter, Err, Standing, StaysBetween, err_from_is_err_and, false≢true, CountsGame, EndsGame, EndsToMarker, ReadsToEnd}
+use Rattle.pgn_game.proofs.Words.{IsTrue, ap, le_refl, le_trans, none-some, refl, same_Some, sym, ◌∙◌, device, Err, Standing, err_from_is_err_and, false≢true, CountsGame, EndsGame, EndsToMarker}
 use Rattle.pgn_game.proofs.ReaderFitsInMemory.{fits_alike, fits_reader}
 use Rattle.pgn_game.proofs.tokens.GoesToMarker.{not_again}
 use Rattle.pgn_game.proofs.tokens.StepsAtEnd.{left_of, none_by_fault}
@@ -41,11 +41,6 @@ pub end_game-requires : goal.end_game-requires
 end_game-requires g c =
     (search fits_alike, rw c.in-Some-2.is at c.in_ok-mark.ensures.ends.ready)
 
-pub loop-mark-smaller : goal.loop-mark-smaller
-loop-mark-smaller g c =
-    let advances = rw c.in-Some-2.is at c.in_ok-mark.ensures.ends.advances in
-    rw c.in_ok-end_game-in-Some-2.ensures.counts.lexer advances
-
 pub returns-in_err-mark : goal.returns-in_err-mark
 returns-in_err-mark g c =
     let e = err_from_is_err_and c.from_residual.result c.from_residual.ensures.1 in
@@ -85,7 +80,7 @@ returns-in_err-end_game-in-Some-2 g c =
           let so = old.finishes p u b given stands in
           failed_game p u given _ _ _ _ so _ (shows_stop p _ _ c.in_err-end_game-in-Some-2.field-0.0 stands.known none_failed)
           c.args.self.now.lexer c.in-Some-2.mark c.finish_to_marker.new.self c.end_game.new.self
-          (sink_of c.args.self.now.reading g.W.Sink.taken g.W.Sink.failures c.finish_to_marker.new.out c.end_game.new.out)
+          _
           (left_of p c.args.self.now u b given stands) stands.has_read.passes (met.ends p u _ so.left so.has_read) ended counts met.keeps.games;
       finished = counts.not_finished;
       count = ap (λ (l : Standing). l.count) counts.lexer ∙ met.count ∙ old.count;
@@ -114,7 +109,7 @@ loop-mark-preserved g c =
       finishes = λ p u b given stands.
           let so = old.finishes p u b given stands in
           ended_game p u given _ _ _ _ so (shows_due p _ _ stands.known) c.in-Some-2.mark c.finish_to_marker.new.self c.end_game.new.self
-          (sink_of c.args.self.now.reading g.W.Sink.taken g.W.Sink.failures c.finish_to_marker.new.out c.end_game.new.out)
+          _
           (met.ends p u _ so.left so.has_read) ended counts;
     }
 
@@ -125,41 +120,33 @@ pub returns-in-None : goal.returns-in-None
 returns-in-None g c =
     let old = c.loop-mark.invariant in
     let self = c.self-in-None in
-    let met = rw c.in-None.is at (seen_alike (EndsToMarker _ _ _) _ _ _ old.silent.silent c.in_ok-mark.ensures.ends) in
-    let quiet = silence_then _ _ _ _ _ _ old.silent c.finish_to_marker.ensures.silent in
+    let met = rw (c.in-None.is, ← self.view_is) at (seen_alike (EndsToMarker _ _ _) _ _ _ old.silent.silent c.in_ok-mark.ensures.ends) in
     record {
       ends = λ p u b given stands.
           let so = old.finishes p u b given stands in
           let to = met.ends p u _ so.left so.has_read in
-          let here = subst (λ (s : Converter). ReadsToEnd p u so.tokens s
-          (bytes_seen c.args.self.now.reading.writing.is_silent (g.W.Sink.taken c.loop-mark.out))
-          (bytes_seen c.args.self.now.reading.writing.is_silent (g.W.Sink.taken c.finish_to_marker.new.out))
-          × StaysBetween c.loop-mark.self s) (sym self.view_is) to in
-          ended_input p u given _ _ _ _ so (shows_due p _ _ stands.known) _ _ c.if-finished_game.self here.0 here.1
+          ended_input p u given _ _ _ _ so (shows_due p _ _ stands.known) _ _ c.if-finished_game.self to.0 to.1
           (λ between. elim c.if-finished_game.branch [
             | then-finished_game w ↦ w.self-is ∙ w.is_between-self-inside.ensures.1 between ∙ sym w.if-finished_game.true
             | else-finished_game w ↦ w.self-is
           ]);
-      finished = ap (λ (s : Converter). s.is_finished) self.view_is ∙ met.keeps.finished;
-      count = ap (λ (s : Converter). s.lexer.count) self.view_is ∙ met.count ∙ old.count;
-      probes = omega (arith, ap (λ (s : Converter). s.reading.most_probes) self.view_is, met.keeps.probes, old.probes);
-      fault = ap (λ (s : Converter). s.fault) self.view_is ∙ met.keeps.fault;
+      finished = met.keeps.finished;
+      count = met.count ∙ old.count;
+      probes = le_trans old.probes met.keeps.probes;
+      fault = met.keeps.fault;
       none_just_finished = tt;
       again = not_again (rw (← c.self.view_is) c.in_default.is);
       counted = λ free. met.counted ∙ old.counted;
-      silent = record {
-        silent = ap (λ (s : Converter). s.reading.writing.is_silent) self.view_is ∙ quiet.silent;
-        untouched = quiet.untouched;
-      };
+      silent = rw (← self.view_is) at (silence_then _ _ _ _ _ _ old.silent c.finish_to_marker.ensures.silent);
       no_write_fails = λ silent free. tt;
     }
 
 pub invariant_of-self : goal.invariant_of-self
 invariant_of-self g c =
     let self = c.self-in-None in
-    sound_finished self.inside.lexer self.inside.reader self.inside.games self.invariant
+    sound_finished _ _ _ self.invariant
     (λ is. elim c.if-finished_game.branch [
       | then-finished_game w ↦ w.is_between-self-inside.ensures.0 (sym w.self-is ∙ is)
       | else-finished_game w ↦ absurd (false≢true (sym w.if-finished_game.false ∙ sym w.self-is ∙ is))
     ])
-    (ap (λ (s : Converter). s.fault) self.view_is ∙ c.in_ok-mark.ensures.ends.keeps.fault)
+    (rw (← self.view_is) at c.in_ok-mark.ensures.ends.keeps.fault)

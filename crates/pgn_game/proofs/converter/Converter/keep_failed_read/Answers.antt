@@ -2,5 +2,4 @@ use Rattle.pgn_game.proofs.tokens.StepsAtEnd.{sound_behind_fault}
 use Rattle.pgn_game.proofs.converter.Converter.keep_failed_read.Goals as goal
 
 pub invariant_of-self : goal.invariant_of-self
-invariant_of-self g c =
-    sound_behind_fault c.self.inside.lexer c.self.inside.reader c.self.inside.games c.self.inside.is_finished _ c.self.invariant.count
+invariant_of-self g c = sound_behind_fault _ _ _ _ _ c.self.invariant.count

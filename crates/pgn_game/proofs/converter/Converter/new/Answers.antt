@@ -4,6 +4,3 @@ use Rattle.pgn_game.proofs.converter.Converter.new.Goals as goal
 
 pub begin_at-requires : goal.begin_at-requires
 begin_at-requires g c = (search fits_alike, (c.requires, omega arith))
-
-pub returns : goal.returns
-returns g c = record { stands = c.begin_at.ensures.stands; not_finished = c.begin_at.ensures.not_finished; writes = c.begin_at.ensures.writes }

@@ -10,8 +10,3 @@ returns-then-self g c =
     c.plies.ensures
     ∙ ap (λ (b : Bool). elim (game_in_reader_if b c.self.inside.reader) [ None ↦ 0 | Some finished ↦ finished.plies ]) (sym c.if-self.true)
     ∙ ap finished_game_plies c.self.view_is
-
-pub returns : goal.returns
-returns g c =
-    ap (λ (b : Bool). elim (game_in_reader_if b c.self.inside.reader) [ None ↦ 0 | Some finished ↦ finished.plies ]) (sym c.if-self.false)
-    ∙ ap finished_game_plies c.self.view_is

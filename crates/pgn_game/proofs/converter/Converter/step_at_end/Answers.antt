@@ -77,12 +77,6 @@ accept_copied-met-requires g c =
       (omega (arith, old.sound.few_plies refl, old.sound.count), rw c.in-Token.is at c.finish.follows.holds-at-none.lengths),
     )
 
-pub settle-outcome-requires : goal.settle-outcome-requires
-settle-outcome-requires g c = record { no_fault = (fields_before c.self.view_is c.self.invariant c.requires).none }
-
-pub returns-in-NeedMore : goal.returns-in-NeedMore
-returns-in-NeedMore g c = absurd (rw c.in-NeedMore.is at c.finish.follows.holds-at-none.closes)
-
 pub returns-then-is_ok : goal.returns-then-is_ok
 returns-then-is_ok g c =
     let old = fields_before c.self.view_is c.self.invariant c.requires in
@@ -149,11 +143,7 @@ pub invariant_of-self-in-Fault : goal.invariant_of-self-in-Fault
 invariant_of-self-in-Fault g c =
     let old = fields_before c.self.view_is c.self.invariant c.requires in
     rw (c.fail.ensures.kept, old.flag)
-    (sound_behind_fault c.finish.follows.lender-at-none c.self.inside.reader c.self.inside.games c.self.inside.is_finished c.lexical.result
-    (omega (arith, c.finish.follows.holds-at-none.count, c.self.invariant.count)))
-
-pub invariant_of-self : goal.invariant_of-self
-invariant_of-self g c = absurd (rw c.in-NeedMore.is at c.finish.follows.holds-at-none.closes)
+    (sound_behind_fault _ _ _ _ _ (omega (arith, c.finish.follows.holds-at-none.count, c.self.invariant.count)))
 
 pub invariant_of-self-then-is_ok : goal.invariant_of-self-then-is_ok
 invariant_of-self-then-is_ok g c =
@@ -167,5 +157,4 @@ invariant_of-self-else-is_ok g c =
     let old = fields_before c.self.view_is c.self.invariant c.requires in
     let not_ok = ap is_ok (sym c.settle-outcome.ensures.outcome) ∙ sym c.is_ok.ensures.value ∙ c.if-is_ok.false in
     rw (old.flag, c.settle-outcome.ensures.fault, c.settle-outcome.ensures.outcome)
-    (sound_if_not_ok c.finish.follows.lender-at-none c.accept_copied-met.new.self c.self.inside.games c.self.inside.is_finished
-    c.in-Token.token.at c.accept_copied-met.result not_ok (omega (arith, c.finish.follows.holds-at-none.count, c.self.invariant.count)))
+    (sound_if_not_ok _ _ _ _ c.in-Token.token.at c.accept_copied-met.result not_ok (omega (arith, c.finish.follows.holds-at-none.count, c.self.invariant.count)))

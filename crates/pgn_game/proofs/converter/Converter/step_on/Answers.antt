@@ -1,22 +1,16 @@
-use Rattle.pgn_game.proofs.Words.{arith, ap, ◌∙◌, Converter}
+use Rattle.pgn_game.proofs.Words.{arith, refl}
 use Rattle.pgn_game.proofs.ReaderFitsInMemory.{fits_reader}
 use Rattle.pgn_game.proofs.tokens.RunsInPiece.{steps_of}
 use Rattle.pgn_game.proofs.tokens.StepsAtEnd.{fields_before, short_before, sound_behind_fault}
 use Rattle.pgn_game.proofs.tokens.StepsOverTokens.{sound_met, sound_more, steps_fault, steps_met, steps_more}
 use Rattle.pgn_game.proofs.converter.Converter.step_on.Goals as goal
 
-pub read_on-scan-requires : goal.read_on-scan-requires
-read_on-scan-requires g c = short_before c.self.view_is c.requires
-
 pub accept_copied-met-requires : goal.accept_copied-met-requires
 accept_copied-met-requires g c =
-    let none = ap (λ (s : Converter). s.fault) c.self.view_is ∙ c.requires.before.no_fault in (
+    let old = fields_before c.self.view_is c.self.invariant c.requires.before in (
       search fits_reader,
-      (omega (arith, c.self.invariant.few_plies none, c.self.invariant.count), rw c.in-Token.is at c.read_on-scan.follows.holds-at-none.lengths),
+      (omega (arith, old.sound.few_plies refl, old.sound.count), rw c.in-Token.is at c.read_on-scan.follows.holds-at-none.lengths),
     )
-
-pub settle-requires : goal.settle-requires
-settle-requires g c = record { no_fault = ap (λ (s : Converter). s.fault) c.self.view_is ∙ c.requires.before.no_fault }
 
 pub returns-in-NeedMore-clause-steps : goal.returns-in-NeedMore-clause-steps
 returns-in-NeedMore-clause-steps g c =
@@ -55,7 +49,7 @@ pub invariant_of-self-in-Fault : goal.invariant_of-self-in-Fault
 invariant_of-self-in-Fault g c =
     let old = fields_before c.self.view_is c.self.invariant c.requires.before in
     rw (c.fail.ensures.kept, old.flag)
-    (sound_behind_fault c.read_on-scan.follows.lender-at-none c.self.inside.reader c.self.inside.games c.self.inside.is_finished c.lexical.result
+    (sound_behind_fault _ _ _ _ _
     (omega (arith, c.read_on-scan.follows.holds-at-none.count, c.read_on-scan.ensures.used, short_before c.self.view_is c.requires)))
 
 pub invariant_of-self : goal.invariant_of-self

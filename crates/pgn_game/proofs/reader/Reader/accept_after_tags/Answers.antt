@@ -17,7 +17,7 @@ opens g c held same part agrees =
 pub returns-in-End : goal.returns-in-End
 returns-in-End g c =
     let old = c.args.self.now in
-    λ o m. refused_after old old (Agrees old) (kind_of c.args.kind) UnexpectedEnd 0 o m (counting_none old) refl (λ part agrees.
+    λ o m. refused_after old old (Agrees old) _ UnexpectedEnd 0 o m (counting_none old) refl (λ part agrees.
     ap (λ (k : TokenKind). refusal old.profile part (kind_of k)) c.in-End.is
     ∙ end_after_tags old.profile part (part_stage old part AfterTags agrees c.requires))
     (λ part agrees. rw c.in-End.is refl) (λ part agrees. refl)
@@ -26,7 +26,7 @@ pub returns-then-is_full : goal.returns-then-is_full
 returns-then-is_full g c =
     let old = c.args.self.now in
     let full = le-leb g.row.T (length c.self.inside.tags.held) (omega (arith, c.if-is_full.ensures.full.0 refl)) in
-    λ o m. refused_after old old (Agrees old) (kind_of c.args.kind) TooManyTags 0 o m (counting_none old) refl
+    λ o m. refused_after old old (Agrees old) _ TooManyTags 0 o m (counting_none old) refl
     (λ part agrees. opens g (goal.at.returns-then-is_full g c).In-LeftBracket _ c.self.view_is part agrees ∙ hit _ _ _ full)
     (λ part agrees. rw c.in-LeftBracket.is refl) (λ part agrees. refl)
 
@@ -36,7 +36,7 @@ returns-else-is_full g c =
     let v = c.self.view_is in
     let differ : length c.self.inside.tags.held ≡ g.row.T → ⊥ = λ e. false≢true (c.if-is_full.ensures.full.1 e) in
     let room = lt-leb g.row.T (length c.self.inside.tags.held) (omega (arith, differ, c.if-is_full.ensures.room)) in
-    λ o m. takes_step old _ (kind_of c.args.kind) (to_stage AfterLeftBracket) o m
+    λ o m. takes_step old _ _ (to_stage AfterLeftBracket) o m
     (puts_left_bracket old _ o m c.requires (ap (λ (r : ReaderState). record r { stage = AfterLeftBracket }) v))
     (ap (λ (r : ReaderState). r.most_probes) v) (λ part agrees. (
       opens g (goal.at.returns-else-is_full g c).In-LeftBracket _ v part agrees ∙ pass _ _ _ room,
@@ -48,8 +48,7 @@ pub returns-then-lacks_fen : goal.returns-then-lacks_fen
 returns-then-lacks_fen g c =
     let old = c.args.self.now in
     let counts = c.count_move.ensures in
-    λ o m. refused_after old c.count_move.new.self (Agrees old)
-    (kind_of c.args.kind) SetUpWithoutFen counts.pairs o m counts.counted refl (λ part agrees.
+    λ o m. refused_after old c.count_move.new.self (Agrees old) _ SetUpWithoutFen counts.pairs o m counts.counted refl (λ part agrees.
     refuses_set_up old.profile part c.args.kind (part_stage old part AfterTags agrees c.requires)
     (textual c.args.kind c.in_default.not-LeftBracket c.in_default.not-End)
     (lacks_of old part true agrees c.requires (sym c.lacks_fen.ensures ∙ c.if-lacks_fen.true))) counts.tried

@@ -27,13 +27,6 @@ refused : {S : Type 0} {taken : S → Option (List ℕ)} {failures : S → ℕ} 
 refused old k reason none inside why finds =
     unused_call _ _ old _ _ (λ o m. record { no_marker = none; takes = entry_refused old k reason o m inside why finds })
 
-pub returns-in-Symbol : goal.returns-in-Symbol
-returns-in-Symbol g c = rw c.in-Symbol.is c.accept_symbol.ensures
-
-pub returns-in-Asterisk : goal.returns-in-Asterisk
-returns-in-Asterisk g c =
-    rw c.in-Asterisk.is (unused_call _ _ c.args.self.now _ _ (λ o m. record { is = refl; same = refl; unwritten = refl; still = refl }))
-
 pub returns-in-Period : goal.returns-in-Period
 returns-in-Period g c =
     let takes = passes_entry c.args.self.now _ tokens.period _ _ c.pass.ensures.takes (λ part is. (refl, refl)) (λ part. refl) in

@@ -1,10 +1,11 @@
-use Rattle.pgn_game.proofs.Words.{Accepted, Reason, Result, sink_of, mode_written, Ok, More, TakesEntry, Writing, device, symbol, ◌∷◌, [], inr, IsTrue, refl, ap, subst, ◌∙◌, arith, Err, err_from_is_err_and, or_parts, le-max_right, WriteFault, going, FinishesNone, PutResult, ReaderCall, IsOpen, with_items}
+use Rattle.pgn_game.proofs.Words.{Accepted, Reason, Result, sink_of, mode_written, Ok, More, TakesEntry, Writing, device, symbol, ◌∷◌, [], inr, IsTrue, refl, ap, subst, ◌∙◌, arith, Err, or_parts, le-max_right, WriteFault, going, FinishesNone, PutResult, ReaderCall, IsOpen, with_items}
 use Rattle.pgn_game.proofs.Words.{InMovetext, Movetext, ReaderState, may_have_movetext, TriesItem}
 use Rattle.pgn_game.specs.games.Game.{move}
 use Rattle.pgn_game.proofs.putting.SilentReader.{adds_as, seen_alike, silence_kept, silence_put, silence_then}
 use Rattle.pgn_game.proofs.ReaderLemmas.{text_fits, begins_as, fails_move, most_after, puts_move, puts_unbegun, text_begun}
 use Rattle.pgn_game.proofs.ReaderLemmas.{unbegun_part, adds_move, move_refused, takes_move}
 use Rattle.pgn_game.proofs.tokens.PairsTriedForToken.{tries_put}
+use Rattle.pgn_game.proofs.reader.ErrorReturned.{error_returned}
 use Rattle.pgn_game.proofs.reader.Reader.accept_move.Given.{Over}
 use Rattle.pgn_game.proofs.reader.Reader.accept_move.Goals.{After-count_probes}
 use Rattle.pgn_game.proofs.reader.Reader.accept_move.Goals as goal
@@ -70,11 +71,10 @@ returns-in_err-begin_movetext-in-Ok g c =
     let old = c.args.self.now in
     let plain = or_parts _ _ c.requires.is_move in
     let finds = c.in-Ok.ensures in
-    let p = err_from_is_err_and c.from_residual.result c.from_residual.ensures.1 in
     let first = c.in_err-begin_movetext-in-Ok.ensures in
     let begins = first.takes in
     let may : IsTrue (may_have_movetext c.find.new.self.stage) = rw finds.counted c.requires.may.stage in
-    rw (p.1 ∙ ap Err p.2)
+    rw (error_returned _ c.from_residual.ensures.1)
     (record {
       takes = seen_alike (λ d. TakesEntry old (symbol c.args.text.now) c.begin_movetext.new.self (Err WriteFault) d) _ _
           (device g.W.Sink.taken g.W.Sink.failures c.args.out.now c.begin_movetext.new.out)
@@ -93,8 +93,7 @@ returns-in_err-begin_movetext-in-Ok g c =
 pub returns-in_err-put-in-Ok : goal.returns-in_err-put-in-Ok
 returns-in_err-put-in-Ok g c =
     let begins = begins_as c.find.new.self _ _ _ c.self.view_is c.in_ok-begin_movetext-in-Ok.ensures.takes in
-    let p = err_from_is_err_and c.from_residual-in_err-put-in-Ok.result c.from_residual-in_err-put-in-Ok.ensures.1 in
-    rw (p.1 ∙ ap Err p.2)
+    rw (error_returned _ c.from_residual-in_err-put-in-Ok.ensures.1)
     (calls g (goal.at.returns-in_err-put-in-Ok g c).After-count_probes (Err WriteFault) tt
     (fails_move c.find.new.self _ c.count_probes.new.self c.in-Ok.mv _ _ _ _ (rw c.in-Ok.ensures.counted c.requires.may.stage) begins
     c.count_probes.ensures c.in_err-put-in-Ok.field-0.0

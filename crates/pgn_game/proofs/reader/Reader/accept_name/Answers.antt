@@ -31,7 +31,7 @@ returns-then-is_comment g c =
 pub returns-in_default : goal.returns-in_default
 returns-in_default g c =
     let old = c.args.self.now in
-    refused_in_pair old _ (kind_of c.args.kind) AfterLeftBracket c.requires.stage (λ q. refl) ExpectedName refl refl (λ part agrees.
+    refused_in_pair old _ _ AfterLeftBracket c.requires.stage (λ q. refl) ExpectedName refl refl (λ part agrees.
     expected_name old.profile part c.args.kind (part_stage old part AfterLeftBracket agrees c.requires.stage)
     (sym c.if-is_comment.false ∙ c.is_comment.ensures) c.in_default.not-Symbol)
 
@@ -77,7 +77,7 @@ returns g c =
     let v = c.self.view_is in
     let name = c.in-Symbol.name.now in
     let held = c.begin.new.self in
-    step_in_pair old _ (kind_of c.args.kind) AfterLeftBracket c.requires.stage (λ q. refl) (to_name name)
+    step_in_pair old _ _ AfterLeftBracket c.requires.stage (λ q. refl) (to_name name)
     (λ o m. puts_name old _ name held o m c.requires.stage
     (ap (λ (r : ReaderState). has_pair r.tags.held name) (sym v) ∙ c.in-Err.ensures.new)
     (c.begin.ensures ∙ ap (λ (r : ReaderState). record r.tags { pending_name = Some name }) v)

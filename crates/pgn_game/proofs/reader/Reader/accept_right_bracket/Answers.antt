@@ -12,7 +12,7 @@ returns-then-is_comment g c =
 pub returns-in_default : goal.returns-in_default
 returns-in_default g c =
     let old = c.args.self.now in
-    refused_in_pair old _ (kind_of c.args.kind) AfterValue c.requires.stage (λ q. refl) ExpectedBracket refl refl (λ part agrees.
+    refused_in_pair old _ _ AfterValue c.requires.stage (λ q. refl) ExpectedBracket refl refl (λ part agrees.
     expected_bracket old.profile part c.args.kind (part_stage old part AfterValue agrees c.requires.stage)
     (sym c.if-is_comment.false ∙ c.is_comment.ensures) c.in_default.not-RightBracket)
 
@@ -20,7 +20,7 @@ pub returns-in-RightBracket : goal.returns-in-RightBracket
 returns-in-RightBracket g c =
     let old = c.args.self.now in
     let v = c.self.view_is in
-    step_in_pair old _ (kind_of c.args.kind) AfterValue c.requires.stage (λ q. refl) (to_stage AfterTags)
+    step_in_pair old _ _ AfterValue c.requires.stage (λ q. refl) (to_stage AfterTags)
     (λ o m. puts_right_bracket old _ o m c.requires.stage (ap (λ (r : ReaderState). record r { stage = AfterTags }) v))
     (ap (λ (r : ReaderState). r.most_probes) v) (λ part. search adds_same) (λ part agrees.
     let at = part_stage old part AfterValue agrees c.requires.stage in (

@@ -1,8 +1,9 @@
 use Rattle.pgn_game.proofs.putting.SilentReader.{seen_alike, silence_kept, silence_then}
 use Rattle.pgn_game.specs.state.PutResult.{TakesUnlessMarker as Unless}
-use Rattle.pgn_game.proofs.Words.{Writing, kind_of, device, ◌≡◌, None, Err, ap, subst, ◌∙◌, arith, err_from_is_err_and, Kind, TakesUnwritten}
+use Rattle.pgn_game.proofs.Words.{Writing, kind_of, device, ◌≡◌, None, Err, ap, subst, arith, Kind, TakesUnwritten}
 use Rattle.pgn_game.proofs.Words.{Reason, WriteFault, ReaderState, marker_of, CountsWrites}
 use Rattle.pgn_game.proofs.ReaderLemmas.{entry_met}
+use Rattle.pgn_game.proofs.reader.ErrorReturned.{error_returned}
 use Rattle.pgn_game.proofs.reader.Reader.accept_unless_marker.Goals as goal
 
 -- where nothing is written, no write fails
@@ -17,9 +18,8 @@ no_write old new k reason takes is =
 
 pub returns-in_err-result-in-Some : goal.returns-in_err-result-in-Some
 returns-in_err-result-in-Some g c =
-    let p = err_from_is_err_and c.from_residual.result c.from_residual.ensures.1 in
     let takes = rw c.in_err-result-in-Some.was at c.in-Some.ensures in
-    rw (p.1 ∙ ap Err p.2)
+    rw (error_returned _ c.from_residual.ensures.1)
     (record {
       takes = (takes _ _, no_write c.args.self.now _ _ _ takes);
       silent = silence_kept c.args.self.now _ _ (takes None 0).keeps.writing;

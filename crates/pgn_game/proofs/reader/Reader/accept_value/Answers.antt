@@ -36,7 +36,7 @@ returns-then-is_comment g c =
 pub returns-in_default : goal.returns-in_default
 returns-in_default g c =
     let old = c.args.self.now in
-    refused_in_pair old _ (kind_of c.args.kind) AfterName c.requires.stage (λ q. refl) ExpectedValue refl refl (λ part agrees.
+    refused_in_pair old _ _ AfterName c.requires.stage (λ q. refl) ExpectedValue refl refl (λ part agrees.
     expected_value old.profile part c.args.kind (part_stage old part AfterName agrees c.requires.stage)
     (sym c.if-is_comment.false ∙ c.is_comment.ensures) c.in_default.not-Str)
 
@@ -79,7 +79,7 @@ returns g c =
     let tells = sym c.fen_position.ensures ∙ c.in-Ok.is in
     let fine = start_fine name value (ap is_ok tells) in
     let short = le-ltb 249 (length name + length (escaped value)) (c.fits_tag_line.ensures.0 c.if-not-fits_tag_line.false) in
-    step_in_pair old _ (kind_of c.args.kind) AfterName c.requires.stage (λ q. refl) (to_value value)
+    step_in_pair old _ _ AfterName c.requires.stage (λ q. refl) (to_value value)
     (λ o m. puts_value old _ value name c.in-Ok.start held o m c.requires.stage
     (subst (λ (r : ReaderState). IfSome r.tags.pending_name (λ name. held ≡ completed name value r.tags.held)) v c.complete.ensures)
     (sym (ap (λ (r : ReaderState). r.tags.pending_name) v) ∙ c.pending_name-name.ensures) tells

@@ -1,5 +1,5 @@
-use Rattle.pgn_game.proofs.Words.{◌≡◌, ◌+◌, [], None, ap, refl, AfterTags, first_position, TagPairs}
-use Rattle.pgn_game.proofs.Words.{movetext_from, ReaderState, initial, arith}
+use Rattle.pgn_game.proofs.Words.{◌≡◌, ◌+◌, [], None, ap, refl, AfterTags, first_position}
+use Rattle.pgn_game.proofs.Words.{movetext_from, ReaderState, initial}
 use Rattle.pgn_game.proofs.ReaderPartsFitInMemory.{tags_fit, text_fits}
 use Rattle.pgn_game.proofs.reader.Reader.begin_game.Goals as goal
 
@@ -16,14 +16,6 @@ returns g c =
       text = movetext_from first_position;
       earlier_plies = r.earlier_plies + r.text.plies;
     }) c.self.view_is)
-
-pub overflow_add-self : goal.overflow_add-self
-overflow_add-self g c =
-    let same = ap (λ (r : ReaderState). r.earlier_plies + r.text.plies) c.self.view_is in
-    omega (arith, same, c.plies.ensures, c.requires)
-
-pub invariant_of-self : goal.invariant_of-self
-invariant_of-self g c = (ap (λ (t : TagPairs). t.pending_name) c.clear.ensures, c.self.invariant.1, c.self.invariant.2)
 
 pub plies-requires : goal.plies-requires
 plies-requires g c = search text_fits

@@ -1,10 +1,11 @@
-use Rattle.pgn_game.proofs.Words.{OnOk, IsTrue, ◌++◌, BeginsText, device, Writing, Option, Marker, ◌≡◌, ℕ, Bool, true, false, not, bytes_eq, List, length, refl, sym, ap, ◌∙◌, arith, codes, is_some, Some, Result, Ok, Err, IsFalse, le-leb, err_from_is_err_and, AppendsFront, Device, one_more, Put, EndGame, text_at, line_at, Kind, Reason, MarkerInVariation, ResultDiffers, Between, value_of, Part, marker_text, depth, TagPairs, levels_of_part, marker_of, result_for, IsOpen, text_refusal, ReaderState, PutResult, is_outside_the_table, unused, TakesMarker, FinishesAtMarker, ReaderCall}
+use Rattle.pgn_game.proofs.Words.{OnOk, IsTrue, BeginsText, device, Writing, Option, Marker, ◌≡◌, ℕ, Bool, true, false, List, length, refl, sym, ap, ◌∙◌, arith, codes, is_some, Some, Result, Ok, Err, IsFalse, le-leb, Device, one_more, Kind, Reason, MarkerInVariation, ResultDiffers, Between, value_of, Part, marker_text, depth, TagPairs, levels_of_part, marker_of, result_for, IsOpen, text_refusal, ReaderState, PutResult, is_outside_the_table, TakesMarker, FinishesAtMarker, ReaderCall}
 use Rattle.pgn_game.specs.state.PutResult.{ended}
 use Rattle.pgn_game.proofs.putting.MarkerToReader.{EndsText, to_game, ends_silent, writes_if_failed}
 use Rattle.pgn_game.proofs.putting.SilentReader.{seen_if, unseen, unused_call, silence_of, writes_some, writes_none}
 use Rattle.pgn_layout.specs.declared.sink.WriteFault.{WriteFault}
 use Rattle.pgn_game.proofs.ReaderLemmas.{tags_fit, text_fits, no_name, depth_is, marker_inside, marker_differs, marker_free, none_around, test_of, differs, front_of_more, front_after, begins_as, ends_ill, ends_unbegun, ends_well, marker_untried, entry_refused, takes_marker}
 use Rattle.pgn_game.specs.declared.reason.Reason.TheVariants as reasons
+use Rattle.pgn_game.proofs.reader.ErrorReturned.{error_returned}
 use Rattle.pgn_game.proofs.reader.Reader.end_game.Given.{Over}
 use Rattle.pgn_game.proofs.reader.Reader.end_game.Goals.{After-ne, After-put}
 use Rattle.pgn_game.proofs.reader.Reader.end_game.Goals as goal
@@ -17,13 +18,11 @@ record Tested (old : ReaderState) (marker : Marker) (other : Bool) : Type 0 wher
 
 tested : (g : Over) (c : After-ne g) (other : Bool) → c.ne.result ≡ other → Tested c.args.self.now c.args.marker other
 tested g c other test =
-    let v = c.self.view_is in
-    record {
-      none = omega (arith, c.depth.ensures.value, c.if-depth-gt0.false, ap (λ (r : ReaderState). length r.text.levels.around) v);
-      result = test_of _ c.value.result _ c.unwrap_or.result _ _ other _ (ap (λ (r : ReaderState). r.tags.held) v) c.value.ensures.value
-          (c.text_at-missing.ensures ∙ ap (λ (r : ReaderState). result_for r.profile.missing_result (marker_text c.args.marker)) v)
-          c.unwrap_or.ensures (sym test ∙ c.ne.ensures ∙ ap (λ (m : List ℕ). not (bytes_eq m c.unwrap_or.result.now)) c.text.ensures.text);
-    }
+    rw (← c.self.view_is) (record {
+      none = omega (arith, c.depth.ensures.value, c.if-depth-gt0.false);
+      result = test_of c.self.inside.tags.held c.value.result _ c.unwrap_or.result _ _ other _ refl c.value.ensures.value c.text_at-missing.ensures c.unwrap_or.ensures
+          (sym test ∙ (rw c.text.ensures.text at c.ne.ensures));
+    })
 
 -- so it is for a part that the reader holds
 of_part : (old : ReaderState) (marker : Marker) (other : Bool) → Tested old marker other → (part : Part) → IsOpen old part
@@ -36,16 +35,16 @@ of_part old marker other t part op =
       ap (λ (t : TagPairs). differs missing (value_of t.held (codes "Result")) text) (sym op.pairs) ∙ t.result,
     )
 
-refuses : (old : ReaderState) (marker : Marker) (reason : Reason) (o : Option (List ℕ)) (m : ℕ) → IsFalse (is_outside_the_table reason)
-    → ((k : Kind) → marker_of k ≡ Some (marker_text marker)
+refuses : {S : Type 0} {taken : S → Option (List ℕ)} {failures : S → ℕ} {a : S} (old : ReaderState) (marker : Marker) (reason : Reason)
+    → IsFalse (is_outside_the_table reason) → ((k : Kind) → marker_of k ≡ Some (marker_text marker)
     → (part : Part) → IsOpen old part → text_refusal old.profile part k ≡ Some reason)
-    → TakesMarker old marker old (Err reason) (unused o m)
-refuses old marker reason o m inside why = record {
+    → ReaderCall taken failures old old a a (TakesMarker old marker old (Err reason))
+refuses old marker reason inside why = unused_call _ _ old _ _ (λ o m. record {
   takes = λ k is. entry_refused old k reason o m inside (why k is) (λ part. marker_untried part k (ap is_some is));
   keeps = record { profile = refl; writing = refl; plies = omega arith; probes = omega arith };
   between = tt;
   counted = rw inside;
-}
+})
 
 at_marker : (k : Kind) (new : ReaderState) (r : Result Unit Reason) → IsTrue (is_some (marker_of k)) → OnOk r (new.stage ≡ Between)
     → FinishesAtMarker k new (ended r)
@@ -65,50 +64,35 @@ takes old marker new d r t most at put = record {
 }
 
 -- The same, by a reader that is not silent: `held` is the reader whose section was written.
-module _ (g : Over) (c : After-put g) (t : Tested c.args.self.now c.args.marker false) (held : ReaderState)
-    (same : held ≡ c.begin_movetext.new.self) (writes : held.writing.is_silent ≡ false) where
-  begins : EndsText c.args.self.now held c.args.marker c.text-2.result.now (g.W.Sink.taken c.args.out.now)
-      (g.W.Sink.taken c.begin_movetext.new.out) (g.W.Sink.failures c.args.out.now) (g.W.Sink.failures c.begin_movetext.new.out)
-  begins =
-      let old = c.args.self.now in
-      let begun = begins_as old _ held _ same c.in_ok-begin_movetext.ensures.takes in
-      let speaks = sym (ap (λ (w : Writing). w.is_silent) begun.writing) ∙ writes in
-      record {
-        writes = speaks;
-        begins = unseen (λ d. BeginsText {A = Unit {0}} {E = WriteFault} old held (Ok tt) d) old.writing.is_silent _ speaks begun;
-        outside = none_around old.text.levels.around t.none;
-        spells = c.text-2.ensures.text;
-        at = c.requires;
-      }
-
-  calls : (new : ReaderState) (out : g.row.W.Denot) (r : Result Unit Reason) → new.most_probes ≡ held.most_probes
-      → OnOk r (new.stage ≡ Between)
-      → PutResult c.args.self.now (IsOpen c.args.self.now) (to_game c.args.marker) new (ended r)
-      (device g.W.Sink.taken g.W.Sink.failures c.args.out.now out)
-      → ReaderCall g.W.Sink.taken g.W.Sink.failures c.args.self.now new c.args.out.now out (TakesMarker c.args.self.now c.args.marker new r)
-  calls new out r most at put =
-      let old = c.args.self.now in
-      record {
-        takes = seen_if (λ d. TakesMarker old c.args.marker new r d) old.writing.is_silent _ begins.writes
-            (takes old c.args.marker new _ r t (most ∙ begins.begins.probes) at put);
-        silent = silence_of old new _ _ put.keeps.writing (λ silent. absurd (cc (begins.writes, silent)));
-      }
-
-  -- a write behind the section failed
-  stops : (new : ReaderState) (out : g.row.W.Denot)
-      → AppendsFront (g.W.Sink.taken c.begin_movetext.new.out) (g.W.Sink.taken out)
-      (text_at held.line (Put c.text-2.result.now) ++ text_at (line_at held.line (Put c.text-2.result.now)) EndGame)
-      → new ≡ record held { line = new.line } → g.W.Sink.failures out ≡ one_more (g.W.Sink.failures c.begin_movetext.new.out)
-      → ReaderCall g.W.Sink.taken g.W.Sink.failures c.args.self.now new c.args.out.now out
-      (TakesMarker c.args.self.now c.args.marker new (Err reasons.WriteFault))
-  stops new out front rest counted =
-      calls new out (Err reasons.WriteFault) (ap (λ (r : ReaderState). r.most_probes) rest) tt
-      (ends_ill c.args.self.now held new c.args.marker _ _ _ _ _ _ _ begins front rest counted)
+calls : (g : Over) (c : After-put g) → Tested c.args.self.now c.args.marker false → (held new : ReaderState) (out : g.row.W.Denot)
+    (r : Result Unit Reason) → held ≡ c.begin_movetext.new.self → held.writing.is_silent ≡ false
+    → new.most_probes ≡ held.most_probes → OnOk r (new.stage ≡ Between)
+    → (EndsText c.args.self.now held c.args.marker c.text-2.result.now (g.W.Sink.taken c.args.out.now) (g.W.Sink.taken c.begin_movetext.new.out)
+    (g.W.Sink.failures c.args.out.now) (g.W.Sink.failures c.begin_movetext.new.out)
+    → PutResult c.args.self.now (IsOpen c.args.self.now) (to_game c.args.marker) new (ended r)
+    (device g.W.Sink.taken g.W.Sink.failures c.args.out.now out))
+    → ReaderCall g.W.Sink.taken g.W.Sink.failures c.args.self.now new c.args.out.now out (TakesMarker c.args.self.now c.args.marker new r)
+calls g c t held new out r same writes most at puts =
+    let old = c.args.self.now in
+    let begun = begins_as old _ held _ same c.in_ok-begin_movetext.ensures.takes in
+    let speaks = sym (ap (λ (w : Writing). w.is_silent) begun.writing) ∙ writes in
+    let put = puts (record {
+      writes = speaks;
+      begins = unseen (λ d. BeginsText {A = Unit {0}} {E = WriteFault} old held (Ok tt) d) old.writing.is_silent _ speaks begun;
+      outside = none_around old.text.levels.around t.none;
+      spells = c.text-2.ensures.text;
+      at = c.requires;
+    }) in
+    record {
+      takes = seen_if (λ d. TakesMarker old c.args.marker new r d) old.writing.is_silent _ speaks
+          (takes old c.args.marker new _ r t (most ∙ begun.probes) at put);
+      silent = silence_of old new _ _ put.keeps.writing (λ silent. absurd (cc (speaks, silent)));
+    }
 
 pub returns-then-depth-gt0 : goal.returns-then-depth-gt0
 returns-then-depth-gt0 g c =
     let old = c.args.self.now in
-    unused_call _ _ old _ _ (λ o m. refuses old c.args.marker MarkerInVariation o m refl (λ k is part op.
+    refuses old c.args.marker MarkerInVariation refl (λ k is part op.
     marker_inside old k (marker_text c.args.marker) part is (le-leb 1 (depth (levels_of_part part))
     (omega (
       arith,
@@ -116,22 +100,21 @@ returns-then-depth-gt0 g c =
       c.depth.ensures.value,
       depth_is old part op,
       ap (λ (r : ReaderState). length r.text.levels.around) c.self.view_is,
-    )))))
+    ))))
 
 pub returns-then-ne : goal.returns-then-ne
 returns-then-ne g c =
     let old = c.args.self.now in
     let t = tested g (goal.at.returns-then-ne g c).After-ne true c.if-ne.true in
-    unused_call _ _ old _ _ (λ o m. refuses old c.args.marker ResultDiffers o m refl (λ k is part op.
-    let h = of_part old c.args.marker true t part op in marker_differs old k _ (marker_text c.args.marker) part is h.0 refl h.1))
+    refuses old c.args.marker ResultDiffers refl (λ k is part op.
+    let h = of_part old c.args.marker true t part op in marker_differs old k _ (marker_text c.args.marker) part is h.0 refl h.1)
 
 pub returns-in_err-begin_movetext : goal.returns-in_err-begin_movetext
 returns-in_err-begin_movetext g c =
     let old = c.args.self.now in
     let t = tested g (goal.at.returns-in_err-begin_movetext g c).After-ne false c.if-ne.false in
-    let p = err_from_is_err_and c.from_residual.result c.from_residual.ensures.1 in
     let begins = c.in_err-begin_movetext.ensures.takes in
-    rw (p.1 ∙ ap Err p.2)
+    rw (error_returned _ c.from_residual.ensures.1)
     (record {
       takes = takes old c.args.marker _ _ (Err reasons.WriteFault) t begins.probes tt
           (ends_unbegun old _ c.args.marker c.in_err-begin_movetext.field-0.0 _
@@ -143,29 +126,30 @@ pub returns-in_err-put : goal.returns-in_err-put
 returns-in_err-put g c =
     let here = goal.at.returns-in_err-put g c in
     let t = tested g here.After-ne false c.if-ne.false in
-    let p = err_from_is_err_and c.from_residual-in_err-put.result c.from_residual-in_err-put.ensures.1 in
-    rw (p.1 ∙ ap Err p.2)
-    (stops g here.After-put t _ c.self-2.view_is (writes_some c.self-2.inside.written c.in_default.not-Nothing) _ _
-    (front_of_more _ _ _ _ c.in_err-put.ensures.text) refl c.in_err-put.ensures.counted)
+    let writes = writes_some c.self-2.inside.written c.in_default.not-Nothing in
+    rw (error_returned _ c.from_residual-in_err-put.ensures.1)
+    (calls g here.After-put t _ _ _ (Err reasons.WriteFault) c.self-2.view_is writes refl tt (λ begins.
+    ends_ill _ _ _ c.args.marker _ _ _ _ _ _ _ begins (front_of_more _ _ _ _ c.in_err-put.ensures.text) refl c.in_err-put.ensures.counted))
 
 pub returns-in_err-end_game : goal.returns-in_err-end_game
 returns-in_err-end_game g c =
     let here = goal.at.returns-in_err-end_game g c in
     let t = tested g here.After-ne false c.if-ne.false in
-    let p = err_from_is_err_and c.from_residual-in_err-end_game.result c.from_residual-in_err-end_game.ensures.1 in
-    rw (p.1 ∙ ap Err p.2)
-    (stops g here.After-put t _ c.self-2.view_is (writes_some c.self-2.inside.written c.in_default.not-Nothing) _ _
+    let writes = writes_some c.self-2.inside.written c.in_default.not-Nothing in
+    rw (error_returned _ c.from_residual-in_err-end_game.ensures.1)
+    (calls g here.After-put t _ _ _ (Err reasons.WriteFault) c.self-2.view_is writes refl tt (λ begins.
+    ends_ill _ _ _ c.args.marker _ _ _ _ _ _ _ begins
     (front_after _ _ _ _ _ c.in_ok-put.ensures.text (rw c.in_ok-put.ensures.line at c.in_err-end_game.ensures.text)) refl
-    (c.in_err-end_game.ensures.counted ∙ ap one_more c.in_ok-put.ensures.counted))
+    (c.in_err-end_game.ensures.counted ∙ ap one_more c.in_ok-put.ensures.counted)))
 
 pub returns : goal.returns
 returns g c =
     let here = goal.at.returns g c in
     let t = tested g here.After-ne false c.if-ne.false in
     let writes = writes_some c.self-2.inside.written c.in_default.not-Nothing in
-    calls g here.After-put t _ c.self-2.view_is writes _ _ (Ok tt) refl refl
-    (ends_well c.args.self.now _ _ c.args.marker _ _ _ _ _ _ _ _ (begins g here.After-put t _ c.self-2.view_is writes)
-    c.in_ok-put.ensures.text (rw c.in_ok-put.ensures.line at c.in_ok-end_game.ensures.text) refl
+    calls g here.After-put t _ _ _ (Ok tt) c.self-2.view_is writes refl refl (λ begins.
+    ends_well _ _ _ c.args.marker _ _ _ _ _ _ _ _ begins c.in_ok-put.ensures.text
+    (rw c.in_ok-put.ensures.line at c.in_ok-end_game.ensures.text) refl
     c.in_ok-end_game.ensures.line (c.in_ok-end_game.ensures.counted ∙ c.in_ok-put.ensures.counted))
 
 pub depth-requires : goal.depth-requires

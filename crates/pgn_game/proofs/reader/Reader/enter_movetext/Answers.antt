@@ -1,7 +1,8 @@
-use Rattle.pgn_game.proofs.Words.{OnOk, Result, Stage, seen, false, ◌≡◌, ℕ, List, sym, ap, Ok, Err, err_from_is_err_and, Device, AfterTags, InMovetext, Pair, known_of, tag_section, ReaderState, may_have_movetext, BeginsText, section_due_of, WritesText, refl}
+use Rattle.pgn_game.proofs.Words.{OnOk, Result, Stage, seen, false, ◌≡◌, ℕ, List, sym, ap, Ok, Err, Device, AfterTags, InMovetext, Pair, known_of, tag_section, ReaderState, may_have_movetext, BeginsText, section_due_of, WritesText, refl}
 use Rattle.pgn_layout.specs.declared.sink.WriteFault.{WriteFault}
 use Rattle.pgn_game.proofs.ReaderLemmas.{tags_fit, no_name}
 use Rattle.pgn_game.proofs.putting.SilentReader.{holds_some, seen_if, silence_of}
+use Rattle.pgn_game.proofs.reader.ErrorReturned.{error_returned}
 use Rattle.pgn_game.proofs.reader.Reader.enter_movetext.Goals as goal
 
 -- The section is that of the reader, whose fields are `held`.
@@ -32,15 +33,11 @@ module _ (old held : ReaderState) (pairs : List Pair) (result : List ℕ) (d : D
 pub pairs-requires : goal.pairs-requires
 pairs-requires g c = (search tags_fit, no_name g.row.T _ _ c.self.view_is (ap may_have_movetext c.requires.stage) c.self.invariant.0)
 
-pub invariant_of-self : goal.invariant_of-self
-invariant_of-self g c = (no_name g.row.T _ _ c.self.view_is (ap may_have_movetext c.requires.stage) c.self.invariant.0, c.self.invariant.1, c.self.invariant.2)
-
 pub returns-in_err-write_section : goal.returns-in_err-write_section
 returns-in_err-write_section g c =
     let old = c.args.self.now in
-    let p = err_from_is_err_and c.from_residual.result c.from_residual.ensures.1 in
     let writes = holds_some c.self.inside.written _ _ c.self.view_is refl c.in_default.not-Nothing in
-    rw p.1
+    rw (error_returned _ c.from_residual.ensures.1)
     (record {
       takes = begins old _ c.pairs.result _ _ c.self.view_is c.requires.stage c.pairs.ensures c.known_missing_result.ensures writes (Err _) old old.stage
           refl tt c.in_err-write_section.ensures;

@@ -1,12 +1,11 @@
-use Rattle.pgn_game.proofs.Words.{ap, Err, ◌∙◌, err_from_is_err_and}
 use Rattle.pgn_game.proofs.ReaderLemmas.{puts_number, puts_unbegun}
+use Rattle.pgn_game.proofs.reader.ErrorReturned.{error_returned}
 use Rattle.pgn_game.proofs.reader.Reader.pass.Goals as goal
 
 pub returns-in_err-begin_movetext : goal.returns-in_err-begin_movetext
 returns-in_err-begin_movetext g c =
-    let p = err_from_is_err_and c.from_residual.result c.from_residual.ensures.1 in
     let begins = c.in_err-begin_movetext.ensures in
-    rw (p.1 ∙ ap Err p.2)
+    rw (error_returned _ c.from_residual.ensures.1)
     (record {
       takes = record {
         puts = puts_unbegun c.args.self.now _ _ c.in_err-begin_movetext.field-0.0 _ c.requires begins.takes;

@@ -1,6 +1,7 @@
 use Rattle.pgn_game.proofs.putting.SilentReader.{adds_as, silence_put}
-use Rattle.pgn_game.proofs.Words.{Writing, refl, ap, subst, sym, ◌∙◌, arith, Err, err_from_is_err_and, Movetext, ItemFits, model_item}
+use Rattle.pgn_game.proofs.Words.{Writing, refl, ap, subst, sym, arith, Movetext, ItemFits, model_item}
 use Rattle.pgn_game.proofs.ReaderLemmas.{text_fits, no_move, begins_as, fails_item, puts_item, puts_unbegun, text_begun}
+use Rattle.pgn_game.proofs.reader.ErrorReturned.{error_returned}
 use Rattle.pgn_game.proofs.reader.Reader.put.Goals as goal
 
 pub put-requires : goal.put-requires
@@ -10,9 +11,8 @@ put-requires g c =
 
 pub returns-in_err-begin_movetext : goal.returns-in_err-begin_movetext
 returns-in_err-begin_movetext g c =
-    let p = err_from_is_err_and c.from_residual.result c.from_residual.ensures.1 in
     let begins = c.in_err-begin_movetext.ensures in
-    rw (p.1 ∙ ap Err p.2)
+    rw (error_returned _ c.from_residual.ensures.1)
     (record {
       takes = record {
         puts = puts_unbegun c.args.self.now _ _ c.in_err-begin_movetext.field-0.0 _ c.requires.stage begins.takes;
@@ -25,12 +25,11 @@ returns-in_err-begin_movetext g c =
 pub returns-in_err-put : goal.returns-in_err-put
 returns-in_err-put g c =
     let old = c.args.self.now in
-    let p = err_from_is_err_and c.from_residual-in_err-put.result c.from_residual-in_err-put.ensures.1 in
     let first = c.in_ok-begin_movetext.ensures in
     let begins = begins_as old _ _ _ c.self.view_is first.takes in
     let put = c.in_err-put.ensures in
     let same = ap (λ (w : Writing). w.is_silent) begins.writing in
-    rw (p.1 ∙ ap Err p.2)
+    rw (error_returned _ c.from_residual-in_err-put.ensures.1)
     (record {
       takes = record {
         puts = fails_item old _ _ (model_item c.args.item) _ _ _ _ _ _ c.requires.stage begins
