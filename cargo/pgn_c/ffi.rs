@@ -96,12 +96,12 @@ unsafe extern "C" fn pgn_line(
     fen_length: usize,
     text: *const u8,
     length: usize,
-    notation: u32,
+    format: u32,
     buffer: *mut u8,
     capacity: usize,
 ) -> PgnPlies {
     let (fen, text) = unsafe { (text_of(fen, fen_length), text_of(text, length)) };
-    crate::pgn_line(fen, text, notation, unsafe { buffer_of(buffer, capacity) })
+    crate::pgn_line(fen, text, format, unsafe { buffer_of(buffer, capacity) })
 }
 
 /// # Safety

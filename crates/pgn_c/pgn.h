@@ -52,6 +52,9 @@ enum {
     PGN_UCI = 1  /* that of engines: g1f3 (Universal Chess Interface, "Move format") */
 };
 
+/* The same, for pgn_line, where the line of a ply is the FEN alone. */
+enum { PGN_SAN_FEN = 2, PGN_UCI_FEN = 3 };
+
 /* What a missing Result counts as, for pgn_next_game and pgn_read_game. */
 enum {
     PGN_RESULT_UNKNOWN = 0,   /* as *, like pgn_convert and `export` */
@@ -230,10 +233,16 @@ pgn_move pgn_san(const uint8_t *fen, size_t fen_length, const uint8_t *text, siz
  * Plays a text of moves from the position of a FEN on, and writes each ply into the front of a
  * buffer.
  *
- * The text has moves, with white space between them. `notation` is PGN_SAN or PGN_UCI. Move numbers
- * and periods that stand alone, such as 1. and 12..., are passed. There are no comments, variations,
- * NAGs or markers. A ply is a line: its SAN, its UCI and the FEN of the position after it, with a tab
- * behind the first two and a line feed behind the third. It has at most 108 bytes.
+ * The text has moves, with white space between them. Move numbers and periods that stand alone, such
+ * as 1. and 12..., are passed. There are no comments, variations, NAGs or markers. A ply is a line,
+ * of at most 108 bytes:
+ *
+ * `format`      moves in  line of a ply
+ * PGN_SAN       SAN       its SAN, its UCI and the FEN of the position after it, with a tab behind
+ *                         the first two and a line feed behind the third
+ * PGN_UCI       UCI       the same
+ * PGN_SAN_FEN   SAN       the FEN and a line feed
+ * PGN_UCI_FEN   UCI       the same
  *
  * PGN_OK: the buffer has the lines of all plies.
  * PGN_FAULT: `fault` says why:
@@ -243,12 +252,12 @@ pgn_move pgn_san(const uint8_t *fen, size_t fen_length, const uint8_t *text, siz
  * PGN_FULL: the buffer has as many lines, from the first one on, as there is room for. `fault` is
  *     51, and `place` is that of the next ply. Call again with a larger buffer, or with the FEN of
  *     the last line and the text from `place` on.
- * PGN_NO_MODE: `notation` is neither 0 nor 1.
+ * PGN_NO_MODE: `format` is above 3.
  *
  * The bytes of the buffer behind the first `written` are as they were.
  */
 pgn_plies pgn_line(const uint8_t *fen, size_t fen_length, const uint8_t *text, size_t length,
-                   uint32_t notation, uint8_t *buffer, size_t capacity);
+                   uint32_t format, uint8_t *buffer, size_t capacity);
 
 /*
  * Converts the next game of a text, from the byte at `from` on, into the front of a buffer.

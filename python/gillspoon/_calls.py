@@ -79,9 +79,23 @@ def san(fen: str, move: str, *, uci: bool = False) -> Played:
                   result.uci.decode("ascii"))
 
 
+def fens_of_plies(fen: str, sans: List[str]) -> List[str]:
+    """Plays moves in SAN: the FEN after each."""
+    # the last line feed has nothing behind it
+    fens = _lines_of_plies(fen, sans, _library.SAN_FEN, _library.LONGEST_FEN + 1).split("\n")
+    del fens[-1]
+    return fens
+
+
 def texts_of_plies(fen: str, sans: List[str]) -> List[str]:
     """Plays moves in SAN: the SAN, the UCI and the FEN after it of each, one behind another."""
-    position, text, size = fen.encode(), " ".join(sans).encode(), _library.LONGEST_PLY * len(sans)
+    lines = _lines_of_plies(fen, sans, _library.SAN, _library.LONGEST_PLY)
+    return lines.replace("\n", "\t").split("\t")
+
+
+def _lines_of_plies(fen: str, sans: List[str], line_format: int, longest: int) -> str:
+    """Plays moves in SAN: a line for each, of at most `longest` bytes."""
+    position, text, size = fen.encode(), " ".join(sans).encode(), longest * len(sans)
     # a new buffer takes as long as a call, so one is kept; other threads make their own meanwhile
     try:
         buffer = _buffers.pop()
@@ -89,12 +103,12 @@ def texts_of_plies(fen: str, sans: List[str]) -> List[str]:
         buffer = ctypes.create_string_buffer(_CAPACITY)
     if len(buffer) < size:
         buffer = ctypes.create_string_buffer(size)
-    played = _line(position, len(position), text, len(text), _library.SAN, buffer, len(buffer))
+    played = _line(position, len(position), text, len(text), line_format, buffer, len(buffer))
     if played.status:
         _refuse(played.fault, played.field, fen, text[played.place:].split(b" ")[0].decode())
     lines = _library.front_of(buffer, played.written).decode()
     _buffers.append(buffer)
-    return lines.replace("\n", "\t").split("\t")
+    return lines
 
 
 def explain(fen: str, move: str) -> Explanation:

@@ -26,6 +26,8 @@ OK, FAULT, FULL, NO_MODE, NO_GAME, MORE, BAD_PLACE = range(7)
 FULL_FORMAT, REDUCED_FORMAT = range(2)
 RESULT_UNKNOWN, RESULT_FROM_MARKER = range(2)
 SAN, UCI = range(2)
+# moves in SAN for pgn_line, which writes the FEN of each ply alone
+SAN_FEN = 2
 # the result that each termination marker is, by its number
 RESULTS = ("", "1-0", "0-1", "1/2-1/2", "*")
 # which lines can show where a game ends

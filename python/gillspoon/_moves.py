@@ -18,7 +18,7 @@ _WORD = re.compile("[^\t-\r ]+")
 
 
 class _Played:
-    """The moves of a line in SAN, and what the library says of them, in one call for all.
+    """The moves of a line in SAN, and what the library says of them, in a call for all.
 
     The plies have it, and it has none of them: so they are freed without the garbage collector.
     """
@@ -35,17 +35,22 @@ class _Played:
     def start_fen(self) -> str:
         return self.start if isinstance(self.start, str) else self.start.fen
 
-    def play(self) -> "_Played":
-        """Finds the UCI and the position after each move."""
+    def find_fens(self) -> List[str]:
+        """Finds the position after each move."""
+        self.fens = _calls.fens_of_plies(self.start_fen(), self.sans)
+        return self.fens
+
+    def find_ucis(self) -> List[str]:
+        """Finds the UCI of each move, and the position after it."""
         texts = _calls.texts_of_plies(self.start_fen(), self.sans)
         self.ucis, self.fens = texts[1::3], texts[2::3]
-        return self
+        return self.ucis
 
     def fen_before(self, at: int) -> str:
         """The position before the move that has so many before it."""
         if at == 0:
             return self.start_fen()
-        return (self if hasattr(self, "fens") else self.play()).fens[at - 1]
+        return (self.fens if hasattr(self, "fens") else self.find_fens())[at - 1]
 
 
 class Ply:
@@ -101,7 +106,7 @@ class Ply:
         try:
             return self._played.fens[self._at]
         except AttributeError:
-            return self._played.play().fens[self._at]
+            return self._played.find_fens()[self._at]
 
     @property
     def uci(self) -> str:
@@ -109,7 +114,7 @@ class Ply:
         try:
             return self._played.ucis[self._at]
         except AttributeError:
-            return self._played.play().ucis[self._at]
+            return self._played.find_ucis()[self._at]
 
     @property
     def nags(self) -> List[int]:

@@ -11,7 +11,7 @@ from programs import (ROOT, need, need_library, need_program, need_proved_progra
                       run, vectors)
 
 OK, FAULT, FULL, NO_MODE, NO_GAME, MORE, BAD_PLACE = range(7)
-SAN, UCI = range(2)
+SAN, UCI, SAN_FEN, UCI_FEN = range(4)
 MARKERS = {1: b"1-0", 2: b"0-1", 3: b"1/2-1/2", 4: b"*"}
 # As 1. e4 e5 leave it.
 OPEN_GAME = b"rnbqkbnr/pppp1ppp/8/4p3/4P3/8/PPPP1PPP/RNBQKBNR w KQkq e6 0 2"
@@ -103,11 +103,11 @@ class Library:
         assert buffer.raw[game.written :] == b"\xAA" * (capacity + 8 - game.written)
         return game, ctypes.string_at(buffer, game.written)
 
-    def line(self, fen, data, notation=0, capacity=None):
+    def line(self, fen, data, line_format=0, capacity=None):
         """The result for a line of play, and the lines that were written."""
         capacity = 108 * (len(data) + 1) if capacity is None else capacity
         buffer = ctypes.create_string_buffer(b"\xAA" * (capacity + 8), capacity + 8)
-        result = self.calls.pgn_line(fen, len(fen), data, len(data), notation, buffer, capacity)
+        result = self.calls.pgn_line(fen, len(fen), data, len(data), line_format, buffer, capacity)
         assert buffer.raw[result.written :] == b"\xAA" * (capacity + 8 - result.written)
         text = ctypes.string_at(buffer, result.written)
         assert text.count(b"\n") == result.plies
@@ -501,6 +501,11 @@ class Installed:
             moves = b" ".join(it.split(b"\t")[1] for it in text.splitlines())
             again, same = self.library.line(INITIAL, moves, UCI)
             self.assertEqual((fields(again), same), (fields(result), text))
+            fens = b"".join(it.split(b"\t")[2] + b"\n" for it in text.splitlines())
+            for data, line_format in ((movetext, SAN_FEN), (moves, UCI_FEN)):
+                again, same = self.library.line(INITIAL, data, line_format)
+                self.assertEqual((fields(again), same),
+                                 ((OK, 0, 0, 0, len(fens), game.plies), fens))
 
     def test_lines_of_play(self):
         for fen, data, notation, plies, fault, place in (
@@ -515,28 +520,54 @@ class Installed:
             self.assertEqual(fields(self.library.line(INITIAL, data)[0]), (OK, 0, 0, 0, 0, 0))
         for fen, field in ((b"x", 1), (INITIAL[:-2], 6)):
             self.assertEqual(fields(self.library.line(fen, b"e4")[0]), (FAULT, 26, field, 0, 0, 0))
-        for notation in (2, (1 << 32) - 1):
-            self.assertEqual(fields(self.library.line(b"x", b"e4", notation)[0]),
+        for line_format in (4, (1 << 32) - 1):
+            self.assertEqual(fields(self.library.line(b"x", b"e4", line_format)[0]),
                              (NO_MODE, 0, 0, 0, 0, 0))
+
+    def test_fens_of_plies(self):
+        """With two formats the line of a ply is the FEN alone."""
+        knights = (b"rnbqkbnr/pppppppp/8/8/8/5N2/PPPPPPPP/RNBQKB1R b KQkq - 1 1\n"
+                   b"rnbqkb1r/pppppppp/5n2/8/8/5N2/PPPPPPPP/RNBQKB1R w KQkq - 2 2\n")
+        castles = b"r3k3/6P1/8/8/8/8/8/4K2R w Kq - 7 30"
+        castled = (b"r3k3/6P1/8/8/8/8/8/5RK1 b q - 8 30\n2kr4/6P1/8/8/8/8/8/5RK1 w - - 9 31\n"
+                   b"2kr2Q1/8/8/8/8/8/8/5RK1 b - - 0 31\n")
+        for fen, data, line_format, wanted in (
+                (INITIAL, b"1. Ng1f3 Nf6", SAN_FEN, knights),
+                (INITIAL, b"g1f3\ng8f6 ", UCI_FEN, knights),
+                (castles, b"30. O-O O-O-O 31. g8=Q", SAN_FEN, castled),
+                (castles, b"e1g1 e8c8 g7g8q", UCI_FEN, castled),
+                (INITIAL, b"1.", SAN_FEN, b""), (INITIAL, b"", UCI_FEN, b"")):
+            result, text = self.library.line(fen, data, line_format)
+            self.assertEqual((fields(result), text),
+                             ((OK, 0, 0, 0, len(wanted), wanted.count(b"\n")), wanted))
+        for fen, data, line_format, plies, fault, field, place in (
+                (INITIAL, b"Nf3 Nf6 Nf4", SAN_FEN, 2, 34, 0, 8),
+                (INITIAL, b"g1f3 Nf6", UCI_FEN, 1, 33, 0, 5),
+                (INITIAL, b"Nf3 g8f6", SAN_FEN, 1, 34, 0, 4),
+                (b"x", b"Nf3", SAN_FEN, 0, 26, 1, 0), (INITIAL[:-2], b"", UCI_FEN, 0, 26, 6, 0)):
+            result, text = self.library.line(fen, data, line_format)
+            self.assertEqual(text, b"".join(knights.splitlines(keepends=True)[:plies]), data)
+            self.assertEqual(fields(result), (FAULT, fault, field, place, len(text), plies), data)
 
     def test_lines_in_buffers_of_each_size(self):
         """Whole lines are written, and reading goes on behind them."""
-        data = b"1. e4 e5 2. Nf3"
-        places, (_, whole) = (3, 6, 12), self.library.line(INITIAL, data)
-        lines = whole.splitlines(keepends=True)
-        ends = [sum(map(len, lines[:count])) for count in range(4)]
-        for capacity in range(len(whole)):
-            result, text = self.library.line(INITIAL, data, SAN, capacity)
-            plies = max(it for it in range(3) if ends[it] <= capacity)
-            self.assertEqual(text, whole[: ends[plies]])
-            self.assertEqual(fields(result), (FULL, 51, 0, places[plies], ends[plies], plies))
-            if plies:
-                fen = text.splitlines()[-1].split(b"\t")[2]
-                _, rest = self.library.line(fen, data[result.place :])
-                self.assertEqual(text + rest, whole)
-        for capacity in (len(whole), len(whole) + 1):
-            result, text = self.library.line(INITIAL, data, SAN, capacity)
-            self.assertEqual((fields(result), text), ((OK, 0, 0, 0, len(whole), 3), whole))
+        data, places = b"1. e4 e5 2. Nf3", (3, 6, 12)
+        for line_format in (SAN, SAN_FEN):
+            _, whole = self.library.line(INITIAL, data, line_format)
+            lines = whole.splitlines(keepends=True)
+            ends = [sum(map(len, lines[:count])) for count in range(4)]
+            for capacity in range(len(whole)):
+                result, text = self.library.line(INITIAL, data, line_format, capacity)
+                plies = max(it for it in range(3) if ends[it] <= capacity)
+                self.assertEqual(text, whole[: ends[plies]])
+                self.assertEqual(fields(result), (FULL, 51, 0, places[plies], ends[plies], plies))
+                if plies:
+                    fen = text.splitlines()[-1].split(b"\t")[-1]
+                    _, rest = self.library.line(fen, data[result.place :], line_format)
+                    self.assertEqual(text + rest, whole)
+            for capacity in (len(whole), len(whole) + 1):
+                result, text = self.library.line(INITIAL, data, line_format, capacity)
+                self.assertEqual((fields(result), text), ((OK, 0, 0, 0, len(whole), 3), whole))
 
     def explained(self, fen, text):
         result = self.library.calls.pgn_explain(fen, len(fen), text, len(text))

@@ -555,8 +555,25 @@ class Positions(unittest.TestCase):
             self.assertEqual([it.uci for it in plies], ["e2e4", "e7e5", "g1f3"])
             self.assertEqual((plies[2].fen, plies[0].fen), (game.fen, game.position_at(1)))
             self.assertEqual(line.call_count, 1)
+            # in each variation the positions are asked for before the UCI, which is a second call
             self.check(game.moves())
-            self.assertEqual(line.call_count, 3)
+            self.assertEqual(line.call_count, 5)
+
+    def test_a_call_for_positions_alone(self):
+        """Who asks for positions first has no UCI made; that takes another call."""
+        calls, library = gillspoon._calls, gillspoon._library
+        plies = list(next(gillspoon.games(b"e4 e5 Nf3 *")).mainline())
+        with mock.patch.object(calls, "_line", wraps=calls._line) as line:
+            fens = [it.fen for it in plies]
+            self.assertEqual([it.args[4] for it in line.mock_calls], [library.SAN_FEN])
+            self.assertEqual([it.uci for it in plies], ["e2e4", "e7e5", "g1f3"])
+            self.assertEqual([it.args[4] for it in line.mock_calls],
+                             [library.SAN_FEN, library.SAN])
+        self.assertEqual([it.fen for it in plies], fens)
+        self.assertEqual([it.split()[0] for it in fens], [
+            "rnbqkbnr/pppppppp/8/8/4P3/8/PPPP1PPP/RNBQKBNR",
+            "rnbqkbnr/pppp1ppp/8/4p3/4P3/8/PPPP1PPP/RNBQKBNR",
+            "rnbqkbnr/pppp1ppp/8/4p3/4P3/5N2/PPPP1PPP/RNBQKB1R"])
 
     def test_long_lines(self):
         """A line may be longer than the buffer that is kept."""
@@ -564,6 +581,8 @@ class Positions(unittest.TestCase):
         plies = list(game.mainline())
         self.assertEqual((len(plies), plies[-1].fen), (4000, game.fen))
         self.assertEqual({it.uci for it in plies}, {"g1f3", "g8f6", "f3g1", "f6g8"})
+        again = list(next(gillspoon.games(b"Nf3 Nf6 Ng1 Ng8 " * 1000 + b"*")).mainline())
+        self.assertEqual([it.fen for it in again], [it.fen for it in plies])
 
     def test_notes_are_of_one_ply(self):
         one, other = next(gillspoon.games(b"e4 e5 *")).moves()

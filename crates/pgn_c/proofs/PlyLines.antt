@@ -2,25 +2,26 @@
 use Rattle.pgn_c.proofs.Words.{◌≡◌, ℕ, ◌+◌, ◌<◌, ◌≤◌, List, [], ◌∷◌, ◌++◌, length, take, drop, sym, ap, ap₂, ◌∙◌, arith, append-nil, append_assoc, length-append, drop-drop, drop_at, take_at, length-drop, IsFilled}
 use Rattle.pgn_game.specs.calls.LineOfPlay.{Line, Ply, behind_ply}
 use Rattle.pgn_c.specs.LinesOfPlay.{ply_line, ply_lines}
+use Rattle.pgn_c.specs.declared.line_of_play.PlyFields.{PlyFields}
 
-one_more_line : (xs : List Ply) (x : Ply) → ply_lines (xs ++ x ∷ []) ≡ ply_lines xs ++ ply_line x
-one_more_line [] x = append-nil (ply_line x)
-one_more_line (y ∷ xs) x =
-    ap (λ (s : List ℕ). ply_line y ++ s) (one_more_line xs x) ∙ sym (append_assoc (ply_line y) (ply_lines xs) (ply_line x))
+one_more_line : (fields : PlyFields) (xs : List Ply) (x : Ply) → ply_lines fields (xs ++ x ∷ []) ≡ ply_lines fields xs ++ ply_line fields x
+one_more_line fields [] x = append-nil (ply_line fields x)
+one_more_line fields (y ∷ xs) x =
+    ap (λ (s : List ℕ). ply_line fields y ++ s) (one_more_line fields xs x) ∙ sym (append_assoc (ply_line fields y) (ply_lines fields xs) (ply_line fields x))
 
 -- Of a line the first plies were put into the buffer, and this is ahead.
-pub record PutSoFar (line ahead : Line) (before now : List ℕ) (written count : ℕ) : Type 0 where
+pub record PutSoFar (fields : PlyFields) (line ahead : Line) (before now : List ℕ) (written count : ℕ) : Type 0 where
   pub put : List Ply
   pub plies : line.plies ≡ put ++ ahead.plies
   pub fault : line.fault ≡ ahead.fault
-  pub filled : IsFilled before now (ply_lines put)
-  pub bytes : written ≡ length (ply_lines put)
+  pub filled : IsFilled before now (ply_lines fields put)
+  pub bytes : written ≡ length (ply_lines fields put)
   pub counted : count ≡ length put
   pub each : count ≤ written
 
-module _ (line ahead : Line) (before now : List ℕ) (written count : ℕ) (so_far : PutSoFar line ahead before now written count) where
+module _ (fields : PlyFields) (line ahead : Line) (before now : List ℕ) (written count : ℕ) (so_far : PutSoFar fields line ahead before now written count) where
   abbrev lines : List ℕ
-  lines = ply_lines so_far.put
+  lines = ply_lines fields so_far.put
 
   -- the buffer has the length that it had
   same_length : length now ≡ length before
@@ -30,12 +31,12 @@ module _ (line ahead : Line) (before now : List ℕ) (written count : ℕ) (so_f
 
   -- one more
   module _ (x : Ply) (rest : Line) (next : ahead ≡ behind_ply x rest) where
-    buffer_now : (text : List ℕ) → text ≡ ply_line x → written + length text ≤ length now
+    buffer_now : (text : List ℕ) → text ≡ ply_line fields x → written + length text ≤ length now
         → take written now ++ text ++ drop (written + length text) now
-        ≡ ply_lines (so_far.put ++ x ∷ []) ++ drop (length (ply_lines (so_far.put ++ x ∷ []))) before
+        ≡ ply_lines fields (so_far.put ++ x ∷ []) ++ drop (length (ply_lines fields (so_far.put ++ x ∷ []))) before
     buffer_now text is fits =
         let rest = drop (length lines) before in
-        let joined : ply_lines (so_far.put ++ x ∷ []) ≡ lines ++ text = one_more_line so_far.put x ∙ ap (λ (s : List ℕ). lines ++ s) (sym is) in
+        let joined : ply_lines fields (so_far.put ++ x ∷ []) ≡ lines ++ text = one_more_line fields so_far.put x ∙ ap (λ (s : List ℕ). lines ++ s) (sym is) in
         let long : length (lines ++ text) ≡ written + length text = length-append lines text ∙ ap (λ (n : ℕ). n + length text) (sym so_far.bytes) in
         let front : take written now ≡ lines = ap (take written) so_far.filled.now ∙ take_at lines rest written (sym so_far.bytes) in
         let behind : drop written now ≡ rest = ap (drop written) so_far.filled.now ∙ drop_at lines rest written (sym so_far.bytes) in
@@ -46,12 +47,12 @@ module _ (line ahead : Line) (before now : List ℕ) (written count : ℕ) (so_f
         ∙ ap (λ (n : ℕ). (lines ++ text) ++ drop n before) (sym long)
         ∙ ap (λ (s : List ℕ). s ++ drop (length s) before) (sym joined)
 
-    pub one_more : (text : List ℕ) (new : List ℕ) → text ≡ ply_line x → 0 < length text → written + length text ≤ length now
+    pub one_more : (text : List ℕ) (new : List ℕ) → text ≡ ply_line fields x → 0 < length text → written + length text ≤ length now
         → new ≡ take written now ++ text ++ drop (written + length text) now
-        → PutSoFar line rest before new (written + length text) (count + 1)
+        → PutSoFar fields line rest before new (written + length text) (count + 1)
     one_more text new is some fits after =
-        let joined : ply_lines (so_far.put ++ x ∷ []) ≡ lines ++ text = one_more_line so_far.put x ∙ ap (λ (s : List ℕ). lines ++ s) (sym is) in
-        let long : length (ply_lines (so_far.put ++ x ∷ [])) ≡ written + length text =
+        let joined : ply_lines fields (so_far.put ++ x ∷ []) ≡ lines ++ text = one_more_line fields so_far.put x ∙ ap (λ (s : List ℕ). lines ++ s) (sym is) in
+        let long : length (ply_lines fields (so_far.put ++ x ∷ [])) ≡ written + length text =
         ap length joined ∙ length-append lines text ∙ ap (λ (n : ℕ). n + length text) (sym so_far.bytes) in
         record {
           put = so_far.put ++ x ∷ [];

@@ -15,7 +15,7 @@ ghost use Rattle.std.specs.Prelude.{◌≡◌};
 ghost use Rattle.chess_text.specs.Fen.{read};
 ghost use Rattle.pgn_c.specs.Explanation.{explanation};
 ghost use Rattle.pgn_c.specs.Positions.{Normalizes, notation_of, san_result_in};
-ghost use Rattle.pgn_c.specs.LinesOfPlay.{WritesLineIn};
+ghost use Rattle.pgn_c.specs.LinesOfPlay.{WritesLineIn, format_of};
 ghost use Rattle.pgn_c.specs.NextGame.{NextGameIn, ReadGameIn};
 ghost use Rattle.pgn_c.specs.NextSection.{NextSection, ends_with_number, is_set};
 ghost use Rattle.pgn_c.specs.Results.{Checks, Converts, ConvertsIn, mode_of, result_of};
@@ -40,7 +40,7 @@ pub use crate::fen::PgnText;
 use crate::fen::{bad_text, put_fen};
 pub use crate::game_result::PgnGame;
 pub use crate::line_of_play::PgnPlies;
-use crate::line_of_play::{no_first_position, no_line_in_notation, write_line};
+use crate::line_of_play::{format_with_number, no_first_position, no_line_in_format, write_line};
 use crate::next_game::next_game;
 use crate::next_section::next_section;
 pub use crate::next_section::{PgnBadGame, PgnSection};
@@ -140,9 +140,11 @@ pub extern "C" fn pgn_san(fen: &[u8], text: &[u8], notation: u32) -> PgnMove
 /// Plays a text of moves from the position of a FEN on, and writes each ply into the front of a
 /// buffer.
 ///
-/// The text has moves in one notation with white space between them: 0 is SAN, 1 is UCI. Move
-/// numbers and periods that stand alone, as `1.` and `12...`, are passed. A ply is a line of its
-/// SAN and its UCI, each with a tab behind it, and of the FEN of the position after it, with LF.
+/// The text has moves in one notation with white space between them. Move numbers and periods that
+/// stand alone, as `1.` and `12...`, are passed. Each ply is a line. Of the four formats, 0 and 2
+/// read SAN, and 1 and 3 read UCI. With 0 and 1 the line has the ply's SAN and its UCI, each with a
+/// tab behind it, and the FEN of the position after it, with LF. With 2 and 3 it has the FEN and LF
+/// alone.
 ///
 /// - Status 0: the buffer has the lines of all plies.
 /// - Status 1: the result has the number of a fault. It is 26 for the FEN, with its field. It is 33
@@ -150,17 +152,16 @@ pub extern "C" fn pgn_san(fen: &[u8], text: &[u8], notation: u32) -> PgnMove
 ///   has the lines of the plies before it.
 /// - Status 2: the buffer is full. It has the lines of the first plies, as many as there is room
 ///   for. The fault is 51, and the place is that of the next ply.
-/// - Status 3: there is no such notation. Nothing was read or written.
+/// - Status 3: there is no such format. Nothing was read or written.
 #[unsafe(no_mangle)]
-pub extern "C" fn pgn_line(fen: &[u8], text: &[u8], notation: u32, buffer: &mut [u8]) -> PgnPlies
-    ensures { WritesLineIn (notation_of notation) (read fen.now) text.now buffer.old buffer.new
-        result }
+pub extern "C" fn pgn_line(fen: &[u8], text: &[u8], format: u32, buffer: &mut [u8]) -> PgnPlies
+    ensures { WritesLineIn (format_of format) (read fen.now) text.now buffer.old buffer.new result }
 {
-    let Some(notation) = notation_with_number(notation) else {
-        return no_line_in_notation();
+    let Some(format) = format_with_number(format) else {
+        return no_line_in_format();
     };
     match read_fen(fen) {
-        Ok(position) => write_line(position, text, notation, buffer),
+        Ok(position) => write_line(position, text, format, buffer),
         Err(fault) => no_first_position(fault.field),
     }
 }

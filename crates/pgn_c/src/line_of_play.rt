@@ -10,12 +10,55 @@ use chess_rules::Position;
 use chess_text::{write_fen, write_uci};
 use pgn_game::{Fault, LineOfPlay, Notation, Ply, Reason};
 
+/// What the line of a ply has.
+#[derive(Clone, Copy)]
+pub enum PlyFields {
+    /// Its SAN, its UCI and the FEN of the position after it.
+    All,
+    /// The FEN alone.
+    Fen,
+}
+
+/// How a line of play is read, and what is written of it.
+#[derive(Clone, Copy)]
+pub struct Format {
+    /// The notation of its moves.
+    pub notation: Notation,
+    /// What the line of a ply has.
+    pub fields: PlyFields,
+}
+
+/// The format with this number in C, if there is one.
+pub fn format_with_number(number: u32) -> Option<Format>
+    ensures { result ≡ spec.format_of number }
+{
+    match number {
+        0 => Some(Format {
+            notation: Notation::San,
+            fields: PlyFields::All,
+        }),
+        1 => Some(Format {
+            notation: Notation::Uci,
+            fields: PlyFields::All,
+        }),
+        2 => Some(Format {
+            notation: Notation::San,
+            fields: PlyFields::Fen,
+        }),
+        3 => Some(Format {
+            notation: Notation::Uci,
+            fields: PlyFields::Fen,
+        }),
+        _ => None,
+    }
+}
+
 /// How a line of play was written, `struct pgn_plies` in C.
 #[repr(C)]
 #[derive(Clone, Copy)]
 pub struct PgnPlies {
     /// 0: the whole line was written. 1: there is a fault. 2: the buffer is full. 3: there is no
-    /// such notation.
+    /// such format.
     pub status: u32,
     /// The number of the fault, 26, 33 to 36 or 51; 0 where there is none.
     pub fault: u32,
@@ -31,21 +74,17 @@ pub struct PgnPlies {
 }
 
 /// Writes the line of play of a text into the front of a buffer.
-pub fn write_line(
-    position: Position,
-    text: &[u8],
-    notation: Notation,
-    buffer: &mut [u8],
-) -> PgnPlies
-    ensures { WritesLine (line_of_text notation position text.now) buffer.old buffer.new result }
+pub fn write_line(position: Position, text: &[u8], format: Format, buffer: &mut [u8]) -> PgnPlies
+    ensures { WritesLine format.fields (line_of_text format.notation position text.now) buffer.old
+        buffer.new result }
 {
-    let mut line = LineOfPlay::new(position, text, notation);
-    write_plies(&mut line, buffer)
+    let mut line = LineOfPlay::new(position, text, format.notation);
+    write_plies(&mut line, format.fields, buffer)
 }
 
 // Writes the plies that are ahead into the front of a buffer.
-fn write_plies(line: &mut LineOfPlay<'_>, buffer: &mut [u8]) -> PgnPlies
-    ensures { WritesLine (line_ahead line.old) buffer.old buffer.new result }
+fn write_plies(line: &mut LineOfPlay<'_>, fields: PlyFields, buffer: &mut [u8]) -> PgnPlies
+    ensures { WritesLine fields (line_ahead line.old) buffer.old buffer.new result }
 {
     let mut written = 0;
     let mut plies = 0;
@@ -54,7 +93,7 @@ fn write_plies(line: &mut LineOfPlay<'_>, buffer: &mut [u8]) -> PgnPlies
             Ok(None) => return whole_line(written, plies),
             Err(fault) => return refused_line(fault, written, plies),
             Ok(Some(ply)) => {
-                let text = ply_line(&ply);
+                let text = ply_line(&ply, fields);
                 if buffer.len() - written < text.len() {
                     return full_line(&ply, written, plies);
                 }
@@ -75,15 +114,20 @@ fn put(text: &[u8], buffer: &mut [u8], at: usize)
     buffer[at..at + text.len()].copy_from_slice(text);
 }
 
-// The line of a ply: SAN, UCI and FEN.
-fn ply_line(ply: &Ply) -> ArrayVec<u8, 108>
-    ensures text { result.items ≡ spec.ply_line (ply_of ply.now) }
+// The line of a ply, with these fields.
+fn ply_line(ply: &Ply, fields: PlyFields) -> ArrayVec<u8, 108>
+    ensures text { result.items ≡ spec.ply_line fields (ply_of ply.now) }
     ensures some { 0 < length result.items }
 {
     let mut line = ArrayVec::new();
+    let fen = write_fen(&ply.played.next);
+    if let PlyFields::Fen = fields {
+        push_field(&mut line, fen.as_slice(), b'\n');
+        return line;
+    }
     push_field(&mut line, ply.san.as_slice(), b'\t');
     push_field(&mut line, write_uci(&ply.played.mv).as_slice(), b'\t');
-    push_field(&mut line, write_fen(&ply.played.next).as_slice(), b'\n');
+    push_field(&mut line, fen.as_slice(), b'\n');
     line
 }
 
@@ -145,8 +189,8 @@ pub fn no_first_position(field: u8) -> PgnPlies
     no_line(FAULT, 26, field as u32)
 }
 
-/// The result if there is no such notation.
-pub fn no_line_in_notation() -> PgnPlies
+/// The result if there is no such format.
+pub fn no_line_in_format() -> PgnPlies
     ensures { result ≡ spec.nothing 3 0 0 }
 {
     no_line(NO_MODE, 0, 0)

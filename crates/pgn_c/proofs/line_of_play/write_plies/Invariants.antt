@@ -4,7 +4,7 @@ use Rattle.pgn_c.proofs.PlyLines.{PutSoFar}
 use Rattle.pgn_c.proofs.line_of_play.write_plies.Given as goal
 
 abbrev pub invariant-loop-ply : goal.invariant-loop-ply
-invariant-loop-ply l = PutSoFar (line_ahead l.fn.line) (line_ahead l.line) l.fn.buffer l.buffer l.written l.plies
+invariant-loop-ply l = PutSoFar l.fn.fields (line_ahead l.fn.line) (line_ahead l.line) l.fn.buffer l.buffer l.written l.plies
 
 abbrev pub decreases-loop-ply : goal.decreases-loop-ply
 decreases-loop-ply l = length l.line.words
