@@ -79,23 +79,25 @@ def san(fen: str, move: str, *, uci: bool = False) -> Played:
                   result.uci.decode("ascii"))
 
 
-def fens_of_plies(fen: str, sans: List[str]) -> List[str]:
-    """Plays moves in SAN: the FEN after each."""
+def fens_of_plies(fen: str, moves: str, count: int) -> List[str]:
+    """Plays so many moves in SAN, which may have their numbers: the FEN after each."""
+    size = (_library.LONGEST_FEN + 1) * count
     # the last line feed has nothing behind it
-    fens = _lines_of_plies(fen, sans, _library.SAN_FEN, _library.LONGEST_FEN + 1).split("\n")
+    fens = _lines_of_plies(fen, moves, _library.SAN_FEN, size).split("\n")
     del fens[-1]
     return fens
 
 
 def texts_of_plies(fen: str, sans: List[str]) -> List[str]:
     """Plays moves in SAN: the SAN, the UCI and the FEN after it of each, one behind another."""
-    lines = _lines_of_plies(fen, sans, _library.SAN, _library.LONGEST_PLY)
+    size = _library.LONGEST_PLY * len(sans)
+    lines = _lines_of_plies(fen, " ".join(sans), _library.SAN, size)
     return lines.replace("\n", "\t").split("\t")
 
 
-def _lines_of_plies(fen: str, sans: List[str], line_format: int, longest: int) -> str:
-    """Plays moves in SAN: a line for each, of at most `longest` bytes."""
-    position, text, size = fen.encode(), " ".join(sans).encode(), longest * len(sans)
+def _lines_of_plies(fen: str, moves: str, line_format: int, size: int) -> str:
+    """Plays moves in SAN: a line for each, of at most `size` bytes together."""
+    position, text = fen.encode(), moves.encode()
     # a new buffer takes as long as a call, so one is kept; other threads make their own meanwhile
     try:
         buffer = _buffers.pop()

@@ -13,7 +13,7 @@ from . import _calls, _library
 from ._bad_games import move_at, players_of
 from ._described import described
 from ._faults import PgnFault
-from ._moves import Line, Ply, read_moves, write_moves
+from ._moves import Habit, Line, Ply, read_moves, write_moves
 from ._places import BYTE_ORDER_MARK
 from ._reading import GameReader
 from ._sections import end_of
@@ -85,6 +85,7 @@ class Game:
         "_section": None,
         "_unwritten": None,
         "_is_used": None,
+        "_habit": None,
         "_tags": None,
         "_moves": None,
     }
@@ -98,6 +99,8 @@ class Game:
         self._unwritten: Optional[Tuple[bytes, int, int]] = None
         # whether the text was asked for
         self._is_used = False
+        # what is asked of the plies of games from the same source
+        self._habit: Optional[Habit] = None
         self._tags: Optional[Tags] = None
         self._moves: Optional[Line] = None
 
@@ -163,8 +166,11 @@ class Game:
         (['best'], [Line(d4 d5)])
         """
         if self._moves is None:
-            movetext = text_of(self.text).partition("\n\n")[2]
-            self._moves = read_moves(movetext, self._first_fen())
+            # without a call of the property, if the text is there
+            text = self._text if self._unwritten is None else self.text
+            self._is_used = True
+            movetext = text_of(text).partition("\n\n")[2]
+            self._moves = read_moves(movetext, self._first_fen(), self._habit or Habit())
         return self._moves
 
     def position_at(self, ply: int) -> str:
@@ -206,6 +212,7 @@ class Reader:
         self.missing = _library.RESULT_FROM_MARKER if checked else _library.RESULT_UNKNOWN
         # the number of the next game, and the offset from where it is read
         self.number, self.at = 1, 0
+        self._habit = Habit()
 
     def games(self, on_fault: Optional[OnFault]) -> Iterator[Game]:
         """The games in turn; a fault is raised, or given to `on_fault`."""
@@ -223,7 +230,8 @@ class Reader:
                     # without the empty line behind it
                     game._section = _library.front_of(buffer, found.written - 2)
                 else:
-                    game.text = _library.front_of(buffer, found.written)
+                    game._text = buffer[:found.written]  # type: ignore[assignment]
+                    game._unwritten = None
                 yield game
                 # who has asked for the text of this game may ask for that of the next one too
                 call = _library.next_game if game._is_used else _library.read_game
@@ -253,7 +261,7 @@ class Reader:
         self.number, self.at = number + 1, base + end
         game = Game(number, base + end - len(source), base + end, _library.RESULTS[found.marker],
                     found.plies, found.fen.decode(), b"")
-        game._unwritten = source, self.mode, self.missing
+        game._unwritten, game._habit = (source, self.mode, self.missing), self._habit
         return game
 
     def _text_at(self) -> int:

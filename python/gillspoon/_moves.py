@@ -17,31 +17,54 @@ Note = Union[int, str, "Line"]
 _WORD = re.compile("[^\t-\r ]+")
 
 
+class Habit:
+    """What was asked of the plies of a source so far, by which those of its next game are made."""
+
+    __slots__ = ("fens", "ucis")
+
+    def __init__(self) -> None:
+        # whether positions were asked for since plies were made with them, and UCI behind positions
+        self.fens = self.ucis = False
+
+
 class _Played:
     """The moves of a line in SAN, and what the library says of them, in a call for all.
 
     The plies have it, and it has none of them: so they are freed without the garbage collector.
     """
 
-    __slots__ = ("start", "first", "sans", "ucis", "fens")
-    # of each move its UCI, and the FEN of the position after it
+    __slots__ = ("start", "first", "sans", "habit", "ucis", "fens", "foreseen")
+    # of each move its UCI, and the FEN of the position after it, if they were asked for
     ucis: List[str]
     fens: List[str]
+    # these FENs, if they were found before
+    foreseen: List[str]
 
-    def __init__(self, start: "Union[Ply, str]", first: int, sans: List[str]) -> None:
+    def __init__(self, start: "Union[Ply, str]", first: int, sans: List[str],
+                 habit: Habit) -> None:
         # the ply before the first move, or the FEN of its position; the number of the first ply
-        self.start, self.first, self.sans = start, first, sans
+        self.start, self.first, self.sans, self.habit = start, first, sans, habit
 
     def start_fen(self) -> str:
         return self.start if isinstance(self.start, str) else self.start.fen
 
     def find_fens(self) -> List[str]:
-        """Finds the position after each move."""
-        self.fens = _calls.fens_of_plies(self.start_fen(), self.sans)
+        """Finds the position after each move; also the UCI, if both were asked for before."""
+        if self.habit.ucis:
+            self.find_ucis()
+            return self.fens
+        self.habit.fens = True
+        if hasattr(self, "foreseen"):
+            self.fens = self.foreseen
+        else:
+            sans = self.sans
+            self.fens = _calls.fens_of_plies(self.start_fen(), " ".join(sans), len(sans))
         return self.fens
 
     def find_ucis(self) -> List[str]:
         """Finds the UCI of each move, and the position after it."""
+        if hasattr(self, "fens"):
+            self.habit.fens, self.habit.ucis = False, True
         texts = _calls.texts_of_plies(self.start_fen(), self.sans)
         self.ucis, self.fens = texts[1::3], texts[2::3]
         return self.ucis
@@ -157,6 +180,13 @@ class Ply:
         return squares_of(self.comments)
 
 
+class _PlacedPly(Ply):
+    """A ply that was made with its position, in a slot: that is read sooner than a property."""
+
+    __slots__ = {"fen": "The FEN of the position after the move, as it was read."}
+    fen: str
+
+
 def _ply(at: int, san: str, played: _Played) -> Ply:
     """A move of a line, before which so many were played."""
     ply = Ply()
@@ -164,14 +194,27 @@ def _ply(at: int, san: str, played: _Played) -> Ply:
     return ply
 
 
+# All moves of a line. They are made without a Python call for each, which takes longer.
+
+
 def _plies(sans: List[str], played: _Played) -> List[Ply]:
-    """All moves of a line. They are made without a Python call for each, which takes longer."""
     plies = list(starmap(Ply, repeat((), len(sans))))
     for at, ply in enumerate(plies):
         ply._at = at
         ply.san = sans[at]
         ply._played = played
     return plies
+
+
+def _placed_plies(sans: List[str], fens: List[str], played: _Played) -> List[Ply]:
+    """The same with their positions, but for the first: if that is asked for, `played` has them."""
+    plies = list(starmap(_PlacedPly, repeat((), len(sans))))
+    for at, ply in enumerate(plies):
+        ply._at = at
+        ply.san = sans[at]
+        ply.fen = fens[at]
+        ply._played = played
+    return [_ply(0, sans[0], played), *plies[1:]]
 
 
 class Line:
@@ -241,7 +284,7 @@ def _packed_notes(notes: List[Note], before: "Union[Ply, str, None]") -> List[ob
 
 
 def _unpacked_ply(fen: str, number: int, sans: List[str], san: str, notes: List[object]) -> Ply:
-    ply = _ply(0, san, _Played(fen, number, sans))
+    ply = _ply(0, san, _Played(fen, number, sans, Habit()))
     ply.notes = _unpacked_notes(notes, fen)
     return ply
 
@@ -251,7 +294,7 @@ def _unpacked_line(fen: Optional[str], notes: List[object], groups: List[_Group]
     line = Line(link if fen is None else fen)
     line.notes, before = _unpacked_notes(notes, line.start), line.start
     for start, first, sans, packed in groups:
-        played = _Played(line.start if start is None else start, first, sans)
+        played = _Played(line.start if start is None else start, first, sans, Habit())
         for at, san, its_notes in packed:
             ply = _ply(at, san, played)
             ply.notes = _unpacked_notes(its_notes, before)
@@ -267,26 +310,32 @@ def _unpacked_notes(notes: List[Any], before: Union[Ply, str]) -> List[Note]:
 # ---- export text
 
 
-def read_moves(movetext: str, fen: str) -> Line:
+def read_moves(movetext: str, fen: str, habit: Habit) -> Line:
     """The moves of the movetext of a game in export format."""
     if "{" in movetext or "$" in movetext or "(" in movetext:
-        return _read_noted_moves(movetext, fen)
+        return _read_noted_moves(movetext, fen, habit)
     sans = movetext.split()
     # the marker; and the numbers, before each move of White and before the first one of a line
     del sans[-1:]
-    if sans and sans[0].endswith("..."):
+    if sans and sans[0][-2:] == "..":
         del sans[0], sans[1::3]
     else:
         del sans[::3]
-    line = Line(fen)
-    line.plies = _plies(sans, _Played(fen, 1, sans))
+    line, played = Line(fen), _Played(fen, 1, sans, habit)
+    if habit.fens and sans:
+        habit.fens = False
+        moves = movetext.rsplit(None, 1)[0]
+        played.foreseen = _calls.fens_of_plies(fen, moves, len(sans))
+        line.plies = _placed_plies(sans, played.foreseen, played)
+    else:
+        line.plies = _plies(sans, played)
     return line
 
 
-def _read_noted_moves(movetext: str, fen: str) -> Line:
+def _read_noted_moves(movetext: str, fen: str, habit: Habit) -> Line:
     """The same where there are NAGs, comments or variations."""
     words = movetext.replace("\n", " ").split(" ")
-    line, played = Line(fen), _Played(fen, 1, [])
+    line, played = Line(fen), _Played(fen, 1, [], habit)
     opened: List[Tuple[Line, _Played]] = []
     noted: Union[Line, Ply] = line
     at = 0
@@ -312,7 +361,7 @@ def _read_noted_moves(movetext: str, fen: str) -> Line:
             variation = Line(start)
             line.plies[-1].notes.append(variation)
             noted = line = variation
-            played = _Played(start, played.first + len(played.sans) - 1, [])
+            played = _Played(start, played.first + len(played.sans) - 1, [], habit)
         elif first == ")":
             line, played = opened.pop()
             noted = line.plies[-1]

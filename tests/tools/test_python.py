@@ -555,25 +555,60 @@ class Positions(unittest.TestCase):
             self.assertEqual([it.uci for it in plies], ["e2e4", "e7e5", "g1f3"])
             self.assertEqual((plies[2].fen, plies[0].fen), (game.fen, game.position_at(1)))
             self.assertEqual(line.call_count, 1)
-            # in each variation the positions are asked for before the UCI, which is a second call
+            # where positions are asked for before the UCI, this is a second call, the first time
             self.check(game.moves())
-            self.assertEqual(line.call_count, 5)
+            self.assertEqual(line.call_count, 4)
+
+    def formats(self, *, of):
+        """The formats of the calls of pgn_line in a function of a source of four games."""
+        calls = gillspoon._calls
+        with mock.patch.object(calls, "_line", wraps=calls._line) as line:
+            of(gillspoon.games(b"e4 e5 Nf3 * d4 {good} d5 * Nf3 Nf6 * c4 c5 b3 *"))
+        return [it.args[4] for it in line.mock_calls]
 
     def test_a_call_for_positions_alone(self):
-        """Who asks for positions first has no UCI made; that takes another call."""
-        calls, library = gillspoon._calls, gillspoon._library
-        plies = list(next(gillspoon.games(b"e4 e5 Nf3 *")).mainline())
-        with mock.patch.object(calls, "_line", wraps=calls._line) as line:
-            fens = [it.fen for it in plies]
-            self.assertEqual([it.args[4] for it in line.mock_calls], [library.SAN_FEN])
-            self.assertEqual([it.uci for it in plies], ["e2e4", "e7e5", "g1f3"])
-            self.assertEqual([it.args[4] for it in line.mock_calls],
-                             [library.SAN_FEN, library.SAN])
-        self.assertEqual([it.fen for it in plies], fens)
-        self.assertEqual([it.split()[0] for it in fens], [
-            "rnbqkbnr/pppppppp/8/8/4P3/8/PPPP1PPP/RNBQKBNR",
-            "rnbqkbnr/pppp1ppp/8/4p3/4P3/8/PPPP1PPP/RNBQKBNR",
-            "rnbqkbnr/pppp1ppp/8/4p3/4P3/5N2/PPPP1PPP/RNBQKB1R"])
+        """Who asks for positions first has no UCI made; that takes another call, the first time."""
+        fens, both = gillspoon._library.SAN_FEN, gillspoon._library.SAN
+        for names, wanted in (
+                (["san", "number", "notes"], []), (["fen"], [fens] * 4),
+                (["uci", "fen"], [both] * 4), (["fen", "uci"], [fens, *[both] * 4])):
+            def read(games):
+                for game in games:
+                    for ply in game.mainline():
+                        for name in names:
+                            self.assertTrue(getattr(ply, name) or name == "notes")
+            self.assertEqual(self.formats(of=read), wanted, names)
+
+    def test_positions_that_are_foreseen(self):
+        """Where positions were asked for, the next game has its plies made with theirs."""
+        archives = (archive(8, "plain"), archive(8, "annotated"),
+                    b'* [FEN "4k3/8/8/8/8/8/4P3/4K3 b - - 5 9"] Kd7 e4 Kd6 * e4 e5 * e4 * *')
+        for data in archives:
+            wanted = []
+            for game in gillspoon.games(data):
+                game._habit = None
+                wanted.append([(it.number, it.san, it.fen, it.uci) for it in game.mainline()])
+            foreseen = 0
+            for game, plies in zip(gillspoon.games(data), wanted):
+                line = game.moves()
+                foreseen += any(type(it) is not gillspoon.Ply for it in line)
+                self.assertEqual([it.fen for it in line], [it[2] for it in plies])
+                for make in (lambda it: it, copies.copy, copies.deepcopy,
+                             lambda it: pickle.loads(pickle.dumps(it))):
+                    self.assertEqual([it.fen for it in make(line)], [it[2] for it in plies])
+                    self.assertEqual([(it.number, it.san, it.fen) for it in map(make, line)],
+                                     [it[:3] for it in plies])
+                self.assertEqual(game.position_at(game.plies), game.fen)
+            self.assertEqual(bool(foreseen), data != archives[1])
+
+    def test_positions_are_foreseen_while_they_are_asked_for(self):
+        def read(games):
+            game, annotated, other, last = games
+            self.assertTrue([it.fen for it in game.mainline()])
+            for it in (other, last):
+                self.assertTrue([it.san for it in it.mainline()])
+
+        self.assertEqual(self.formats(of=read), [gillspoon._library.SAN_FEN] * 2)
 
     def test_long_lines(self):
         """A line may be longer than the buffer that is kept."""

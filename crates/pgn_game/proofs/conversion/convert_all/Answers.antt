@@ -1,4 +1,5 @@
-use Rattle.pgn_game.proofs.Words.{KeepsSilence, sink_of, refl, ◌∙◌, device, Device, err_from_is_err_and, games_of, CountsNext, ReadsNext}
+use Rattle.pgn_game.proofs.Words.{KeepsSilence, sink_of, refl, ◌∙◌, device, Device, err_from_is_err_and, games_of}
+use Rattle.pgn_game.specs.calls.GamesCalls.{ReadsNext}
 use Rattle.pgn_game.proofs.ReaderFitsInMemory.{fits_alike}
 use Rattle.pgn_game.proofs.putting.SilentReader.{seen_alike, silence_kept, silence_then}
 use Rattle.pgn_game.proofs.tokens.WholeInput.{none_read, read_none, games_more, games_end, games_stop}
@@ -14,13 +15,6 @@ module _ (g : _) (c : After-next_game g) where
       seen_alike (λ (d : Device). ReadsNext (games_of c.loop.converter c.loop.buffer) (games_of c.next_game.new.converter c.next_game.new.buffer)
       c.next_game.result (device g.R.Source.left g.R.Source.failures c.loop.reader c.next_game.new.source) d) _ _
       (device g.W.Sink.taken g.W.Sink.failures c.loop.writer c.next_game.new.out) c.loop.invariant.silent.silent c.next_game.ensures.goes.reads
-
-  counts : CountsNext c.next_game.result (device g.R.Source.left g.R.Source.failures c.loop.reader c.next_game.new.source)
-      (sink_of c.args.converter.now.reading g.W.Sink.taken g.W.Sink.failures c.loop.writer c.next_game.new.out)
-  counts =
-      seen_alike (λ (d : Device). CountsNext c.next_game.result (device g.R.Source.left g.R.Source.failures c.loop.reader c.next_game.new.source) d) _ _
-      (device g.W.Sink.taken g.W.Sink.failures c.loop.writer c.next_game.new.out) c.loop.invariant.silent.silent
-      (c.next_game.ensures.goes.counted c.loop.invariant.fault)
 
   silent : KeepsSilence c.args.converter.now.reading c.next_game.new.converter.reading c.args.writer.now c.next_game.new.out
   silent = silence_then _ _ _ _ _ _ c.loop.invariant.silent c.next_game.ensures.silent
@@ -40,40 +34,35 @@ loop-preserved g c =
     let so = c.loop.invariant in
     let after = (goal.at.loop-preserved g c).After-next_game in
     let next = rw (c.in_ok-next_game.was, c.if-branch.true) at (reads g after) in
-    let counted = rw c.in_ok-next_game.was at (counts g after) in
+    let counted = c.in_ok-next_game.ensures.goes.counted so.fault in
     record {
       fault = c.in_ok-next_game.ensures.goes.fault;
       source = counted.0 ∙ so.source;
-      sink = counted.1 ∙ so.sink;
+      sink = rw so.silent.silent at counted.1 ∙ so.sink;
       silent = silent g after;
       read = λ p stands. let have = so.read p stands in games_more _ _ _ _ (games_of c.loop.converter c.loop.buffer) _ _ _ have (next _ _ _ have.have_read);
     }
 
-pub returns-in_err-next_game : goal.returns-in_err-next_game
-returns-in_err-next_game g c =
+pub returns-in_err-next_game-clause-converts : goal.returns-in_err-next_game-clause-converts
+returns-in_err-next_game-clause-converts g c =
     let e = err_from_is_err_and c.from_residual.result c.from_residual.ensures.1 in
     let so = c.loop.invariant in
-    let after = (goal.at.returns-in_err-next_game g c).After-next_game in
+    let after = (goal.at.returns-in_err-next_game-clause-converts g c).After-next_game in
     let next = rw c.in_err-next_game.was at (reads g after) in
-    rw (e.1, e.2) (record {
-      converts = λ p stands.
-          let have = so.read p stands in games_stop _ _ _ _ (games_of c.loop.converter c.loop.buffer) _ _ _ have (next _ _ _ have.have_read);
-      counted = rw (← so.source, ← so.sink) (rw c.in_err-next_game.was at (counts g after));
-    })
+    rw (e.1, e.2) (λ p stands.
+    let have = so.read p stands in
+    games_stop _ _ _ _ (games_of c.loop.converter c.loop.buffer) _ _ _ have (next _ _ _ have.have_read))
 
-pub returns : goal.returns
-returns g c =
+pub returns-clause-converts : goal.returns-clause-converts
+returns-clause-converts g c =
     let so = c.loop.invariant in
-    let after = (goal.at.returns g c).After-next_game in
+    let after = (goal.at.returns-clause-converts g c).After-next_game in
     let next = rw (c.in_ok-next_game.was, c.if-branch.false) at (reads g after) in
-    let counted = rw c.in_ok-next_game.was at (counts g after) in
-    record {
-      converts = λ p stands.
-          let have = so.read p stands in
-          rw (silent g after).silent at (games_end _ _ _ _ (games_of c.loop.converter c.loop.buffer) _ _ _ have c.totals_of.result
-          (next _ _ _ have.have_read) c.totals_of.ensures.games c.totals_of.ensures.plies c.totals_of.ensures.probes c.totals_of.ensures.bound);
-      counted = (counted.0 ∙ so.source, counted.1 ∙ so.sink);
-    }
+    λ p stands.
+    let have = so.read p stands in
+    rw (silent g after).silent at
+    (games_end _ _ _ _ (games_of c.loop.converter c.loop.buffer) _ _ _ have c.totals_of.result (next _ _ _ have.have_read)
+    c.totals_of.ensures.games c.totals_of.ensures.plies c.totals_of.ensures.probes c.totals_of.ensures.bound)
 
 pub next_game-requires : goal.next_game-requires
 next_game-requires g c = search fits_alike

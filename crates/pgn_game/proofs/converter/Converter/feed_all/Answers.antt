@@ -1,5 +1,6 @@
 use Rattle.pgn_game.proofs.putting.SilentReader.{seen_alike, silence_kept, silence_then}
-use Rattle.pgn_game.proofs.Words.{CountsFault, KeepsSilence, ◌+◌, ◌≤◌, device, sink_of, arith, refl, drop, length, ◌∙◌, length-drop, take_rest, err_from_is_err_and, Feeds}
+use Rattle.pgn_game.specs.calls.ConverterCalls.{Feeds}
+use Rattle.pgn_game.proofs.Words.{◌+◌, ◌≤◌, device, sink_of, arith, refl, drop, length, ◌∙◌, length-drop, take_rest, err_from_is_err_and}
 use Rattle.pgn_game.proofs.ReaderFitsInMemory.{fits_alike}
 use Rattle.pgn_game.proofs.tokens.AcceptedToConverter.{follows_own}
 use Rattle.pgn_game.proofs.tokens.GamesInPiece.{all_none, all_more, all_fed, all_stops}
@@ -12,15 +13,6 @@ fed : (g : _) (c : After-feed g) → Feeds c.loop-used.self (drop c.loop-used.at
 fed g c =
     seen_alike (λ d. Feeds c.loop-used.self (drop c.loop-used.at c.args.piece.now) c.feed.new.self c.feed.result d) _ _
     (device g.W.Sink.taken g.W.Sink.failures c.loop-used.out c.feed.new.out) c.loop-used.invariant.silent.silent (rw take_rest at c.feed.ensures.feeds)
-
-counted : (g : _) (c : After-feed g) → CountsFault c.feed.result
-    (sink_of c.args.self.now.reading g.W.Sink.taken g.W.Sink.failures c.loop-used.out c.feed.new.out)
-counted g c =
-    seen_alike (CountsFault c.feed.result) _ _ (device g.W.Sink.taken g.W.Sink.failures c.loop-used.out c.feed.new.out)
-    c.loop-used.invariant.silent.silent (c.feed.ensures.counted c.loop-used.invariant.going.no_fault)
-
-silent : (g : _) (c : After-feed g) → KeepsSilence c.args.self.now.reading c.feed.new.self.reading c.args.out.now c.feed.new.out
-silent g c = silence_then _ _ _ _ _ _ c.loop-used.invariant.silent c.feed.ensures.silent
 
 -- a game that is finished ends in the piece
 ends_within : (g : _) (c : In-Game g) → c.loop-used.at + c.in-Game.used ≤ length c.args.piece.now
@@ -39,54 +31,34 @@ loop-used-init g c =
       feeds = λ p u given stands is_decided. all_none p _ u given c.args.piece.now _ stands is_decided;
     }
 
-pub returns-in_err-feed : goal.returns-in_err-feed
-returns-in_err-feed g c =
+pub returns-in_err-feed-clause-feeds : goal.returns-in_err-feed-clause-feeds
+returns-in_err-feed-clause-feeds g c =
     let e = err_from_is_err_and c.from_residual.result c.from_residual.ensures.1 in
-    let after = (goal.at.returns-in_err-feed g c).After-feed in
-    rw (e.1, e.2) (record {
-      feeds = λ p u given stands is_decided.
-          let so = c.loop-used.invariant.feeds p u given stands is_decided in
-          all_stops p u given c.args.piece.now c.loop-used.at _ _ _ _ so c.feed.new.self _
-          ((rw c.in_err-feed.was at (fed g after)) p _ _ _ so.stands (follows_own (drop c.loop-used.at c.args.piece.now)));
-      goes = record {
-        count = tt;
-        short = c.feed.ensures.short;
-        not_finished = c.feed.ensures.not_finished;
-        fault = c.in_err-feed.ensures.fault;
-        counted = rw (← c.loop-used.invariant.counted) (rw c.in_err-feed.was at (counted g after));
-      };
-      silent = silent g after;
-    })
+    let after = (goal.at.returns-in_err-feed-clause-feeds g c).After-feed in
+    rw (e.1, e.2) (λ p u given stands is_decided.
+    let so = c.loop-used.invariant.feeds p u given stands is_decided in
+    all_stops p u given c.args.piece.now c.loop-used.at _ _ _ _ so c.feed.new.self _
+    ((rw c.in_err-feed.was at (fed g after)) p _ _ _ so.stands (follows_own (drop c.loop-used.at c.args.piece.now))))
 
-pub returns-in-All : goal.returns-in-All
-returns-in-All g c =
-    let after = (goal.at.returns-in-All g c).After-feed in
-    let count = rw (c.in-All.is, take_rest) at c.in_ok-feed.ensures.count in
-    record {
-      feeds = λ p u given stands is_decided.
-          let so = c.loop-used.invariant.feeds p u given stands is_decided in
-          all_fed p u given c.args.piece.now c.loop-used.at _ _ _ _ so _
-          ((rw (c.in_ok-feed.was, c.in-All.is) at (fed g after)) p _ _ _ so.stands (follows_own (drop c.loop-used.at c.args.piece.now)));
-      goes = record {
-        count = omega (arith, count, c.loop-used.invariant.count, length-drop c.loop-used.at c.args.piece.now, c.loop-used.invariant.within);
-        short = c.feed.ensures.short;
-        not_finished = c.feed.ensures.not_finished;
-        fault = c.in_ok-feed.ensures.fault;
-        counted = rw c.in_ok-feed.was at (counted g after) ∙ c.loop-used.invariant.counted;
-      };
-      silent = silent g after;
-    }
+pub returns-in-All-clause-feeds : goal.returns-in-All-clause-feeds
+returns-in-All-clause-feeds g c =
+    let after = (goal.at.returns-in-All-clause-feeds g c).After-feed in
+    λ p u given stands is_decided.
+    let so = c.loop-used.invariant.feeds p u given stands is_decided in
+    all_fed p u given c.args.piece.now c.loop-used.at _ _ _ _ so _
+    ((rw (c.in_ok-feed.was, c.in-All.is) at (fed g after)) p _ _ _ so.stands (follows_own (drop c.loop-used.at c.args.piece.now)))
 
 pub loop-used-preserved : goal.loop-used-preserved
 loop-used-preserved g c =
     let after = (goal.at.loop-used-preserved g c).After-feed in
     let count = rw c.in-Game.is at c.in_ok-feed.ensures.count in
+    let so = c.loop-used.invariant in
     record {
       within = ends_within g (goal.at.loop-used-preserved g c).In-Game;
-      count = omega (arith, count, c.loop-used.invariant.count);
+      count = omega (arith, count, so.count);
       going = record { no_fault = c.in_ok-feed.ensures.fault; not_finished = c.feed.ensures.not_finished };
-      counted = rw c.in_ok-feed.was at (counted g after) ∙ c.loop-used.invariant.counted;
-      silent = silent g after;
+      counted = rw so.silent.silent at (c.in_ok-feed.ensures.counted so.going.no_fault) ∙ so.counted;
+      silent = silence_then _ _ _ _ _ _ so.silent c.feed.ensures.silent;
       feeds = λ p u given stands is_decided.
           let so = c.loop-used.invariant.feeds p u given stands is_decided in
           all_more p u given c.args.piece.now c.loop-used.at _ _ _ _ so _ _

@@ -1,5 +1,6 @@
 use Rattle.pgn_game.specs.declared.converter.StepEnd.TheVariants.{Token as Other, Marker as AtMarker}
-use Rattle.pgn_game.proofs.Words.{KeepsSilence, ◌+◌, drop, sink_of, ◌≡◌, Ok, None, Some, arith, refl, ap, ◌∙◌, length, length-drop, take_rest, StepGoes, Steps}
+use Rattle.pgn_game.specs.state.ConverterSteps.{StepGoes, Steps}
+use Rattle.pgn_game.proofs.Words.{KeepsSilence, ◌+◌, drop, sink_of, ◌≡◌, Ok, None, Some, arith, refl, ap, ◌∙◌, length, length-drop, take_rest}
 use Rattle.pgn_game.proofs.ReaderFitsInMemory.{fits_alike}
 use Rattle.pgn_game.proofs.putting.SilentReader.{seen_alike, silence_kept, silence_then}
 use Rattle.pgn_game.proofs.tokens.GoesToMarker.{goes_all, goes_fault, goes_marker, keeps_at_start}
@@ -24,7 +25,7 @@ loop-at-init g c =
       feeds = λ p u b given reaches follows. so_far_none p _ u b given c.args.piece.now _ (lets_go p _ u b given reaches) follows;
     })
 
--- The step over the rest of the piece, as the call sees the sink, and how far the call gets with it.
+-- The step over the rest of the piece, as the call sees the sink, and how far the call gets.
 module _ (g : _) (c : After-step-step g) where
   step : Steps c.loop-at.self (drop c.loop-at.at c.args.piece.now) c.step-step.new.self c.step-step.result.used c.step-step.result.outcome
       (sink_of c.args.self.now.reading g.W.Sink.taken g.W.Sink.failures c.loop-at.out c.step-step.new.out)

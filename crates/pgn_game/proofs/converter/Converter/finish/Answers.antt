@@ -1,27 +1,12 @@
 use Rattle.pgn_game.proofs.putting.SilentReader.{none_fails, seen_alike, silence_kept, silence_then}
-use Rattle.pgn_game.proofs.Words.{IsTrue, ap, le_refl, le_trans, none-some, refl, same_Some, sym, ◌∙◌, device, Err, Standing, err_from_is_err_and, false≢true, CountsGame, EndsGame, EndsToMarker}
+use Rattle.pgn_game.specs.state.ConverterSteps.{CountsGame, EndsGame, EndsToMarker}
+use Rattle.pgn_game.proofs.Words.{ap, le_refl, le_trans, refl, sym, ◌∙◌, device, Err, Standing, err_from_is_err_and, false≢true}
 use Rattle.pgn_game.proofs.ReaderFitsInMemory.{fits_alike, fits_reader}
-use Rattle.pgn_game.proofs.tokens.GoesToMarker.{not_again}
-use Rattle.pgn_game.proofs.tokens.StepsAtEnd.{left_of, none_by_fault}
+use Rattle.pgn_game.proofs.tokens.StepsAtEnd.{left_of}
 use Rattle.pgn_game.proofs.tokens.FinishesGames.{ended_none, ended_game, ended_input, failed_input, failed_game, sound_finished}
 use Rattle.pgn_game.proofs.tokens.MarkerToGame.{shows_due, shows_stop}
 use Rattle.pgn_game.proofs.converter.Converter.finish.Goals as goal
 use Rattle.pgn_game.proofs.converter.Converter.finish.Goals.{then-finished_game, else-finished_game}
-
-pub returns-in-Some : goal.returns-in-Some
-returns-in-Some g c =
-    rw (← c.self.view_is) (record {
-      ends = λ p u b given stands. absurd (none-some _ (sym stands.has_read.no_fault ∙ c.in-Some.is));
-      finished = rw (← c.self.view_is) at c.requires.not_finished;
-      count = refl;
-      probes = le_refl _;
-      fault = c.in-Some.is;
-      none_just_finished = none_by_fault c.self.inside.has_finished_game c.self.inside.reader c.self.invariant.no_fault c.in-Some.is;
-      again = λ f is. (ap Err (same_Some _ _ (sym c.in-Some.is ∙ is)), refl, refl);
-      counted = λ none. absurd (none-some _ (sym none ∙ c.in-Some.is));
-      silent = silence_kept _ _ _ refl;
-      no_write_fails = λ silent none. absurd (none-some _ (sym none ∙ c.in-Some.is));
-    })
 
 pub loop-mark-init : goal.loop-mark-init
 loop-mark-init g c =
@@ -41,57 +26,32 @@ pub end_game-requires : goal.end_game-requires
 end_game-requires g c =
     (search fits_alike, rw c.in-Some-2.is at c.in_ok-mark.ensures.ends.ready)
 
-pub returns-in_err-mark : goal.returns-in_err-mark
-returns-in_err-mark g c =
+pub returns-in_err-mark-clause-ends : goal.returns-in_err-mark-clause-ends
+returns-in_err-mark-clause-ends g c =
     let e = err_from_is_err_and c.from_residual.result c.from_residual.ensures.1 in
     let old = c.loop-mark.invariant in
     let met = seen_alike (EndsToMarker _ _ _) _ _ _ old.silent.silent c.in_err-mark.ensures.ends in
-    let none_failed = λ (silent : IsTrue c.args.self.now.reading.writing.is_silent). none_fails {A = Unit} _ (Err c.in_err-mark.field-0.0)
-    (device g.W.Sink.taken g.W.Sink.failures c.loop-mark.out c.finish_to_marker.new.out) silent met.counted in
-    rw (e.1, e.2) (record {
-      ends = λ p u b given stands.
-          let so = old.finishes p u b given stands in
-          failed_input p u given _ _ _ _ so _ (shows_stop p _ _ c.in_err-mark.field-0.0 stands.known none_failed)
-          c.args.self.now.lexer c.finish_to_marker.new.self _
-          (left_of p c.args.self.now u b given stands) stands.has_read.passes (met.ends p u _ so.left so.has_read) met.keeps.games;
-      finished = met.keeps.finished;
-      count = met.count ∙ old.count;
-      probes = le_trans old.probes met.keeps.probes;
-      fault = met.keeps.fault;
-      none_just_finished = met.keeps.none_just_finished;
-      again = not_again (rw (← c.self.view_is) c.in_default.is);
-      counted = λ free. rw (← old.counted) met.counted;
-      silent = silence_then _ _ _ _ _ _ old.silent c.finish_to_marker.ensures.silent;
-      no_write_fails = λ silent free. none_failed silent;
-    })
+    rw (e.1, e.2) (λ p u b given stands.
+    let so = old.finishes p u b given stands in
+    failed_input p u given _ _ _ _ so _ (shows_stop p _ _ c.in_err-mark.field-0.0 stands.known (λ silent. none_fails {A = Unit} _ (Err c.in_err-mark.field-0.0)
+    (device g.W.Sink.taken g.W.Sink.failures c.loop-mark.out c.finish_to_marker.new.out) silent met.counted))
+    c.args.self.now.lexer c.finish_to_marker.new.self _
+    (left_of p c.args.self.now u b given stands) stands.has_read.passes (met.ends p u _ so.left so.has_read) met.keeps.games)
 
-pub returns-in_err-end_game-in-Some-2 : goal.returns-in_err-end_game-in-Some-2
-returns-in_err-end_game-in-Some-2 g c =
+pub returns-in_err-end_game-in-Some-2-clause-ends : goal.returns-in_err-end_game-in-Some-2-clause-ends
+returns-in_err-end_game-in-Some-2-clause-ends g c =
     let e = err_from_is_err_and c.from_residual-in_err-end_game-in-Some-2.result c.from_residual-in_err-end_game-in-Some-2.ensures.1 in
     let old = c.loop-mark.invariant in
     let met = rw c.in-Some-2.is at (seen_alike (EndsToMarker _ _ _) _ _ _ old.silent.silent c.in_ok-mark.ensures.ends) in
     let quiet = silence_then _ _ _ _ _ _ old.silent c.finish_to_marker.ensures.silent in
     let ended = seen_alike (EndsGame _ _ _ _) _ _ _ quiet.silent c.in_err-end_game-in-Some-2.ensures.ends in
     let counts = seen_alike (CountsGame _ _ _) _ _ _ quiet.silent c.in_err-end_game-in-Some-2.ensures.counts in
-    let none_failed = λ (silent : IsTrue c.args.self.now.reading.writing.is_silent). none_fails {A = Unit} _ (Err c.in_err-end_game-in-Some-2.field-0.0)
-    (device g.W.Sink.taken g.W.Sink.failures c.finish_to_marker.new.out c.end_game.new.out) silent counts.counted in
-    rw (e.1, e.2) (record {
-      ends = λ p u b given stands.
-          let so = old.finishes p u b given stands in
-          failed_game p u given _ _ _ _ so _ (shows_stop p _ _ c.in_err-end_game-in-Some-2.field-0.0 stands.known none_failed)
-          c.args.self.now.lexer c.in-Some-2.mark c.finish_to_marker.new.self c.end_game.new.self
-          _
-          (left_of p c.args.self.now u b given stands) stands.has_read.passes (met.ends p u _ so.left so.has_read) ended counts met.keeps.games;
-      finished = counts.not_finished;
-      count = ap (λ (l : Standing). l.count) counts.lexer ∙ met.count ∙ old.count;
-      probes = le_trans old.probes (le_trans met.keeps.probes counts.probes);
-      fault = counts.fault;
-      none_just_finished = counts.just_finished;
-      again = not_again (rw (← c.self.view_is) c.in_default.is);
-      counted = λ free. rw (← old.counted, ← met.counted) counts.counted;
-      silent = silence_then _ _ _ _ _ _ quiet c.end_game.ensures.silent;
-      no_write_fails = λ silent free. none_failed silent;
-    })
+    rw (e.1, e.2) (λ p u b given stands.
+    let so = old.finishes p u b given stands in
+    failed_game p u given _ _ _ _ so _ (shows_stop p _ _ c.in_err-end_game-in-Some-2.field-0.0 stands.known (λ silent. none_fails {A = Unit} _ (Err c.in_err-end_game-in-Some-2.field-0.0)
+    (device g.W.Sink.taken g.W.Sink.failures c.finish_to_marker.new.out c.end_game.new.out) silent counts.counted))
+    c.args.self.now.lexer c.in-Some-2.mark c.finish_to_marker.new.self c.end_game.new.self _
+    (left_of p c.args.self.now u b given stands) stands.has_read.passes (met.ends p u _ so.left so.has_read) ended counts met.keeps.games)
 
 pub loop-mark-preserved : goal.loop-mark-preserved
 loop-mark-preserved g c =
@@ -108,38 +68,26 @@ loop-mark-preserved g c =
       silent = silence_then _ _ _ _ _ _ quiet c.end_game.ensures.silent;
       finishes = λ p u b given stands.
           let so = old.finishes p u b given stands in
-          ended_game p u given _ _ _ _ so (shows_due p _ _ stands.known) c.in-Some-2.mark c.finish_to_marker.new.self c.end_game.new.self
-          _
+          ended_game p u given _ _ _ _ so (shows_due p _ _ stands.known) c.in-Some-2.mark c.finish_to_marker.new.self c.end_game.new.self _
           (met.ends p u _ so.left so.has_read) ended counts;
     }
 
 pub is_between-self-inside-requires : goal.is_between-self-inside-requires
 is_between-self-inside-requires g c = search fits_reader
 
-pub returns-in-None : goal.returns-in-None
-returns-in-None g c =
+pub returns-in-None-clause-ends : goal.returns-in-None-clause-ends
+returns-in-None-clause-ends g c =
     let old = c.loop-mark.invariant in
     let self = c.self-in-None in
     let met = rw (c.in-None.is, ← self.view_is) at (seen_alike (EndsToMarker _ _ _) _ _ _ old.silent.silent c.in_ok-mark.ensures.ends) in
-    record {
-      ends = λ p u b given stands.
-          let so = old.finishes p u b given stands in
-          let to = met.ends p u _ so.left so.has_read in
-          ended_input p u given _ _ _ _ so (shows_due p _ _ stands.known) _ _ c.if-finished_game.self to.0 to.1
-          (λ between. elim c.if-finished_game.branch [
-            | then-finished_game w ↦ w.self-is ∙ w.is_between-self-inside.ensures.1 between ∙ sym w.if-finished_game.true
-            | else-finished_game w ↦ w.self-is
-          ]);
-      finished = met.keeps.finished;
-      count = met.count ∙ old.count;
-      probes = le_trans old.probes met.keeps.probes;
-      fault = met.keeps.fault;
-      none_just_finished = tt;
-      again = not_again (rw (← c.self.view_is) c.in_default.is);
-      counted = λ free. met.counted ∙ old.counted;
-      silent = rw (← self.view_is) at (silence_then _ _ _ _ _ _ old.silent c.finish_to_marker.ensures.silent);
-      no_write_fails = λ silent free. tt;
-    }
+    λ p u b given stands.
+    let so = old.finishes p u b given stands in
+    let to = met.ends p u _ so.left so.has_read in
+    ended_input p u given _ _ _ _ so (shows_due p _ _ stands.known) _ _ c.if-finished_game.self to.0 to.1
+    (λ between. elim c.if-finished_game.branch [
+      | then-finished_game w ↦ w.self-is ∙ w.is_between-self-inside.ensures.1 between ∙ sym w.if-finished_game.true
+      | else-finished_game w ↦ w.self-is
+    ])
 
 pub invariant_of-self : goal.invariant_of-self
 invariant_of-self g c =

@@ -1,4 +1,5 @@
-use Rattle.pgn_game.proofs.Words.{KeepsSilence, sink_of, Some, arith, refl, ap, ◌∙◌, err_from_is_err_and, le_refl, StepsAtEnd}
+use Rattle.pgn_game.specs.state.ConverterSteps.{StepsAtEnd}
+use Rattle.pgn_game.proofs.Words.{Some, arith, refl, ap, ◌∙◌, err_from_is_err_and, le_refl}
 use Rattle.pgn_game.proofs.ReaderFitsInMemory.{fits_alike}
 use Rattle.pgn_game.proofs.putting.SilentReader.{seen_alike, silence_kept, silence_then}
 use Rattle.pgn_game.proofs.tokens.GoesToMarker.{keeps_as, keeps_at_start}
@@ -6,16 +7,6 @@ use Rattle.pgn_game.proofs.tokens.RunsInPiece.{keeps_then}
 use Rattle.pgn_game.proofs.tokens.StepsAtEnd.{sound_at_none}
 use Rattle.pgn_game.proofs.tokens.FinishesGames.{left_none, left_more, left_marker, left_end, left_fault}
 use Rattle.pgn_game.proofs.converter.Converter.finish_to_marker.Goals as goal
-use Rattle.pgn_game.proofs.converter.Converter.finish_to_marker.Goals.{After-step_at_end}
-
--- A step, as the call sees the sink.
-module _ (g : _) (c : After-step_at_end g) where
-  step : StepsAtEnd c.loop-mark.self c.step_at_end.new.self c.step_at_end.result
-      (sink_of c.args.self.now.reading g.W.Sink.taken g.W.Sink.failures c.loop-mark.out c.step_at_end.new.out)
-  step = seen_alike (StepsAtEnd _ _ _) _ _ _ c.loop-mark.invariant.silent.silent c.step_at_end.ensures.steps
-
-  silent : KeepsSilence c.args.self.now.reading c.step_at_end.new.self.reading c.args.out.now c.step_at_end.new.out
-  silent = silence_then _ _ _ _ _ _ c.loop-mark.invariant.silent c.step_at_end.ensures.silent
 
 pub loop-mark-init : goal.loop-mark-init
 loop-mark-init g c =
@@ -28,24 +19,20 @@ loop-mark-init g c =
       ends = λ p u given left has_read. left_none p u given _ _ _ refl left has_read;
     })
 
-pub returns-in_err-step_at_end : goal.returns-in_err-step_at_end
-returns-in_err-step_at_end g c =
+pub returns-in_err-step_at_end-clause-ends : goal.returns-in_err-step_at_end-clause-ends
+returns-in_err-step_at_end-clause-ends g c =
     let e = err_from_is_err_and c.from_residual.result c.from_residual.ensures.1 in
     let old = c.loop-mark.invariant in
-    let after = (goal.at.returns-in_err-step_at_end g c).After-step_at_end in
-    let step = rw c.in_err-step_at_end.was at (step g after) in
+    let step = seen_alike (StepsAtEnd _ _ _) _ _ _ old.silent.silent c.in_err-step_at_end.ensures.steps in
     rw (e.1, e.2) (record {
-      ends = record {
-        ends = λ p u given left has_read.
-            let so = old.ends p u given left has_read in
-            left_fault p u given _ _ c.step_at_end.new.self _ _ _ so step.keeps.written _ (step.after p u _ so.left so.reads.has_read);
-        count = step.count ∙ old.count;
-        advances = tt;
-        ready = tt;
-        keeps = keeps_then old.keeps (keeps_as step.keeps refl);
-        counted = rw (← old.counted) step.counted;
-      };
-      silent = silent g after;
+      ends = λ p u given left has_read.
+          let so = old.ends p u given left has_read in
+          left_fault p u given _ _ c.step_at_end.new.self _ _ _ so step.keeps.written _ (step.after p u _ so.left so.reads.has_read);
+      count = step.count ∙ old.count;
+      advances = tt;
+      ready = tt;
+      keeps = keeps_then old.keeps (keeps_as step.keeps refl);
+      counted = rw (← old.counted) step.counted;
     })
 
 pub step_at_end-requires : goal.step_at_end-requires
@@ -62,53 +49,46 @@ invariant_of-self g c = sound_at_none _ _ _ _ _ _ c.self.invariant
 pub loop-mark-preserved : goal.loop-mark-preserved
 loop-mark-preserved g c =
     let old = c.loop-mark.invariant in
-    let after = (goal.at.loop-mark-preserved g c).After-step_at_end in
-    let step = rw (c.in_ok-step_at_end.was, c.in-Some-Token.is ∙ ap Some c.in-Some-Token.field-0-is) at (step g after) in
+    let step = rw (c.in-Some-Token.is ∙ ap Some c.in-Some-Token.field-0-is) at
+    (seen_alike (StepsAtEnd _ _ _) _ _ _ old.silent.silent c.in_ok-step_at_end.ensures.steps) in
     record {
       keeps = keeps_then old.keeps (keeps_as step.keeps refl);
       count = step.count ∙ old.count;
       nearer = omega (arith, step.advances, old.nearer);
       counted = step.counted ∙ old.counted;
-      silent = silent g after;
+      silent = silence_then _ _ _ _ _ _ old.silent c.step_at_end.ensures.silent;
       ends = λ p u given left has_read.
           let so = old.ends p u given left has_read in
           left_more p u given _ _ c.step_at_end.new.self _ _ _ so step.keeps.written (step.after p u _ so.left so.reads.has_read);
     }
 
-pub returns-in-Some-Marker : goal.returns-in-Some-Marker
-returns-in-Some-Marker g c =
+pub returns-in-Some-Marker-clause-ends : goal.returns-in-Some-Marker-clause-ends
+returns-in-Some-Marker-clause-ends g c =
     let old = c.loop-mark.invariant in
-    let after = (goal.at.returns-in-Some-Marker g c).After-step_at_end in
-    let step = rw (c.in_ok-step_at_end.was, c.in-Some-Marker.is ∙ ap Some c.in-Some-Marker.field-0-is) at (step g after) in
+    let step = rw (c.in-Some-Marker.is ∙ ap Some c.in-Some-Marker.field-0-is) at
+    (seen_alike (StepsAtEnd _ _ _) _ _ _ old.silent.silent c.in_ok-step_at_end.ensures.steps) in
     record {
-      ends = record {
-        ends = λ p u given left has_read.
-            let so = old.ends p u given left has_read in
-            left_marker p u given _ _ c.step_at_end.new.self _ _ _ so step.keeps.written _ (step.after p u _ so.left so.reads.has_read);
-        count = step.count ∙ old.count;
-        advances = omega (arith, step.advances, old.nearer);
-        ready = step.ready;
-        keeps = keeps_then old.keeps (keeps_as step.keeps refl);
-        counted = step.counted ∙ old.counted;
-      };
-      silent = silent g after;
+      ends = λ p u given left has_read.
+          let so = old.ends p u given left has_read in
+          left_marker p u given _ _ c.step_at_end.new.self _ _ _ so step.keeps.written _ (step.after p u _ so.left so.reads.has_read);
+      count = step.count ∙ old.count;
+      advances = omega (arith, step.advances, old.nearer);
+      ready = step.ready;
+      keeps = keeps_then old.keeps (keeps_as step.keeps refl);
+      counted = step.counted ∙ old.counted;
     }
 
-pub returns-in-None : goal.returns-in-None
-returns-in-None g c =
+pub returns-in-None-clause-ends : goal.returns-in-None-clause-ends
+returns-in-None-clause-ends g c =
     let old = c.loop-mark.invariant in
-    let after = (goal.at.returns-in-None g c).After-step_at_end in
-    let step = rw (c.in_ok-step_at_end.was, c.in-None.is) at (step g after) in
+    let step = rw c.in-None.is at (seen_alike (StepsAtEnd _ _ _) _ _ _ old.silent.silent c.in_ok-step_at_end.ensures.steps) in
     record {
-      ends = record {
-        ends = λ p u given left has_read.
-            let so = old.ends p u given left has_read in
-            left_end p u given _ _ c.step_at_end.new.self _ _ _ so step.keeps.written (step.after p u _ so.left so.reads.has_read);
-        count = step.count ∙ old.count;
-        advances = tt;
-        ready = tt;
-        keeps = keeps_then old.keeps (keeps_as step.keeps refl);
-        counted = step.counted ∙ old.counted;
-      };
-      silent = silent g after;
+      ends = λ p u given left has_read.
+          let so = old.ends p u given left has_read in
+          left_end p u given _ _ c.step_at_end.new.self _ _ _ so step.keeps.written (step.after p u _ so.left so.reads.has_read);
+      count = step.count ∙ old.count;
+      advances = tt;
+      ready = tt;
+      keeps = keeps_then old.keeps (keeps_as step.keeps refl);
+      counted = step.counted ∙ old.counted;
     }

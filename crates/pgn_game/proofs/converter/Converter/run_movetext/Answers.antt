@@ -1,5 +1,7 @@
 use Rattle.pgn_game.specs.declared.converter.StepEnd.TheVariants.{Token as Other}
-use Rattle.pgn_game.proofs.Words.{IsSound, false, sink_of, kind_of, ◌≡◌, ◌∙◌, arith, ap, None, Ok, Some, take_rest, device, drop, may_have_movetext, refl, Steps, outcome_at, MeetsEntry, TakesUnlessMarker}
+use Rattle.pgn_game.specs.state.ConverterSteps.{Steps, outcome_at}
+use Rattle.pgn_game.specs.state.PutResult.{MeetsEntry, TakesUnlessMarker}
+use Rattle.pgn_game.proofs.Words.{IsSound, false, sink_of, kind_of, ◌≡◌, ◌∙◌, arith, ap, None, Ok, Some, take_rest, device, drop, may_have_movetext, refl}
 use Rattle.pgn_game.proofs.ReaderFitsInMemory.{fits_alike, fits_reader}
 use Rattle.pgn_game.proofs.putting.SilentReader.{seen_alike, silence_kept, silence_then}
 use Rattle.pgn_game.proofs.tokens.AcceptedToConverter.{now_at}
@@ -97,7 +99,7 @@ returns-in_default-met-clause-steps g c =
     rw (here.flag, here.not_finished, c.settle-outcome.ensures.fault, c.settle-outcome.ensures.outcome)
     (steps_behind _ _ _ _ _ _ _ _ _ _ _ _ _ c.loop-used-test.true here.runs (steps g (goal.at.returns-in_default-met-clause-steps g c).After-accept_entry-met))
 
--- What the loop has taken when it ends: behind its last token white space and numbers may be passed.
+-- What the loop has taken when it ends. Behind its last token it may have passed numbers.
 ran : (g : _) (c : Left-loop-used g) → Runs c.args.self.now c.args.piece.now c.loop-used-test.self c.loop-used-test.used (Ok (Some Other))
     (sink_of c.args.self.now.reading g.W.Sink.taken g.W.Sink.failures c.args.out.now c.loop-used.out)
 ran g c =

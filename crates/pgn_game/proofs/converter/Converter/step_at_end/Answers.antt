@@ -1,11 +1,12 @@
-use Rattle.pgn_lexer.specs.Scanned.{token}
+use Rattle.pgn_lexer.specs.Scanned.{fault, token}
 use Rattle.pgn_lexer.specs.Stands.{Finishes}
-use Rattle.pgn_game.proofs.Words.{IsSound, IsTrue, Keeps, LexFault, Lexical, List, Marker, None, Ok, Err, Option, Reason, ReaderState, Result, Device, Some, Standing, Token, ℕ, arith, le_refl, sym, ap, refl, ◌∙◌, ◌≡◌, ◌&&◌, true, false, is_ok, is_end, kind_of, outcome_at, game_in_reader_if, fault, StepsAtEnd, TakesUnlessMarker}
+use Rattle.pgn_game.specs.state.ConverterSteps.{StepsAtEnd}
+use Rattle.pgn_game.specs.state.PutResult.{TakesUnlessMarker}
+use Rattle.pgn_game.proofs.Words.{IsSound, IsTrue, Keeps, LexFault, Lexical, List, Marker, None, Ok, Err, Option, Reason, ReaderState, Result, Device, Some, Standing, Token, ℕ, arith, le_refl, sym, ap, refl, ◌∙◌, ◌≡◌, ◌&&◌, true, false, is_ok, is_end, kind_of, outcome_at, game_in_reader_if}
 use Rattle.pgn_game.proofs.tokens.AcceptedToConverter.{now_at}
 use Rattle.pgn_game.proofs.tokens.RunsInPiece.{between}
 use Rattle.pgn_game.proofs.tokens.StepsAtEnd.{Nearer, after_at_end, keeps_met, closes_end, closes_token, closes_fault, fields_before, kept, left_by, nearer_by, counts_token}
 use Rattle.pgn_game.proofs.tokens.StepsAtEnd.{advances_at_end, counts_ok, goes_on_at, no_fault_if_ok, ready_at_end, sound_at_end, sound_behind, sound_behind_fault, sound_if_not_ok}
-use Rattle.pgn_game.proofs.putting.SilentReader.{silence_kept}
 use Rattle.pgn_game.proofs.ReaderFitsInMemory.{fits_reader}
 use Rattle.pgn_game.proofs.converter.Converter.step_at_end.Goals as goal
 use Rattle.pgn_game.proofs.converter.Converter.step_at_end.Goals.{else-is_end-via-then-is_end+else-is_ok, else-is_end-via-else-is_end}
@@ -77,25 +78,21 @@ accept_copied-met-requires g c =
       (omega (arith, old.sound.few_plies refl, old.sound.count), rw c.in-Token.is at c.finish.follows.holds-at-none.lengths),
     )
 
-pub returns-then-is_ok : goal.returns-then-is_ok
-returns-then-is_ok g c =
+pub returns-then-is_ok-clause-steps : goal.returns-then-is_ok-clause-steps
+returns-then-is_ok-clause-steps g c =
     let old = fields_before c.self.view_is c.self.invariant c.requires in
     let gives = rw c.in-Token.is at c.finish.follows.holds-at-none in
     let met = c.accept_copied-met in
     let is_e = sym c.is_end-is_end.ensures ∙ c.if-is_end.true in
     let ok = ap is_ok (sym c.settle-outcome.ensures.outcome) ∙ sym c.is_ok.ensures.value ∙ c.if-is_ok.true in
-    rw (← old.same, old.flag, c.settle-outcome.ensures.fault, c.settle-outcome.ensures.outcome) (record {
-      steps = steps_end _ _ _ _ old.sound _ gives met.new.self met.result _ met.ensures.takes is_e ok;
-      silent = met.ensures.silent;
-    })
+    rw (← old.same, old.flag, c.settle-outcome.ensures.fault, c.settle-outcome.ensures.outcome)
+    (steps_end _ _ _ _ old.sound _ gives met.new.self met.result _ met.ensures.takes is_e ok)
 
-pub returns-in-Fault : goal.returns-in-Fault
-returns-in-Fault g c =
+pub returns-in-Fault-clause-steps : goal.returns-in-Fault-clause-steps
+returns-in-Fault-clause-steps g c =
     let old = fields_before c.self.view_is c.self.invariant c.requires in
-    rw (← old.same, old.flag, old.not_over, c.fail.ensures.kept, c.fail.ensures.outcome, c.lexical.ensures) (record {
-      steps = steps_fault _ _ _ _ c.in-Fault.fault (rw c.in-Fault.is at c.finish.follows.holds-at-none) _ _;
-      silent = silence_kept _ _ _ refl;
-    })
+    rw (← old.same, old.flag, old.not_over, c.fail.ensures.kept, c.fail.ensures.outcome, c.lexical.ensures)
+    (steps_fault _ _ _ _ c.in-Fault.fault (rw c.in-Fault.is at c.finish.follows.holds-at-none) _ _)
 
 -- not the end, or a token that was not taken
 not_ended : (g : _) (c : goal.Joined-else-is_end g)
@@ -122,15 +119,13 @@ now_is g c =
       | else-is_end-via-else-is_end w ↦ w.self-is
     ]
 
-pub returns-else-is_end : goal.returns-else-is_end
-returns-else-is_end g c =
+pub returns-else-is_end-clause-steps : goal.returns-else-is_end-clause-steps
+returns-else-is_end-clause-steps g c =
     let old = fields_before c.self.view_is c.self.invariant c.requires in
     let gives = rw c.in-Token.is at c.finish.follows.holds-at-none in
     let met = c.accept_copied-met in
-    rw (← old.same, now_is g c, old.flag, old.not_over, c.settle-outcome.ensures.fault, c.settle-outcome.ensures.outcome) (record {
-      steps = steps_token _ _ _ _ old.sound _ gives met.new.self met.result _ met.ensures.takes (not_ended g c);
-      silent = met.ensures.silent;
-    })
+    rw (← old.same, now_is g c, old.flag, old.not_over, c.settle-outcome.ensures.fault, c.settle-outcome.ensures.outcome)
+    (steps_token _ _ _ _ old.sound _ gives met.new.self met.result _ met.ensures.takes (not_ended g c))
 
 pub invariant_of-self-else-is_end : goal.invariant_of-self-else-is_end
 invariant_of-self-else-is_end g c =
