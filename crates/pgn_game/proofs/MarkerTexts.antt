@@ -3,7 +3,7 @@ use Rattle.pgn_game.proofs.Words.{◌≡◌, ℕ, ◌+◌, ◌≤◌, Bool, true
 
 -- the marker that a result is
 pub result_marker : (s : List ℕ) → is_result s ≡ true → (m : Marker) × (s ≡ marker_text m)
-result_marker s is = grind (arith, common_steps, bytes_eq, marker_text, bytes_eq-Decides)
+result_marker s is = grind (arith, common_steps, bytes_eq-Decides)
 
 pub score_marker : (s : List ℕ) → is_score s ≡ true → (m : Marker) × (s ≡ marker_text m)
 score_marker s is = result_marker s (ap (λ (b : Bool). b || bytes_eq s (marker_text Unknown)) is)

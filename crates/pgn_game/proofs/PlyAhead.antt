@@ -22,4 +22,4 @@ pub ply_next : (old : Ahead) (n : Notation) (p : Parts) (text : List ℕ) (at : 
     → x.at ≡ span.begin → x.san.items ≡ san p x.played.mv → NextPly old (Ok (Some x)) (seen n x.played.next text span.end)
 unfolding text_of_move
 ply_next old n p text at span x view words named place written =
-    grind (arith, common_steps, moves_from, word_in, line_ahead, line_of, behind_ply, san, text_of_move)
+    grind (arith, common_steps)

@@ -20,4 +20,4 @@ between_grown s begin end ordered within =
 
 pub word_grown : (s : List ℕ) (begin end : ℕ) → begin ≤ end → end < length s → is_space (get_or s end 0) ≡ false
     → words_behind begin (bytes_between s begin end) (drop end s) ≡ words_behind begin (bytes_between s begin (end + 1)) (drop (end + 1) s)
-word_grown s begin end ordered within e = grind (arith, common_steps, words_behind, bytes_between, byte_at, at_other, get_or, between_grown)
+word_grown s begin end ordered within e = grind (arith, common_steps, byte_at, at_other, between_grown)

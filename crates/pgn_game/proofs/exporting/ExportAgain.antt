@@ -71,7 +71,7 @@ module _ (unique : UniqueReading) (rise : TokensRise)
     (exported_games : (p : Profile) (gs : List Game) → AreExportable p gs → ExportedGames p gs) where
   -- the games that the text spells are the only ones
   pub same_text : SameText
-  same_text p gs hs h k = grind (arith, common_steps, text_of, read, tokens_of)
+  same_text p gs hs h k = grind (arith, common_steps)
 
   counted_again : (p : Profile) (gs : List Game) → AreExportable p gs → counted (map (filled p.mode) gs) ≡ counted gs
   counted_again p gs h = search (rules, length-map)
@@ -90,7 +90,7 @@ slice_is_kept fixed p gs (Ok t) before after h short done =
 slice_is_kept fixed p gs (Err f) before after h short fails = slice_fails p _ gs f before after (fixed p gs h).1 short fails
 
 pub source_is_kept : FixedPoint → ExportIsKeptOfSource
-source_is_kept fixed p gs (Ok t) left_old left_new before after h short left done = grind (arith, common_steps, written_again, text_of, some_text)
+source_is_kept fixed p gs (Ok t) left_old left_new before after h short left done = grind (arith, common_steps, written_again, some_text)
 source_is_kept fixed p gs (Err f) left_old left_new before after h short left fails =
     source_fails p _ gs f _ _ before after (fixed p gs h).1 short left fails
 

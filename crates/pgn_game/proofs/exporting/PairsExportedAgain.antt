@@ -36,7 +36,7 @@ module _ (m : List ℕ) (ps fs : List Pair) where
 
   set_up_again : (n : List ℕ) → Same_values Full m ps fs → in_roster n ≡ false → value_of (with_set_up fs) n ≡ value_of (with_set_up ps) n
   set_up_again n same other =
-      grind (arith, common_steps, exported_other, set_up_values, pick_again, has_pair, codes, bytes_eq, value_of, fen_again)
+      grind (arith, common_steps, exported_other, set_up_values, pick_again, fen_again)
 
   others_again : InOrder ps → InOrder fs → Same_values Full m ps fs → other_pairs (with_set_up fs) ≡ other_pairs (with_set_up ps)
   others_again h k same =

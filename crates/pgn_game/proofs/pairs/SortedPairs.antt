@@ -58,7 +58,7 @@ module _ (name : List ℕ) where
   -- it is at most that of a pair with a later name
   pub index-before : (ps : List Pair) (k : ℕ) {p : Pair} → k < length ps → p ≡ get_or ps k p → comes_before name p.name ≡ true → index_of name ps ≤ k
   index-before [] k l e later = absurd (omega arith)
-  index-before (q ∷ qs) zero l e later = grind (arith, common_steps, comes_before, index_of)
+  index-before (q ∷ qs) zero l e later = grind (arith, common_steps)
   index-before (q ∷ qs) (suc k) l e later =
       let rest = index-before qs k (omega arith) e later in
       elim (comes_before name q.name) as (λ b. index_if b (index_of name qs) ≤ suc k) [ true ↦ omega arith | false ↦ omega arith ]
@@ -66,7 +66,7 @@ module _ (name : List ℕ) where
   -- and above that of a pair with no later name
   pub index-behind : (ps : List Pair) (k : ℕ) {p : Pair} → InOrder ps → k < length ps → p ≡ get_or ps k p → comes_before name p.name ≡ false → k < index_of name ps
   index-behind [] k h l e early = absurd (omega arith)
-  index-behind (q ∷ qs) zero h l e early = grind (arith, common_steps, comes_before, index_of)
+  index-behind (q ∷ qs) zero h l e early = grind (arith, common_steps)
   index-behind (q ∷ qs) (suc k) {p} h l e early =
       by_test (index-behind qs k h.1 (omega arith) e early) _ refl
     where

@@ -105,19 +105,19 @@ pub begun-seen : {most : ℕ} {ps : List Pair} {order : List ℕ} {held : List P
     → HasPlace most ps order held → n ≡ length order
     → seen (placed (refill (length ps) ps (set ps n p)) order) (Some (pair_at (refill (length ps) ps (set ps n p)) (length order)).name)
     ≡ seen held (Some p.name)
-begun-seen {ps} {order} {n} p has at = grind (arith, common_steps, pair_at, set, get_or-set_same, written, placed-set)
+begun-seen {ps} {order} {n} p has at = grind (arith, common_steps, set, get_or-set_same, placed-set)
 
 pub begun-stored : {most : ℕ} {ps : List Pair} {order : List ℕ} {held : List Pair} {n : ℕ} (p : Pair) (place : ℕ)
     → HasPlace most ps order held → n ≡ length order → InOrder held → has_pair held p.name ≡ false → place ≡ index_of p.name held
     → FitsPairStore most (refill (length ps) ps (set ps n p)) order place true
 begun-stored {most} {ps} {order} {n} p place has at sorted new index =
-    grind (arith, common_steps, pair_at, set, get_or-set_same, placed-set, length-set, written)
+    grind (arith, common_steps, set, get_or-set_same, placed-set, length-set)
 
 -- Its value comes, and its place goes into the order.
 pub place-within : {most : ℕ} {ps : List Pair} {order : List ℕ} {place : ℕ} {b : Bool} {t : TagPairs}
     → FitsPairStore most ps order place b → seen_of ps order b ≡ t → IsSome t.pending_name
     → (place ≤ length order) × (length order < most)
-place-within {ps} {order} {b} fits view some = grind (arith, common_steps, stored-begun, index_of-le, pair_at, placed, length-map)
+place-within {ps} {order} {b} fits view some = grind (arith, common_steps, stored-begun, index_of-le, length-map)
 
 -- the pairs with the new one at its place
 record IsPut (ps : List Pair) (order : List ℕ) (place n : ℕ) (q : Pair) : Type 0 where
@@ -148,13 +148,13 @@ module _ {most : ℕ} {ps : List Pair} {order : List ℕ} {place : ℕ} {b : Boo
 
   is-put : (q : Pair) → q.name ≡ p.name → IsPut ps order place n q
   is-put q same =
-      grind (arith, common_steps, pair_at, here, set, get_or-set_same, index_of, placed, placed-insert, insert, placed-set, insert-place, has_pair)
+      grind (arith, common_steps, set, get_or-set_same, placed-insert, insert, placed-set, insert-place)
 
   pub completed-seen : (q : Pair) (value : List ℕ) (more : List ℕ) → q ≡ named p.name value → more ≡ insert order place n
       → IfSome t.pending_name (λ name. seen (placed (refill (length ps) ps (set ps n q)) more) None ≡ seen (insert_pair (named name value) t.held) None)
-  completed-seen q value more new is_more = grind (arith, common_steps, is-put, pair_at, here, written)
+  completed-seen q value more new is_more = grind (arith, common_steps, is-put)
 
   pub completed-stored : (q : Pair) (value : List ℕ) (more : List ℕ) → q ≡ named p.name value → more ≡ insert order place n
       → FitsPairStore most (refill (length ps) ps (set ps n q)) more place false
   completed-stored q value more new is_more =
-      grind (arith, common_steps, is-put, length-set, length-insert, place-within, written, below-insert, below-more, order-insert, placed, begun)
+      grind (arith, common_steps, is-put, length-set, length-insert, place-within, below-insert, below-more, order-insert)

@@ -37,7 +37,7 @@ module _ {most : ℕ} {places : List (Option CodeLevel)} (fits : FitsLevelStore 
 
   -- the last place is of the current level
   last_at : (d : Option CodeLevel) → get_or places (length places - 1) d ≡ Some fits.current
-  last_at d = grind (arith, common_steps, get_or, last, get_or-append_seam)
+  last_at d = grind (arith, common_steps, last, get_or-append_seam)
 
   -- without the last place, and with one more
   pub popped : (rest : List (Option CodeLevel)) → rest ≡ take (length places - 1) places → rest ≡ front
@@ -52,10 +52,10 @@ module _ {most : ℕ} {places : List (Option CodeLevel)} (fits : FitsLevelStore 
     held = sym is ∙ ap code_levels fits.there ∙ seen fits.current fits.around
 
     pub depth-held : length ls.around + 1 ≡ length places
-    depth-held = grind (arith, common_steps, held, length-map, level_of, length-places)
+    depth-held = grind (arith, common_steps, held, length-map, length-places)
 
     pub current_at : (l : CodeLevel) (d : Option CodeLevel) → get_or places (length places - 1) d ≡ Some l → level_of l ≡ ls.present
-    current_at l d at = grind (arith, common_steps, last_at, level_of, held)
+    current_at l d at = grind (arith, common_steps, last_at, held)
 
     -- another current level is written in its place
     pub plays : (l : CodeLevel) → code_levels (refill (length places) places (set places (length places - 1) (Some l)))

@@ -168,7 +168,7 @@ module _ (mode : Option Mode) (i : Item) (text : Movetext) (line new_line : List
 
   held_then : (start : Parts) (items : List Item) (new : Movetext) → HoldsItems mode start items text line → All IsToken (us mode)
       → new_line ≡ (laid_from line (map Put (us mode))).line → Advances i (between mode) new → HoldsItems mode start (items ++ i ∷ []) new new_line
-  held_then start items new holds each held on = grind (arith, common_steps, levels_of, levels_more, same_depth, plies-snoc, line_then)
+  held_then start items new holds each held on = grind (arith, common_steps, levels_more, same_depth, plies-snoc, line_then)
 
   pub adds_put : (new : Movetext) → PutsTokens {A = Unit} {E = WriteFault} (us mode) line new_line (Ok tt) d
       → Advances i (between mode) new → Adds {A = Unit} {E = WriteFault} mode i text line new new_line (Ok tt) d

@@ -29,7 +29,7 @@ module _ (old : ReaderState) (part : Part) where
 
   -- what is due of the section is the part's
   pub section_is : IsOpen old part → section_due_of old ≡ section_due part.stage old.profile.mode (known_of old) part.pairs
-  section_is is = grind (arith, common_steps, known_of)
+  section_is is = grind (arith, common_steps)
 
   -- What items add: the tag section, where movetext begins, and what they add to the full lines.
   pub gain_is : (more : List Item) → IsTrue (may_have_movetext old.stage) → IsOpen old part → section_due_of old ++ lines_gain old.profile.mode part.pairs part.items more ≡ gain_to (as_written old) part (going (with_items part more))

@@ -40,7 +40,7 @@ gain_of p result part marker at fresh each token =
 due_is : (old : ReaderState) (part : Part) (marker : List ℕ) → old.writing.is_silent ≡ false
     → IsTrue (may_have_movetext old.stage) → IsToken marker → IsOpen old part
     → section_due_of old ++ ending old.line marker ≡ gain_to (as_written old) part (whole (game_of part marker))
-due_is old part marker writes at token is = grind (arith, common_steps, section_is, section_due, known_of, gain_of, open_stage)
+due_is old part marker writes at token is = grind (arith, common_steps, section_is, gain_of, open_stage)
 
 -- At depth 0 the moves that lead here are those outside variations.
 at_depth_0 : (ls : ModelLevels) (around : List ModelLevel) → ls.around ≡ around
@@ -50,7 +50,7 @@ at_depth_0 ls (l ∷ around) e n = absurd (omega (arith, n))
 
 last_is : (old : ReaderState) (part : Part) → old.text.levels.around ≡ [] → IsOpen old part
     → (marker : List ℕ) → old.text.levels.present.present ≡ last_position (game_of part marker)
-last_is old part outside is marker = grind (arith, common_steps, depth, levels_of_part, depth_is, position_is, replayed, start_of, at_depth_0)
+last_is old part outside is marker = grind (arith, common_steps, depth_is, position_is, at_depth_0)
 
 abbrev finished_reader : (line marker : List ℕ) → ReaderState → ReaderState
 finished_reader line marker r = record r { stage = Between; line = line; marker = marker }
@@ -87,7 +87,7 @@ pub ends_unbegun : (old new : ReaderState) (marker : Marker) (f : WriteFault) (d
     → IsTrue (may_have_movetext old.stage)
     → BeginsText {A = Unit} old new (Err f) d → PutResult old (IsOpen old) (to_game marker) new (Err reasons.WriteFault) d
 ends_unbegun old new marker f d writes at begins =
-    grind (arith, common_steps, unwritten, keeps_begun, due_is, marker_text, marker_token, front_of_more)
+    grind (arith, common_steps, unwritten, keeps_begun, due_is, marker_token, front_of_more)
 
 -- How the game ends, once its section is written.
 pub record EndsText (old begun : ReaderState) (marker : Marker) (text : List ℕ) (a b : Option (List ℕ)) (n m : ℕ) : Type 0 where

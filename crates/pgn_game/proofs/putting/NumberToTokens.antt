@@ -17,4 +17,4 @@ glyph_token n fits = grind (arith, common_steps, decimal, length-decimal-le)
 pub puts_token : {A E : Type 0} (t line new_line : List ℕ) (r : Result A E) (d : Device) → IsToken t
     → Writes d.before d.after r (text_at line (Put t)) → OnOk r (new_line ≡ line_at line (Put t)) → Counts r d.failures d.failures_after
     → PutsTokens (t ∷ []) line new_line r d
-puts_token t line new_line r d token text held counted = grind (arith, common_steps, append-nil, text_at)
+puts_token t line new_line r d token text held counted = grind (arith, common_steps, append-nil)

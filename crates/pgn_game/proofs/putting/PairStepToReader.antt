@@ -64,10 +64,10 @@ module _ (old : ReaderState) where
 
   -- a bracket changes the stage alone
   pub puts_left_bracket : (new : ReaderState) (o : Option (List ℕ)) (n : ℕ) → old.stage ≡ AfterTags → new ≡ record old { stage = AfterLeftBracket } → PutResult old (Agrees old) (to_stage AfterLeftBracket) new (Ok More) (from_to o o n n)
-  puts_left_bracket new o n at is = search (rules, held_at, text_at, steps)
+  puts_left_bracket new o n at is = search (rules, held_at, steps)
 
   pub puts_right_bracket : (new : ReaderState) (o : Option (List ℕ)) (n : ℕ) → old.stage ≡ AfterValue → new ≡ record old { stage = AfterTags } → PutResult old (Agrees old) (to_stage AfterTags) new (Ok More) (from_to o o n n)
-  puts_right_bracket new o n at is = search (rules, held_at, text_at, steps)
+  puts_right_bracket new o n at is = search (rules, held_at, steps)
 
   pub puts_name : (new : ReaderState) (name : List ℕ) (held : TagPairs) (o : Option (List ℕ)) (n : ℕ) → old.stage ≡ AfterLeftBracket → has_pair old.tags.held name ≡ false → held ≡ record old.tags { pending_name = Some name } → new ≡ record old { stage = AfterName; tags = held } → PutResult old (Agrees old) (to_name name) new (Ok More) (from_to o o n n)
-  puts_name new name held o n at fresh begins is = search (rules, held_at, text_at, steps)
+  puts_name new name held o n at fresh begins is = search (rules, held_at, steps)

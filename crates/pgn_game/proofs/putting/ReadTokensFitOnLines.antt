@@ -81,10 +81,10 @@ marker_fits : (k : Kind) (marker : List ℕ) → marker_of k ≡ Some marker →
 marker_fits k marker is = grind (arith, common_steps, result_marker, marker_is_result, marker_token)
 
 text_sound : (part : Part) (k : Kind) → IsSoundKind k → AllByRecursion IsSoundItem part.items → LeadsSoundly (in_text part k)
-text_sound part k sound h = grind (arith, common_steps, marker_of, whole, going, items_of, all_joined, items_sound, marker_fits)
+text_sound part k sound h = grind (arith, common_steps, whole, going, all_joined, items_sound, marker_fits)
 
 next_sound : (part : Part) (k : Kind) → IsSoundKind k → IsSoundPart part → LeadsSoundly (next part k)
-next_sound part k sound h = grind (arith, common_steps, adds_none, next, in_text, inl, text_sound, inr, leads_none)
+next_sound part k sound h = grind (arith, common_steps, adds_none, text_sound, leads_none)
 
 abbrev IsSoundProgress : Progress → Type 0
 IsSoundProgress b = AllByRecursion IsSoundGame b.games × IsSoundPart b.part
@@ -133,7 +133,7 @@ module _ (leaves : LeavesPosition) (is_symbol : WrittenMoveIsSymbol) (reads_fen 
       ((plays_on _ m (last_position start ls.present.trail good.0) may, good.0), good.1)
   levels_go_on start ls games.open_variation good may =
       (earlier_positions start ls.present.trail good.0, (good.0, good.1))
-  levels_go_on start ls games.close_variation good may = grind (arith, common_steps, back_to)
+  levels_go_on start ls games.close_variation good may = grind (arith, common_steps)
   levels_go_on start ls _ good may = good
 
   placed_fit : (start : Parts) (ls : Levels) (items : List Item) → LeadThroughPositions start ls → AllByRecursion IsSoundItem items
@@ -148,7 +148,7 @@ module _ (leaves : LeavesPosition) (is_symbol : WrittenMoveIsSymbol) (reads_fen 
 
   tokens_fit : (mode : Mode) (pairs : List Pair) (items : List Item) → AllByRecursion IsSoundItem items
       → IsTrue (plays_legally pairs items) → All IsToken (tokens_out mode (start_of pairs) items)
-  tokens_fit mode pairs items sound may = grind (arith, common_steps, joined, written_fit, placed_fit, start_of, first_level, start_is_position)
+  tokens_fit mode pairs items sound may = grind (arith, common_steps, joined, written_fit, placed_fit, start_is_position)
 
   on_lines : (ts : List (List ℕ)) → All IsToken ts → AreOnLines ts (lines_of ts)
   on_lines ts each = record { each = each; joined = (determine ts (lines_of ts) each).1 refl }

@@ -47,7 +47,7 @@ pub adds_as : {A E : Type 0} (w : Written) (mode : Mode) (silent : Bool) (i : It
     (result : Result A E) (d : Device) → mode_of_written w ≡ mode_unless (is_nothing w) mode → is_nothing w ≡ silent
     → Adds (mode_of_written w) i text line new_text new_line result (seen (is_nothing w) d)
     → Adds (mode_unless (is_nothing w) mode) i text line new_text new_line result (seen silent d)
-adds_as w mode silent i text new_text line new_line result d by same adds = grind (arith, common_steps, seen, mode_of_written)
+adds_as w mode silent i text new_text line new_line result d by same adds = grind (arith, common_steps)
 
 -- two readers that are both silent, or not, see the same of a sink
 pub seen_alike : (P : Device → Type 0) (p q : Bool) (d : Device) → p ≡ q → P (seen p d) → P (seen q d)

@@ -197,7 +197,7 @@ module _ (p : Profile) (ps : List Pair) (name : List ℕ) where
       finishes _ last _ rest gs h.free h.goes h.leads runs)
 
   opens_between : (ks : List Kind) (gs : List Game) → Runs p (at AfterTags ps name []) (tokens.left_bracket ∷ ks) gs → Runs p (at Between ps name []) (tokens.left_bracket ∷ ks) gs
-  opens_between ks gs h5 = search (rules, at, goes, finishes, open_refusal, open_between)
+  opens_between ks gs h5 = search (rules, goes, finishes, open_refusal, open_between)
 
 has_fen : {o : Option (List ℕ)} {fen : Bool} → (o ≡ Some (codes "1") → fen ≡ true)
     → (bytes_eq (unwrap_or o []) (codes "1") && not fen) ≡ false

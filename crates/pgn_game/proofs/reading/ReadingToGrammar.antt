@@ -48,7 +48,7 @@ add_variation _ _ ks _ items _ holds room inner (inside l m around ls js more ot
 
 module _ (p : Profile) (first : Parts) (l : Level) where
   add_open : {n : Level} (around : List Level) (ks : List Kind) (items : List Item) → IsTrue l.has_own_move → deep around < p.depth → n ≡ new_level (without_last l.trail) → Closes p first n (l ∷ around) ks items → Closes p first l around (tokens.left_paren ∷ ks) (games.open_variation ∷ items)
-  add_open around ks items holds room e h10 = search (rules, at, add_variation)
+  add_open around ks items holds room e h10 = search (rules, add_variation)
 
   add_close : (m : Level) (around : List Level) (ks : List Kind) (items : List Item) → Closes p first m around ks items → Closes p first l (m ∷ around) (tokens.right_paren ∷ ks) (games.close_variation ∷ items)
   add_close m around ks items rest = inside l m around [] ks [] items (no_more _ l) rest
@@ -155,7 +155,7 @@ After p (whole g) ks gs = (later : List Game) × (gs ≡ g ∷ later) × SpellsG
 -- Movetext, token by token.
 token_step : {p : Profile} {ps : List Pair} {items item : List Item} {k : Kind} {ks : List Kind} {gs : List Game}
     → StandsFor k item → Text_left p ps (items ++ item) ks gs → Text_left p ps items (k ∷ ks) gs
-token_step {p} {items} {item} {k} stands h = grind (arith, common_steps, text_more, levels_of, add_front, token, stands_levels)
+token_step {p} {items} {item} {k} stands h = grind (arith, common_steps, text_more, add_front, token, stands_levels)
 
 module _ (p : Profile) (ps : List Pair) (items : List Item) where
   adds_move : (s : List ℕ) (played : Played) → Names (here (start_of ps) (levels_of items)) s played → Adds p ps items (tokens.symbol s) (games.move played.mv ∷ [])
@@ -165,7 +165,7 @@ module _ (p : Profile) (ps : List Pair) (items : List Item) where
       (λ d js is rest. move d l s played js is names rest) (rw (levels_more items (games.move played.mv)) at c)
 
   adds_open : IsTrue (levels_of items).present.has_own_move → depth (levels_of items) < p.depth → Adds p ps items tokens.left_paren (games.open_variation ∷ [])
-  adds_open holds room = search (rules, at, levels_more, deep-length, add_open)
+  adds_open holds room = search (rules, levels_more, deep-length, add_open)
 
 close_at : (p : Profile) (first : Parts) (l : Level) (around : List Level) (text : List Kind) (more : List Item) → (length around == 0) ≡ false
     → Closes p first (levels_after (record { present = l; around = around }) games.close_variation).present
@@ -181,7 +181,7 @@ adds_close p ps items some = search (rules, at, levels_more, close_at)
 module _ (p : Profile) (ps : List Pair) (name : List ℕ) (items : List Item) {ks : List Kind} {gs : List Game} where
   open_step : text_refusal p (at InMovetext ps name items) tokens.left_paren ≡ None
       → Text_left p ps (items ++ games.open_variation ∷ []) ks gs → Text_left p ps items (tokens.left_paren ∷ ks) gs
-  open_step free h = grind (arith, common_steps, not-false, levels_of, test_failed, rest_passed, text_more, adds_open, leb-false)
+  open_step free h = grind (arith, common_steps, not-false, test_failed, rest_passed, text_more, adds_open, leb-false)
 
   close_step : text_refusal p (at InMovetext ps name items) tokens.right_paren ≡ None
       → Text_left p ps (items ++ games.close_variation ∷ []) ks gs → Text_left p ps items (tokens.right_paren ∷ ks) gs
@@ -213,12 +213,12 @@ module _ (p : Profile) (ps : List Pair) (name : List ℕ) (items : List Item) {k
       → After p (symbol_next (at InMovetext ps name items) s is_digits score o) ks gs → Text_left p ps items (tokens.symbol s ∷ ks) gs
   symbol_step s true false o digits is_marker one free after = token_step (number s digits) (after tt)
   symbol_step s false false (Some (Ok played)) digits is_marker one free after =
-      grind (arith, common_steps, here, start_of, levels_of, test_failed, text_more, adds_move)
+      grind (arith, common_steps, test_failed, text_more, adds_move)
   symbol_step s false false None digits is_marker one free after = absurd (none-some _ (sym free))
   symbol_step s false false (Some (Err NoMove)) digits is_marker one free after = absurd (none-some _ (sym free))
   symbol_step s false false (Some (Err Ambiguous)) digits is_marker one free after = absurd (none-some _ (sym free))
-  symbol_step s true true o digits is_marker one free after = grind (arith, common_steps, marker_step, marker_if, test_failed, rest_passed, nat_le)
-  symbol_step s false true o digits is_marker one free after = grind (arith, common_steps, marker_step, marker_if, test_failed, rest_passed, nat_le)
+  symbol_step s true true o digits is_marker one free after = grind (arith, common_steps, marker_step, test_failed, rest_passed)
+  symbol_step s false true o digits is_marker one free after = grind (arith, common_steps, marker_step, test_failed, rest_passed)
 
   text_step : (k : Kind) → refusal p (at InMovetext ps name items) k ≡ None
       → is_end k ≡ false → After p (next (at InMovetext ps name items) k) ks gs → Text_left p ps items (k ∷ ks) gs

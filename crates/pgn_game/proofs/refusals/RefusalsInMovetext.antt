@@ -88,7 +88,7 @@ found_refused : (p : Parts) (r : MoveReading) {reason : Reason} → found_in p r
 found_refused p None e = met refl (cc)
 found_refused p (Some (Err NoMove)) e = met refl (cc)
 found_refused p (Some (Err Ambiguous)) e = met refl (cc)
-found_refused p (Some (Ok one)) {reason} e = grind (arith, common_steps, is_at_limit, is_outside_the_table, met, hit)
+found_refused p (Some (Ok one)) {reason} e = grind (arith, common_steps, met, hit)
 
 -- what was found at the reader's position was found at the part's
 found_at : (old : ReaderState) (part : Part) (s : List ℕ) {here : Parts} {r : Result Played Reason}

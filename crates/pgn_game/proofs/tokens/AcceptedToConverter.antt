@@ -47,19 +47,19 @@ finished_behind : {r : ReaderState} {g : Game} → IsBehind r g → game_in_read
 finished_behind h = cc (h.pairs, h.plies, h.position, h.marker)
 
 plies-snoc : (games : List Game) (g : Game) → sum (map plies_of (games ++ g ∷ [])) ≡ sum (map plies_of games) + plies_of g
-plies-snoc games g = grind (arith, common_steps, sum, plies_of, sum_by-cons, map-append, sum_by-append, map)
+plies-snoc games g = grind (arith, common_steps, sum_by-cons, map-append, sum_by-append)
 
 -- a move is in the games before, or in the last one
 moves-snoc : (games : List Game) (g : Game) → IsTrue (play_moves (games ++ g ∷ [])) → IsTrue (play_moves games) ⊎ IsTrue (has_move g.items)
 moves-snoc games g h = search (rules, list_any-append, or_cases)
 
 pub in_games : (b : Progress) → IsTrue (play_moves b.games) → IsTrue (has_played_move b)
-in_games b h = grind (arith, common_steps, play_moves, has_move)
+in_games b h = grind (arith, common_steps)
 
 -- some pair was tried where a move was played in a game, or in the part
 in_either : {r : ReaderState} (b : Progress) → Agrees r b.part
     → (IsTrue (play_moves b.games) → 0 < r.most_probes) → IsTrue (has_played_move b) → 0 < r.most_probes
-in_either {r} b agrees before moves = grind (arith, common_steps, play_moves, has_move, part_probed)
+in_either {r} b agrees before moves = grind (arith, common_steps, part_probed)
 
 -- a converter after a token, where it finishes no game and is no fault
 abbrev pub now_at : Standing → ReaderState → ℕ → Bool → Converter
@@ -123,7 +123,7 @@ module _ (p : Profile) (old : Converter) (given : List Token) (t : Token) (l : S
 
   pub one_game : refusal old.reading.profile b.part t.kind ≡ None → Leads (next b.part t.kind) Finished new
       → (g : Game) × OneGame p given (given ++ t ∷ []) g × (game_in_reader new ≡ finished_game_of g)
-  one_game h leads = grind (arith, common_steps, leads_finished, next, reads, finished_behind)
+  one_game h leads = grind (arith, common_steps, leads_finished, reads, finished_behind)
 
   pub has_read_game : refusal old.reading.profile b.part t.kind ≡ None → Leads (next b.part t.kind) Finished new
       → whole_plies new ≡ whole_plies old.reading + plies_next (next b.part t.kind)
@@ -186,7 +186,7 @@ module _ (p : Profile) (old : Converter) (given : List Token) (t : Token) (l : S
   -- where the game goes on, the same profile writes what the token adds
   pub due_more : (w : Profile) → refusal old.reading.profile b.part t.kind ≡ None → Leads (next b.part t.kind) More new
       → due_as w p (given ++ t ∷ []) ≡ due_as w p given ++ gain w b.part t.kind
-  due_more w h leads = grind (arith, common_steps, text_of, torn, reads, text_more, next, next_is, append_assoc, gain)
+  due_more w h leads = grind (arith, common_steps, reads, text_more, next_is, append_assoc)
 
   -- what is written is the profile's
   module _ (written : as_written old.reading ≡ old.reading.profile) where
@@ -311,7 +311,7 @@ module _ (p : Profile) (old : Converter) (given : List Token) where
 
   -- A token was not taken.
   pub not_taken : (t : Token) (new : ReaderState) (reason : Reason) (d : Device) → HasRead p old given → TakesToken old.reading t.kind new (Err reason) d → (reason ≡ WriteFault → marker_of t.kind ≡ None) → NotTaken p given given t (record { at = t.at; reason = reason }) new d.before d.after
-  not_taken t new reason d has_read takes no_marker = grind (arith, common_steps, reads, reads_none, part_after)
+  not_taken t new reason d has_read takes no_marker = grind (arith, common_steps, reads, reads_none)
 
 -- a rejection of the lexer is a row of its own
 pub lexical-refusal : (p : Profile) (part : Part) (f : LexFault) → refusal p part (refusal_token f).kind ≡ Some (Lexical f.reason)
@@ -345,7 +345,7 @@ module _ (p : Profile) (old : Converter) where
       (t, next_in_piece l u piece used scan.0, not_taken p old given t new why d reaches.has_read h.0 h.1)
 
   pub took_none : (u : List ℕ) (given : List Token) (piece : List ℕ) (used : ℕ) (l : Standing) (o : Option (List ℕ)) → 0 < length piece → Reaches p old u (first piece) given → AfterScan u (first piece) given piece l used more → AfterStep p u given piece (now_at l old.reading old.games old.is_finished) used (Ok None) o o
-  took_none u given piece used l o some reaches scan = grind (arith, common_steps, still_none, first, reads_none)
+  took_none u given piece used l o some reaches scan = grind (arith, common_steps, still_none, reads_none)
 
   pub took_fault : (u : List ℕ) (given : List Token) (piece : List ℕ) (used : ℕ) (f : LexFault) (l : Standing) (new : Converter) (o : Option (List ℕ)) → 0 < length piece → Reaches p old u (first piece) given → AfterScan u (first piece) given piece l used (fault f) → new.reading ≡ old.reading → AfterStep p u given piece new used (Err (record { at = f.at; reason = Lexical f.reason })) o o
   took_fault u given piece used f l new o some reaches scan same = (

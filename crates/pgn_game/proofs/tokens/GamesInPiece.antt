@@ -6,7 +6,7 @@ use Rattle.pgn_game.proofs.tokens.StepsInPiece.{further, whole_piece, decided_at
 
 pub all_none : (p : Profile) (old : Converter) (u : List ℕ) (given : List Token) (piece : List ℕ) (o : Option (List ℕ))
     → Stands p old u None given → given ≡ decided u → AllSoFar p u given piece 0 old o o
-all_none p old u given piece o stands is_decided = grind (arith, common_steps, append-nil, stands_before_any, decided, inl, gains_none)
+all_none p old u given piece o stands is_decided = grind (arith, common_steps, append-nil, stands_before_any, gains_none)
 
 pub behind_first : (xs : List ℕ) → still (first xs) xs ≡ None
 behind_first [] = refl

@@ -30,7 +30,7 @@ not_one_more {gs} g e = absurd (omega (arith, ap (length {A = Game}) e, length-a
 pub none_behind : (p : Profile) (ts : List Token) (t : Token) (g : Game) → (read p (ts ++ t ∷ [])).fault ≡ None
     → (read p (ts ++ t ∷ [])).progress.games ≡ (read p ts).progress.games ++ g ∷ [] → (read p (ts ++ t ∷ [])).progress.part ≡ no_part
 none_behind p ts t g passes one =
-    grind (arith, common_steps, refusal, read, passes_before, next, progress_with, no_part, going, not_one_more, whole, none_or_some, read-refuses, read-passes)
+    grind (arith, common_steps, passes_before, going, not_one_more, whole, none_or_some, read-refuses, read-passes)
 
 -- ---- one call
 
@@ -54,7 +54,7 @@ not_true h = absurd (cc)
 pub begins : (p : Profile) (u : List ℕ) (given : List Token) (left : Option (List ℕ)) (now : Games) → HaveRead p left u now given
     → now.converter.is_finished ≡ false
     → (now.converter.reading.writing.is_silent ≡ false → IsKnown p) × StandsWithin u now given × HasRead p now.converter given
-begins p u given left now (within on) not_finished = grind (arith, common_steps, decided)
+begins p u given left now (within on) not_finished = grind (arith, common_steps)
 begins p u given left now (at_end all) not_finished = absurd (cc (all.finished))
 
 -- ---- up to a marker

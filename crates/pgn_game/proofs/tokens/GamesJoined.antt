@@ -38,7 +38,7 @@ taken_more : {p : Profile} {left left_old left_new before out after : Option (Li
     (so : SoFar p left before taken old left_old out)
     (next : NextGame p so.reads.bytes so.reads.tokens left_old left_new new out after) → new.converter.just_finished ≡ Some game
     → taken ++ game ∷ [] ≡ finished (games_read p next.tokens)
-taken_more {p} game so next e = grind (arith, common_steps, same_game, map-append, finished_game_of, games_read)
+taken_more {p} game so next e = grind (arith, common_steps, same_game, map-append)
 
 module _ (p : Profile) (left before : Option (List ℕ)) (first : Games) (begins : HaveRead p left [] first []) where
   so_far : {taken : List FinishedGame} {now : Games} {left_now after : Option (List ℕ)} → TakesGames left before first taken now left_now after

@@ -11,7 +11,7 @@ not_again none = λ f is. absurd (none-some f (sym none ∙ is))
 -- what was there before the first token, where no game is just finished from now on
 pub keeps_at_start : {A : Type 0} {x : A} {view old : Converter} → view ≡ old → IsGoing old
     → KeepsRest old (record view { just_finished = None }) false (Ok x)
-keeps_at_start view going = grind (arith, common_steps, as_written)
+keeps_at_start view going = grind (arith, common_steps)
 
 -- the same for a result of another type, which has the same fault
 pub keeps_as : {A B : Type 0} {old new : Converter} {is_finished : Bool} {first : Result A Fault} {second : Result B Fault}
@@ -56,7 +56,7 @@ EndsInFront (Err f) = Unit {0}
 module _ {old new : Converter} (piece : List ℕ) (k : ℕ) {sink : Device} where
   pub front_goes : {result : Result FedUpTo Fault} → EndsInFront result → GoesToMarker old (take k piece) new result sink
       → GoesToMarker old piece new result sink
-  front_goes {result} other goes = grind (arith, common_steps, take-nil, length-take, used_to)
+  front_goes {result} other goes = grind (arith, common_steps, take-nil, length-take)
 
   -- the piece goes on past place 2^62
   pub too_long_goes : GoesToMarker old (take k piece) new (Ok All) sink → k < length piece

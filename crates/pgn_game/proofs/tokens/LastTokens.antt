@@ -62,7 +62,7 @@ AddsOne gs r = (r.progress.games ≡ gs) ⊎ ((r.fault ≡ None) × ((g : Game) 
 last_games : (p : Profile) (b : Progress) {ts : List Token} → AreLast ts → AddsOne b.games (read_from p b ts)
 last_games p b (quiet ts q has) = inl (quiet_games p b ts q)
 last_games p b (one t at) =
-    grind (arith, common_steps, by_token, inl, next, read_from, progress_with, going, quiet_games, whole, reads_on, end_passes, inr)
+    grind (arith, common_steps, by_token, going, quiet_games, whole, reads_on, end_passes)
 
 -- ---- the end
 

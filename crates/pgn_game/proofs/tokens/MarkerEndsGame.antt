@@ -59,7 +59,7 @@ passes_in_text p InMovetext part k g is free leads = sym (text_row p part k is.s
 same_result : (p : Profile) (part : Part) (k : Kind) (marker : List ℕ) → marker_of k ≡ Some marker → text_refusal p part k ≡ None
     → marker ≡ unwrap_or (value_of part.pairs (codes "Result")) (result_for p.missing_result marker)
 same_result p part k marker is free =
-    grind (arith, common_steps, marker_refusal, unwrap_or, value_of, codes, result_for, depth, levels_of_part, bytes_eq, same_at_zero, test_failed, nat_le, other_if, rest_passed, bytes_eq-Decides, not-false)
+    grind (arith, common_steps, marker_refusal, unwrap_or, same_at_zero, test_failed, rest_passed, bytes_eq-Decides, not-false)
 
 -- ---- A game that was read
 
@@ -89,7 +89,7 @@ module _ (p : Profile) (given : List Token) (marker : Token) (finishes : Finishe
   by_next : (nx : Next) → refusal p part marker.kind ≡ None → next part marker.kind ≡ nx
       → (read p (given ++ marker ∷ [])).progress ≡ progress_with (games_read p given) nx → EndsByMarker p given marker finishes.game
   by_next (going to) free leads after = absurd (not_one_more finishes.game (sym (ap (λ (b : Progress). b.games) after) ∙ finishes.one_more))
-  by_next (whole g) free leads after = grind (arith, common_steps, of_game, last_is, games_read)
+  by_next (whole g) free leads after = grind (arith, common_steps, of_game, last_is)
 
   by_test : (o : Option Reason) → refusal p part marker.kind ≡ o → EndsByMarker p given marker finishes.game
   by_test (Some reason) is = absurd (none_or_some _ (ap (λ (r : Read). r.fault) (read-refuses p given marker [] reason before is)) finishes.passes)

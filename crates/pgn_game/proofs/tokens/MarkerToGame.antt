@@ -10,7 +10,7 @@ known_is (counts_as text) told known = refl
 known_is takes_the_marker told known = absurd (cc)
 
 pub written_known : (p : Profile) (r : ReaderState) → IsKnown p → r.profile ≡ p → as_written r ≡ p
-written_known p r known is = grind (arith, common_steps, counting, known_text, with_missing, known_is)
+written_known p r known is = grind (arith, common_steps, known_is)
 
 -- the reader that has met a marker, and the one that has failed at a token, write as before it
 pub written_at_marker : {p : Profile} {given tokens : List Token} {t : Token} {m : CodeMark} {c : Converter} {a b : Option (List ℕ)}
@@ -23,12 +23,12 @@ written_at_fault {new} h = written_same new h.now.reading (sym h.profile) (sym h
 
 -- More tokens behind more tokens.
 pub reads_none : (p : Profile) (given : List Token) (now : Converter) (o : Option (List ℕ)) → HasRead p now given → ReadsMore p given given now o o
-reads_none p given now o has_read = grind (arith, common_steps, append-nil, due_as, as_written)
+reads_none p given now o has_read = grind (arith, common_steps, append-nil)
 
 module _ (p : Profile) (given mid : List Token) (now : Converter) (a b : Option (List ℕ)) (first : ReadsMore p given mid now a b) where
   pub reads_more : (tokens : List Token) (new : Converter) (c : Option (List ℕ)) → ReadsMore p mid tokens new b c
       → as_written new.reading ≡ as_written now.reading → ReadsMore p given tokens new a c
-  reads_more tokens new c second same = grind (arith, common_steps, as_written, due_as, append_assoc)
+  reads_more tokens new c second same = grind (arith, common_steps, append_assoc)
 
   pub meets_more : (tokens : List Token) (t : Token) (m : CodeMark) (new : Converter) (c : Option (List ℕ)) → Meets p mid tokens t m new b c
       → as_written new.reading ≡ as_written now.reading → Meets p given tokens t m new a c
@@ -92,7 +92,7 @@ gains_unseen p given more tokens a c unseen extends =
 -- What was read and written up to a token.
 module _ (p : Profile) (given tokens : List Token) where
   pub gains_known : (now : Converter) (a c : Option (List ℕ)) → ShowsDue p a → ReadsMore p given tokens now a c → Gains p given tokens a c
-  gains_known now a c (inl known) reads = grind (arith, common_steps, written_known, due_as)
+  gains_known now a c (inl known) reads = grind (arith, common_steps, written_known)
   gains_known now a c (inr unseen) reads = gains_unseen p given reads.more tokens a c unseen reads.extends
 
   -- behind what was read before

@@ -45,7 +45,7 @@ sound_silently l r games has_finished_game is_finished fault sound = search rule
 
 -- or where it takes the marker
 pub reads_taking : (p : Profile) (c : Converter) → HasRead p c [] → HasRead (with_missing p takes_the_marker) (taking_marker c) []
-reads_taking p c h = grind (arith, common_steps, with_missing, takes_the_marker, agrees_under, no_part, none_tried)
+reads_taking p c h = grind (arith, common_steps, takes_the_marker, agrees_under, none_tried)
 
 -- or where it takes the marker, and nothing is written
 pub stands_by_marker : (c : Converter) → ReadsByMarker c (reading_by_marker c)

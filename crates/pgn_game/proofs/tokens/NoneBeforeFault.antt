@@ -72,4 +72,4 @@ pub none_before_fault : (p : Profile) (u : List ℕ) {given : List Token} (l : S
 none_before_fault p u {given} l left passes {a} {b} (unwritten at writing) =
     by_parts p given l (tokens_of u) passes left at a b writing (parted given writing.front (sym left ∙ writing.cut))
 none_before_fault p u {given} l left passes (refused f fault gains) =
-    grind (arith, common_steps, read, left_games, tokens_of, read_from, coming, reads_behind, no_progress, inl, inr)
+    grind (arith, common_steps, left_games, reads_behind)

@@ -16,7 +16,7 @@ module _ (p : Profile) (b : Progress) (t : Token) (ts : List Token) where
 
   -- what holds where a token is rejected, and where it passes, holds of what is read from it on
   pub by_token : (P : Read → Type 0) → ((reason : Reason) → refusal p b.part t.kind ≡ Some reason → P (read_as b (Some (record { at = t.at; reason = reason })))) → (refusal p b.part t.kind ≡ None → P (read_from p (progress_after b t) ts)) → P (read_from p b (t ∷ ts))
-  by_token P rejected passes = grind (arith, common_steps, read_from-test, refusal)
+  by_token P rejected passes = grind (arith, common_steps, read_from-test)
 
   passed : (o : Option Reason) → (after_test p b t ts o).fault ≡ None → o ≡ None
   passed (Some reason) e = absurd (cc)

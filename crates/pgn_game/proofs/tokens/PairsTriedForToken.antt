@@ -69,7 +69,7 @@ costs_found s n is at number score costs = search (rules, false≢true, position
 -- An item is written at the cost that its place has.
 item_held : (r : ReaderState) {to : Part} (i : Item) (n k : ℕ) → IsOpen r to → TriesItem (mode_written r) r.text i n k
     → CostsToWrite (is_written (mode_written r) (depth (levels_of_part to)) i) (position_in to) i n k
-item_held r {to} i n k is h = grind (arith, common_steps, position_in, depth_is, position_is)
+item_held r {to} i n k is h = grind (arith, common_steps, depth_is, position_is)
 
 untried : (b : Bool) (place : Parts) (i : Annotation) {n k : ℕ} → k ≡ n → CostsToWrite b place (model_item i) n k
 untried b place i h1 = search rules
@@ -90,7 +90,7 @@ module _ (mode : Option Mode) (part : Part) where
 
   -- an item other than a move, and none; and a token that leaves the items as they are
   adds_items : (items : List Item) (n k : ℕ) → CostsToAdd mode (depth (levels_of_part part)) (position_in part) items n k → CostsToPut mode part (going (with_items part items)) n k
-  adds_items items n k costs = grind (arith, common_steps, depth, levels_of_part, position_in, drop-append_seam)
+  adds_items items n k costs = grind (arith, common_steps, drop-append_seam)
 
   pub adds_none : CostsToPut mode part (going (with_items part [])) 0 0
   adds_none = adds_items [] 0 0 refl
@@ -100,7 +100,7 @@ adds_item mode i part = adds_items mode part (model_item i ∷ []) 0 0
     (untried (is_written mode (depth (levels_of_part part)) (model_item i)) (position_in part) i {n = 0} {k = 0} refl)
 
 pub adds_same : (mode : Option Mode) (part : Part) (to : Part) → to.items ≡ part.items → CostsToPut mode part (going to) 0 0
-adds_same mode part to same = grind (arith, common_steps, depth, levels_of_part, position_in, drop-length)
+adds_same mode part to same = grind (arith, common_steps, drop-length)
 
 pub adds_move : (r : ReaderState) (part : Part) (m : Move) (n k : ℕ) → IsOpen r part → TriesItem (mode_written r) r.text (move m) n k
     → CostsToPut (mode_written r) part (going (with_items part (move m ∷ []))) n k

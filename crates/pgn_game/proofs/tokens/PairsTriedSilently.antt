@@ -42,7 +42,7 @@ module _ (few : FewCandidates) (spelling : ReadingAFormIsSpelling) where
   few_found part _ n h = omega (arith, h)
 
   few_tried : (p : Profile) (part : Part) (k : Kind) (n : ℕ) → Tries true p part k n → n ≤ 8
-  few_tried p part k n h = grind (arith, common_steps, none_to_write, refusal, depth, levels_of_part, position_in, added, next, few_found)
+  few_tried p part k n h = grind (arith, common_steps, none_to_write, few_found)
 
   pub tries_few : (p : Profile) {b : Progress} {ts : List Token} {n : ℕ} → MostFrom true p b ts n → n ≤ 8
   tries_few p (most_tried.none c) = omega arith
@@ -80,7 +80,7 @@ sought_once : (p : Profile) (part : Part) (s : List ℕ) → refusal p part (tok
     → is_many_moves (move_of (position_in part) s) ≡ false
 unfolding refusal
 sought_once p part s free sought =
-    grind (arith, common_steps, one_move, is_outside_tag_pairs, is_number, is_score, is_many_moves, move_of, position_in, row_fails, rows, row)
+    grind (arith, common_steps, row_fails)
 
 alike_if : (sought : Bool) (p : Parts) (s : List ℕ) (n m : ℕ) → (sought ≡ true → is_many_moves (move_of p s) ≡ false)
     → CostsIf sought p s n → CostsIf sought p s m → n ≡ m
@@ -104,7 +104,7 @@ more_to_add (Some reason) mode deep here items n m h = omega (arith, h)
 
 fewer_tried : (p : Profile) (part : Part) (k : Kind) (n m : ℕ) → refusal p part k ≡ None → Tries true p part k n → Tries false p part k m → n ≤ m
 fewer_tried p part k n m free silent writes =
-    grind (arith, common_steps, depth, levels_of_part, position_in, added, next, none_to_write, refusal, alike_found, more_to_add)
+    grind (arith, common_steps, none_to_write, alike_found, more_to_add)
 
 -- The first of the tokens is not rejected.
 record Passing (silent : Bool) (p : Profile) (b : Progress) (t : Token) (ts : List Token) (most : ℕ) : Type 0 where

@@ -71,7 +71,7 @@ module _ (old counted new : ReaderState) (part : Part) (k : Kind) (to : Next) (d
 
   answers : (r : Result Accepted Reason) → GoesTo counted part to new r d
       → TriesPut (mode_written old) part to r n more → Answers old part k new r d.before d.after
-  answers (Ok accepted) goes costs = grind (arith, common_steps, plies_next, whole_plies, gain_is, tries)
+  answers (Ok accepted) goes costs = grind (arith, common_steps, gain_is, tries)
   answers (Err reason) (is, front) costs =
       subst (λ (r : Reason). IsStopped old part k new d.before d.after r) (sym is)
       (reader_state.unwritten says.0 (subst (AppendsFront d.before d.after) gain_is front)
@@ -166,12 +166,12 @@ module _ (silent : Bool) (p : Profile) (k : TokenKind) (row : refusal p no_pairs
   unwritten_alike {n} (most_tried.in_section before finds) = most_tried.in_section refl (finds_alike k n finds)
 
   gain_alike : (w : Profile) → gain w no_pairs (kind_of k) ≡ gain w no_part (kind_of k)
-  gain_alike w = grind (arith, common_steps, no_torn, no_part, torn, text_next)
+  gain_alike w = grind (arith, common_steps, no_torn)
 
 module _ (old new : ReaderState) where
   answers_alike : (k : TokenKind) (r : Result Accepted Reason) (a b : Option (List ℕ)) → old.stage ≡ Between → refusal old.profile no_pairs (kind_of k) ≡ refusal old.profile no_part (kind_of k) → next no_pairs (kind_of k) ≡ next no_part (kind_of k) → Answers (at_game_start old) no_pairs (kind_of k) new r a b → Answers old no_part (kind_of k) new r a b
   answers_alike k (Ok accepted) a b at row leads h =
-      grind (arith, common_steps, plies_next, next, kind_of, plies_behind, whole_plies, gain_alike, as_written, tries_alike)
+      grind (arith, common_steps, gain_alike, tries_alike)
   answers_alike k (Err reason) a b at row leads (reader_state.refused why is none t here) =
       reader_state.refused why (sym row ∙ is) none
       (record { tried = t.tried; allowed = tries_alike old.writing.is_silent old.profile k row leads t.allowed; most = t.most }) here
@@ -180,7 +180,7 @@ module _ (old new : ReaderState) where
       (record { tried = t.tried; allowed = unwritten_alike old.writing.is_silent old.profile k row leads t.allowed; most = t.most })
 
   pub takes_first : (k : TokenKind) (r : Result Accepted Reason) (d : Device) → old.stage ≡ Between → is_comment (kind_of k) ≡ false → is_end (kind_of k) ≡ false → TakesToken (at_game_start old) (kind_of k) new r d → TakesToken old (kind_of k) new r d
-  takes_first k r d at comment over t = search (rules, answers_alike, begins_alike, held_at, text_at)
+  takes_first k r d at comment over t = search (rules, answers_alike, begins_alike, held_at)
 
   -- Markers.
   pub takes_marker : (k : Kind) (marker : Marker) (r : Result Accepted Reason) (d : Device) → PutResult old (IsOpen old) (to_game marker) new r d → FinishesAtMarker k new r → new.most_probes ≡ old.most_probes → marker_of k ≡ Some (marker_text marker) → ((part : Part) → IsOpen old part → text_refusal old.profile part k ≡ None) → TakesEntry old k new r d
@@ -255,7 +255,7 @@ module _ (old : ReaderState) where
   plain_counted s plain = record { pairs = 0; counted = counting_none old; tried = λ part agrees. plain_untried part s plain }
 
   pub move_counted : (found : ReaderState) (s : List ℕ) (r : Result Move Reason) (n : ℕ) → old.stage ≡ AfterTags → (is_score s || is_number s) ≡ false → Finds old s found r n → CountsMove old (symbol s) found
-  move_counted found s r n at plain finds = grind (arith, common_steps, may_have_movetext, or_parts, is_score, is_number, costs_found, open_agrees)
+  move_counted found s r n at plain finds = grind (arith, common_steps, or_parts, costs_found, open_agrees)
 
   -- The first token of a game is taken as after pairs, of which there is none.
   pub takes_outside_first : (new : ReaderState) (k : TokenKind) (o : Option (Result Accepted Reason)) → old.stage ≡ Between → is_comment (kind_of k) ≡ false → is_end (kind_of k) ≡ false → TakesOutside (at_game_start old) (kind_of k) new o → TakesOutside old (kind_of k) new o

@@ -72,7 +72,7 @@ none_or_some (suc n) = inr (omega arith)
 advances_then : (old mid new : Standing) (end used : ℕ) (outcome : Result (Option StepEnd) Fault) → RunAdvances old mid end (Ok (Some Other))
     → RunAdvances mid new used outcome → RunAdvances old new (end + used) outcome
 advances_then old mid new end used (Ok None) one two = two
-advances_then old mid new end used (Ok (Some Other)) one two = grind (arith, common_steps, none_or_some, inl, inr)
+advances_then old mid new end used (Ok (Some Other)) one two = grind (arith, common_steps, none_or_some)
 advances_then old mid new end used (Ok (Some (AtMarker m))) one two = omega (arith, one.0, two)
 advances_then old mid new end used (Err f) one two = tt
 

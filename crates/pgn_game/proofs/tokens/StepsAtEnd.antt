@@ -45,7 +45,7 @@ end_at p _ ps name items h = absurd (none-some _ (sym h))
 
 between_after : {s : Stage} (ps : List Pair) (name : List ℕ) (items : List Item) (games : List Game) → s ≡ Between
     → (progress_with games (next (record { stage = s; pairs = ps; name = name; items = items }) tokens.end)).part.stage ≡ Between
-between_after {s} ps name items games e = grind (arith, common_steps, progress_with, next)
+between_after {s} ps name items games e = grind (arith, common_steps)
 
 pub is_the_end : (k : Kind) → is_end k ≡ true → k ≡ tokens.end
 is_the_end tokens.end h = refl
@@ -149,7 +149,7 @@ kept old new k d (Err why) takes = takes.0.keeps
 pub keeps_met : {A : Type 0} {view old new : Converter} {is_finished : Bool} {result : Result A Fault} → view ≡ old → Keeps view.reading new.reading
     → new.games ≡ view.games → new.just_finished ≡ None → new.is_finished ≡ is_finished → new.fault ≡ fault_of result
     → KeepsRest old new is_finished result
-keeps_met {view = view} {new = new} same keeps games none_just_finished finished fault = grind (arith, common_steps, written_same, as_written)
+keeps_met {view = view} {new = new} same keeps games none_just_finished finished fault = grind (arith, common_steps, written_same)
 
 -- a marker that was met behind the last piece can be taken
 module _ (old : Standing) where

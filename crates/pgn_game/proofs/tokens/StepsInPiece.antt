@@ -26,7 +26,7 @@ begins_with {b} (x ∷ xs) stands follows =
 
 pub so_far_none : (p : Profile) (old : Converter) (u : List ℕ) (b : Option ℕ) (given : List Token) (piece : List ℕ) (o : Option (List ℕ))
     → Reaches p old u b given → Follows b piece → SoFar p u b given piece 0 old o o
-so_far_none p old u b given piece o reaches follows = grind (arith, common_steps, append-nil, begins_with, decided, reads_none)
+so_far_none p old u b given piece o reaches follows = grind (arith, common_steps, append-nil, reads_none)
 
 next_within : (b : Option ℕ) (piece : List ℕ) (at : ℕ) → 0 < length piece → next_at b piece at ≡ first (drop at piece)
 next_within b [] at h = absurd (omega arith)
@@ -50,7 +50,7 @@ decided_at_end u ts (inr (c, e, k)) = absurd (cc)
 -- the piece is used whole, and no token ends in it
 module _ (p : Profile) (u : List ℕ) (b : Option ℕ) (given : List Token) (piece : List ℕ) (at : ℕ) (now : Converter) (a c : Option (List ℕ)) where
   pub reads_behind : SoFar p u b given piece at now a c → at ≡ length piece → ReadsPiece p u b given piece now a c
-  reads_behind so end = grind (arith, common_steps, take_all, drop_of_length-le, next_behind, decided, decided_at_end)
+  reads_behind so end = grind (arith, common_steps, take_all, drop_of_length-le, next_behind, decided_at_end)
 
   -- a converter in the piece stands before the rest
   pub stands_here : (so : SoFar p u b given piece at now a c) → at < length piece → Reaches p now (u ++ take at piece) (first (drop at piece)) so.tokens
@@ -65,7 +65,7 @@ module _ (p : Profile) (u : List ℕ) (b : Option ℕ) (given : List Token) (pie
 
   -- more was read of the rest
   known_there : (used : ℕ) → next_at (first (drop at piece)) (drop at piece) used ≡ next_at b piece (at + used)
-  known_there used = grind (arith, common_steps, length-drop, next_within, first, drop-drop, some)
+  known_there used = grind (arith, common_steps, length-drop, next_within, drop-drop, some)
 
   decided_further : (used : ℕ) (ts : List Token) → IsDecided ((u ++ take at piece) ++ take used (drop at piece)) (drop used (drop at piece)) ts
       → IsDecided (u ++ take (at + used) piece) (drop (at + used) piece) ts
@@ -149,7 +149,7 @@ module _ (p : Profile) (u : List ℕ) (given : List Token) (piece : List ℕ) (a
       → AfterSteps p (u ++ take at piece) on.so.tokens (drop at piece) new used outcome c d
       → AfterSteps p u given piece new (at + used) outcome a d
   unfolding so_far_on
-  after_steps (Ok None) after = grind (arith, common_steps, length-drop, all_on, first)
+  after_steps (Ok None) after = grind (arith, common_steps, length-drop, all_on)
   after_steps (Ok (Some Other)) after =
       record {
         so = so_far_on p u (first piece) given piece at now a c d on.so within new written used after;

@@ -38,7 +38,7 @@ module _ (lexer : Standing) (reading : ReaderState) (games : ℕ) (piece : List 
         }
 
     pub sound_more : Scans lexer piece l used more → IsSound l reading games false false None
-    sound_more scans = grind (arith, common_steps, few_waiting, between)
+    sound_more scans = grind (arith, common_steps, few_waiting)
 
     -- the text is rejected
     pub steps_fault : (f : LexFault) → Scans lexer piece l used (fault f) → (o : Option (List ℕ)) (failures : ℕ)
@@ -96,7 +96,7 @@ module _ (lexer : Standing) (reading : ReaderState) (games : ℕ) (piece : List 
           }
 
       pub sound_met : {finished : _} {fault : _} → IsSound l new games false finished fault
-      sound_met = grind (arith, common_steps, sound_in_piece, keeps)
+      sound_met = grind (arith, common_steps, sound_in_piece)
 
   -- ---- a call that passes white space, and numbers in movetext
 
@@ -117,7 +117,7 @@ module _ (lexer : Standing) (reading : ReaderState) (games : ℕ) (piece : List 
         }
 
     pub sound_past : {l : Standing} {used : ℕ} → Passes skips lexer piece l used → used ≤ length piece → IsSound l reading games false false None
-    sound_past passes within = grind (arith, common_steps, passes_few, passes_count, between)
+    sound_past passes within = grind (arith, common_steps, passes_few, passes_count)
 
 -- and the token behind them
 module _ (lexer : Standing) (reading : ReaderState) (games : ℕ) (piece : List ℕ)

@@ -137,7 +137,7 @@ module _ (stand : SymbolsStandInText) (ends : GamesEndByMarker) (p : Profile)
       ∙ ap (λ ts. given ++ ts) two.1)))
 
   by_left : (ts : List Token) → coming l [] ≡ ts → IsLeft l.held.mode l.count l.held.at l.held.text ts → LastGame p u given
-  by_left _ is (none ts q has) = grind (arith, common_steps, reads, quiet_games, read, coming)
+  by_left _ is (none ts q has) = grind (arith, common_steps, reads, quiet_games)
   by_left _ is (glyph n) =
       let finished = (finishes (token_at l.held.at (tokens.glyph n)) l.count is).game in
       let marker = (ends p given (token_at l.held.at (tokens.glyph n)) finished).is_marker in

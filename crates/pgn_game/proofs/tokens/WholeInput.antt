@@ -25,7 +25,7 @@ module _ {p : Profile} where
   ended t done games plies probes bound = grind (arith, common_steps, totalled)
 
   pub appended : {tokens : List Token} {a c : Option (List ℕ)} → Gains p [] tokens a c → Appends a c (due p tokens)
-  appended {tokens} {a} {c} gains = grind (arith, common_steps, due, torn-none)
+  appended {tokens} {a} {c} gains = grind (arith, common_steps, torn-none)
 
   pub none_read : {c : Converter} {left : Option (List ℕ)} → Stands p c [] None [] → c.is_finished ≡ false → HaveRead p left [] (games_of c []) []
   none_read stands not_finished =

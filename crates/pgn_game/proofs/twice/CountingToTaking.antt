@@ -57,14 +57,14 @@ other_of : (text : List ℕ) (part : Part) (k : Kind) (o : Option (List ℕ)) (v
     ⊎ (has_other_result takes_the_marker part k ≡ false)
 other_of text part k None v is given = inr (ap (other_if takes_the_marker part.pairs) is)
 other_of text part k (Some marker) (Some value) is given =
-    grind (arith, common_steps, inl, other_if, counts_as, bytes_eq, unwrap_or, takes_the_marker)
-other_of text part k (Some marker) None is given = grind (arith, common_steps, inr, other_if, takes_the_marker, bytes_eq, unwrap_or, bytes_eq-Decides)
+    grind (arith, common_steps, counts_as, unwrap_or, takes_the_marker)
+other_of text part k (Some marker) None is given = grind (arith, common_steps, takes_the_marker, unwrap_or, bytes_eq-Decides)
 
 refusal_taking : (q : Profile) (text : List ℕ) (part : Part) (k : Kind)
     → q.missing_result ≡ takes_the_marker → by_result (refusal (counting q text) part k) ≡ false
     → refusal q part k ≡ refusal (counting q text) part k
 refusal_taking q text part k takes plain =
-    grind (arith, common_steps, refusal, with_missing, other_of, marker_of, value_of, codes, inl, table_alike, counts_as, takes_the_marker, inr, table_without)
+    grind (arith, common_steps, other_of, table_alike, counts_as, takes_the_marker, table_without)
 
 -- A game that is finished has the same text.
 abbrev text_with : Profile → Game → List Pair → List ℕ
@@ -111,7 +111,7 @@ module _ (q : Profile) (text : List ℕ) where
       ∙ reads_alike (progress_after b t) ts takes other) plain
 
   is_read_alike : (ts : List Token) → q.missing_result ≡ takes_the_marker → read q ts ≡ read (counting q text) ts → IsReadAlike q text ts
-  is_read_alike ts takes same = grind (arith, common_steps, all_alike, no_progress)
+  is_read_alike ts takes same = grind (arith, common_steps, all_alike)
 
 -- The marker that is rejected.
 
@@ -145,7 +145,7 @@ is_harmless r = not (is_about_result r.reason && r.holds)
 by_row : (b : Bool) (reason : Reason) (rest : Option Reason) → (is_about_result reason && b) ≡ false
     → by_result rest ≡ false → by_result (or_else b reason rest) ≡ false
 by_row false reason rest plain further = further
-by_row true reason rest plain further = grind (arith, common_steps, is_about_result, true≢false)
+by_row true reason rest plain further = grind (arith, common_steps, true≢false)
 
 no_result : (rs : List Row) → IsTrue (list_all is_harmless rs) → by_result (first_holding rs) ≡ false
 no_result [] all = refl
@@ -194,12 +194,12 @@ module _ (q : Profile) (b : Progress) (t : Token) (m : Marker)
   same_row = refusal_counting q (marker_text m) b.part t.kind takes (inr is)
 
   pub up_to_marker : read_from q b (t ∷ []) ≡ read_from (counting q (marker_text m)) b (t ∷ [])
-  up_to_marker = grind (arith, common_steps, by_token, read_from, counting, marker_text, read_from-test, after_test, same_row, row, goes_on)
+  up_to_marker = grind (arith, common_steps, by_token, read_from-test, same_row, goes_on)
 
   pub marker_refused : (ts : List Token) → length (read_from (counting q (marker_text m)) b (t ∷ ts)).progress.games ≡ length b.games
       → read_from q b (t ∷ ts) ≡ read_from (counting q (marker_text m)) b (t ∷ ts)
   marker_refused ts none =
-      grind (arith, common_steps, by_token, read_from, counting, marker_text, read_from-test, after_test, same_row, row, game_stays, marker_finishes, goes_on)
+      grind (arith, common_steps, by_token, read_from-test, same_row, game_stays, marker_finishes, goes_on)
 
 -- at a token before it, which is no marker
 module _ (q : Profile) (b : Progress) (t : Token) (takes : q.missing_result ≡ takes_the_marker)

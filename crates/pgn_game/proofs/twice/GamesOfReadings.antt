@@ -21,7 +21,7 @@ use Rattle.pgn_game.proofs.twice.MarksInTurn.{marked_game, marked_more, marked_o
 end_part : (s : Stage) (ps : List _) (name : List ℕ) (items : List _) → s ≡ Between
     → next (record { stage = s; pairs = ps; name = name; items = items }) tokens.end
     ≡ going (record { stage = s; pairs = ps; name = name; items = items })
-end_part s ps name items e = grind (arith, common_steps, next, going)
+end_part s ps name items e = grind (arith, common_steps, going)
 
 end_leads : (q : Profile) (part : Part) (k : Kind) → is_end k ≡ true → refusal q part k ≡ None → next part k ≡ going part
 end_leads q part k is free = grind (arith, common_steps, is_the_end, end_at, refusal, next, end_part)
@@ -101,7 +101,7 @@ module _ (left_old left_now : Option (List ℕ)) (r : Reading) where
 
   -- What a reading has come to is not moved by the marker that its converter takes.
   come_still : (s : Reading) (ts : List Token) → s.converter.lexer ≡ r.converter.lexer → s.unused ≡ r.unused → s.has_ended ≡ r.has_ended → HasCome left_old left_now r ts → HasCome left_old left_now s ts
-  come_still s ts lexer unused ended h = grind (arith, common_steps, next)
+  come_still s ts lexer unused ended h = grind (arith, common_steps)
 
 -- The marker that one of the readings has met is taken.
 module _ (q : Profile) (left_old left_new : Option (List ℕ)) (given : List Token) (m : CodeMark) (mid new : Reading) (a : Option (List ℕ)) (sink : Device)
@@ -147,10 +147,10 @@ module _ (q : Profile) (left_old left_new : Option (List ℕ)) (given : List Tok
     more = h.tokens ++ h.token ∷ []
 
     pub one_more : OneGame q given (h.tokens ++ h.token ∷ []) (game_of (part_after q h.tokens) (marker_text m.marker))
-    one_more = grind (arith, common_steps, read-passes, passes, free, progress_with, read, leads, game_of, marker_text)
+    one_more = grind (arith, common_steps, read-passes, passes, free, leads)
 
     between : part_after q more ≡ no_part
-    between = grind (arith, common_steps, read-passes, passes, free, progress_with, read, leads)
+    between = grind (arith, common_steps, read-passes, passes, free, leads)
 
     module _ (lexer : new.converter.lexer ≡ mid.converter.lexer) (unused : new.unused ≡ mid.unused) (ended : new.has_ended ≡ mid.has_ended)
         (games : new.converter.games ≡ mid.converter.games + 1)
@@ -197,7 +197,7 @@ module _ (q : Profile) (left_old left_new : Option (List ℕ)) (given : List Tok
 -- what it writes by
 told_written : (q : Profile) (r : ReaderState) (marker : List ℕ) → q.missing_result ≡ takes_the_marker → r.profile ≡ q → r.writing.told ≡ Some marker
     → as_written r ≡ counting q marker
-told_written q r marker takes_it profile told = grind (arith, common_steps, counting, known_text, takes_the_marker)
+told_written q r marker takes_it profile told = grind (arith, common_steps, takes_the_marker)
 
 -- a marker that is told changes nothing else
 text_told : (marker : List ℕ) (r : ReaderState) (here : Part) (stage : Stage) → HoldsText stage r here → HoldsText stage (telling marker r) here
@@ -207,7 +207,7 @@ text_told marker r here _ h = h
 module _ (q : Profile) (left_old left : Option (List ℕ)) (r : Reading) where
   pub told_reading : (given : List Token) (m : Marker) (d : Converter) → d ≡ announcing m r.converter → HasGiven q left_old left r given → HasGiven q left_old left (record { converter = d; unused = r.unused; has_ended = r.has_ended }) given
   told_reading given m d is h =
-      grind (arith, common_steps, read, takes, come_still, profile, passes, text_told, marker_text, part_after)
+      grind (arith, common_steps, takes, come_still, passes, text_told)
 
   -- nothing is written from now on
   pub silent_reading : (d : Converter) → d ≡ writing_nothing r.converter → HasGiven q left_old left r [] → HasGiven q left_old left (record { converter = d; unused = r.unused; has_ended = r.has_ended }) []
@@ -215,7 +215,7 @@ module _ (q : Profile) (left_old left : Option (List ℕ)) (r : Reading) where
 
 pub told_by : (q : Profile) (c d : Converter) (m : Marker) → d ≡ announcing m c → q.missing_result ≡ takes_the_marker → c.reading.profile ≡ q
     → as_written d.reading ≡ counting q (marker_text m)
-told_by q c d m is takes_it profile = grind (arith, common_steps, as_written, told_written, telling, marker_text)
+told_by q c d m is takes_it profile = grind (arith, common_steps, told_written)
 
 -- a token that shows a difference, by the marks
 module _ (q : Profile) (m : Mark) (part : Part) (t : Token) where
@@ -228,7 +228,7 @@ module _ (q : Profile) (m : Mark) (part : Part) (t : Token) where
   -- a marker that differs from the mark, whether it is rejected or not
   differs_at_marker : (marker : List ℕ) → marker_of t.kind ≡ Some marker → not (bytes_eq marker m.text && (t.at == m.at)) ≡ true → is_changed q m part t ≡ true
   differs_at_marker marker is other =
-      grind (arith, common_steps, refusal, is_changed, differs_refused, free, differs_if, is_other, marker_finishes)
+      grind (arith, common_steps, differs_refused, free, differs_if, marker_finishes)
 
 module _ (q : Profile) (left_old left_new : Option (List ℕ)) (given : List Token) (told : CodeMark) (rise : TokensRise)
     (takes_it : q.missing_result ≡ takes_the_marker) (so : (read q given).fault ≡ None) (between : part_after q given ≡ no_part) where
@@ -242,7 +242,7 @@ module _ (q : Profile) (left_old left_new : Option (List ℕ)) (given : List Tok
   written_of : (ts : List Token) (now : Converter) (a c : Option (List ℕ)) → as_written now.reading ≡ w → ReadsMore q given ts now a c
       → Appends a c (torn w (part_after q ts))
   written_of ts now a c by reads =
-      grind (arith, common_steps, text_of, read, torn, part_after, between, torn-none, due_as, append-nil, append_cancel_left)
+      grind (arith, common_steps, torn-none, append-nil, append_cancel_left)
 
   -- tokens behind which another comes show no difference
   still_matched : (ts : List Token) (now : Converter) (a c : Option (List ℕ)) (reads : ReadsMore q given ts now a c)
@@ -385,7 +385,7 @@ module _ (q : Profile) (left_old left_new : Option (List ℕ)) (given : List Tok
 
         text_is : text_next w (next (part_after q h.tokens) h.token.kind) ≡ game_text q (game_of (part_after q h.tokens) (marker_text m.marker))
         text_is =
-            grind (arith, common_steps, bytes_eq-Decides, marker_text, and_parts, not-false, text_next, goes_to, game_text, counting, game_of, part_after, same_game_text)
+            grind (arith, common_steps, bytes_eq-Decides, and_parts, not-false, goes_to, same_game_text)
 
         pub game_written : GameWritten q left_old left_new given told new a sink.after
         game_written =

@@ -19,7 +19,7 @@ pub table_alike : (q : Profile) (a b : Missing) (part : Part) (k : Kind) → has
     → refusal (with_missing q a) part k ≡ refusal (with_missing q b) part k
 unfolding refusal
 table_alike q a b part (tokens.refused r) same = refl
-table_alike q a b part k same = grind (arith, common_steps, first_holding, rows, row, is_outside_tag_pairs, depth, levels_of_part)
+table_alike q a b part k same = grind (arith, common_steps)
 
 pub refusal_counting : (q : Profile) (text : List ℕ) (part : Part) (k : Kind) → q.missing_result ≡ takes_the_marker
     → (marker_of k ≡ None) ⊎ (marker_of k ≡ Some text) → refusal (counting q text) part k ≡ refusal q part k
@@ -43,7 +43,7 @@ score_leads : (q : Profile) (stage : Stage) (part : Part) (s : List ℕ)
     → next (at_stage stage part) (tokens.symbol s) ≡ in_text part (tokens.symbol s)
 unfolding refusal
 score_leads q AfterLeftBracket part s is free =
-    grind (arith, common_steps, test_failed, list_all, in_name, name_refusal, at_stage, true≢false, no_name)
+    grind (arith, common_steps, test_failed, name_refusal, true≢false, no_name)
 score_leads q AfterName part s is free = absurd (cc)
 score_leads q AfterValue part s is free = absurd (cc)
 score_leads q _ part s is free = refl

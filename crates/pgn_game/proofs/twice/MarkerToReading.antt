@@ -32,7 +32,7 @@ all_shown_none (Some s) = shown_none s
 -- before the first byte
 pub given_none : (p : Profile) (c d : Converter) (unused : List ℕ) (left : Option (List ℕ)) → Stands p c [] None [] → d ≡ taking_marker c → unused ≡ []
     → HasGiven (with_missing p takes_the_marker) left left (record { converter = d; unused = unused; has_ended = false }) []
-given_none p c d unused left stands is empty = grind (arith, common_steps, decided, inl, none_next, within_limit, all_shown_none, reads_taking)
+given_none p c d unused left stands is empty = grind (arith, common_steps, none_next, all_shown_none, reads_taking)
 
 -- where a reading stands, by whether its source has ended
 module _ (q : Profile) (left_old left : Option (List ℕ)) (r : Reading) (given : List Token) (h : HasGiven q left_old left r given) where

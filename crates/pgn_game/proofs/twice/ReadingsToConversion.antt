@@ -47,7 +47,7 @@ both_none q first second a b o first_given second_given =
 -- Of a game that ends with the mark, the text under that mark is its text.
 under_mark : (q : Profile) (g : Game) (m : Mark) → q.missing_result ≡ takes_the_marker
     → g.marker ≡ m.text → game_text q g ≡ game_text (with_mark q m) g
-under_mark q g m takes same = grind (arith, common_steps, game_text, with_mark)
+under_mark q g m takes same = grind (arith, common_steps)
 
 -- between games nothing is written of one
 torn-between : (q : Profile) (ms : List Mark) → torn_before q ms no_part ≡ []
@@ -102,7 +102,7 @@ module _ (q : Profile) (first second sink : Device) (first_now : Option (List �
 
   converted : (s r : List ℕ) (o : Option Fault) → compared q (tokens_of s) (tokens_of r) ≡ at_mark → (read q (tokens_of s)).fault ≡ o
       → AreConverted q s r (verdict_of (record { progress = (read q so.second_tokens).progress; fault = o })) sink
-  converted s r o is fault = grind (arith, common_steps, verdict_of, earlier_fault, read, tokens_of, written_by, written)
+  converted s r o is fault = grind (arith, common_steps)
 
   pub both_end : (new_a : Reading) (t : Totals) → AllRead q first.before so.first_tokens new_a
       → new_a.converter.reading.writing.is_silent ≡ true → b.converter.reading.writing.is_silent ≡ false
@@ -251,7 +251,7 @@ module _ (q : Profile) (first second sink : Device) (first_now second_now mid : 
 
   -- what is written of this game stands behind the games
   all_written : (text : List ℕ) → Appends writes.mid sink.after text → HasTaken sink (text_of q c.games ++ (torn under c.part ++ text))
-  all_written text wrote = grind (arith, common_steps, torn)
+  all_written text wrote = grind (arith, common_steps)
 
   torn_written : Appends writes.mid sink.after [] → HasTaken sink (text_of q c.games ++ torn under c.part)
   torn_written wrote = subst (λ l. HasTaken sink (text_of q c.games ++ l)) (append-nil (torn under c.part)) (all_written [] wrote)

@@ -22,7 +22,7 @@ end_before p text b (t ∷ ts) all =
 
 -- so the marker of a game just finished is the text
 marker_is : (text : List ℕ) (games : List Game) (g : Game) → IsTrue (all_end_with text (games ++ g ∷ [])) → g.marker ≡ text
-marker_is text games g all = grind (arith, common_steps, and_parts, all_end_with, list_all-append, bytes_eq, bytes_eq-Decides)
+marker_is text games g all = grind (arith, common_steps, and_parts, list_all-append, bytes_eq-Decides)
 
 pub reads_as_one_marker : (q : Profile) (text : List ℕ) (b : Progress) (ts : List Token) → q.missing_result ≡ takes_the_marker
     → (read_from q b ts).fault ≡ None → IsTrue (all_end_with text (read_from q b ts).progress.games)

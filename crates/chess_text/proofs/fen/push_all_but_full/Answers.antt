@@ -1,3 +1,4 @@
+use Rattle.std.proofs.lemmas.Grind.{common_steps}
 use Rattle.chess_text.proofs.Words.{◌≡◌, List, ℕ, [], ◌∷◌, ◌++◌, append_assoc, sym, ◌∙◌, ap, arith, decimal, side_text}
 use Rattle.chess_text.proofs.Words.{◌+◌, ◌≤◌, length, length-append, rights_text, target_text}
 use Rattle.chess_text.proofs.positions.FieldsOfText.{five_written, six_written, length-five, length-number, length-target_text}
@@ -33,13 +34,4 @@ pub push_target-requires : goal.push_target-requires
 push_target-requires c = omega (arith, with_four _ _ _ c.as_slice.ensures.fits c.push_field.ensures)
 
 pub push_field-requires-2 : goal.push_field-requires-2
-push_field-requires-2 c =
-    omega (
-      arith,
-      with_four _ _ _ c.as_slice.ensures.fits c.push_field.ensures,
-      ap length c.push_target.ensures,
-      length-append c.push-3.new.self.items (target_text c.target.result),
-      length-target_text c.target.result,
-      ap length (c.as_bytes.ensures.value ∙ c.format.ensures.text),
-      length-number _ c.half.ensures.limit,
-    )
+push_field-requires-2 c = grind (arith, common_steps, with_four, length-append, target_text, length-target_text, length-number)

@@ -1,3 +1,4 @@
+use Rattle.std.proofs.lemmas.Grind.{common_steps}
 use Rattle.chess_text.proofs.Words.{◌≡◌, length, true, ◌&&◌, sym, ◌∙◌, ap, arith, Option, Ok, Err, ◌==◌, is_none, field, rest, parts_or_fault, side_of, rights_of, target_of, number_of}
 use Rattle.chess_text.proofs.Words.{Some, rules, if◌then◌else◌, nat_tests, Parts, built_unless, position_fault, at_field, if_position}
 use Rattle.chess_rules.specs.declared.position.PositionFault.{PositionFault}
@@ -6,9 +7,7 @@ use Rattle.chess_text.proofs.fen.read_on_board.Goals as goal
 -- the parts of a program have 64 cells, so they are a position if no rule finds a fault
 of_fault : (p : Parts) (o : Option PositionFault) → length p.board ≡ 64
     → (if (length p.board == 64) && is_none o then Ok p else at_field 7) ≡ (if is_none o then Ok p else at_field 7)
-of_fault p o long =
-    let all : (length p.board == 64) ≡ true = grind (arith, nat_tests) in
-    cc
+of_fault p o long = grind (arith, common_steps, nat_tests)
 
 no_fault : (p q : Parts) (o : Option PositionFault) → Ok q ≡ built_unless o p → Ok q ≡ (if is_none o then Ok p else at_field 7)
 no_fault p q o h = grind arith

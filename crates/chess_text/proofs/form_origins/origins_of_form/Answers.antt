@@ -1,3 +1,4 @@
+use Rattle.std.proofs.lemmas.Grind.{common_steps}
 use Rattle.chess_text.proofs.Words.{◌≡◌, ◌+◌, ◌≤◌, ◌||◌, false, replicate, set, length, take, refl, sym, ◌∙◌, ap, subst, arith, list_any, list_any_more, take_all, length_permutation, NoStep}
 use Rattle.chess_text.proofs.Words.{IsPermutation, Move, same_square, candidates, castling_move, form_pairs, origin_kind, nth_square}
 use Rattle.chess_text.proofs.forms.FormOriginKinds.{KindsSoFar, none_so_far, one_more_kind, all_kinds, castling_kinds, piece_kinds}
@@ -55,6 +56,4 @@ returns-after-loop-origin-clause-kinds c =
     (ap (list_any (same_square (nth_square n))) (sym (take_all _ xs every)) ∙ other))
 
 pub returns-after-loop-origin-clause-count : goal.returns-after-loop-origin-clause-count
-returns-after-loop-origin-clause-count c =
-    let same = length_permutation (candidates _ _ _) c.as_slice-origin-items.result.now (perm c) in
-    omega (arith, same, ap (form_pairs c.args.position.now) c.in-Man.is)
+returns-after-loop-origin-clause-count c = grind (arith, common_steps, length_permutation, candidates, perm, form_pairs)

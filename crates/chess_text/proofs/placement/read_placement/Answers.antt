@@ -1,3 +1,4 @@
+use Rattle.std.proofs.lemmas.Grind.{common_steps}
 use Rattle.chess_text.proofs.Words.{◌^◌, ◌≡◌, ℕ, ◌<◌, ◌≤◌, ◌+◌, ◌*◌, ◌==◌, false, ◌&&◌, ◌++◌, length, take, refl, subst, sym, ◌∙◌, ap, arith, Board, List, is_space, position_or_len_is, nat_tests, nat_lt, Some, None, Option, if◌then◌else◌, item, get_or, ◌⊎◌, ◌%◌}
 use Rattle.chess_text.specs.declared.item.Item.{Item}
 use Rattle.chess_text.proofs.positions.TextToBoard.{ReadSoFar, nothing_read, item_fits, item_read, slash_read, space_read, other_read, end_read}
@@ -7,10 +8,7 @@ use Rattle.chess_text.proofs.placement.read_placement.Goals.{then-file-item-le8,
 -- the same state in other words
 restated : {text : List ℕ} {i : ℕ} {b d : Board} {below k file f lanes n : ℕ} → b ≡ d → below ≡ k → file ≡ f → lanes ≡ n
     → ReadSoFar text i d k f n → ReadSoFar text i b below file lanes
-restated {text} {i} {b} {d} {below} {k} {file} {f} {lanes} {n} e g h j s =
-    subst (λ x. ReadSoFar text i x below file lanes) (sym e)
-    (subst (λ x. ReadSoFar text i d x file lanes) (sym g)
-    (subst (λ x. ReadSoFar text i d k x lanes) (sym h) (subst (λ x. ReadSoFar text i d k f x) (sym j) s)))
+restated {text} {i} {b} {d} {below} {k} {file} {f} {lanes} {n} e g h j s = grind (arith, common_steps)
 
 fits : {text : List ℕ} {i : ℕ} {b : Board} {below file lanes : ℕ} (x : Item) → x ≡ item (get_or text i 0) → ReadSoFar text i b below file lanes → i < length text
     → file + x.width ≤ 8 → lanes + (x.lanes * 2 ^ file) % 2 ^ 32 < 2 ^ 32
@@ -20,9 +18,7 @@ fits {file = file} {lanes = lanes} x e s low narrow =
 
 put : {text : List ℕ} {i : ℕ} {b : Board} {below file lanes : ℕ} (x : Item) → x ≡ item (get_or text i 0) → ReadSoFar text i b below file lanes → i < length text
     → file + x.width ≤ 8 → ReadSoFar text (i + 1) b below (file + x.width) (lanes + (x.lanes * 2 ^ file) % 2 ^ 32)
-put {text} {i} {b} {below} {file} {lanes} x e s low narrow =
-    subst (λ y. ReadSoFar text (i + 1) b below (file + y.width) (lanes + (y.lanes * 2 ^ file) % 2 ^ 32)) (sym e)
-    (item_read s low (omega (arith, narrow, ap (λ y. y.width) e)))
+put {text} {i} {b} {below} {file} {lanes} x e s low narrow = grind (arith, common_steps, item_read)
 
 whole : (o : Option Board) (b : Board) (below file : ℕ) → o ≡ (if (file == 8) && (below == 0) then Some b else None) → file ≡ 8 → below ≡ 0 → o ≡ Some b
 whole o b below file h e f = grind (arith, nat_tests)

@@ -1,12 +1,12 @@
+use Rattle.std.proofs.Common.{arith}
+use Rattle.std.proofs.lemmas.Grind.{common_steps}
 use Rattle.chess_text.proofs.Words.{◌≡◌, sym, ◌∙◌, ap, is_some, not, is_castling, false≢true}
 use Rattle.chess_text.proofs.forms.CastlingMoves.{castles_by_king, fits_by_kind, legal_is_step}
 use Rattle.chess_text.proofs.resolution.agrees.Goals as goal
 use Rattle.chess_text.proofs.resolution.agrees.Goals.{then-eq, else-eq}
 
 pub is_castling-requires : goal.is_castling-requires
-is_castling-requires c =
-    legal_is_step c.args.position.now c.args.mv.now
-    (ap is_some (sym c.try_pair.ensures.after) ∙ c.is_none.ensures ∙ ap not c.if-is_none.false)
+is_castling-requires c = grind (arith, common_steps, legal_is_step, is_some)
 
 pub returns-after-eq-clause-agrees : goal.returns-after-eq-clause-agrees
 returns-after-eq-clause-agrees c =

@@ -1,3 +1,4 @@
+use Rattle.std.proofs.lemmas.Grind.{common_steps}
 use Rattle.chess_text.proofs.Words.{◌≡◌, ℕ, ◌<◌, List, [], ◌∷◌, length, get_or, filter_map, sym, refl, ◌∙◌, ap, subst, arith, Option, Some, is_some, cons_option, ok_or, option_to_list, IsPermutation, and_parts, IsPermutation-refl, length_permutation, Kind, Promotion, Parts, Square, candidates, lone, CandidatesComplete, Man, Played, NoMove, move_from, move_of_form, only, own, piece_move_fits, played, true}
 use Rattle.chess_text.proofs.forms.PieceForms.{with_position, kept_is_some, kept_next, fitting_is_played, other_is_not_played, candidates_own, from_square, reads_candidates, tried_at, tried_own}
 use Rattle.chess_text.proofs.forms.OnlyElement.{still_none, first_one, second_one, not_at_once, at_the_end}
@@ -116,12 +117,7 @@ loop-origin-preserved c =
     ]
 
 pub returns-in-None-clause-answer : goal.returns-in-None-clause-answer
-returns-in-None-clause-answer c =
-    let o = (goal.at.returns-in-None-clause-answer c).After-as_slice-origin-items in
-    let p = c.args.position.now in
-    ap (λ x. ok_or (with_position p x) NoMove) (sym c.in-None.is)
-    ∙ (at_the_end (tried_from o) _ c.loop-origin.origin-index
-    (with_position p c.loop-origin.found) c.loop-origin.invariant.found (omega arith) ∙ reads o)
+returns-in-None-clause-answer c = grind (arith, common_steps, ok_or, with_position, at_the_end, reads)
 
 pub returns-in-None-clause-each : goal.returns-in-None-clause-each
 returns-in-None-clause-each c _ = omega (arith, count (goal.at.returns-in-None-clause-each c).After-as_slice-origin-items)
@@ -160,10 +156,7 @@ returns-then-agrees-clause-answer c =
     ∙ lone_gives c.candidates_are_complete.ensures p _ _ _ _ _ c.in-Some.origin (sym c.in-Some.is ∙ c.only_origin.ensures)
 
 pub returns-then-agrees-clause-legal : goal.returns-then-agrees-clause-legal
-returns-then-agrees-clause-legal c =
-    let p = c.args.position.now in
-    let m = move_from c.args.to c.args.promotion c.in-Some.origin in
-    (and_parts _ (piece_move_fits p _ _ m) (sym c.agrees.ensures.agrees ∙ c.if-agrees.true)).0
+returns-then-agrees-clause-legal c = grind (arith, common_steps, move_from, and_parts, piece_move_fits)
 
 pub returns-else-agrees-clause-answer : goal.returns-else-agrees-clause-answer
 returns-else-agrees-clause-answer c =

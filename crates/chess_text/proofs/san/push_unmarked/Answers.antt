@@ -1,19 +1,14 @@
+use Rattle.std.proofs.lemmas.Grind.{common_steps}
 use Rattle.chess_text.proofs.Words.{◌≡◌, true, Some, sym, ◌∙◌, subst, arith, Kind, King, Pawn, Piece, Move, Parts, at, own}
 use Rattle.chess_text.proofs.Words.{disambiguation_pairs, kind_pairs, kind_text, unmarked}
 use Rattle.chess_text.proofs.forms.MoverOfMove.{may_have_rivals, mover, mover_stands}
 use Rattle.chess_text.proofs.san.push_unmarked.Goals as goal
 
 pub push_king_text-requires-clause-king : goal.push_king_text-requires-clause-king
-push_king_text-requires-clause-king c =
-    let p = c.args.position.now in
-    let m = c.args.mv.now in
-    subst (λ k. own p k m.from ≡ true) c.in-King.is (mover p m c.in-Some.piece c.requires.legal (sym c.at.ensures ∙ c.in-Some.is))
+push_king_text-requires-clause-king c = grind (arith, common_steps, own, mover)
 
 pub push_pawn_text-requires-clause-pawn : goal.push_pawn_text-requires-clause-pawn
-push_pawn_text-requires-clause-pawn c =
-    let p = c.args.position.now in
-    let m = c.args.mv.now in
-    subst (λ k. own p k m.from ≡ true) c.in-Pawn.is (mover p m c.in-Some.piece c.requires.legal (sym c.at.ensures ∙ c.in-Some.is))
+push_pawn_text-requires-clause-pawn c = grind (arith, common_steps, own, mover)
 
 pub returns-in_default-clause-some : goal.returns-in_default-clause-some
 returns-in_default-clause-some c = absurd (mover_stands c.args.position.now c.args.mv.now c.requires.legal (sym c.at.ensures ∙ c.in_default.is))
@@ -37,18 +32,14 @@ pairs_are : (p : Parts) (m : Move) (x : Piece) (k : Kind) → at p.board m.from 
 pairs_are p m x k e is = cc
 
 pub returns-in-King-clause-text : goal.returns-in-King-clause-text
-returns-in-King-clause-text c =
-    c.push_king_text.ensures.text
-    ∙ sym (unmarked_is c.args.position.now c.args.mv.now c.in-Some.piece King (sym c.at.ensures ∙ c.in-Some.is) c.in-King.is)
+returns-in-King-clause-text c = grind (arith, common_steps, unmarked_is)
 
 pub returns-in-King-clause-pairs : goal.returns-in-King-clause-pairs
 returns-in-King-clause-pairs c =
     omega (arith, pairs_are c.args.position.now c.args.mv.now c.in-Some.piece King (sym c.at.ensures ∙ c.in-Some.is) c.in-King.is)
 
 pub returns-in-Pawn-clause-text : goal.returns-in-Pawn-clause-text
-returns-in-Pawn-clause-text c =
-    c.push_pawn_text.ensures.text
-    ∙ sym (unmarked_is c.args.position.now c.args.mv.now c.in-Some.piece Pawn (sym c.at.ensures ∙ c.in-Some.is) c.in-Pawn.is)
+returns-in-Pawn-clause-text c = grind (arith, common_steps, unmarked_is)
 
 pub returns-in-Pawn-clause-pairs : goal.returns-in-Pawn-clause-pairs
 returns-in-Pawn-clause-pairs c =

@@ -1,3 +1,4 @@
+use Rattle.std.proofs.lemmas.Grind.{common_steps}
 use Rattle.chess_text.proofs.Words.{◌≡◌, Bool, true, length, take, ◌∙◌, ap, arith, list_any, IsPermutation, length_permutation, Square}
 use Rattle.chess_text.proofs.Words.{candidates, rivals}
 use Rattle.chess_text.proofs.names.OneMoveAgrees.{seen, found_more, all_found, rivals_seen, lone_candidate, no_rivals}
@@ -16,32 +17,17 @@ loop-origin-preserved c =
 
 -- the piece is alone
 pub returns-then-not-may_have_two_origins : goal.returns-then-not-may_have_two_origins
-returns-then-not-may_have_two_origins c =
-    let p = c.args.position.now in
-    let m = c.args.mv.now in
-    let few = c.may_have_two_origins.ensures c.if-not-may_have_two_origins.true in
-    let none = no_rivals c.candidates_are_complete.ensures p _ m c.requires.legal c.requires.own few in
-    record {
-      any = none (λ s. true);
-      file = none _;
-      rank = none _;
-      pairs = omega (arith, ap length (lone_candidate c.candidates_are_complete.ensures p _ m c.requires.legal c.requires.own few));
-      few = omega arith;
-    }
+returns-then-not-may_have_two_origins c = grind (arith, common_steps, no_rivals, lone_candidate)
 
 -- the origins are the candidates
 perm : (c : goal.After-loop-origin) → IsPermutation (candidates c.args.position.now c.args.kind c.args.mv.now.to) c.as_slice-origin-items.result.now
-perm c =
-    rw c.as_slice-origin-items.ensures.value
-    c.origins-origins.ensures.exactly
+perm c = grind (arith, common_steps)
 
 -- all of them were seen
 whole : (c : goal.After-loop-origin) (test : Square → Bool)
     → seen c.args.position.now c.args.mv.now test (take c.loop-origin.origin-index c.as_slice-origin-items.result.now)
     ≡ list_any test (rivals c.args.position.now c.args.kind c.args.mv.now)
-whole c test =
-    all_found c.args.position.now c.args.mv.now test c.as_slice-origin-items.result.now c.loop-origin.origin-index c.loop-origin-test.false
-    ∙ rivals_seen c.candidates_are_complete.ensures c.args.position.now _ c.args.mv.now test c.as_slice-origin-items.result.now (perm c)
+whole c test = grind (arith, common_steps, all_found, rivals_seen, perm)
 
 pub returns-clause-any : goal.returns-clause-any
 returns-clause-any c = c.loop-origin.invariant.found.any_is ∙ whole c _

@@ -1,3 +1,4 @@
+use Rattle.std.proofs.lemmas.Grind.{common_steps}
 use Rattle.chess_text.proofs.Words.{◌≡◌, ◌+◌, ◌≤◌, Bool, [], ◌++◌, length, sym, ◌∙◌, ap, ap₂, subst, arith, length-append}
 use Rattle.chess_text.proofs.Words.{codes, if◌then◌else◌, is_check, is_mate, MarkPairs, mark, mark_after}
 use Rattle.chess_text.proofs.san.write_san.Goals as goal
@@ -17,9 +18,7 @@ pub returns-clause-some : goal.returns-clause-some
 returns-clause-some c = omega (arith, joined c)
 
 pub returns-clause-short : goal.returns-clause-short
-returns-clause-short c =
-    let q = c.args.played.now.next in
-    omega (arith, joined c, mark_short (is_mate q) (is_check q))
+returns-clause-short c = grind (arith, common_steps, joined, mark_short, is_mate, is_check)
 
 pub returns-clause-pairs : goal.returns-clause-pairs
 returns-clause-pairs c =

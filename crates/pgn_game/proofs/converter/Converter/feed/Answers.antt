@@ -1,6 +1,5 @@
 use Rattle.pgn_game.proofs.putting.SilentReader.{none_fails, seen_alike, silence_then}
-use Rattle.pgn_game.specs.state.ConverterSteps.{CountsGame, EndsGame}
-use Rattle.pgn_game.proofs.Words.{device, ◌∙◌, Err, err_from_is_err_and, at_token}
+use Rattle.pgn_game.proofs.Words.{device, ◌∙◌, Err, err_from_is_err_and, at_token, CountsGame, EndsGame}
 use Rattle.pgn_game.proofs.ReaderFitsInMemory.{fits_alike}
 use Rattle.pgn_game.proofs.tokens.PieceToGame.{reaches, fed_all, fed_game, fed_stops, marker_fails}
 use Rattle.pgn_game.proofs.converter.Converter.feed.Goals as goal

@@ -1,6 +1,5 @@
 use Rattle.pgn_game.specs.declared.converter.StepEnd.TheVariants.{Token as Other, Marker as AtMarker}
-use Rattle.pgn_game.specs.state.ConverterSteps.{StepGoes, Steps}
-use Rattle.pgn_game.proofs.Words.{KeepsSilence, ◌+◌, drop, sink_of, ◌≡◌, Ok, None, Some, arith, refl, ap, ◌∙◌, length, length-drop, take_rest}
+use Rattle.pgn_game.proofs.Words.{KeepsSilence, ◌+◌, drop, sink_of, ◌≡◌, Ok, None, Some, arith, refl, ap, ◌∙◌, length, length-drop, take_rest, StepGoes, Steps}
 use Rattle.pgn_game.proofs.ReaderFitsInMemory.{fits_alike}
 use Rattle.pgn_game.proofs.putting.SilentReader.{seen_alike, silence_kept, silence_then}
 use Rattle.pgn_game.proofs.tokens.GoesToMarker.{goes_all, goes_fault, goes_marker, keeps_at_start}

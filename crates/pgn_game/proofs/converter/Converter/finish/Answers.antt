@@ -1,6 +1,5 @@
 use Rattle.pgn_game.proofs.putting.SilentReader.{none_fails, seen_alike, silence_kept, silence_then}
-use Rattle.pgn_game.specs.state.ConverterSteps.{CountsGame, EndsGame, EndsToMarker}
-use Rattle.pgn_game.proofs.Words.{ap, le_refl, le_trans, refl, sym, ◌∙◌, device, Err, Standing, err_from_is_err_and, false≢true}
+use Rattle.pgn_game.proofs.Words.{ap, le_refl, le_trans, refl, sym, ◌∙◌, device, Err, Standing, err_from_is_err_and, false≢true, CountsGame, EndsGame, EndsToMarker}
 use Rattle.pgn_game.proofs.ReaderFitsInMemory.{fits_alike, fits_reader}
 use Rattle.pgn_game.proofs.tokens.StepsAtEnd.{left_of}
 use Rattle.pgn_game.proofs.tokens.FinishesGames.{ended_none, ended_game, ended_input, failed_input, failed_game, sound_finished}

@@ -1,5 +1,4 @@
-use Rattle.pgn_game.specs.state.ConverterSteps.{StepsAtEnd}
-use Rattle.pgn_game.proofs.Words.{Some, arith, refl, ap, ◌∙◌, err_from_is_err_and, le_refl}
+use Rattle.pgn_game.proofs.Words.{Some, arith, refl, ap, ◌∙◌, err_from_is_err_and, le_refl, StepsAtEnd}
 use Rattle.pgn_game.proofs.ReaderFitsInMemory.{fits_alike}
 use Rattle.pgn_game.proofs.putting.SilentReader.{seen_alike, silence_kept, silence_then}
 use Rattle.pgn_game.proofs.tokens.GoesToMarker.{keeps_as, keeps_at_start}

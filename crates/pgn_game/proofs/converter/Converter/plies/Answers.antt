@@ -1,5 +1,4 @@
-use Rattle.std.proofs.Common.{Bool, None, Some, sym, ap, ◌∙◌}
-use Rattle.pgn_game.specs.calls.ConverterCalls.{game_in_reader_if, finished_game_plies}
+use Rattle.pgn_game.proofs.Words.{Bool, None, Some, sym, ap, ◌∙◌, game_in_reader_if, finished_game_plies}
 use Rattle.pgn_game.proofs.ReaderFitsInMemory.{fits_reader}
 use Rattle.pgn_game.proofs.converter.Converter.plies.Goals as goal
 

@@ -1,7 +1,5 @@
 use Rattle.pgn_game.specs.declared.converter.StepEnd.TheVariants.{Token as Other}
-use Rattle.pgn_game.specs.state.ConverterSteps.{Steps, outcome_at}
-use Rattle.pgn_game.specs.state.PutResult.{MeetsEntry, TakesUnlessMarker}
-use Rattle.pgn_game.proofs.Words.{IsSound, false, sink_of, kind_of, ◌≡◌, ◌∙◌, arith, ap, None, Ok, Some, take_rest, device, drop, may_have_movetext, refl}
+use Rattle.pgn_game.proofs.Words.{IsSound, false, sink_of, kind_of, ◌≡◌, ◌∙◌, arith, ap, None, Ok, Some, take_rest, device, drop, may_have_movetext, refl, Steps, outcome_at, MeetsEntry, TakesUnlessMarker}
 use Rattle.pgn_game.proofs.ReaderFitsInMemory.{fits_alike, fits_reader}
 use Rattle.pgn_game.proofs.putting.SilentReader.{seen_alike, silence_kept, silence_then}
 use Rattle.pgn_game.proofs.tokens.AcceptedToConverter.{now_at}

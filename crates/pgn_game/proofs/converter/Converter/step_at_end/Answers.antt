@@ -1,8 +1,6 @@
-use Rattle.pgn_lexer.specs.Scanned.{fault, token}
+use Rattle.pgn_lexer.specs.Scanned.{token}
 use Rattle.pgn_lexer.specs.Stands.{Finishes}
-use Rattle.pgn_game.specs.state.ConverterSteps.{StepsAtEnd}
-use Rattle.pgn_game.specs.state.PutResult.{TakesUnlessMarker}
-use Rattle.pgn_game.proofs.Words.{IsSound, IsTrue, Keeps, LexFault, Lexical, List, Marker, None, Ok, Err, Option, Reason, ReaderState, Result, Device, Some, Standing, Token, ℕ, arith, le_refl, sym, ap, refl, ◌∙◌, ◌≡◌, ◌&&◌, true, false, is_ok, is_end, kind_of, outcome_at, game_in_reader_if}
+use Rattle.pgn_game.proofs.Words.{IsSound, IsTrue, Keeps, LexFault, Lexical, List, Marker, None, Ok, Err, Option, Reason, ReaderState, Result, Device, Some, Standing, Token, ℕ, arith, le_refl, sym, ap, refl, ◌∙◌, ◌≡◌, ◌&&◌, true, false, is_ok, is_end, kind_of, outcome_at, game_in_reader_if, fault, StepsAtEnd, TakesUnlessMarker}
 use Rattle.pgn_game.proofs.tokens.AcceptedToConverter.{now_at}
 use Rattle.pgn_game.proofs.tokens.RunsInPiece.{between}
 use Rattle.pgn_game.proofs.tokens.StepsAtEnd.{Nearer, after_at_end, keeps_met, closes_end, closes_token, closes_fault, fields_before, kept, left_by, nearer_by, counts_token}
