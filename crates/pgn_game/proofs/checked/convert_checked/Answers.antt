@@ -21,7 +21,7 @@ module _ (g : Over) (c : After-read_game g) where
   abbrev sink : Device
   sink = device g.W.Sink.taken g.W.Sink.failures c.args.writer.now c.loop-mark.writer
 
--- The second source is read so far too, and the game is written: `here` are the devices in this call.
+-- The game is read from the second source too, and written. `here` are the devices in this call.
 module _ (g : Over) (c : After-write_game g) where
   abbrev second_here : Device
   second_here = device g.R.Source.left g.R.Source.failures c.loop-mark.second c.write_game.new.source
@@ -59,29 +59,29 @@ loop-mark-init g c =
 
 pub returns-in_err-mark-clause-converts : goal.returns-in_err-mark-clause-converts
 returns-in_err-mark-clause-converts g c =
-    let n = (goal.at.returns-in_err-mark-clause-converts g c).After-read_game in
+    let read = (goal.at.returns-in_err-mark-clause-converts g c).After-read_game in
     let so = c.loop-mark.invariant in
     let f = c.in_err-mark.field-0.0 in
     rw (error_returned _ c.from_residual.ensures.1)
-    (first_stops (q g n) (first g n) (second g n) (sink g n) _ c.loop-mark.ahead c.loop-mark.behind so.both f
+    (first_stops (q g read) (first g read) (second g read) (sink g read) _ c.loop-mark.ahead c.loop-mark.behind so.both f
     (λ is. source_fails f.reason _ _ _ _ c.in_err-mark.ensures.counted is ∙ ap one_more so.first)
-    (c.in_err-mark.ensures.reads (q g n) _ so.both.first_tokens so.both.first_stands))
+    (c.in_err-mark.ensures.reads (q g read) _ so.both.first_tokens so.both.first_stands))
 
 pub returns-in_err-mark-clause-counted : goal.returns-in_err-mark-clause-counted
 returns-in_err-mark-clause-counted g c =
-    let n = (goal.at.returns-in_err-mark-clause-counted g c).After-read_game in
+    let read = (goal.at.returns-in_err-mark-clause-counted g c).After-read_game in
     let so = c.loop-mark.invariant in
     rw (error_returned _ c.from_residual.ensures.1)
-    (first_counts c.in_err-mark.field-0.0.reason (first g n) (second g n) (sink g n) _ so.first so.second so.sink c.in_err-mark.ensures.counted)
+    (first_counts c.in_err-mark.field-0.0.reason (first g read) (second g read) (sink g read) _ so.first so.second so.sink c.in_err-mark.ensures.counted)
 
 pub returns-clause-converts : goal.returns-clause-converts
 returns-clause-converts g c =
-    let n = (goal.at.returns-clause-converts g c).After-read_game in
+    let read = (goal.at.returns-clause-converts g c).After-read_game in
     let so = c.loop-mark.invariant in
     let x = so.both in
     let reads = rw c.in_default.is at c.in_ok-mark.ensures.reads in
-    both_end (q g n) (first g n) (second g n) (sink g n) _ c.loop-mark.ahead c.loop-mark.behind x c.read_game.new.self c.totals.result
-    (reads (q g n) _ x.first_tokens x.first_stands) (c.in_ok-mark.ensures.silent ∙ so.first_silent)
+    both_end (q g read) (first g read) (second g read) (sink g read) _ c.loop-mark.ahead c.loop-mark.behind x c.read_game.new.self c.totals.result
+    (reads (q g read) _ x.first_tokens x.first_stands) (c.in_ok-mark.ensures.silent ∙ so.first_silent)
     so.second_writes c.totals.ensures.games c.totals.ensures.plies
     (c.totals.ensures.probes ∙ ap (λ n. max n c.loop-mark.behind.converter.reading.most_probes) c.most_probes.ensures.value)
     (omega (arith, c.most_probes.ensures.value, c.most_probes.ensures.bound))
@@ -89,11 +89,11 @@ returns-clause-converts g c =
 
 pub loop-mark-preserved : goal.loop-mark-preserved
 loop-mark-preserved g c =
-    let w = (goal.at.loop-mark-preserved g c).After-write_game in
+    let write = (goal.at.loop-mark-preserved g c).After-write_game in
     let so = c.loop-mark.invariant in
     let x = so.both in
     let q = checked_profile g.row.T (g.row.L - 1) c.args.mode in
-    let counts = rw c.in_ok-write_game.was at (counted g w) in
+    let counts = rw c.in_ok-write_game.was at (counted g write) in
     record {
       first_going = (rw c.in-Some.is at c.in_ok-mark.ensures.going).0;
       second_going = c.in_ok-write_game.ensures.going;
@@ -105,28 +105,28 @@ loop-mark-preserved g c =
       both =
           both_more q _ _ _ _ c.loop-mark.ahead c.loop-mark.behind _ _ x c.in-Some.mark c.read_game.new.self c.write_game.new.self _ _ _
           ((rw c.in-Some.is at c.in_ok-mark.ensures.reads) q _ x.first_tokens x.first_stands)
-          ((rw c.in_ok-write_game.was at (writes g w)) q _ x.second_tokens x.second_stands);
+          ((rw c.in_ok-write_game.was at (writes g write)) q _ x.second_tokens x.second_stands);
     }
 
 pub returns-in_err-write_game-clause-converts : goal.returns-in_err-write_game-clause-converts
 returns-in_err-write_game-clause-converts g c =
     let here = goal.at.returns-in_err-write_game-clause-converts g c in
-    let n = here.After-read_game in
-    let w = here.After-write_game in
+    let read = here.After-read_game in
+    let write = here.After-write_game in
     let so = c.loop-mark.invariant in
     let x = so.both in
     let f = c.in_err-write_game.field-0.0 in
     rw (error_returned _ c.from_residual-in_err-write_game.ensures.1)
-    (second_stops (q g n) (first g n) (second_read g w) (written g w) _ _ _ c.loop-mark.ahead c.loop-mark.behind x c.in-Some.mark c.read_game.new.self f
-    ((rw c.in-Some.is at c.in_ok-mark.ensures.reads) (q g n) _ x.first_tokens x.first_stands)
-    ((rw c.in_err-write_game.was at (writes g w)) (q g n) _ x.second_tokens x.second_stands)
+    (second_stops (q g read) (first g read) (second_read g write) (written g write) _ _ _ c.loop-mark.ahead c.loop-mark.behind x c.in-Some.mark c.read_game.new.self f
+    ((rw c.in-Some.is at c.in_ok-mark.ensures.reads) (q g read) _ x.first_tokens x.first_stands)
+    ((rw c.in_err-write_game.was at (writes g write)) (q g read) _ x.second_tokens x.second_stands)
     (λ is. source_fails f.reason _ _ _ _ c.in_err-write_game.ensures.counted is ∙ ap one_more so.second))
 
 pub returns-in_err-write_game-clause-counted : goal.returns-in_err-write_game-clause-counted
 returns-in_err-write_game-clause-counted g c =
     let here = goal.at.returns-in_err-write_game-clause-counted g c in
-    let w = here.After-write_game in
+    let write = here.After-write_game in
     let so = c.loop-mark.invariant in
     rw (error_returned _ c.from_residual-in_err-write_game.ensures.1)
-    (second_counts c.in_err-write_game.field-0.0.reason (first g here.After-read_game) (second_read g w) (written g w) _ _
-    (c.in_ok-mark.ensures.counted.0 ∙ so.first) so.second so.sink (rw c.in_err-write_game.was at (counted g w)))
+    (second_counts c.in_err-write_game.field-0.0.reason (first g here.After-read_game) (second_read g write) (written g write) _ _
+    (c.in_ok-mark.ensures.counted.0 ∙ so.first) so.second so.sink (rw c.in_err-write_game.was at (counted g write)))

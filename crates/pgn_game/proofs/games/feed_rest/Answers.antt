@@ -1,5 +1,4 @@
-use Rattle.std.specs.Result.{is_ok}
-use Rattle.pgn_game.proofs.Words.{ap, false≢true, refl}
+use Rattle.pgn_game.proofs.Words.{refl}
 use Rattle.pgn_game.proofs.ReaderFitsInMemory.{fits_alike}
 use Rattle.pgn_game.proofs.tokens.GoesToMarker.{keeps_as}
 use Rattle.pgn_game.proofs.reader.ErrorReturned.{error_returned}
@@ -39,7 +38,7 @@ returns-in_err-feed_to_marker-clause-feeds g c =
     let fed = c.in_err-feed_to_marker.ensures in
     rw (error_returned _ c.from_residual.ensures.1) (record {
       feeds = rw c.unused.ensures at fed.feeds;
-      used = λ same. absurd (false≢true (ap is_ok same));
+      used = λ same. absurd (cc);
       ready = tt;
       short = fed.short;
       keeps = keeps_as fed.goes.keeps refl;

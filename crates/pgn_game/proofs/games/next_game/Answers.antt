@@ -1,5 +1,4 @@
-use Rattle.pgn_game.proofs.Words.{◌≡◌, refl, sym, ◌∙◌, games_of}
-use Rattle.pgn_game.proofs.Words.{false≢true, Bool, true, Result, Fault, IfOk, subst}
+use Rattle.pgn_game.proofs.Words.{refl, sym, ◌∙◌, games_of}
 use Rattle.pgn_game.proofs.ReaderFitsInMemory.{fits_alike}
 use Rattle.pgn_game.proofs.tokens.GamesInTurn.{at_end_again}
 use Rattle.pgn_game.proofs.games.next_game.Goals as goal
@@ -19,7 +18,7 @@ returns-then-is_finished-clause-goes g c =
       reads = λ p u given have.
           at_end_again p u given _ (games_of c.args.converter.now c.args.buffer.now) c.forget_game.new.self _ have
           (sym c.is_finished.ensures ∙ c.if-is_finished.true) c.forget_game.ensures;
-      fewer = λ same. absurd (false≢true (subst (λ (r : Result Bool Fault). IfOk r (λ b. b ≡ true)) (sym same) refl));
+      fewer = λ same. absurd (cc);
       fault = rw c.forget_game.ensures (sym c.fault.ensures ∙ c.in_default.is);
       counted = λ none. (refl, refl);
     }

@@ -1,5 +1,5 @@
-use Rattle.pgn_game.proofs.Words.{None, [], ℕ, Ok, Err, refl, ap, ◌∙◌, device, le_refl, le_trans, games_of, one_more, sink_of, FeedsRest, ReadsSoFar}
-use Rattle.pgn_game.proofs.twice.MarkerToReading.{counts_then}
+use Rattle.pgn_game.proofs.Words.{None, [], ℕ, Ok, refl, ap, ◌∙◌, device, le_refl, le_trans, games_of, one_more, sink_of, FeedsRest, ReadsSoFar}
+use Rattle.pgn_game.proofs.twice.FailuresOfSteps.{behind_still, reader_reason}
 use Rattle.pgn_game.proofs.tokens.AcceptedToConverter.{follows_own}
 use Rattle.pgn_game.proofs.tokens.GoesToMarker.{keeps_behind, keeps_failing}
 use Rattle.pgn_game.proofs.tokens.BytesToMarker.{none_yet, reaches, marker_read, rest_read, rest_stops, filled, at_source_end, unread}
@@ -49,12 +49,7 @@ returns-in_err-mark g c =
         ready = tt;
         short = tt;
         keeps = keeps_behind so.games so.written so.probes fed.keeps refl;
-        counted = counts_then {A = Unit} (Err c.in_err-mark.field-0.0)
-            (device g.R.Source.left g.R.Source.failures c.args.source.now c.loop-mark.source)
-            (sink_of c.args.converter.now.reading g.W.Sink.taken g.W.Sink.failures c.args.out.now c.loop-mark.out)
-            (sink_of c.args.converter.now.reading g.W.Sink.taken g.W.Sink.failures c.loop-mark.out c.feed_rest.new.out)
-            (sink_of c.args.converter.now.reading g.W.Sink.taken g.W.Sink.failures c.args.out.now c.feed_rest.new.out)
-            so.source so.sink refl refl refl fed.counted;
+        counted = behind_still _ _ _ _ _ _ _ so.source so.sink (reader_reason c.in_err-mark.field-0.0.reason _ _ _ fed.counted);
       });
       silent = silence_then _ _ _ _ _ _ so.silent c.feed_rest.ensures.silent;
     }
@@ -79,43 +74,43 @@ returns-in-Some g c =
 
 pub returns-in_err-read_more : goal.returns-in_err-read_more
 returns-in_err-read_more g c =
-    let n = (goal.at.returns-in_err-read_more g c).In_default in
+    let place = (goal.at.returns-in_err-read_more g c).In_default in
     let so = c.loop-mark.invariant in
     let more = c.in_err-read_more.ensures.more in
     rw (error_returned _ c.from_residual-in_err-read_more.ensures.1, more.1) (record {
       reads = λ p u given stands has_read.
-          unread p u given _ _ _ c.feed_rest.new.converter _ _ (all_fed g n p u given stands has_read) _ _ refl (fed g n).short more.2 more.0;
+          unread p u given _ _ _ c.feed_rest.new.converter _ _ (all_fed g place p u given stands has_read) _ _ refl (fed g place).short more.2 more.0;
       goes = record {
         ready = tt;
         short = tt;
-        keeps = keeps_failing _ (keeps_behind {B = ℕ} {second = Ok 0} so.games so.written so.probes (fed g n).keeps refl);
-        counted = rw more.0 (c.in_err-read_more.ensures.counted ∙ ap one_more so.source, (fed g n).counted ∙ so.sink);
+        keeps = keeps_failing _ (keeps_behind {B = ℕ} {second = Ok 0} so.games so.written so.probes (fed g place).keeps refl);
+        counted = rw more.0 (c.in_err-read_more.ensures.counted ∙ ap one_more so.source, (fed g place).counted ∙ so.sink);
       };
       silent = silence_then _ _ _ _ _ _ so.silent c.feed_rest.ensures.silent;
     })
 
 pub returns-then-not-branch : goal.returns-then-not-branch
 returns-then-not-branch g c =
-    let n = (goal.at.returns-then-not-branch g c).In_default in
+    let place = (goal.at.returns-then-not-branch g c).In_default in
     let so = c.loop-mark.invariant in
     let more = rw c.if-not-branch.true at c.in_ok-read_more.ensures.more in
     rw more.0 (record {
       reads = λ p u given stands has_read.
-          rw more.1 (at_source_end p u given _ _ _ c.feed_rest.new.converter _ _ (all_fed g n p u given stands has_read) more.2 more.3);
+          rw more.1 (at_source_end p u given _ _ _ c.feed_rest.new.converter _ _ (all_fed g place p u given stands has_read) more.2 more.3);
       goes = record {
         ready = tt;
-        short = (fed g n).short;
-        keeps = keeps_behind so.games so.written so.probes (fed g n).keeps refl;
-        counted = (c.in_ok-read_more.ensures.counted ∙ so.source, (fed g n).counted ∙ so.sink);
+        short = (fed g place).short;
+        keeps = keeps_behind so.games so.written so.probes (fed g place).keeps refl;
+        counted = (c.in_ok-read_more.ensures.counted ∙ so.source, (fed g place).counted ∙ so.sink);
       };
       silent = silence_then _ _ _ _ _ _ so.silent c.feed_rest.ensures.silent;
     })
 
 pub loop-mark-preserved : goal.loop-mark-preserved
 loop-mark-preserved g c =
-    let n = (goal.at.loop-mark-preserved g c).In_default in
+    let place = (goal.at.loop-mark-preserved g c).In_default in
     let so = c.loop-mark.invariant in
-    let keeps = (fed g n).keeps in
+    let keeps = (fed g place).keeps in
     let more = rw c.if-not-branch.false at c.in_ok-read_more.ensures.more in
     rw more.0 (record {
       going = record { no_fault = keeps.fault; not_finished = keeps.finished };
@@ -123,8 +118,8 @@ loop-mark-preserved g c =
       written = keeps.written ∙ so.written;
       probes = le_trans so.probes keeps.probes;
       source = c.in_ok-read_more.ensures.counted ∙ so.source;
-      sink = (fed g n).counted ∙ so.sink;
+      sink = (fed g place).counted ∙ so.sink;
       silent = silence_then _ _ _ _ _ _ so.silent c.feed_rest.ensures.silent;
       reads = λ p u given stands has_read.
-          filled p u given _ _ _ c.feed_rest.new.converter _ _ (all_fed g n p u given stands has_read) c.read_more.new.buffer more.2;
+          filled p u given _ _ _ c.feed_rest.new.converter _ _ (all_fed g place p u given stands has_read) c.read_more.new.buffer more.2;
     })

@@ -1,24 +1,17 @@
-use Rattle.pgn_game.proofs.Words.{seen, Reason, ReadFault, WriteFault, Changed, Fault, ◌≡◌, ℕ, Bool, Result, Ok, Err, refl, ap, subst, ◌∙◌, arith, Device, device, one_more, CountsDevices, CountsReason, CountsFault, CountsNext, EndsGame, Ends, CountsGame}
+use Rattle.pgn_game.proofs.Words.{sym, seen, Fault, ◌≡◌, Bool, Result, Ok, Err, refl, ◌∙◌, arith, Device, device, CountsFault, CountsNext, EndsGame, Ends, CountsGame}
 use Rattle.pgn_game.proofs.ReaderFitsInMemory.{fits_alike}
 use Rattle.pgn_game.proofs.tokens.GamesInTurn.{begins, game_read, marker_stops, stops_before, stands_at_end, finished}
 use Rattle.pgn_game.proofs.putting.SilentReader.{none_fails, seen_alike, silence_then}
-use Rattle.pgn_game.proofs.twice.FailuresOfSteps.{no_write_seen}
+use Rattle.pgn_game.proofs.twice.FailuresOfSteps.{behind_still, no_write_seen, reader_reason}
 use Rattle.pgn_game.proofs.reader.ErrorReturned.{error_returned}
 use Rattle.pgn_game.proofs.games.read_game.Goals as goal
 
--- a fault of the converter, whose source counts no failure
-counts_fault : (r : Reason) (s t o m n : ℕ) → t ≡ s → m ≡ o → CountsReason r m n → CountsDevices r s t o n
-counts_fault ReadFault s t o m n source sink h = absurd h
-counts_fault Changed s t o m n source sink h = absurd h
-counts_fault WriteFault s t o m n source sink h = (source, h ∙ ap one_more sink)
-counts_fault _ s t o m n source sink h = (source, h ∙ sink)
-
+-- the rest of a source counts no failure
 counts_result : (r : Result Bool Fault) (source sink last : Device) → source.failures_after ≡ source.failures
     → last.failures ≡ sink.failures → last.failures_after ≡ sink.failures_after → CountsFault r last → CountsNext r source sink
-counts_result (Ok is_game) source sink last still before after h = (still, subst (λ n. n ≡ sink.failures) after (h ∙ before))
+counts_result (Ok is_game) source sink last still before after h = (still, sym after ∙ h ∙ before)
 counts_result (Err f) source sink last still before after h =
-    subst (λ n. CountsDevices f.reason source.failures source.failures_after sink.failures n) after
-    (counts_fault f.reason source.failures source.failures_after sink.failures last.failures last.failures_after still before h)
+    behind_still f.reason _ _ _ _ _ _ still before (rw after at (reader_reason f.reason source.failures_after last.failures last.failures_after h))
 
 pub next_marker-requires : goal.next_marker-requires
 next_marker-requires g c = (search fits_alike, c.requires)
@@ -55,7 +48,7 @@ returns-in_err-end_game-in-Some g c =
             (seen_alike (EndsGame _ _ _ _) _ _ sink same c.in_err-end_game-in-Some.ensures.ends);
         fewer = λ same. absurd (cc);
         fault = c.in_err-end_game-in-Some.ensures.counts.fault;
-        counted = λ free. counts_fault _ _ _ _ _ _ goes.0 goes.1 counted;
+        counted = λ free. behind_still f.reason _ _ _ _ _ _ goes.0 goes.1 (reader_reason f.reason _ _ _ counted);
       });
       silent = silence_then _ _ _ _ _ _ c.next_marker.ensures.silent c.end_game.ensures.silent;
     }

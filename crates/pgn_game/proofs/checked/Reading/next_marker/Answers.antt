@@ -1,4 +1,4 @@
-use Rattle.pgn_game.proofs.Words.{IsGoing, Reading, bytes_seen, device, le_trans, refl, sink_of, subst, sym, ◌∙◌, EndsToMarker}
+use Rattle.pgn_game.proofs.Words.{bytes_seen, device, le_trans, refl, sink_of, ◌∙◌, EndsToMarker}
 use Rattle.pgn_game.proofs.ReaderFitsInMemory.{reading_fits_converter}
 use Rattle.pgn_game.proofs.putting.SilentReader.{seen_alike, silence_then}
 use Rattle.pgn_game.proofs.tokens.MarkerToGame.{reads_none}
@@ -7,10 +7,10 @@ use Rattle.pgn_game.proofs.reader.ErrorReturned.{error_returned}
 use Rattle.pgn_game.proofs.checked.Reading.next_marker.Goals as goal
 
 pub next_marker-requires : goal.next_marker-requires
-next_marker-requires g c = (search reading_fits_converter, subst (λ (r : Reading). IsGoing r.converter) (sym c.self.view_is) c.requires.going)
+next_marker-requires g c = (search reading_fits_converter, rw (← c.self.view_is) at c.requires.going)
 
 pub finish_to_marker-requires : goal.finish_to_marker-requires
-finish_to_marker-requires g c = (search reading_fits_converter, subst (λ (r : Reading). IsGoing r.converter) (sym c.self.view_is) c.requires.going)
+finish_to_marker-requires g c = (search reading_fits_converter, rw (← c.self.view_is) at c.requires.going)
 
 pub finish_to_marker-requires-2 : goal.finish_to_marker-requires-2
 finish_to_marker-requires-2 g c =

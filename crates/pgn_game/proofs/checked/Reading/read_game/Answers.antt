@@ -1,4 +1,4 @@
-use Rattle.pgn_game.proofs.Words.{◌≡◌, List, Option, ℕ, Profile, Token, Reading, ap, refl, subst, ◌∙◌, ◌+◌, ◌<◌, ◌^◌, false, None, [], Device, device, Err, EndsGame, CountsFault, IsStill, CountsReading, MarkerComes, StandsBetween, no_sink}
+use Rattle.pgn_game.proofs.Words.{◌≡◌, List, Option, ℕ, Profile, Token, Reading, ap, refl, ◌∙◌, ◌+◌, false, None, [], Device, device, Err, EndsGame, CountsFault, IsStill, CountsReading, MarkerComes, StandsBetween, no_sink}
 use Rattle.pgn_game.proofs.ReaderFitsInMemory.{reading_alike, reading_fits_converter}
 use Rattle.pgn_game.proofs.twice.FailuresOfSteps.{behind_still, no_write, reader_reason, seen_none}
 use Rattle.pgn_game.proofs.twice.GamesOfReadings.{all_read, first_fails, game_read, marker_refused_first}
@@ -64,35 +64,35 @@ end_game-requires g c =
 
 pub returns-in_err-end_game : goal.returns-in_err-end_game
 returns-in_err-end_game g c =
-    let n = (goal.at.returns-in_err-end_game g c).After-end_game in
+    let place = (goal.at.returns-in_err-end_game g c).After-end_game in
     let f = c.in_err-end_game.field-0.0 in
     let counted = reader_reason f.reason (g.R.Source.failures c.next_marker.new.source) 0 0
     (seen_none (CountsFault {A = Unit} (Err f)) c.self.inside.converter.reading.writing.is_silent c.in_err-end_game.ensures.counts.counted) in
     rw (error_returned _ c.from_residual-in_err-end_game.ensures.1) (record {
       reads = λ q left_old given stands.
           marker_refused_first q left_old _ given _ _ (record { converter = c.end_game.new.self; unused = []; has_ended = false }) None no_sink
-          stands.has_given.takes stands.has_given.has_read.passes (met g n q left_old given stands) f (no_write f.reason _ _ counted)
-          (rw c.in_err-end_game.was at (ends g n));
+          stands.has_given.takes stands.has_given.has_read.passes (met g place q left_old given stands) f (no_write f.reason _ _ counted)
+          (rw c.in_err-end_game.was at (ends g place));
       going = tt;
-      silent = silent g n;
+      silent = silent g place;
       counted = behind_still f.reason _ _ _ _ _ _ c.in_ok-mark.ensures.reads.counted.0 refl counted;
     })
 
 pub returns : goal.returns
 returns g c =
-    let n = (goal.at.returns g c).After-end_game in
+    let place = (goal.at.returns g c).After-end_game in
     let counts = c.in_ok-end_game.ensures.counts in
     let same = ap (λ (r : Reading). r.converter.games) c.self.view_is ∙ c.next_marker.ensures.reads.games in
     record {
       reads = λ q left_old given stands.
           game_read q left_old _ given _ _ _ None no_sink stands.has_given.takes stands.has_given.has_read.passes
-          (met g n q left_old given stands) (rw c.in_ok-end_game.was at (ends g n))
+          (met g place q left_old given stands) (rw c.in_ok-end_game.was at (ends g place))
           counts.lexer refl refl counts.games counts.just_finished counts.fault;
       going = (
         record { not_finished = counts.not_finished; no_fault = counts.fault },
         counts.games ∙ ap (λ n. n + 1) same,
-        subst (λ n. n < 2 ^ 64) same counts.few,
+        rw same at counts.few,
       );
-      silent = silent g n;
+      silent = silent g place;
       counted = (c.in_ok-mark.ensures.reads.counted.0, refl);
     }

@@ -1,8 +1,7 @@
 use Rattle.pgn_game.proofs.Words.{◌≡◌, seen, Device, ℕ, List, Option, Profile, Token, counting, marker_text, Converter, Reading, as_written, ap, refl, sym, ◌∙◌, device, sink_of, CountsFault, EndsGame, IsStill, KeepsSilence, false, Err, [], AfterMarker, ReadsUpToMarker, StandsBetween}
 use Rattle.pgn_game.proofs.ReaderFitsInMemory.{reading_fits_converter}
 use Rattle.pgn_game.proofs.putting.SilentReader.{seen_alike, silence_then}
-use Rattle.pgn_game.proofs.twice.FailuresOfSteps.{counts_changed}
-use Rattle.pgn_game.proofs.twice.MarkerToReading.{counts_then}
+use Rattle.pgn_game.proofs.twice.FailuresOfSteps.{behind_still, counts_changed, reader_reason}
 use Rattle.pgn_game.proofs.twice.GamesOfReadings.{ends_before, game_written, marker_differs, marker_refused_second, second_fails, told_by, told_reading}
 use Rattle.pgn_game.proofs.checked.Reading.write_game.Given.{Over}
 use Rattle.pgn_game.proofs.checked.Reading.write_game.Goals.{After-next_marker}
@@ -46,47 +45,47 @@ count-requires g c = search reading_fits_converter
 
 pub returns-in-Err : goal.returns-in-Err
 returns-in-Err g c =
-    let n = (goal.at.returns-in-Err g c).After-next_marker in
+    let place = (goal.at.returns-in-Err g c).After-next_marker in
     rw (← c.self.view_is, c.changed.ensures)
     (record {
       writes = λ q left_old given here.
           let h = here.has_given in
           second_fails q left_old _ given c.args.mark c.tokens_rise.ensures h.takes h.has_read.passes here.between
-          c.next_marker.new.self c.in-Err.fault _ _ (by g n q left_old given here) (rw c.in-Err.is at (reads g n q left_old given here));
+          c.next_marker.new.self c.in-Err.fault _ _ (by g place q left_old given here) (rw c.in-Err.is at (reads g place q left_old given here));
       going = tt;
-      counted = counts_changed c.in-Err.fault.reason _ _ _ _ (rw c.in-Err.is at (met g n).counted);
-      silent = silent g n;
+      counted = counts_changed c.in-Err.fault.reason _ _ _ _ (rw c.in-Err.is at (met g place).counted);
+      silent = silent g place;
     })
 
 pub returns-in-Ok-None : goal.returns-in-Ok-None
 returns-in-Ok-None g c =
-    let n = (goal.at.returns-in-Ok-None g c).After-next_marker in
+    let place = (goal.at.returns-in-Ok-None g c).After-next_marker in
     rw (← c.self.view_is, c.differs.ensures)
     (record {
       writes = λ q left_old given here.
           let h = here.has_given in
           rw (c.count.ensures ∙ ap (λ (r : Reading). r.converter.lexer.count) c.self-2.view_is)
           (ends_before q left_old _ given c.args.mark c.tokens_rise.ensures h.takes h.has_read.passes here.between
-          c.next_marker.new.self _ _ (by g n q left_old given here) (rw (c.in-Ok-None.is, c.in-Ok-None.field-0-is) at (reads g n q left_old given here)));
+          c.next_marker.new.self _ _ (by g place q left_old given here) (rw (c.in-Ok-None.is, c.in-Ok-None.field-0-is) at (reads g place q left_old given here)));
       going = tt;
-      counted = rw c.in-Ok-None.is at (met g n).counted;
-      silent = silent g n;
+      counted = rw c.in-Ok-None.is at (met g place).counted;
+      silent = silent g place;
     })
 
 pub returns-then-is_other : goal.returns-then-is_other
 returns-then-is_other g c =
-    let n = (goal.at.returns-then-is_other g c).After-next_marker in
+    let place = (goal.at.returns-then-is_other g c).After-next_marker in
     rw (← c.self.view_is, c.differs-then-is_other.ensures)
     (record {
       writes = λ q left_old given here.
           let h = here.has_given in
           marker_differs q left_old _ given c.args.mark c.tokens_rise.ensures h.takes h.has_read.passes here.between
           c.in-Ok-Some.found c.next_marker.new.self c.next_marker.new.self _
-          (sink_of c.self.inside.converter.reading g.W.Sink.taken g.W.Sink.failures c.next_marker.new.out c.next_marker.new.out) (by g n q left_old given here)
-          (rw (c.in-Ok-Some.is, c.in-Ok-Some.field-0-is) at (reads g n q left_old given here)) (sym c.is_other.ensures ∙ c.if-is_other.true);
+          (sink_of c.self.inside.converter.reading g.W.Sink.taken g.W.Sink.failures c.next_marker.new.out c.next_marker.new.out) (by g place q left_old given here)
+          (rw (c.in-Ok-Some.is, c.in-Ok-Some.field-0-is) at (reads g place q left_old given here)) (sym c.is_other.ensures ∙ c.if-is_other.true);
       going = tt;
-      counted = rw c.in-Ok-Some.is at (met g n).counted;
-      silent = silent g n;
+      counted = rw c.in-Ok-Some.is at (met g place).counted;
+      silent = silent g place;
     })
 
 pub end_game-requires : goal.end_game-requires
@@ -95,44 +94,43 @@ end_game-requires g c =
 
 pub returns-in-Err-end_game : goal.returns-in-Err-end_game
 returns-in-Err-end_game g c =
-    let n = (goal.at.returns-in-Err-end_game g c).After-next_marker in
+    let place = (goal.at.returns-in-Err-end_game g c).After-next_marker in
     let s = c.self.inside.converter.reading in
     let last = device g.W.Sink.taken g.W.Sink.failures c.next_marker.new.out c.end_game.new.out in
-    let behind = ap (λ (r : Reading). r.converter.reading.writing.is_silent) c.self-2.view_is ∙ (silent g n).silent in
+    let behind = ap (λ (r : Reading). r.converter.reading.writing.is_silent) c.self-2.view_is ∙ (silent g place).silent in
     let f = c.in-Err-end_game.fault in
-    let counted = rw c.in-Ok-Some.is at (met g n).counted in
+    let counted = rw c.in-Ok-Some.is at (met g place).counted in
     rw (← c.self.view_is, c.changed-in-Err-end_game.ensures)
     (record {
       writes = λ q left_old given here.
           let h = here.has_given in
           marker_refused_second q left_old _ given c.args.mark c.tokens_rise.ensures h.takes h.has_read.passes here.between
-          c.in-Ok-Some.found _ (record { converter = c.end_game.new.self; unused = []; has_ended = false }) _ (seen _ last) (rw (← c.self-2.view_is) at (by g n q left_old given here))
-          (rw (c.in-Ok-Some.is, c.in-Ok-Some.field-0-is, ← c.self-2.view_is) at (reads g n q left_old given here))
+          c.in-Ok-Some.found _ (record { converter = c.end_game.new.self; unused = []; has_ended = false }) _ (seen _ last) (rw (← c.self-2.view_is) at (by g place q left_old given here))
+          (rw (c.in-Ok-Some.is, c.in-Ok-Some.field-0-is, ← c.self-2.view_is) at (reads g place q left_old given here))
           (sym c.is_other.ensures ∙ c.if-is_other.false) f (seen_alike (EndsGame _ _ _ _) _ _ _ behind c.in-Err-end_game.ensures.ends);
       going = tt;
-      counted = counts_changed f.reason _ _ _ _ (counts_then {A = Unit} (Err f) (source g n) (sink g n) (seen _ last)
-          (sink_of s g.W.Sink.taken g.W.Sink.failures c.args.out.now c.end_game.new.out) counted.0 counted.1 refl refl refl
-          (seen_alike (CountsFault {A = Unit} (Err f)) _ _ last behind c.in-Err-end_game.ensures.counts.counted));
-      silent = silence_then _ _ _ _ _ _ (silent g n) (rw (ap (λ (r : Reading). r.converter) c.self-2.view_is) at c.end_game.ensures.silent);
+      counted = counts_changed f.reason _ _ _ _ (behind_still f.reason _ _ _ _ _ _ counted.0 counted.1
+          (reader_reason f.reason _ _ _ (seen_alike (CountsFault {A = Unit} (Err f)) _ _ last behind c.in-Err-end_game.ensures.counts.counted)));
+      silent = silence_then _ _ _ _ _ _ (silent g place) (rw (ap (λ (r : Reading). r.converter) c.self-2.view_is) at c.end_game.ensures.silent);
     })
 
 pub returns-in_default : goal.returns-in_default
 returns-in_default g c =
-    let n = (goal.at.returns-in_default g c).After-next_marker in
+    let place = (goal.at.returns-in_default g c).After-next_marker in
     let last = device g.W.Sink.taken g.W.Sink.failures c.next_marker.new.out c.end_game.new.out in
-    let behind = ap (λ (r : Reading). r.converter.reading.writing.is_silent) c.self-2.view_is ∙ (silent g n).silent in
+    let behind = ap (λ (r : Reading). r.converter.reading.writing.is_silent) c.self-2.view_is ∙ (silent g place).silent in
     let ended = c.in_default.ensures in
-    let counted = rw c.in-Ok-Some.is at (met g n).counted in
+    let counted = rw c.in-Ok-Some.is at (met g place).counted in
     rw (← c.self.view_is)
     (record {
       writes = λ q left_old given here.
           let h = here.has_given in
           game_written q left_old _ given c.args.mark c.tokens_rise.ensures h.takes h.has_read.passes here.between
-          c.in-Ok-Some.found _ _ _ (seen _ last) (rw (← c.self-2.view_is) at (by g n q left_old given here))
-          (rw (c.in-Ok-Some.is, c.in-Ok-Some.field-0-is, ← c.self-2.view_is) at (reads g n q left_old given here))
+          c.in-Ok-Some.found _ _ _ (seen _ last) (rw (← c.self-2.view_is) at (by g place q left_old given here))
+          (rw (c.in-Ok-Some.is, c.in-Ok-Some.field-0-is, ← c.self-2.view_is) at (reads g place q left_old given here))
           (sym c.is_other.ensures ∙ c.if-is_other.false) (seen_alike (EndsGame _ _ _ _) _ _ _ behind ended.ends)
           ended.counts.lexer refl refl ended.counts.games ended.counts.just_finished ended.counts.fault;
       going = record { not_finished = ended.counts.not_finished; no_fault = ended.counts.fault };
       counted = (counted.0, seen_alike IsStill _ _ last behind ended.counts.counted ∙ counted.1);
-      silent = silence_then _ _ _ _ _ _ (silent g n) (rw (ap (λ (r : Reading). r.converter) c.self-2.view_is) at ended.silent);
+      silent = silence_then _ _ _ _ _ _ (silent g place) (rw (ap (λ (r : Reading). r.converter) c.self-2.view_is) at ended.silent);
     })

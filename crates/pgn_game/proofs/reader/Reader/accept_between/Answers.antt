@@ -1,5 +1,4 @@
-use Rattle.pgn_game.proofs.Words.{◌≡◌, ◌||◌, Bool, true, refl, sym, ap, subst, ◌∙◌, or_right, kind_of, is_comment, is_end, option_map, continued}
-use Rattle.pgn_game.proofs.Words.{ReaderState, TakesOutside}
+use Rattle.pgn_game.proofs.Words.{◌≡◌, ◌||◌, Bool, true, refl, sym, ap, ◌∙◌, or_right, kind_of, is_comment, is_end, option_map, continued}
 use Rattle.pgn_game.proofs.ReaderLemmas.{passes_first, takes_outside_first}
 use Rattle.pgn_game.proofs.reader.Reader.accept_between.Goals as goal
 use Rattle.pgn_game.proofs.reader.Reader.accept_between.Goals.{then-is_comment-via-then-is_comment, then-is_comment-via-else-is_comment+then-is_end}
@@ -19,5 +18,4 @@ returns g c =
     let k = kind_of c.args.kind in
     takes_outside_first old _ c.args.kind (option_map continued c.accept_after_tags.result) c.requires.stage
     (sym c.is_comment.ensures ∙ c.if-is_comment.false) (sym c.is_end.ensures ∙ c.if-is_end.false)
-    (subst (λ (r : ReaderState). TakesOutside r k c.accept_after_tags.new.self (option_map continued c.accept_after_tags.result))
-    c.begin_game.ensures c.accept_after_tags.ensures)
+    (rw c.begin_game.ensures at c.accept_after_tags.ensures)

@@ -1,9 +1,7 @@
-use Rattle.pgn_game.proofs.Words.{Accepted, Reason, Result, sink_of, mode_written, Ok, More, TakesEntry, Writing, device, symbol, ◌∷◌, [], inr, IsTrue, refl, ap, subst, ◌∙◌, arith, Err, or_parts, le-max_right, WriteFault, going, FinishesNone, PutResult, ReaderCall, IsOpen, with_items}
-use Rattle.pgn_game.proofs.Words.{InMovetext, Movetext, ReaderState, may_have_movetext, TriesItem}
+use Rattle.pgn_game.proofs.Words.{Accepted, Reason, Result, sink_of, mode_written, Ok, More, TakesEntry, Writing, device, symbol, ◌∷◌, [], inr, IsTrue, refl, ap, subst, ◌∙◌, arith, Err, or_parts, InMovetext, Movetext, ReaderState, may_have_movetext, TriesItem, le-max_right, WriteFault, going, FinishesNone, PutResult, ReaderCall, IsOpen, with_items}
 use Rattle.pgn_game.specs.games.Game.{move}
 use Rattle.pgn_game.proofs.putting.SilentReader.{adds_as, seen_alike, silence_kept, silence_put, silence_then}
-use Rattle.pgn_game.proofs.ReaderLemmas.{text_fits, begins_as, fails_move, most_after, puts_move, puts_unbegun, text_begun}
-use Rattle.pgn_game.proofs.ReaderLemmas.{unbegun_part, adds_move, move_refused, takes_move}
+use Rattle.pgn_game.proofs.ReaderLemmas.{text_fits, begins_as, fails_move, most_after, puts_move, puts_unbegun, text_begun, unbegun_part, adds_move, move_refused, takes_move}
 use Rattle.pgn_game.proofs.tokens.PairsTriedForToken.{tries_put}
 use Rattle.pgn_game.proofs.reader.ErrorReturned.{error_returned}
 use Rattle.pgn_game.proofs.reader.Reader.accept_move.Given.{Over}

@@ -1,7 +1,6 @@
 use Rattle.pgn_game.proofs.Words.{IsFalse, Reason, Err, is_outside_the_table, ◌≡◌, has_pair, Part, Agrees, not, length, is_some, Some, refl, sym, ap, ◌∙◌, kind_of, TokenKind, ExpectedName, BadTagName, DuplicateTag, TagLineTooLong, ReducedFen, AfterLeftBracket, AfterName, TagPairs, next, refusal, ReaderState, TakesUnwritten}
 use Rattle.std.proofs.lemmas.Bool.{lt-ltb, le-ltb}
-use Rattle.pgn_game.proofs.ReaderLemmas.{name_rows, hit, pass, expected_name, name_refusal, name_next, part_stage, held_at, puts_name}
-use Rattle.pgn_game.proofs.ReaderLemmas.{to_name, adds_same, comment_in_pair, refused_in_pair, step_in_pair, tags_fit}
+use Rattle.pgn_game.proofs.ReaderLemmas.{name_rows, hit, pass, expected_name, name_refusal, name_next, part_stage, held_at, puts_name, to_name, adds_same, comment_in_pair, refused_in_pair, step_in_pair, tags_fit}
 use Rattle.pgn_game.proofs.reader.Reader.accept_name.Given.{Over}
 use Rattle.pgn_game.proofs.reader.Reader.accept_name.Goals.{In-Symbol}
 use Rattle.pgn_game.proofs.reader.Reader.accept_name.Goals as goal

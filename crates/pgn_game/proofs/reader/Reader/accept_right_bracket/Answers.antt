@@ -1,7 +1,5 @@
-use Rattle.pgn_game.proofs.Words.{refl, sym, ap, ◌∙◌, kind_of, TokenKind, ExpectedBracket, AfterTags, AfterValue, next, refusal}
-use Rattle.pgn_game.proofs.Words.{ReaderState}
-use Rattle.pgn_game.proofs.ReaderLemmas.{expected_bracket, close_refusal, close_next, part_stage, puts_right_bracket, to_stage, adds_same}
-use Rattle.pgn_game.proofs.ReaderLemmas.{comment_in_pair, refused_in_pair, step_in_pair}
+use Rattle.pgn_game.proofs.Words.{refl, sym, ap, ◌∙◌, kind_of, TokenKind, ExpectedBracket, AfterTags, AfterValue, next, refusal, ReaderState}
+use Rattle.pgn_game.proofs.ReaderLemmas.{expected_bracket, close_refusal, close_next, part_stage, puts_right_bracket, to_stage, adds_same, comment_in_pair, refused_in_pair, step_in_pair}
 use Rattle.pgn_game.proofs.reader.Reader.accept_right_bracket.Goals as goal
 
 pub returns-then-is_comment : goal.returns-then-is_comment

@@ -1,6 +1,6 @@
-use Rattle.pgn_game.proofs.Words.{More, Ok, ◌≡◌, ◌||◌, ℕ, List, [], Option, None, Some, Result, Err, is_some, true, false, refl, sym, ◌∙◌, PutsItems, TakesOther, ReaderCall}
-use Rattle.pgn_game.proofs.Words.{symbol, Reason, ReaderState, Accepted, Marker, marker_of, is_number, is_score}
+use Rattle.pgn_game.proofs.Words.{More, Ok, ◌≡◌, ◌||◌, ℕ, List, [], Option, None, Some, Result, Err, is_some, true, false, refl, sym, ◌∙◌, symbol, Reason, ReaderState, Accepted, Marker, marker_of, is_number, is_score, PutsItems, TakesOther, ReaderCall}
 use Rattle.pgn_game.proofs.ReaderLemmas.{reader_alike, number_no_score, number_free, number_leads, number_untried, passes_entry}
+use Rattle.pgn_game.proofs.putting.SilentReader.{unused_call}
 use Rattle.pgn_game.proofs.reader.ErrorReturned.{error_returned}
 use Rattle.pgn_game.proofs.reader.Reader.accept_symbol.Goals as goal
 use Rattle.pgn_game.proofs.reader.Reader.accept_symbol.Goals.{then-may_be_score_or_number+else-is_number+in_default, else-may_be_score_or_number}
@@ -29,6 +29,10 @@ returns-in_err-pass g c =
 
 pub returns-then-is_number : goal.returns-then-is_number
 returns-then-is_number g c = number_entry c.args.text.now (Ok More) (sym c.is_number.ensures ∙ c.if-is_number.true) c.in_ok-pass.ensures
+
+pub returns-in-Some : goal.returns-in-Some
+returns-in-Some g c =
+    unused_call _ _ c.args.self.now _ _ (λ o m. record { is = sym c.in-Some.ensures.text; same = refl; unwritten = refl; still = refl })
 
 no_marker : (o : Option Marker) → ((m : Marker) → o ≡ Some m → ⊥) → is_some o ≡ false
 no_marker None other = refl

@@ -1,7 +1,6 @@
 use Rattle.pgn_game.proofs.putting.SilentReader.{seen_alike, silence_kept, silence_then}
 use Rattle.pgn_game.specs.state.PutResult.{TakesUnlessMarker as Unless}
-use Rattle.pgn_game.proofs.Words.{Writing, kind_of, device, ◌≡◌, None, Err, ap, subst, arith, Kind, TakesUnwritten}
-use Rattle.pgn_game.proofs.Words.{Reason, WriteFault, ReaderState, marker_of, CountsWrites}
+use Rattle.pgn_game.proofs.Words.{Writing, kind_of, device, ◌≡◌, None, Err, ap, subst, arith, Kind, Reason, WriteFault, ReaderState, marker_of, CountsWrites, TakesUnwritten}
 use Rattle.pgn_game.proofs.ReaderLemmas.{entry_met}
 use Rattle.pgn_game.proofs.reader.ErrorReturned.{error_returned}
 use Rattle.pgn_game.proofs.reader.Reader.accept_unless_marker.Goals as goal

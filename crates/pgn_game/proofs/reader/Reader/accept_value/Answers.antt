@@ -1,6 +1,6 @@
-use Rattle.pgn_game.proofs.Words.{IsFalse, Err, Reason, is_outside_the_table, IsSome, None, ◌≡◌, ◌≤◌, ◌+◌, false, Some, IsTrue, ℕ, length, Bool, true, nat_lt, List, Option, IfSome, refl, sym, ap, subst, ◌∙◌, IsSomeAnd, is_ok, ltb-false, false≢true, escaped, kind_of, TokenKind, ExpectedValue, BadResult, BadFen, TagLineTooLong, AfterName, AfterValue, Part, refusal, next, ReaderState, Agrees, movetext_after_fen, true_from_ne_false, TakesUnwritten}
+use Rattle.pgn_game.proofs.Words.{IsFalse, Err, Reason, is_outside_the_table, IsSome, None, ◌≡◌, ◌≤◌, ◌+◌, false, Some, IsTrue, ℕ, length, Bool, true, nat_lt, Option, refl, sym, ap, ◌∙◌, IsSomeAnd, is_ok, ltb-false, false≢true, escaped, kind_of, TokenKind, ExpectedValue, BadResult, BadFen, TagLineTooLong, AfterName, AfterValue, Part, refusal, next, ReaderState, Agrees, movetext_after_fen, true_from_ne_false, TakesUnwritten}
 use Rattle.std.proofs.lemmas.Bool.{le-ltb}
-use Rattle.pgn_game.proofs.ReaderLemmas.{value_rows, hit, pass, expected_value, value_refusal, value_next, start_fine, start_faults, part_stage, held_at, begun_name, completed, puts_value, to_value, adds_same, comment_in_pair, refused_in_pair, step_in_pair, tags_fit, text_fits}
+use Rattle.pgn_game.proofs.ReaderLemmas.{value_rows, hit, pass, expected_value, value_refusal, value_next, start_fine, start_faults, part_stage, held_at, begun_name, puts_value, to_value, adds_same, comment_in_pair, refused_in_pair, step_in_pair, tags_fit, text_fits}
 use Rattle.pgn_game.proofs.reader.Reader.accept_value.Given.{Over}
 use Rattle.pgn_game.proofs.reader.Reader.accept_value.Goals.{After-pending_name-name}
 use Rattle.pgn_game.proofs.reader.Reader.accept_value.Goals as goal
@@ -60,11 +60,7 @@ returns-then-not-fits_tag_line g c =
 -- The parts of the reader that change.
 
 pub complete-requires : goal.complete-requires
-complete-requires g c = (
-  search tags_fit,
-  subst (λ (o : Option (List ℕ)). IsSomeAnd o (λ n. length n + length (escaped c.in-Str.value.now) ≤ 249)) (sym c.pending_name-name.ensures)
-      (c.fits_tag_line.ensures.0 c.if-not-fits_tag_line.false),
-)
+complete-requires g c = (search tags_fit, rw c.pending_name-name.ensures (c.fits_tag_line.ensures.0 c.if-not-fits_tag_line.false))
 
 pub begin_at-requires : goal.begin_at-requires
 begin_at-requires g c = search text_fits
@@ -81,8 +77,7 @@ returns g c =
     let short = le-ltb 249 (length name + length (escaped value)) (c.fits_tag_line.ensures.0 c.if-not-fits_tag_line.false) in
     step_in_pair old _ _ AfterName c.requires.stage (λ q. refl) (to_value value)
     (λ o m. puts_value old _ value name c.in-Ok.start held o m c.requires.stage
-    (subst (λ (r : ReaderState). IfSome r.tags.pending_name (λ name. held ≡ completed name value r.tags.held)) v c.complete.ensures)
-    (sym (ap (λ (r : ReaderState). r.tags.pending_name) v) ∙ c.pending_name-name.ensures) tells
+    (rw (← v) c.complete.ensures) (sym (ap (λ (r : ReaderState). r.tags.pending_name) v) ∙ c.pending_name-name.ensures) tells
     (rw c.begin_at.ensures
     (ap (λ (r : ReaderState). record r { stage = AfterValue; tags = held; text = movetext_after_fen c.in-Ok.start r.text }) v)))
     (ap (λ (r : ReaderState). r.most_probes) v) (λ part. search adds_same) (λ part agrees. (

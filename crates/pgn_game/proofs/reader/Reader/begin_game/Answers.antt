@@ -1,5 +1,4 @@
-use Rattle.pgn_game.proofs.Words.{◌≡◌, ◌+◌, [], None, ap, refl, AfterTags, first_position}
-use Rattle.pgn_game.proofs.Words.{movetext_from, ReaderState, initial}
+use Rattle.pgn_game.proofs.Words.{◌≡◌, ◌+◌, [], None, ap, refl, AfterTags, first_position, movetext_from, ReaderState, initial}
 use Rattle.pgn_game.proofs.ReaderPartsFitInMemory.{tags_fit, text_fits}
 use Rattle.pgn_game.proofs.reader.Reader.begin_game.Goals as goal
 

@@ -1,5 +1,4 @@
-use Rattle.pgn_game.proofs.Words.{◌≡◌, ℕ, ◌==◌, length, refl, sym, ap, ◌∙◌, ne_eqb, UnmatchedClose, depth, levels_of_part, Close}
-use Rattle.pgn_game.proofs.Words.{ReaderState, right_paren}
+use Rattle.pgn_game.proofs.Words.{◌≡◌, ℕ, ◌==◌, length, refl, sym, ap, ◌∙◌, ne_eqb, UnmatchedClose, depth, levels_of_part, ReaderState, right_paren, Close}
 use Rattle.pgn_game.proofs.ReaderLemmas.{text_fits, hit, pass, depth_is, entry_refused, item_entry}
 use Rattle.pgn_game.proofs.putting.SilentReader.{unused_call}
 use Rattle.pgn_game.proofs.reader.Reader.close_variation.Goals as goal

@@ -1,0 +1,10 @@
+use Rattle.pgn_game.proofs.Words.{sym, ◌∙◌}
+use Rattle.pgn_game.proofs.ReaderLemmas.{no_symbol_counted, plain_counted}
+use Rattle.pgn_game.proofs.reader.Reader.count_move.Goals as goal
+
+pub returns-in_default : goal.returns-in_default
+returns-in_default g c = no_symbol_counted c.args.self.now c.args.kind c.in_default.not-Symbol
+
+pub returns-then-is_score_or_number : goal.returns-then-is_score_or_number
+returns-then-is_score_or_number g c =
+    rw c.in-Symbol.is (plain_counted c.args.self.now c.in-Symbol.text.now (sym c.is_score_or_number.ensures ∙ c.if-is_score_or_number.true))

@@ -13,27 +13,16 @@ use Rattle.pgn_game.proofs.reader.Reader.end_game.Goals as goal
 -- What the reader's calls say before a game ends: it is at depth 0, and whether its Result differs.
 record Tested (old : ReaderState) (marker : Marker) (other : Bool) : Type 0 where
   none : length old.text.levels.around ≡ 0
-  result : differs (result_for old.profile.missing_result (marker_text marker))
-      (value_of old.tags.held (codes "Result")) (marker_text marker) ≡ other
+  result : (part : Part) → IsOpen old part → differs (result_for old.profile.missing_result (marker_text marker))
+      (value_of part.pairs (codes "Result")) (marker_text marker) ≡ other
 
 tested : (g : Over) (c : After-ne g) (other : Bool) → c.ne.result ≡ other → Tested c.args.self.now c.args.marker other
 tested g c other test =
     rw (← c.self.view_is) (record {
       none = omega (arith, c.depth.ensures.value, c.if-depth-gt0.false);
-      result = test_of c.self.inside.tags.held c.value.result _ c.unwrap_or.result _ _ other _ refl c.value.ensures.value c.text_at-missing.ensures c.unwrap_or.ensures
-          (sym test ∙ (rw c.text.ensures.text at c.ne.ensures));
+      result = λ part op. test_of c.self.inside.tags.held c.value.result _ c.unwrap_or.result _ _ other _ (ap (λ (t : TagPairs). t.held) op.pairs)
+          c.value.ensures.value c.text_at-missing.ensures c.unwrap_or.ensures (sym test ∙ (rw c.text.ensures.text at c.ne.ensures));
     })
-
--- so it is for a part that the reader holds
-of_part : (old : ReaderState) (marker : Marker) (other : Bool) → Tested old marker other → (part : Part) → IsOpen old part
-    → (depth (levels_of_part part) ≡ 0)
-    × (differs (result_for old.profile.missing_result (marker_text marker)) (value_of part.pairs (codes "Result")) (marker_text marker) ≡ other)
-of_part old marker other t part op =
-    let text = marker_text marker in
-    let missing = result_for old.profile.missing_result text in (
-      sym (depth_is old part op) ∙ t.none,
-      ap (λ (t : TagPairs). differs missing (value_of t.held (codes "Result")) text) (sym op.pairs) ∙ t.result,
-    )
 
 refuses : {S : Type 0} {taken : S → Option (List ℕ)} {failures : S → ℕ} {a : S} (old : ReaderState) (marker : Marker) (reason : Reason)
     → IsFalse (is_outside_the_table reason) → ((k : Kind) → marker_of k ≡ Some (marker_text marker)
@@ -57,7 +46,7 @@ takes : (old : ReaderState) (marker : Marker) (new : ReaderState) (d : Device) (
     → TakesMarker old marker new r d
 takes old marker new d r t most at put = record {
   takes = λ k is. takes_marker old new k marker (ended r) d put (at_marker k new r (ap is_some is) at) most is (λ part op.
-      let h = of_part old marker false t part op in marker_free old k _ (marker_text marker) part is h.0 refl h.1);
+      marker_free old k _ (marker_text marker) part is (sym (depth_is old part op) ∙ t.none) refl (t.result part op));
   keeps = put.keeps;
   between = at;
   counted = put.counted;
@@ -107,7 +96,7 @@ returns-then-ne g c =
     let old = c.args.self.now in
     let t = tested g (goal.at.returns-then-ne g c).After-ne true c.if-ne.true in
     refuses old c.args.marker ResultDiffers refl (λ k is part op.
-    let h = of_part old c.args.marker true t part op in marker_differs old k _ (marker_text c.args.marker) part is h.0 refl h.1)
+    marker_differs old k _ (marker_text c.args.marker) part is (sym (depth_is old part op) ∙ t.none) refl (t.result part op))
 
 pub returns-in_err-begin_movetext : goal.returns-in_err-begin_movetext
 returns-in_err-begin_movetext g c =

@@ -1,5 +1,4 @@
-use Rattle.pgn_game.proofs.Words.{None, nat_le, or_else, Part, IsOpen, text_refusal, ◌≡◌, ◌-◌, length, not, refl, sym, ap, ◌∙◌, arith, is_some, le-leb, lt-leb, NoMoveBefore, TooDeep, Open}
-use Rattle.pgn_game.proofs.Words.{ReaderState, left_paren}
+use Rattle.pgn_game.proofs.Words.{None, nat_le, or_else, Part, IsOpen, text_refusal, ◌≡◌, ◌-◌, length, not, refl, sym, ap, ◌∙◌, arith, is_some, le-leb, lt-leb, NoMoveBefore, TooDeep, ReaderState, left_paren, Open}
 use Rattle.pgn_game.proofs.ReaderLemmas.{hit, pass, holds_is, depth_is, entry_refused, item_entry}
 use Rattle.pgn_game.proofs.putting.SilentReader.{unused_call}
 use Rattle.pgn_game.proofs.ReaderPartsFitInMemory.{text_fits}

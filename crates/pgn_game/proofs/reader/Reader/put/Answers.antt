@@ -1,5 +1,5 @@
 use Rattle.pgn_game.proofs.putting.SilentReader.{adds_as, silence_put}
-use Rattle.pgn_game.proofs.Words.{Writing, refl, ap, subst, sym, arith, Movetext, ItemFits, model_item}
+use Rattle.pgn_game.proofs.Words.{Writing, refl, ap, arith, model_item}
 use Rattle.pgn_game.proofs.ReaderLemmas.{text_fits, no_move, begins_as, fails_item, puts_item, puts_unbegun, text_begun}
 use Rattle.pgn_game.proofs.reader.ErrorReturned.{error_returned}
 use Rattle.pgn_game.proofs.reader.Reader.put.Goals as goal
@@ -7,7 +7,7 @@ use Rattle.pgn_game.proofs.reader.Reader.put.Goals as goal
 pub put-requires : goal.put-requires
 put-requires g c =
     let text = text_begun c.args.self.now _ _ _ c.self.view_is c.in_ok-begin_movetext.ensures.takes in
-    (search text_fits, subst (λ (t : Movetext). ItemFits g.row.L t c.args.item) (sym text) c.requires.fits)
+    (search text_fits, rw text c.requires.fits)
 
 pub returns-in_err-begin_movetext : goal.returns-in_err-begin_movetext
 returns-in_err-begin_movetext g c =
