@@ -603,7 +603,7 @@ class Positions(unittest.TestCase):
 
     def test_positions_are_foreseen_while_they_are_asked_for(self):
         def read(games):
-            game, annotated, other, last = games
+            game, _annotated, other, last = games
             self.assertTrue([it.fen for it in game.mainline()])
             for it in (other, last):
                 self.assertTrue([it.san for it in it.mainline()])

@@ -14,7 +14,7 @@ pub use Rattle.chess_rules.specs.Reach.{slides, square_at}
 pub use Rattle.chess_rules.specs.Square.{Square, between_on_diagonal, between_on_file, between_on_rank, gap, in_line, inside, is_adjacent, is_jump}
 pub use Rattle.chess_rules.specs.Square.{lines, on_board, on_diagonal, same_square, square, strictly_between}
 unfoldable pub use Rattle.chess_rules.specs.Square.{squares}
-pub use Rattle.chess_rules.specs.Step.{Wing, after, board_after, captured_pawn, carried, castled, castles, castles_long, castles_short, crossed, double_rank, en_passant_board, full_after, half_after, home, home_rank, is_advance, is_double_step, is_en_passant, is_on_board, is_pawn_capture, is_pawn_step, is_pawn_way, is_piece_step, is_target, keeps, kind_of, last_rank, long_right, long_wing, own, pawn_rank, promoted, promotion_fits, rights_after, short_right, short_wing, step, target_after, is_king_move, is_unattacked, stand_ready}
+pub use Rattle.chess_rules.specs.Step.{Wing, after, board_after, captured_pawn, carried, castled, castles, castles_long, castles_short, double_rank, en_passant_board, full_after, half_after, home, home_rank, is_advance, is_double_step, is_en_passant, is_on_board, is_pawn_step, is_pawn_way, is_piece_step, is_target, keeps, kind_of, last_rank, long_right, long_wing, own, pawn_rank, promoted, promotion_fits, rights_after, short_right, short_wing, step, target_after, is_king_move, is_unattacked, stand_ready}
 unfoldable pub use Rattle.chess_rules.specs.StepKinds.{step_kind}
 pub use Rattle.chess_rules.specs.StoredPosition.{FitsPosition, parts_of}
 pub use Rattle.chess_rules.specs.Words.{AreWords, Bits, HasNone, IsFirst, IsFrom, IsHighest, IsLowest, IsUpTo, Places, Sets, TakesLowest, cell_in, coded, lanes, lanes_of, word, words}

@@ -23,15 +23,15 @@ pub use Rattle.std.specs.List.Sorted.{IsPermutation}
 pub use Rattle.std.specs.Option.{ok_or, option_to_list}
 pub use Rattle.std.specs.Prelude.{Err, IfSome, IsTrue, None, Ok, Option, Result, Some, bytes_eq, codes, count_by, decimal, find, flat_map, fold, if◌then◌else◌, is_err, is_none, is_ok, is_some, nat_lt, option_map, slice_index_or, slice_set, sum_by, ◌==◌, ◌↔◌, IfOk}
 pub use Rattle.std.specs.Result.{OnOk}
-pub use Rattle.chess_rules.specs.Attacks.{attacks, cell_attacks, is_ahead, king_attacked}
-pub use Rattle.chess_rules.specs.Board.{Board, at, has_colour, has_piece, is_empty, other, same_colour, same_kind}
+pub use Rattle.chess_rules.specs.Attacks.{attacks, cell_attacks, is_ahead}
+pub use Rattle.chess_rules.specs.Board.{Board, at, has_colour, has_piece, is_empty, other, same_kind}
 pub use Rattle.chess_rules.specs.Candidate.{candidates, is_candidate, lone, sees}
 pub use Rattle.chess_rules.specs.Laws.{CandidatesComplete, OneKing, StepsFromCandidates}
 pub use Rattle.chess_rules.specs.Legal.{every_promotion, if_safe, is_check, is_legal, is_mate, legal}
-pub use Rattle.chess_rules.specs.Position.{built_unless, initial, is_position, one_king, pawn_on_edge, position_fault, target_fits, target_rank}
+pub use Rattle.chess_rules.specs.Position.{built_unless, initial, is_position, position_fault, target_fits}
 pub use Rattle.chess_rules.specs.Square.{Square, gap, is_adjacent, lines, on_board, same_square, square}
 unfoldable pub use Rattle.chess_rules.specs.Square.{squares}
-pub use Rattle.chess_rules.specs.Step.{Wing, captured_pawn, castles, castles_long, castles_short, crossed, double_rank, home, home_rank, is_advance, is_double_step, is_en_passant, is_pawn_capture, is_pawn_way, long_right, long_wing, own, pawn_rank, short_right, short_wing, step, after, board_after, carried, castled, en_passant_board, is_on_board, is_pawn_step, is_piece_step, promotion_fits, stand_ready}
+pub use Rattle.chess_rules.specs.Step.{Wing, captured_pawn, castles, castles_long, castles_short, crossed, double_rank, home, home_rank, is_en_passant, is_pawn_way, long_right, long_wing, own, pawn_rank, short_right, short_wing, step, after, board_after, carried, castled, en_passant_board, is_on_board, is_pawn_step, is_piece_step, promotion_fits, stand_ready}
 pub use Rattle.chess_rules.specs.declared.piece.Colour.{Colour}
 pub use Rattle.chess_rules.specs.declared.piece.Colour.TheVariants.{Black, White}
 pub use Rattle.chess_rules.specs.declared.piece.Kind.{Kind}
@@ -44,7 +44,7 @@ pub use Rattle.chess_rules.specs.declared.position.PositionFault.TheVariants.{Ki
 pub use Rattle.chess_rules.specs.declared.position.Rights.{Rights}
 pub use Rattle.chess_text.specs.Fen.{Fen, SpellsBoard, SpellsNumber, at_field, fen_text, field, if_position, is_space, parts_or_fault, parts_read}
 pub use Rattle.chess_text.specs.Fen.{read, rest}
-pub use Rattle.chess_text.specs.Field.{is_digit, is_target, number_of, or_dash, right_letter, rights_of, rights_text, side_of, side_text, target_of}
+pub use Rattle.chess_text.specs.Field.{is_digit, is_target, number_of, rights_of, rights_text, side_of, side_text, target_of}
 pub use Rattle.chess_text.specs.Field.{target_text, value}
 pub use Rattle.chess_text.specs.Form.{Spells, SpellsBare, SpellsPieceMove, bare_form, before_capture, before_file, before_marks, before_promotion, before_rank, before_sign, before_target, below_eight, capture_texts, castle_of, castle_or, castle_texts, file_at_end, file_of, form_of, front, front_if, hint_text, is_among, is_form, is_mark, kind_of_text, last_byte, letter_texts, piece_move_if, piece_move_of, promotion_at_end, promotion_letter, promotion_of, promotion_texts, promotions, rank_at_end, rank_of, square_of, target_at_end}
 pub use Rattle.chess_text.specs.FormOrigins.{LegalOriginsDecide, count_legal, form_move, is_legal_kind, is_step_of_form, kind_of_move, nth_square}
@@ -56,7 +56,7 @@ pub use Rattle.chess_text.specs.Letter.{file_letter, kinds, letter, piece_letter
 pub use Rattle.chess_text.specs.MoveOfForm.{agrees, castling_move, describes, form_pairs, hints_fit, is_castling, move_from, move_of_form}
 pub use Rattle.chess_text.specs.MoveOfForm.{moves_to_try, only, piece_move_fits, played, same_promotion, with_next, with_next_position}
 unfoldable pub use Rattle.chess_text.specs.MoveOfForm.{agreeing}
-pub use Rattle.chess_text.specs.Placement.{cells_at, cells_of, is_item, is_placement, is_rank, is_run, is_slash, placement_of, placement_text, one_cell}
+pub use Rattle.chess_text.specs.Placement.{cells_at, cells_of, is_item, is_rank, is_run, is_slash, placement_of, placement_text, one_cell}
 pub use Rattle.chess_text.specs.Placement.{rank_text, ranks, row, run_text}
 pub use Rattle.chess_text.specs.Items.{item}
 pub use Rattle.chess_text.specs.San.{MarkPairs, capture_if, capture_text, castling_text, disambiguated_text, disambiguation, disambiguation_by, disambiguation_pairs, from_square, has_rivals, is_capture, is_rival, kind_pairs, kind_text, king_text, mark, mark_after, on_file, on_rank, pawn_capture, piece_text, promotion_text, rivals, san, unmarked}

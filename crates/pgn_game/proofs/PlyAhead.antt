@@ -1,17 +1,10 @@
 -- The next ply of a line of play, by the next word that is to name a move.
-use Rattle.pgn_game.proofs.Words.{◌≡◌, ℕ, List, ◌∷◌, arith, Result, Ok, Err, Some, Parts, Played, Reason, san, text_of_move, Ahead, NextPly, behind_ply, line_ahead, line_of, no_plies, bytes_between, moves_from, word_in, common_steps}
+use Rattle.pgn_game.proofs.Words.{◌≡◌, ℕ, List, ◌∷◌, arith, Result, Ok, Err, Some, Parts, Played, Reason, san, text_of_move, Ahead, NextPly, bytes_between, moves_from, word_in, common_steps}
 use Rattle.pgn_game.specs.declared.line_of_play.Ply.{Ply as CodePly}
 use Rattle.pgn_game.specs.declared.line_of_play.Span.{Span}
 use Rattle.pgn_game.specs.declared.notation.Notation.{Notation}
 use Rattle.pgn_game.specs.calls.Notations.{named_in}
 use Rattle.pgn_game.specs.calls.LineOfPlay.{Line, Word}
-
-abbrev line_by : (n : Notation) (p : Parts) (w : Word) (ws : List Word) → Result Played Reason → Line
-line_by n p w ws r =
-    elim r [
-      | Ok played ↦ behind_ply (record { at = w.at; played = played; san = text_of_move p played.mv }) (line_of n played.next ws)
-      | Err reason ↦ no_plies (Some (record { at = w.at; reason = reason }))
-    ]
 
 -- what was seen before the call
 abbrev seen : Notation → Parts → List ℕ → ℕ → Ahead

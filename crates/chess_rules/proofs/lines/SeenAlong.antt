@@ -70,23 +70,8 @@ rank_back s u t = grind (arith, nat_tests)
 file_back : (s u t : Square) → between_on_file s u t ≡ between_on_file t u s
 file_back s u t = grind (arith, nat_tests)
 
-inside_back : (a x b : ℕ) → inside a x b ≡ inside b x a
-inside_back a x b = grind arith
-
 diagonal_back : (s t : Square) → on_diagonal s t ≡ on_diagonal t s
 diagonal_back s t = grind arith
-
--- what is inside divides a gap
-gap_rest : (a x b : ℕ) → inside a x b ≡ true → (gap a x + gap b x ≡ gap a b) × (b ≢ x)
-gap_rest a x b h = grind (arith, nat_tests)
-
-apart_by : (s u : Square) → s.file ≢ u.file → not (same_square s u) ≡ true
-apart_by s u differ = grind (arith, nat_tests)
-
-rest_of_diagonal : (s u t : Square) → on_diagonal s t ≡ true → on_diagonal s u ≡ true
-    → inside s.file u.file t.file ≡ true → inside s.rank u.rank t.rank ≡ true → on_diagonal t u ≡ true
-rest_of_diagonal s u t whole part files ranks =
-    grind (arith, common_steps, gap_rest, equal_from, first_true, and_from)
 
 diagonal_there : (s u t : Square) → between_on_diagonal s u t ≡ true → between_on_diagonal t u s ≡ true
 diagonal_there s u t h =

@@ -149,9 +149,6 @@ module _ (p : Parts) (m : Move) where
 piece_there : (c : Colour) (k : Kind) (cell : Option Piece) → has_piece c k cell ≡ true → cell ≡ some_piece c k
 piece_there c k cell h = grind (arith, kinds_same, colours_same, first_true, second_true)
 
-home_apart : (p : Parts) (a b : ℕ) (s : Square) → s ≡ home p b → a ≢ b → cell_of (home p a) ≢ cell_of s
-home_apart p a b s is differ e = differ (let f : cell_of (home p a) ≡ cell_of (home p b) = e ∙ ap cell_of is in omega arith)
-
 pub rook_waits : (p : Parts) (m : Move) (right : Bool) (wing : Wing) → wing.rook ≢ 4 → wing.rook ≢ wing.end
     → castles p m right wing ≡ true → at (carried p m) (home p wing.rook) ≡ some_piece p.side Rook
 rook_waits p m right wing apart differ h = grind (arith, common_steps, castles_means, get_or-set_other, piece_there)

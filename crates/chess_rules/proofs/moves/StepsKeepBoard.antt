@@ -26,9 +26,6 @@ module _ (c : Colour) where
   empty_free : (k : Kind) (cell : Option Piece) → is_none cell ≡ true → has_piece c k cell ≡ false
   empty_free k cell h = grind arith
 
-  no_pawn_but_own : (cell : Option Piece) → has_colour c cell ≡ true → has_piece c Pawn cell ≡ false → is_pawn cell ≡ false
-  no_pawn_but_own cell h g = grind arith
-
   king_is_no_pawn : (cell : Option Piece) → has_piece c King cell ≡ true → is_pawn cell ≡ false
   king_is_no_pawn cell h = grind arith
 

@@ -41,17 +41,11 @@ from_all w none = record { none = λ i low _ j _ _. ap (λ n. has n j) none ∙ 
 not_after : (i n : ℕ) → ((i == n) || nat_lt i n) ≡ true → (n < i → ⊥)
 not_after i n h less = grind arith
 
-at_or_before : (i n : ℕ) → (n < i → ⊥) → ((i == n) || nat_lt i n) ≡ true
-at_or_before i n h = grind arith
-
 pub up_to_lowest : (w n r : ℕ) → IsLowest w n → ((i : ℕ) → i < 64 → has r i ≡ ((i == n) || nat_lt i n)) → IsUpTo w r
 up_to_lowest w n r lowest is = search (rules, not_after)
 
 not_before : (i n : ℕ) → not (nat_lt i n) ≡ true → (i < n → ⊥)
 not_before i n h less = grind arith
-
-at_or_after : (i n : ℕ) → (i < n → ⊥) → not (nat_lt i n) ≡ true
-at_or_after i n h = grind arith
 
 pub highest_onward : (w n r : ℕ) → IsHighest w n → ((i : ℕ) → i < 64 → has r i ≡ not (nat_lt i n)) → IsFrom w r
 highest_onward w n r highest is = search (rules, not_before)

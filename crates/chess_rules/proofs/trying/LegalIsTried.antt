@@ -31,9 +31,6 @@ file_means s u t same h = grind (arith, nat_tests)
 rank_means : (s u t : Square) → s.rank ≡ t.rank → strictly_between s u t ≡ true → between_on_rank s u t ≡ true
 rank_means s u t same h = grind (arith, nat_tests)
 
-middle : (c : Colour) (a b x : ℕ) → a ≡ pawn_rank c → b ≡ double_rank c → inside a x b ≡ true → x ≡ (a + b) / 2
-middle c a b x low high h = grind arith
-
 -- a pawn's double step is seen: the one square between is empty
 double_seen : (p : Parts) (m : Move) → is_double_step p m ≡ true → sees Pawn p m.from m.to ≡ true
 double_seen p m h =

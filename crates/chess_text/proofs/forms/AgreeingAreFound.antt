@@ -67,9 +67,6 @@ possible_apart p (Man k file rank to promotion) = moves_apart to promotion squar
 
 -- A move that agrees is possible.
 
-pub promotions_same : (x y : Option Promotion) → same_promotion x y ≡ true → x ≡ y
-promotions_same x y h = grind arith
-
 pub no_promotion : (x : Option Promotion) → is_none x ≡ true → x ≡ None
 no_promotion x h = grind arith
 

@@ -5,18 +5,12 @@ use Rattle.chess_text.proofs.forms.CastlingMoves.{piece_goes, pawn_goes, pawn_pa
 
 -- The piece that moves is of the side to move.
 
-coloured : (c : Colour) (k : Kind) (cell : Option Piece) → has_piece c k cell ≡ true → has_colour c cell ≡ true
-coloured c k cell h = grind arith
-
 pub mover_colour : (p : Parts) (m : Move) → is_legal p m ≡ true → has_colour p.side (at p.board m.from) ≡ true
 mover_colour p m h = search (rules, stepped, piece_goes, pawn_goes, pawn_passes, and_parts)
 
 -- it stands on the origin
 pub mover_stands : (p : Parts) (m : Move) → is_legal p m ≡ true → at p.board m.from ≡ None → ⊥
 mover_stands p m h nothing = false≢true (ap (λ cell. has_colour p.side cell) (sym nothing) ∙ mover_colour p m h)
-
-same_kind-refl : (k : Kind) → same_kind k k ≡ true
-same_kind-refl k = grind arith
 
 pub mover : (p : Parts) (m : Move) (x : Piece) → is_legal p m ≡ true → at p.board m.from ≡ Some x → own p x.kind m.from ≡ true
 mover p m x h there = grind (arith, common_steps, and_from, mover_colour)

@@ -88,9 +88,6 @@ letters_read k s h = rw (one_of s _ h) assumption
 
 -- The hints.
 
-file_letters : (n : ℕ) → nat_lt n 8 ≡ true → (file_of (97 + n) ≡ Some n) × (rank_of (97 + n) ≡ None) × ((97 + n == 120) ≡ false)
-file_letters n h = grind (arith, nat_tests)
-
 -- the last byte of the text of a piece's move is no mark, and ends no castling
 record Ends (c : ℕ) : Type 0 where
   no_mark : is_mark c ≡ false

@@ -153,11 +153,6 @@ disambiguated_alone p k m n h g stands may_have_rivals d =
 behind : (c : Colour) (a b t : ℕ) → is_ahead c a t ≡ true → is_ahead c b t ≡ true → a ≡ b
 behind c a b t h g = grind (arith, nat_tests)
 
--- the rank that a double step crosses
-between : (c : Colour) (a t : ℕ) → t ≡ double_rank c → is_ahead c a t ≡ true → (pawn_rank c + double_rank c) / 2 ≡ a
-between White a t e h = let rank = eqb-true t _ h in omega arith
-between Black a t e h = let rank = eqb-true a _ h in omega arith
-
 -- what stands on the square crossed
 module _ (c : Colour) (cell : Option Piece) where
   no_one : is_none cell ≡ true → has_piece c Pawn cell ≡ true → ⊥

@@ -138,9 +138,6 @@ bytes_append m n xs ys a b = grind (arith, common_steps, list_all-append)
 file_is_letter : (s : Square) → on_board s ≡ true → is_letter (file_letter s.file) ≡ true
 file_is_letter s on = grind (arith, nat_tests)
 
-rank_is_digit : (s : Square) → on_board s ≡ true → is_digit (rank_digit s.rank) ≡ true
-rank_is_digit s on = grind (arith, nat_tests)
-
 one_byte : (c : ℕ) → is_move_byte c ≡ true → Bytes 1 (c ∷ [])
 one_byte c h = record { all = and_from _ true h refl; fits = omega arith }
 
@@ -224,19 +221,6 @@ kind_symbol : (k : Kind) (p : Parts) (m : Move) → on_board m.from ≡ true →
 kind_symbol King p m from to = king_symbol p m to
 kind_symbol Pawn p m from to = pawn_symbol _ m from to
 kind_symbol k p m from to = piece_symbol k p m from to
-
-letter_is_no_digit : (c : ℕ) → is_letter c ≡ true → is_digit c ≡ false
-letter_is_no_digit c e = grind (arith, nat_tests)
-
-no_number : (s : List ℕ) → begins_with_letter s ≡ true → list_all is_digit s ≡ false
-no_number [] e = cc
-no_number (c ∷ s) e = and_left (is_digit c) (list_all _ s) (letter_is_no_digit c e)
-
-other_text : (s t : List ℕ) → begins_with_letter s ≡ true → begins_with_letter t ≡ false → bytes_eq s t ≡ false
-other_text s t e other = grind (arith, common_steps, false_from_ne_true)
-
-no_marker : (s : List ℕ) → begins_with_letter s ≡ true → is_marker s ≡ false
-no_marker s e = grind arith
 
 -- with the mark
 begins_append : (s t : List ℕ) → begins_with_letter s ≡ true → begins_with_letter (s ++ t) ≡ true

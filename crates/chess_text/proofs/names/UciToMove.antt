@@ -77,13 +77,6 @@ square_by_bytes a b = by_form _ refl
 
 -- The promotion.
 
-promotion_read : (q : Option Promotion) → promotion_named (uci_promotion q) ≡ Some q
-promotion_read None = refl
-promotion_read (Some Queen) = refl
-promotion_read (Some Rook) = refl
-promotion_read (Some Bishop) = refl
-promotion_read (Some Knight) = refl
-
 promotion_spelled : (s : List ℕ) (q : Option Promotion) → promotion_named s ≡ Some q → s ≡ uci_promotion q
 promotion_spelled s q h = sym (same_bytes (uci_promotion q) s (found (λ x. bytes_eq (uci_promotion x) s) every_promotion q h))
 

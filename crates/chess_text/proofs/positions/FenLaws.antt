@@ -1,5 +1,5 @@
 -- The laws of the definitions of texts.
-use Rattle.chess_text.proofs.Words.{◌≡◌, ℕ, ◌+◌, ◌-◌, ◌==◌, true, List, [], ◌∷◌, sym, ◌∙◌, ap, arith, or_cases, and_parts, cond_some, nat_tests, Option, None, Some, Err, is_some, prefix_len, Colour, Rights, White, Square, square, Board, target_fits, target_rank, FenFault, side_of, rights_of, target_of, is_target, parts_or_fault, if_position, common_steps, CanonicalFits, FaultIsLowest, FenOnce, FieldsAreSpellings, ReadingIsSpelling}
+use Rattle.chess_text.proofs.Words.{◌≡◌, ℕ, ◌+◌, ◌-◌, ◌==◌, true, List, [], ◌∷◌, sym, ◌∙◌, ap, arith, or_cases, and_parts, cond_some, nat_tests, Option, None, Some, Err, is_some, prefix_len, Colour, Rights, White, Square, square, Board, target_fits, FenFault, side_of, rights_of, target_of, is_target, parts_or_fault, if_position, common_steps, CanonicalFits, FaultIsLowest, FenOnce, FieldsAreSpellings, ReadingIsSpelling}
 use Rattle.chess_text.proofs.positions.FieldsOfText.{length-fen_text}
 use Rattle.chess_text.proofs.positions.SpellingToReading.{spelled_is_read, board_read, side_read, rights_read, target_read, number_read}
 use Rattle.chess_text.proofs.positions.ReadingToSpelling.{read_is_spelled, board_spelled, side_spelled, rights_spelled, target_spelled}
@@ -22,11 +22,6 @@ lowest s fault h = lowest_of _ _ _ _ _ _ fault h
 
 pub fits : CanonicalFits
 fits p h = length-fen_text p (half_low p h) (full_low p h)
-
--- a square that is read lies where some side's target may lie
-fits_on : (c : Colour) (file rank : ℕ) → is_target file rank ≡ true
-    → (rank == 49 + target_rank c) ≡ true → target_fits c (Some (square (file - 97) (rank - 49))) ≡ true
-fits_on c file rank h e = grind (arith, nat_tests)
 
 target_side : (s : List ℕ) (t : Option Square) → target_of s ≡ Some t → (c : Colour) × (target_fits c t ≡ true)
 target_side (c ∷ []) t h = (White, ap (target_fits White) (sym (cond_some (c == 45) None t h).1))

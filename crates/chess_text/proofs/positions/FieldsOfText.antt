@@ -1,5 +1,5 @@
 -- The fields of a text, which stand between its spaces.
-use Rattle.chess_text.proofs.Words.{◌≡◌, ℕ, Bool, true, not, ◌&&◌, List, [], ◌∷◌, ◌++◌, length, refl, arith, list_all, before_first, after_first, position_or_len, join_with_byte, is_space, field, ◌≤◌, ap, length-append, Option, decimal, length-decimal-le, Colour, Rights, Parts, Square, placement_text, side_text, rights_text, or_dash, right_letter, target_text, fen_text, common_steps, take-append_seam, drop-append-add}
+use Rattle.chess_text.proofs.Words.{◌≡◌, ℕ, Bool, true, not, ◌&&◌, List, [], ◌∷◌, ◌++◌, length, refl, arith, list_all, before_first, after_first, position_or_len, join_with_byte, is_space, field, ◌≤◌, ap, length-append, Option, decimal, length-decimal-le, Colour, Rights, Parts, Square, placement_text, side_text, rights_text, target_text, fen_text, common_steps, take-append_seam, drop-append-add}
 use Rattle.chess_text.proofs.positions.BoardToText.{length-placement_text}
 
 -- no byte of the text passes
@@ -48,12 +48,6 @@ length-side_text c = grind arith
 
 pub length-target_text : (t : Option Square) → length (target_text t) ≤ 2
 length-target_text t = grind arith
-
-length-held : (b : Bool) (c : ℕ) → length (right_letter b c) ≤ 1
-length-held b c = grind arith
-
-length-or_dash : (s : List ℕ) → length s ≤ 4 → length (or_dash s) ≤ 4
-length-or_dash s h = grind arith
 
 length-rights_text : (r : Rights) → length (rights_text r) ≤ 4
 length-rights_text r = grind (arith, common_steps)

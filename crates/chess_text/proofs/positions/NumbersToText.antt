@@ -61,10 +61,6 @@ pub record Step (word more byte : ℕ) : Type 0 where
   pub letter : (x : Piece) → word % 256 ≡ number_of_piece x → byte ≡ piece_letter x
   pub digit : (n : ℕ) → n < 8 → word % 256 ≡ 16 + n → byte ≡ 49 + n
 
-digit_long : (n : ℕ) → 0 < n → length (run_text n) ≡ 1
-digit_long zero h = absurd (omega arith)
-digit_long (suc n) h = let some : (suc n == 0) ≡ false = grind (arith, nat_tests) in rw some refl
-
 module _ (whole : List ℕ) (most : ℕ) (text : List ℕ) (end word : ℕ) (cells : Board) where
   pub number_is_small : (x : Option Piece) → RankWritten whole most text end word (x ∷ cells) → word % 256 < 24
   number_is_small None w = omega (arith, run_first word w.run cells (omega (arith, w.short)) w.next)

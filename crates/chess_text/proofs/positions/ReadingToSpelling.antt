@@ -22,9 +22,6 @@ side_spelled s c h = grind (arith, same_bytes)
 pub rights_spelled : (s : List ℕ) (r : Rights) → rights_of s ≡ Some r → s ≡ rights_text r
 rights_spelled s r h = let (named, is) = cond_some _ _ r h in same_bytes s _ named ∙ ap rights_text is
 
-shifted : (file rank : ℕ) → is_target file rank ≡ true → (97 + (file - 97) ≡ file) × (49 + (rank - 49) ≡ rank)
-shifted file rank h = grind (arith, nat_tests)
-
 pub target_spelled : (s : List ℕ) (t : Option Square) → target_of s ≡ Some t → s ≡ target_text t
 target_spelled (c ∷ []) t h = let (dash, is) = cond_some (c == 45) None t h in cc (eqb-true c 45 dash)
 target_spelled (file ∷ rank ∷ []) t h = grind (arith, common_steps)

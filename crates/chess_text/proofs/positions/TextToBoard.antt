@@ -15,12 +15,6 @@ pub record Means (c : ℕ) : Type 0 where
   pub cells : cells_at c ≡ piece_of c ∷ replicate ((item c).width - 1) None
   pub width : (item c).width ≡ length (cells_at c)
 
-run_none : (c : ℕ) → is_run c ≡ true → piece_of c ≡ None
-run_none c h = grind (arith, nat_tests)
-
-run_some : (c : ℕ) → is_run c ≡ true → 0 < c - 48
-run_some c h = grind (arith, nat_tests)
-
 replicate_first : (w : ℕ) → 0 < w → replicate {A = Option Piece} w None ≡ None ∷ replicate (w - 1) None
 replicate_first zero some = absurd (omega arith)
 replicate_first (suc n) some = (let same : suc n - 1 ≡ n = omega arith in ap (λ k. None ∷ replicate k None) (sym same))
@@ -41,12 +35,6 @@ means_if false w (Some x) h none some = (refl, refl)
 
 pub means : (c : ℕ) → is_item c ≡ true → Means c
 means c h = grind (arith, common_steps, means_if)
-
-no_width : (run : Bool) (w : ℕ) (o : Option Piece) → (run || is_some o) ≡ false → width_if run w o ≡ 9
-no_width run w o h = grind arith
-
-no_item : (c : ℕ) → is_item c ≡ false → (item c).width ≡ 9
-no_item c h = no_width (is_run c) (c - 48) (piece_of c) h
 
 item_by_width : (c : ℕ) → (item c).width ≤ 8 → is_item c ≡ true
 item_by_width c h = grind arith

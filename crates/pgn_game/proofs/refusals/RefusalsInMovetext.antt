@@ -69,12 +69,6 @@ module _ (p : Profile) (part : Part) (s : List ℕ) where
   pub move_refusal : is_number s ≡ false → is_score s ≡ false → text_refusal p part (symbol s) ≡ refused_as (position_in part) (move_of (position_in part) s)
   move_refusal number score = search (rules, move_rows, or_from, symbol_refusal)
 
-abbrev one_move : Played → MoveReading
-one_move played = Some (Ok played)
-
-abbrev limited : Bool → Played → Result Played Reason
-limited b one = elim b [ true ↦ Err MoveLimit | false ↦ Ok one ]
-
 found_free : (p : Parts) {r : MoveReading} {played : Played} → found_in p r ≡ Ok played → (refused_as p r ≡ None) × (r ≡ Some (Ok played))
 found_free p h3 = grind (arith, pass)
 

@@ -2,11 +2,7 @@
 use Rattle.pgn_game.specs.declared.marker.Mark.{Mark}
 use Rattle.pgn_game.specs.declared.converter.StepEnd.TheVariants.{Marker as AtMarker}
 use Rattle.pgn_game.specs.declared.converter.FedUpTo.TheVariants.{All, Marker as ToMarker}
-use Rattle.pgn_game.proofs.Words.{Fault, Converter, Device, InputTooLong, waiting, as_written, ◌≡◌, ℕ, ◌+◌, ◌*◌, ◌^◌, ◌<◌, ◌≤◌, Bool, false, List, [], length, take, Option, None, Some, Result, Ok, Err, sym, ◌∙◌, arith, length-take, none-some, take-nil, StepEnd, FedUpTo, Again, GoesToMarker, IsGoing, KeepsRest, StepGoes, fault_of, used_to, common_steps}
-
--- a converter without a fault does not repeat one
-pub not_again : {A S : Type 0} {old new : Converter} {result : Result A Fault} {a b : S} → old.fault ≡ None → Again old new result a b
-not_again none = λ f is. absurd (none-some f (sym none ∙ is))
+use Rattle.pgn_game.proofs.Words.{Fault, Converter, Device, InputTooLong, waiting, as_written, ◌≡◌, ℕ, ◌+◌, ◌*◌, ◌^◌, ◌<◌, ◌≤◌, Bool, false, List, [], length, take, Option, None, Some, Result, Ok, Err, sym, ◌∙◌, arith, length-take, none-some, take-nil, StepEnd, FedUpTo, GoesToMarker, IsGoing, KeepsRest, StepGoes, fault_of, common_steps}
 
 -- what was there before the first token, where no game is just finished from now on
 pub keeps_at_start : {A : Type 0} {x : A} {view old : Converter} → view ≡ old → IsGoing old
@@ -63,8 +59,3 @@ module _ {old new : Converter} (piece : List ℕ) (k : ℕ) {sink : Device} wher
       → GoesToMarker old piece (record new { fault = Some (record { at = 2 ^ 62; reason = InputTooLong }) })
       (Err (record { at = 2 ^ 62; reason = InputTooLong })) sink
   too_long_goes goes more = grind (arith, common_steps, length-take)
-
--- after a fault nothing is read
-pub goes_again : {old : Converter} {piece : List ℕ} {f : Fault} {sink : Device} → old.is_finished ≡ false → old.fault ≡ Some f
-    → old.just_finished ≡ None → GoesToMarker old piece old (Err f) sink
-goes_again not_finished fault none_just_finished = grind (arith, common_steps, none-some)

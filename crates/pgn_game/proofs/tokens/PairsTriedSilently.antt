@@ -69,13 +69,6 @@ alike_of_text : (p : Parts) (s : List ℕ) (n m : ℕ) → is_many_moves (move_o
 unfolding Costs move_of
 alike_of_text p s n m one h k = alike_of_form p (form_of s) n m one h k
 
--- A move that is sought is no more than one, unless its symbol is rejected.
-one_move : (outside number score many : Bool) → (outside && not (score || number)) ≡ true
-    → (outside && (elim (number || score) [ true ↦ false | false ↦ many ])) ≡ false → many ≡ false
-one_move true false false many sought none = none
-one_move true true false many sought none = absurd (cc)
-one_move _ _ _ many sought none = absurd (cc)
-
 sought_once : (p : Profile) (part : Part) (s : List ℕ) → refusal p part (tokens.symbol s) ≡ None → is_sought part s ≡ true
     → is_many_moves (move_of (position_in part) s) ≡ false
 unfolding refusal

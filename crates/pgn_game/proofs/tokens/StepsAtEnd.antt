@@ -233,12 +233,6 @@ module _ (old new : Standing) (before after : ReaderState) (games : ℕ) where
   pub sound_in_piece : (used size : ℕ) {finished : Bool} {fault : Option Fault} → waiting new < 2 * used + waiting old → new.count ≡ old.count + used → used ≤ size → old.count + size ≤ 2 ^ 62 → games + waiting old ≤ 2 * old.count + 2 → before.earlier_plies + before.text.plies + waiting old ≤ 2 * old.count + 2 → Keeps before after → IsSound new after games false finished fault
   sound_in_piece used size sooner count within short few plies keeps = grind (arith, common_steps, false≢true)
 
--- with a fault no game is just finished
-pub none_by_fault : (b : Bool) (r : ReaderState) {o : Option Fault} {f : Fault}
-    → (IsTrue b → o ≡ None) → o ≡ Some f → game_in_reader_if b r ≡ None
-none_by_fault true r h e = absurd (none-some _ (sym (h refl) ∙ e))
-none_by_fault false r h e = refl
-
 pub not_just_finished : (b : Bool) (r : ReaderState) → game_in_reader_if b r ≡ None → b ≡ false
 not_just_finished true r h = absurd (cc)
 not_just_finished false r h = refl

@@ -12,18 +12,6 @@ pub lets_go : (p : Profile) (old : Converter) (u : List ℕ) (b : Option ℕ) (g
 lets_go p old u b given reaches =
     record { lexer = reaches.lexer; has_read = read_as reaches.has_read refl refl reaches.has_read.no_fault tt }
 
--- what follows the first byte of the piece follows the byte known
-follows_from : (b : Option ℕ) (x : ℕ) (xs s : List ℕ) → Follows b (x ∷ xs) → Follows (Some x) s → Follows b s
-follows_from None x xs s h k = tt
-follows_from (Some c) x xs [] h k = tt
-follows_from (Some c) x xs (y ∷ ys) h k = k ∙ h
-
-begins_with : {l : Standing} {u : List ℕ} {b : Option ℕ} {given : List Token} (piece : List ℕ)
-    → StandsAfter l u b given → Follows b piece → StandsAfter l u (next_at b piece 0) given
-begins_with [] stands follows = stands
-begins_with {b} (x ∷ xs) stands follows =
-    record { count = stands.count; before = stands.before; tokens = λ s k. stands.tokens s (follows_from b x xs s follows k) }
-
 pub so_far_none : (p : Profile) (old : Converter) (u : List ℕ) (b : Option ℕ) (given : List Token) (piece : List ℕ) (o : Option (List ℕ))
     → Reaches p old u b given → Follows b piece → SoFar p u b given piece 0 old o o
 so_far_none p old u b given piece o reaches follows = grind (arith, common_steps, append-nil, reads_none)

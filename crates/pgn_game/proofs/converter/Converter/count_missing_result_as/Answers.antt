@@ -1,6 +1,6 @@
-use Rattle.pgn_game.proofs.Words.{Option, sym, ap, subst, ◌∙◌, CountsMissingAs, FinishedGame, counting_missing_as}
+use Rattle.pgn_game.proofs.Words.{Option, sym, ap, subst, ◌∙◌, CountsMissingAs, FinishedGame, counting_missing_as, refl}
 use Rattle.pgn_game.proofs.ReaderFitsInMemory.{fits_reader}
-use Rattle.pgn_game.proofs.tokens.MissingCountsAs.{finished_alike, reader_counting, sound_counting, stands_counting}
+use Rattle.pgn_game.proofs.tokens.MissingCountsAs.{finished_alike, sound_counting, stands_counting}
 use Rattle.pgn_game.proofs.converter.Converter.count_missing_result_as.Goals as goal
 
 pub count_missing_result_as-requires : goal.count_missing_result_as-requires
@@ -9,17 +9,7 @@ count_missing_result_as-requires g c = search fits_reader
 pub returns-clause-only_profile : goal.returns-clause-only_profile
 returns-clause-only_profile g c =
     let old = c.self.inside in
-    let marker = c.args.marker in
-    rw c.count_missing_result_as.ensures
-    (ap (λ (finished : Option FinishedGame). record {
-      lexer = old.lexer;
-      reading = reader_counting marker old.reader;
-      games = old.games;
-      just_finished = finished;
-      is_finished = old.is_finished;
-      fault = old.fault;
-    }) (finished_alike old.has_finished_game marker old.reader)
-    ∙ ap (counting_missing_as marker) c.self.view_is)
+    rw (← c.self.view_is, c.count_missing_result_as.ensures, finished_alike old.has_finished_game c.args.marker old.reader) refl
 
 pub returns-clause-stands : goal.returns-clause-stands
 returns-clause-stands g c =

@@ -30,14 +30,25 @@ loop-used-init g c =
       feeds = λ p u given stands is_decided. all_none p _ u given c.args.piece.now _ stands is_decided;
     }
 
-pub returns-in_err-feed-clause-feeds : goal.returns-in_err-feed-clause-feeds
-returns-in_err-feed-clause-feeds g c =
+pub returns-in_err-feed : goal.returns-in_err-feed
+returns-in_err-feed g c =
     let e = err_from_is_err_and c.from_residual.result c.from_residual.ensures.1 in
-    let after = (goal.at.returns-in_err-feed-clause-feeds g c).After-feed in
-    rw (e.1, e.2) (λ p u given stands is_decided.
-    let so = c.loop-used.invariant.feeds p u given stands is_decided in
-    all_stops p u given c.args.piece.now c.loop-used.at _ _ _ _ so c.feed.new.self _
-    ((rw c.in_err-feed.was at (fed g after)) p _ _ _ so.stands (follows_own (drop c.loop-used.at c.args.piece.now))))
+    let old = c.loop-used.invariant in
+    let fed = rw c.in_err-feed.was at (fed g (goal.at.returns-in_err-feed g c).After-feed) in
+    rw (e.1, e.2) (record {
+      feeds = λ p u given stands is_decided.
+          let so = old.feeds p u given stands is_decided in
+          all_stops p u given c.args.piece.now c.loop-used.at _ _ _ _ so c.feed.new.self _
+          (fed p _ _ _ so.stands (follows_own (drop c.loop-used.at c.args.piece.now)));
+      goes = record {
+        count = tt;
+        short = c.feed.ensures.short;
+        not_finished = c.feed.ensures.not_finished;
+        fault = c.in_err-feed.ensures.fault;
+        counted = rw (← old.counted) (rw old.silent.silent at (c.in_err-feed.ensures.counted old.going.no_fault));
+      };
+      silent = silence_then _ _ _ _ _ _ old.silent c.feed.ensures.silent;
+    })
 
 pub returns-in-All-clause-feeds : goal.returns-in-All-clause-feeds
 returns-in-All-clause-feeds g c =
@@ -46,6 +57,9 @@ returns-in-All-clause-feeds g c =
     let so = c.loop-used.invariant.feeds p u given stands is_decided in
     all_fed p u given c.args.piece.now c.loop-used.at _ _ _ _ so _
     ((rw (c.in_ok-feed.was, c.in-All.is) at (fed g after)) p _ _ _ so.stands (follows_own (drop c.loop-used.at c.args.piece.now)))
+
+pub returns-in-All-clause-silent : goal.returns-in-All-clause-silent
+returns-in-All-clause-silent g c = silence_then _ _ _ _ _ _ c.loop-used.invariant.silent c.feed.ensures.silent
 
 pub loop-used-preserved : goal.loop-used-preserved
 loop-used-preserved g c =

@@ -130,6 +130,4 @@ returns-clause-steps g c =
       | then-loop-used-test+in_default w ↦ rw w.self-is c.loop-used.invariant.silent.silent
     ] in
     steps_behind _ _ _ _ _ _ _ _ _ _ _ _ _ (omega (arith, ran.goes.within, c.if-used-piece.false)) ran
-    (seen_alike (λ d. Steps c.loop-used-test.self (drop c.loop-used-test.used c.args.piece.now) c.step_on-step.new.self c.step_on-step.result.used c.step_on-step.result.outcome d) _ _
-    (device g.W.Sink.taken g.W.Sink.failures c.loop-used.out c.step_on-step.new.out) quiet
-    (rw take_rest at c.step_on-step.ensures.steps))
+    (rw take_rest at (seen_alike (Steps _ _ _ _ _) _ _ _ quiet c.step_on-step.ensures.steps))

@@ -1,4 +1,4 @@
-use Rattle.pgn_game.proofs.Words.{Option, sym, ap, subst, ◌∙◌, FinishedGame, StillStands, writing_nothing, silenced}
+use Rattle.pgn_game.proofs.Words.{Option, sym, ap, subst, ◌∙◌, FinishedGame, StillStands, writing_nothing, silenced, refl}
 use Rattle.pgn_game.proofs.ReaderFitsInMemory.{fits_reader}
 use Rattle.pgn_game.proofs.tokens.MissingCountsAs.{finished_silently, sound_silently, stands_silently}
 use Rattle.pgn_game.proofs.converter.Converter.write_nothing.Goals as goal
@@ -9,16 +9,7 @@ write_nothing-requires g c = search fits_reader
 pub returns-clause-only_switch : goal.returns-clause-only_switch
 returns-clause-only_switch g c =
     let old = c.self.inside in
-    rw c.write_nothing.ensures
-    (ap (λ (finished : Option FinishedGame). record {
-      lexer = old.lexer;
-      reading = silenced old.reader;
-      games = old.games;
-      just_finished = finished;
-      is_finished = old.is_finished;
-      fault = old.fault;
-    }) (finished_silently old.has_finished_game old.reader)
-    ∙ ap writing_nothing c.self.view_is)
+    rw (← c.self.view_is, c.write_nothing.ensures, finished_silently old.has_finished_game old.reader) refl
 
 pub returns-clause-stands : goal.returns-clause-stands
 returns-clause-stands g c =
