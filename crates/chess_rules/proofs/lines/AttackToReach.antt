@@ -133,7 +133,8 @@ module _ (b : Board) (c : Colour) where
       any_same (λ s. has_colour c (at b s) && attacks b s t) (λ s. may_attack b c t s && is_clear b s t) squares (λ s. attacker_is s t)
 
   -- of the pieces that may attack, those that see the square do, and those a jump away
-  pub seen_attacker : (t s : Square) → (may_attack b c t s && ((is_aligned s t && is_clear b s t) || is_jump s t)) ≡ (may_attack b c t s && is_clear b s t)
+  pub seen_attacker : (t s : Square)
+      → (may_attack b c t s && ((is_aligned s t && is_clear b s t) || is_jump s t)) ≡ (may_attack b c t s && is_clear b s t)
   seen_attacker t s = grind (arith, common_steps, reached, jump_clear)
 
 -- The sets of the code, piece by piece.

@@ -77,7 +77,8 @@ king_waits m k apart = grind arith
 
 -- the other king stays where it is
 module _ (p : Parts) (m : Move) (b : Board) where
-  pub other_king_stays : is_position p ≡ true → is_on_board m ≡ true → board_after p m ≡ Some b → king_square (other p.side) p.board ≡ king_square (other p.side) b
+  pub other_king_stays : is_position p ≡ true → is_on_board m ≡ true → board_after p m ≡ Some b
+      → king_square (other p.side) p.board ≡ king_square (other p.side) b
   other_king_stays position on h = sym (king_waits m king apart) ∙ king_moves p m b (other p.side) position on h
     where
       sound : Sound p
@@ -94,7 +95,8 @@ module _ (p : Parts) (m : Move) (b : Board) where
           (colour_of_piece (other p.side) King (at p.board king) (king_of sound (other p.side)).king))
 
   -- whether a king is attacked is seen from its square
-  pub king_seen : (c : Colour) → is_position p ≡ true → is_on_board m ≡ true → board_after p m ≡ Some b → king_attacked b c ≡ is_attacked b (other c) (king_square c b)
+  pub king_seen : (c : Colour) → is_position p ≡ true → is_on_board m ≡ true → board_after p m ≡ Some b
+      → king_attacked b c ≡ is_attacked b (other c) (king_square c b)
   king_seen c position on h =
       let stays : Stays p m b = board_stays p m b (sound_from_position p position) on h in
       king_attacked_there c b stays.long (stays.kings_of c)
@@ -135,11 +137,13 @@ leaves_position p q m position h =
     (position_from_sound (after p m l.board) (after_sound p m l.board (sound_from_position p position) l.on l.stepped l.safe))
 
 module _ (p : Parts) (m : Move) (b : Board) where
-  pub position_after : is_position p ≡ true → is_on_board m ≡ true → board_after p m ≡ Some b → king_attacked b (other (other p.side)) ≡ false → is_position (after p m b) ≡ true
+  pub position_after : is_position p ≡ true → is_on_board m ≡ true → board_after p m ≡ Some b → king_attacked b (other (other p.side)) ≡ false
+      → is_position (after p m b) ≡ true
   position_after position on h safe = position_from_sound (after p m b) (after_sound p m b (sound_from_position p position) on h safe)
 
   -- a step is legal exactly if the king is not attacked then, seen from its square
-  pub legal_unless_attacked : (attacked : Bool) → is_position p ≡ true → is_on_board m ≡ true → board_after p m ≡ Some b → attacked ≡ is_attacked b (other p.side) (king_square p.side b) → not attacked ≡ is_legal p m
+  pub legal_unless_attacked : (attacked : Bool) → is_position p ≡ true → is_on_board m ≡ true → board_after p m ≡ Some b
+      → attacked ≡ is_attacked b (other p.side) (king_square p.side b) → not attacked ≡ is_legal p m
   legal_unless_attacked attacked position on h e =
       by_test attacked (ap (king_attacked b) (other-other p.side) ∙ (king_seen p m b p.side position on h ∙ sym e))
     where

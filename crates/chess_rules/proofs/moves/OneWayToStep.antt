@@ -10,7 +10,8 @@ module _ (p : Parts) (m : Move) where
   pub pawn_of_step : is_pawn_step p m ≡ true → own p Pawn m.from ≡ true
   pawn_of_step h = first_true (own p Pawn m.from) (is_pawn_way p m && promotion_fits p m) h
 
-  pub en_passant_stands : is_en_passant p m ≡ true → ((own p Pawn m.from && promotion_fits p m) && (is_target p.target m.to && is_empty p.board m.to)) ≡ true
+  pub en_passant_stands : is_en_passant p m ≡ true
+      → ((own p Pawn m.from && promotion_fits p m) && (is_target p.target m.to && is_empty p.board m.to)) ≡ true
   en_passant_stands h = first_true _ (attacks p.board m.from m.to && has_piece (other p.side) Pawn (at p.board (captured_pawn m))) h
 
   pub pawn_of_en_passant : is_en_passant p m ≡ true → own p Pawn m.from ≡ true

@@ -33,7 +33,8 @@ module _ (c : Colour) where
   promoted_is_no_king d q = grind arith
 
   -- the piece on a square attacks as its kind and colour do
-  pub attacks_as : (k : Kind) (cell : Option Piece) (b : Board) (s t : Square) → has_piece c k cell ≡ true → cell_attacks cell b s t ≡ true → kind_attacks k c b s t ≡ true
+  pub attacks_as : (k : Kind) (cell : Option Piece) (b : Board) (s t : Square) → has_piece c k cell ≡ true → cell_attacks cell b s t ≡ true
+      → kind_attacks k c b s t ≡ true
   attacks_as k cell b s t h g = grind (arith, kinds_same, second_true)
 
 -- The other king is never taken.
@@ -66,7 +67,8 @@ module _ (p : Parts) (m : Move) where
 
   -- A pawn.
 
-  pub pawn_attack : own p Pawn m.from ≡ true → attacks p.board m.from m.to ≡ true → ((gap m.from.file m.to.file == 1) && is_ahead p.side m.from.rank m.to.rank) ≡ true
+  pub pawn_attack : own p Pawn m.from ≡ true → attacks p.board m.from m.to ≡ true
+      → ((gap m.from.file m.to.file == 1) && is_ahead p.side m.from.rank m.to.rank) ≡ true
   pawn_attack pawn hits = grind arith
 
 -- one rank ahead, or from the pawns' first rank to that of the double step
@@ -80,7 +82,8 @@ module _ (p : Parts) (m : Move) where
   pub way_goes : own p Pawn m.from ≡ true → is_pawn_way p m ≡ true → pawn_goes p m
   way_goes pawn h = grind (arith, nat_tests)
 
-  way_free : Sound p → OnBoard m.from → OnBoard m.to → own p Pawn m.from ≡ true → is_pawn_way p m ≡ true → (c : Colour) → has_piece c King (at p.board m.to) ≡ false
+  way_free : Sound p → OnBoard m.from → OnBoard m.to → own p Pawn m.from ≡ true → is_pawn_way p m ≡ true → (c : Colour)
+      → has_piece c King (at p.board m.to) ≡ false
   way_free sound on_from on_to pawn h =
       grind (arith, common_steps, or_cases, empty_free, second_true, first_true, free_of, false_from_ne_true, not_both, king_not_taken)
 

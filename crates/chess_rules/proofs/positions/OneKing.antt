@@ -26,7 +26,8 @@ fewer : (n : ℕ) (v : Bool) → cond v (1 + n) n ≤ 1 → n ≤ 1
 fewer n v few = grind arith
 
 module _ {X : Type 0} (p : X → Bool) where
-  tally_place : (xs : List X) (i j : ℕ) (d : X) → tally p xs ≤ 1 → i < length xs → j < length xs → p (get_or xs i d) ≡ true → p (get_or xs j d) ≡ true → i ≡ j
+  tally_place : (xs : List X) (i j : ℕ) (d : X) → tally p xs ≤ 1 → i < length xs → j < length xs → p (get_or xs i d) ≡ true
+      → p (get_or xs j d) ≡ true → i ≡ j
   tally_place [] i j d one low high h g = absurd (omega arith)
   tally_place (x ∷ xs) zero zero d one low high h g = refl
   tally_place (x ∷ xs) zero (suc j) d one low high h g = absurd (two (tally p xs) (p x) h (at_least_one p xs j d (omega arith) g) one)
@@ -35,7 +36,8 @@ module _ {X : Type 0} (p : X → Bool) where
       ap suc (tally_place xs i j d (fewer (tally p xs) (p x) one) (omega arith) (omega arith) h g)
 
   -- two elements that pass, where one does, stand at one place
-  one_place : (xs : List X) (i j : ℕ) (d : X) → count_by p xs ≤ 1 → i < length xs → j < length xs → p (get_or xs i d) ≡ true → p (get_or xs j d) ≡ true → i ≡ j
+  one_place : (xs : List X) (i j : ℕ) (d : X) → count_by p xs ≤ 1 → i < length xs → j < length xs → p (get_or xs i d) ≡ true
+      → p (get_or xs j d) ≡ true → i ≡ j
   one_place xs i j d one low high h g = tally_place xs i j d (omega (arith, tally-count_by p xs)) low high h g
 
   tally_some : (xs : List X) → 1 ≤ tally p xs → position_or_len p xs < length xs

@@ -144,7 +144,8 @@ word_again test w n fits same =
     (λ i low. same_bit (word test (cells w)) n i (word_at w test i low ∙ sym (same i low)))
 
 module _ (w : Inside) where
-  words_again : w.straight < 2 ^ 64 → w.diagonal < 2 ^ 64 → w.near < 2 ^ 64 → w.black < 2 ^ 64 → ((i : ℕ) → i < 64 → BitsOf w i (cell_in w i)) → AreWords w
+  words_again : w.straight < 2 ^ 64 → w.diagonal < 2 ^ 64 → w.near < 2 ^ 64 → w.black < 2 ^ 64 → ((i : ℕ) → i < 64 → BitsOf w i (cell_in w i))
+      → AreWords w
   words_again s d n b h =
       ap₂ (λ x y. record { straight = x; diagonal = y; near = word is_near (cells w); black = word (has_colour Black) (cells w) })
       (word_again straight_of w w.straight s (λ i low. (h i low).straight))
@@ -162,13 +163,15 @@ module _ (w : Inside) where
   pub square_there : (b : List (Option Piece)) (i : ℕ) → cells w ≡ b → i < 64 → cell_in w i ≡ at b (square_at i)
   square_there b i is low = cell_there b i is low ∙ ap (λ k. get_or b k None) (sym (cell_of-square_at i))
 
-  pub marks : (b : List (Option Piece)) (word : ℕ) (test : Option Piece → Bool) → cells w ≡ b → ((i : ℕ) → i < 64 → has word i ≡ test (cell_in w i)) → Places word (λ s. test (at b s))
+  pub marks : (b : List (Option Piece)) (word : ℕ) (test : Option Piece → Bool) → cells w ≡ b
+      → ((i : ℕ) → i < 64 → has word i ≡ test (cell_in w i)) → Places word (λ s. test (at b s))
   marks b word test is h = record { of = λ i low. h i low ∙ ap test (square_there b i is low) }
 
   pub black_places : (b : List (Option Piece)) → cells w ≡ b → AreWords w → Places w.black (λ s. has_colour Black (at b s))
   black_places b is h = marks b w.black (has_colour Black) is (λ i low. (cell_bits w i low h).black)
 
-  pub kind_places : (b : List (Option Piece)) (k : Kind) (set : ℕ) → cells w ≡ b → AreWords w → ((i : ℕ) → i < 64 → has set i ≡ kind_in k (has w.straight i) (has w.diagonal i) (has w.near i)) → Places set (λ s. has_kind k (at b s))
+  pub kind_places : (b : List (Option Piece)) (k : Kind) (set : ℕ) → cells w ≡ b → AreWords w
+      → ((i : ℕ) → i < 64 → has set i ≡ kind_in k (has w.straight i) (has w.diagonal i) (has w.near i)) → Places set (λ s. has_kind k (at b s))
   kind_places b k set is h e = marks b set (has_kind k) is (λ i low. e i low ∙ by_bits i (cell_bits w i low h))
     where
       by_bits : (i : ℕ) → BitsOf w i (cell_in w i) → kind_in k (has w.straight i) (has w.diagonal i) (has w.near i) ≡ has_kind k (cell_in w i)

@@ -76,7 +76,9 @@ module _ (p : Parts) where
   seen_by_pawn : (m : Move) (k : Kind) → own p k m.from ≡ true → is_pawn_step p m ≡ true → sees k p m.from m.to ≡ true
   seen_by_pawn m k h g = grind (arith, or_cases, sees_pawn, advance_seen, double_seen, by_attack, first_true)
 
-  by_castling : (m : Move) (k : Kind) (wing : Wing) → (is_clear p.board (home p 4) (home p wing.rook) ≡ true → (is_aligned (home p 4) (home p wing.end) && is_clear p.board (home p 4) (home p wing.end)) ≡ true) → own p k m.from ≡ true → Castles p m wing → sees k p m.from m.to ≡ true
+  by_castling : (m : Move) (k : Kind) (wing : Wing)
+      → (is_clear p.board (home p 4) (home p wing.rook) ≡ true → (is_aligned (home p 4) (home p wing.end) && is_clear p.board (home p 4) (home p wing.end)) ≡ true)
+      → own p k m.from ≡ true → Castles p m wing → sees k p m.from m.to ≡ true
   by_castling m k wing way h g = grind arith
 
   pub step_seen : (m : Move) (k : Kind) (b : Board) → own p k m.from ≡ true → board_after p m ≡ Some b → sees k p m.from m.to ≡ true
@@ -91,7 +93,8 @@ module _ (p : Parts) where
       ]
 
   -- what the parts after a step say of it
-  board_of : (m : Move) (q : Parts) (on : Bool) (o : Option Board) → (if on then option_map (after p m) o else None) ≡ Some q → (b : Board) × (o ≡ Some b)
+  board_of : (m : Move) (q : Parts) (on : Bool) (o : Option Board) → (if on then option_map (after p m) o else None) ≡ Some q
+      → (b : Board) × (o ≡ Some b)
   board_of m q true None h = cc
   board_of m q true (Some b) h = (b, refl)
   board_of m q false o h = cc

@@ -89,12 +89,14 @@ module _ (p : Parts) (s t : Square) (x y : Promotion) where
       put_alike p.side (put p.board s None) (put p.board s None) t (some_piece p.side (kind_of x)) (some_piece p.side (kind_of y))
       (itself_too p.side (put p.board s None) (length-put p.board s None ∙ long)) on_t (men_alike p.side x y)
 
-  passing_alike : length p.board ≡ 64 → OnBoard s → OnBoard t → Alike p.side (en_passant_board p (promoting s t x)) (en_passant_board p (promoting s t y))
+  passing_alike : length p.board ≡ 64 → OnBoard s → OnBoard t → Alike p.side (en_passant_board p (promoting s t x))
+      (en_passant_board p (promoting s t y))
   passing_alike long on_s on_t =
       put_alike p.side (carried p (promoting s t x)) (carried p (promoting s t y)) (captured_pawn (promoting s t x)) None None
       (carried_alike long on_s on_t) (record { file = on_t.file; rank = on_s.rank }) (itself p.side None)
 
-  castled_alike : (rook crossing : ℕ) → length p.board ≡ 64 → OnBoard s → OnBoard t → rook < 8 → crossing < 8 → Alike p.side (castled p (promoting s t x) rook crossing) (castled p (promoting s t y) rook crossing)
+  castled_alike : (rook crossing : ℕ) → length p.board ≡ 64 → OnBoard s → OnBoard t → rook < 8 → crossing < 8
+      → Alike p.side (castled p (promoting s t x) rook crossing) (castled p (promoting s t y) rook crossing)
   castled_alike rook crossing long on_s on_t low_rook low_crossing =
       put_alike p.side (put (carried p (promoting s t x)) (home p rook) None)
       (put (carried p (promoting s t y)) (home p rook) None) (home p crossing) (some_piece p.side Rook) (some_piece p.side Rook)

@@ -7,7 +7,8 @@ use Rattle.chess_rules.proofs.trying.FoundLists.{kept_more}
 use Rattle.chess_rules.proofs.sets.SetsToSquares.{members_are}
 
 module _ (p : Parts) where
-  pub own_places : (k : Kind) (d : Colour) (b : Board) (w : ℕ) → d ≡ p.side → b ≡ p.board → Places w (λ s. has_piece d k (at b s)) → Places w (own p k)
+  pub own_places : (k : Kind) (d : Colour) (b : Board) (w : ℕ) → d ≡ p.side → b ≡ p.board → Places w (λ s. has_piece d k (at b s))
+      → Places w (own p k)
   own_places k d b w side board h = grind arith
 
   -- what is seen is seen by a clear way
@@ -22,7 +23,8 @@ module _ (p : Parts) where
   pub jumps_are : (k : Kind) (t : Square) (r : ℕ) → k ≡ Knight → Places r (λ s. own p k s && may_see k s t) → members r ≡ candidates p k t
   jumps_are k t r knight h = grind (arith, common_steps, members_are)
 
-  pub clear_are : (k : Kind) (t : Square) (b : Board) (r clear : ℕ) → b ≡ p.board → Places r (λ s. own p k s && may_see k s t) → Places clear (λ s. has r (cell_of s) && is_clear b s t) → members clear ≡ candidates p k t
+  pub clear_are : (k : Kind) (t : Square) (b : Board) (r clear : ℕ) → b ≡ p.board → Places r (λ s. own p k s && may_see k s t)
+      → Places clear (λ s. has r (cell_of s) && is_clear b s t) → members clear ≡ candidates p k t
   clear_are k t b r clear board h f =
       members_are clear (is_candidate p k t)
       (λ i low.
@@ -36,7 +38,8 @@ module _ (p : Parts) where
 
   -- Without looking at what stands between.
 
-  pub one_may_see : (k : Kind) (t : Square) (r : ℕ) (only : Option Square) → Places r (λ s. own p k s && may_see k s t) → only ≡ lone (members r) → is_some only ≡ true → length (candidates p k t) ≤ 1
+  pub one_may_see : (k : Kind) (t : Square) (r : ℕ) (only : Option Square) → Places r (λ s. own p k s && may_see k s t) → only ≡ lone (members r)
+      → is_some only ≡ true → length (candidates p k t) ≤ 1
   one_may_see k t r only h is some =
       omega (
         arith,
@@ -59,23 +62,33 @@ module _ (p : Parts) where
   -- The sets whose members are tried have the pairs of the definitions.
 
   -- the pieces of the side to move
-  pub colour_places : (d : Colour) (b : Board) (w : ℕ) → d ≡ p.side → b ≡ p.board → Places w (λ s. has_colour d (at b s)) → Places w (λ s. has_colour p.side (at p.board s))
+  pub colour_places : (d : Colour) (b : Board) (w : ℕ) → d ≡ p.side → b ≡ p.board → Places w (λ s. has_colour d (at b s))
+      → Places w (λ s. has_colour p.side (at p.board s))
   colour_places d b w side board h = grind arith
 
   -- The king's steps that are tried first.
 
-  pub steps_are : (k : Square) (near owns rest steps : ℕ) → k ≡ king_square p.side p.board → Bits rest (λ i. not (has owns i)) → Bits steps (λ i. has near i && has rest i) → Places near (λ s. is_adjacent s k) → Places owns (λ s. has_colour p.side (at p.board s)) → Places steps (is_king_step p)
+  pub steps_are : (k : Square) (near owns rest steps : ℕ) → k ≡ king_square p.side p.board → Bits rest (λ i. not (has owns i))
+      → Bits steps (λ i. has near i && has rest i) → Places near (λ s. is_adjacent s k) → Places owns (λ s. has_colour p.side (at p.board s))
+      → Places steps (is_king_step p)
   steps_are k near owns rest steps king misses meets h g = grind arith
 
-  pub step_tried : (t : Square) (w place : ℕ) (r : Bool) → Places w (is_king_step p) → place ≡ cell_of t → t.file < 8 → t.rank < 8 → r ≡ has w place → r ≡ is_king_step p t
+  pub step_tried : (t : Square) (w place : ℕ) (r : Bool) → Places w (is_king_step p) → place ≡ cell_of t → t.file < 8 → t.rank < 8
+      → r ≡ has w place → r ≡ is_king_step p t
   step_tried t w place r h is file rank e = grind (arith, nat_tests)
 
   -- The pieces that are still to be tried for a target.
 
-  pub king_left_out : (t : Square) (pieces kings rest left : ℕ) → is_king_step p t ≡ true → Bits rest (λ i. not (has kings i)) → Bits left (λ i. has pieces i && has rest i) → Places kings (own p King) → Places left (λ s. has pieces (cell_of s) && not (is_king_step p t && own p King s))
+  pub king_left_out : (t : Square) (pieces kings rest left : ℕ) → is_king_step p t ≡ true → Bits rest (λ i. not (has kings i))
+      → Bits left (λ i. has pieces i && has rest i) → Places kings (own p King)
+      → Places left (λ s. has pieces (cell_of s) && not (is_king_step p t && own p King s))
   king_left_out t pieces kings rest left step misses meets h = grind arith
 
-  pub aligned_left : (t : Square) (b : Board) (owns knights rest others lines pieces left clear : ℕ) → b ≡ p.board → Bits rest (λ i. not (has knights i)) → Bits others (λ i. has owns i && has rest i) → Bits pieces (λ i. has others i && has lines i) → Places owns (λ s. has_colour p.side (at p.board s)) → Places knights (own p Knight) → Places lines (λ s. is_aligned s t) → Places left (λ s. has pieces (cell_of s) && not (is_king_step p t && own p King s)) → Places clear (λ s. has left (cell_of s) && is_clear b s t) → Places clear (is_untried_aligned p t)
+  pub aligned_left : (t : Square) (b : Board) (owns knights rest others lines pieces left clear : ℕ) → b ≡ p.board
+      → Bits rest (λ i. not (has knights i)) → Bits others (λ i. has owns i && has rest i) → Bits pieces (λ i. has others i && has lines i)
+      → Places owns (λ s. has_colour p.side (at p.board s)) → Places knights (own p Knight) → Places lines (λ s. is_aligned s t)
+      → Places left (λ s. has pieces (cell_of s) && not (is_king_step p t && own p King s))
+      → Places clear (λ s. has left (cell_of s) && is_clear b s t) → Places clear (is_untried_aligned p t)
   aligned_left t b owns knights rest others lines pieces left clear board misses meets both of_owns of_knights of_lines of_left of_clear =
       grind arith
 

@@ -96,7 +96,8 @@ module _ (p : Parts) (m : Move) where
       ]
 
   -- where castling leads, and that king and rook are ready
-  pub castles_ends : (right : Bool) (wing : Wing) → castles p m right wing ≡ true → (m.from ≡ home p 4) × (m.to ≡ home p wing.end) × (is_none m.promotion ≡ true) × (stand_ready p wing.rook ≡ true)
+  pub castles_ends : (right : Bool) (wing : Wing) → castles p m right wing ≡ true
+      → (m.from ≡ home p 4) × (m.to ≡ home p wing.end) × (is_none m.promotion ≡ true) × (stand_ready p wing.rook ≡ true)
   castles_ends right wing h = grind (arith, common_steps, six_hold)
 
   castles_far : (right : Bool) (wing : Wing) → 1 < abs_diff 4 wing.end → castles p m right wing ≡ true → goes_far p m ≡ true

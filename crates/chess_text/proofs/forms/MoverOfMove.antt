@@ -88,7 +88,24 @@ full c cell g = grind arith
 
 pub pawn_way : (p : Parts) (m : Move) → is_legal p m ≡ true → own p Pawn m.from ≡ true → PawnWay p m
 pawn_way p m h pawn_stands =
-    search (rules, stepped, piece_goes, false≢true, pawn_goes, pawn_passes, passing_parts, king_castles, pawn_attack, other_kind, and_parts, castling_goes_far, advance_parts, double_parts, full, or_cases)
+    search (
+      rules,
+      stepped,
+      piece_goes,
+      false≢true,
+      pawn_goes,
+      pawn_passes,
+      passing_parts,
+      king_castles,
+      pawn_attack,
+      other_kind,
+      and_parts,
+      castling_goes_far,
+      advance_parts,
+      double_parts,
+      full,
+      or_cases,
+    )
 
 pub gap_apart : (a b : ℕ) → a ≡ b → gap a b ≡ 1 → ⊥
 gap_apart a b e h = omega arith

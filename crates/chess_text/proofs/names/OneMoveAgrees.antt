@@ -49,10 +49,14 @@ pub record Found (p : Parts) (m : Move) (xs : List Square) (n : ℕ) (any file r
   pub rank_is : rank ≡ seen p m (λ s. s.rank == m.from.rank) (take n xs)
 
 module _ (p : Parts) (m : Move) where
-  one_more : (test : Square → Bool) (xs : List Square) (n : ℕ) (s : Square) (before after rival : Bool) → n < length xs → s ≡ get_or xs n s → rival ≡ is_rival p m s → before ≡ seen p m test (take n xs) → after ≡ (before || (rival && test s)) → after ≡ seen p m test (take (n + 1) xs)
+  one_more : (test : Square → Bool) (xs : List Square) (n : ℕ) (s : Square) (before after rival : Bool) → n < length xs → s ≡ get_or xs n s
+      → rival ≡ is_rival p m s → before ≡ seen p m test (take n xs) → after ≡ (before || (rival && test s))
+      → after ≡ seen p m test (take (n + 1) xs)
   one_more test xs n s before after rival low is e f g = cc (list_any_more _ xs n s low)
 
-  pub found_more : (xs : List Square) (n : ℕ) (s : Square) (rival any file rank any' file' rank' : Bool) → n < length xs → s ≡ get_or xs n s → rival ≡ is_rival p m s → Found p m xs n any file rank → any' ≡ (any || rival) → file' ≡ (file || (rival && (s.file == m.from.file))) → rank' ≡ (rank || (rival && (s.rank == m.from.rank))) → Found p m xs (n + 1) any' file' rank'
+  pub found_more : (xs : List Square) (n : ℕ) (s : Square) (rival any file rank any' file' rank' : Bool) → n < length xs → s ≡ get_or xs n s
+      → rival ≡ is_rival p m s → Found p m xs n any file rank → any' ≡ (any || rival) → file' ≡ (file || (rival && (s.file == m.from.file)))
+      → rank' ≡ (rank || (rival && (s.rank == m.from.rank))) → Found p m xs (n + 1) any' file' rank'
   found_more xs n s rival any file rank any' file' rank' low is e f a b c = search (rules, one_more, and-true)
 
   -- and in the end

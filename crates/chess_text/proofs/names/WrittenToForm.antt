@@ -134,7 +134,8 @@ module _ (p : Parts) (m : Move) (k : Kind) where
       no_pawn : own p Pawn m.from ≡ true → ⊥
       no_pawn g = false≢true (sym (other_kind _ k Pawn _ stands apart) ∙ g)
 
-  pub piece_move_described : (file rank : Option ℕ) (promotion : Option Promotion) → own p k m.from ≡ true → hints_fit file rank m.from ≡ true → m.promotion ≡ promotion → is_castling p m ≡ false → describes p (Man k file rank m.to promotion) m ≡ true
+  pub piece_move_described : (file rank : Option ℕ) (promotion : Option Promotion) → own p k m.from ≡ true → hints_fit file rank m.from ≡ true
+      → m.promotion ≡ promotion → is_castling p m ≡ false → describes p (Man k file rank m.to promotion) m ≡ true
   piece_move_described file rank promotion stands hints becomes plain =
       rw (stands, hints, same_square-refl m.to, ← becomes, same_promotion-refl m.promotion, plain) refl
 

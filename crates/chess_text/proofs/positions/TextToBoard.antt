@@ -86,13 +86,15 @@ nested false b v = refl
 
 -- a slash
 module _ (row done : Board) where
-  with_slash : (texts : List (List ℕ)) → 0 < length texts → (if (length row == 8) && nat_lt (length done) 56 then joined [] (row ++ done) texts else None) ≡ joined row done ([] ∷ texts)
+  with_slash : (texts : List (List ℕ)) → 0 < length texts
+      → (if (length row == 8) && nat_lt (length done) 56 then joined [] (row ++ done) texts else None) ≡ joined row done ([] ∷ texts)
   with_slash [] some = absurd (omega arith)
   with_slash (rank ∷ below) some =
       grind (arith, common_steps, length-append, append-nil, append_assoc, first_last, suc)
 
   -- a digit or a letter
-  with_item : (c : ℕ) (texts : List (List ℕ)) → 0 < length texts → is_item c ≡ true → (if nat_le (length row + (item c).width) 8 then joined (row ++ cells_at c) done texts else None) ≡ joined row done (onto_first c texts)
+  with_item : (c : ℕ) (texts : List (List ℕ)) → 0 < length texts → is_item c ≡ true
+      → (if nat_le (length row + (item c).width) 8 then joined (row ++ cells_at c) done texts else None) ≡ joined row done (onto_first c texts)
   with_item c [] some good = absurd (omega arith)
   with_item c (rank ∷ below) some good =
       grind (arith, common_steps, means, nested, if_same, suc, length-append)

@@ -35,10 +35,12 @@ main_items first l items = map (λ i. i.item) (placed_main first l items)
 
 -- a variation leaves none
 module _ {p : Profile} {first : Parts} (deep : ℕ) (l : Level) {ks : List Kind} {items : List Item} (more : List Item) where
-  main_variation : SpellsText p first (deep + 1) (new_level (without_last l.trail)) ks items → placed_main first l (game.open_variation ∷ (items ++ game.close_variation ∷ more)) ≡ placed_main first l more
+  main_variation : SpellsText p first (deep + 1) (new_level (without_last l.trail)) ks items
+      → placed_main first l (game.open_variation ∷ (items ++ game.close_variation ∷ more)) ≡ placed_main first l more
   main_variation inner = grind (arith, filter-append, placed_variation, none_main)
 
-  levels_variation : SpellsText p first (deep + 1) (new_level (without_last l.trail)) ks items → fold levels_after (level_in l []) (game.open_variation ∷ (items ++ game.close_variation ∷ more)) ≡ fold levels_after (level_in l []) more
+  levels_variation : SpellsText p first (deep + 1) (new_level (without_last l.trail)) ks items → fold levels_after (level_in l [])
+      (game.open_variation ∷ (items ++ game.close_variation ∷ more)) ≡ fold levels_after (level_in l []) more
   levels_variation inner = grind (arith, fold-append, around_again)
 
 -- They are spelled by their symbols alone, lead to the same levels, and have the same places.

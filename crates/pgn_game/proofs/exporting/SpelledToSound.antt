@@ -81,7 +81,8 @@ module _ (k : Kind) {marker : List ℕ} where
   pub marker_closed : (ks : List Kind) → marker_of k ≡ Some marker → CommentsClose false ks → CommentsClose false (k ∷ ks)
   marker_closed ks is h = search rules
 
-  pub marker_opens : (c : Bool) (ks ls : List Kind) → marker_of k ≡ Some marker → CommentsClose c (k ∷ ks) → CommentsClose false ls → CommentsClose c (k ∷ ls)
+  pub marker_opens : (c : Bool) (ks ls : List Kind) → marker_of k ≡ Some marker → CommentsClose c (k ∷ ks) → CommentsClose false ls
+      → CommentsClose c (k ∷ ls)
   marker_opens c ks ls is h more = rw ((marker_plain c ks is h).0) (marker_closed ls is more)
 
 -- no comment is open where movetext begins

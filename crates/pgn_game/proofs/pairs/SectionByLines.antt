@@ -68,10 +68,12 @@ module _ (result : List ℕ) where
   pub reduced_section : (ps : List Pair) → text_by (roster_line ps) (roster result) ++ 10 ∷ [] ≡ tag_section Reduced result ps
   reduced_section ps = rw (roster_lines ps (roster result))
 
-  pub full_section : (ps : List Pair) → (text_by (roster_line ps) (roster result) ++ tag_lines (other_pairs (with_set_up ps))) ++ 10 ∷ [] ≡ tag_section Full result ps
+  pub full_section : (ps : List Pair)
+      → (text_by (roster_line ps) (roster result) ++ tag_lines (other_pairs (with_set_up ps))) ++ 10 ∷ [] ≡ tag_section Full result ps
   full_section ps = grind (arith, tag_lines-append, roster_lines)
 
-  pub roster_first : (mode : Mode) (ps : List Pair) → (rest : List ℕ) × (tag_section mode result ps ≡ text_by (roster_line ps) (roster result) ++ rest)
+  pub roster_first : (mode : Mode) (ps : List Pair)
+      → (rest : List ℕ) × (tag_section mode result ps ≡ text_by (roster_line ps) (roster result) ++ rest)
   roster_first Reduced ps = (10 ∷ [], sym (reduced_section ps))
   roster_first Full ps = (
     tag_lines (other_pairs (with_set_up ps)) ++ 10 ∷ [],

@@ -64,7 +64,8 @@ module _ (name : List ℕ) where
       elim (comes_before name q.name) as (λ b. index_if b (index_of name qs) ≤ suc k) [ true ↦ omega arith | false ↦ omega arith ]
 
   -- and above that of a pair with no later name
-  pub index-behind : (ps : List Pair) (k : ℕ) {p : Pair} → InOrder ps → k < length ps → p ≡ get_or ps k p → comes_before name p.name ≡ false → k < index_of name ps
+  pub index-behind : (ps : List Pair) (k : ℕ) {p : Pair} → InOrder ps → k < length ps → p ≡ get_or ps k p → comes_before name p.name ≡ false
+      → k < index_of name ps
   index-behind [] k h l e early = absurd (omega arith)
   index-behind (q ∷ qs) zero h l e early = grind (arith, common_steps)
   index-behind (q ∷ qs) (suc k) {p} h l e early =
@@ -98,7 +99,8 @@ module _ (name : List ℕ) where
       absurd (omega arith)
 
   -- the last pair before the index of a name has this name, or none has it
-  pub value-behind : (ps : List Pair) (k : ℕ) {p : Pair} → InOrder ps → index_of name ps ≡ suc k → p ≡ get_or ps k p → value_of ps name ≡ pick (bytes_eq p.name name) p.value None
+  pub value-behind : (ps : List Pair) (k : ℕ) {p : Pair} → InOrder ps → index_of name ps ≡ suc k → p ≡ get_or ps k p
+      → value_of ps name ≡ pick (bytes_eq p.name name) p.value None
   value-behind [] k h is e = absurd (omega arith)
   value-behind (q ∷ qs) zero {p} h is e = by_test _ refl is
     where

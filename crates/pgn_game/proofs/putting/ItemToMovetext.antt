@@ -82,11 +82,17 @@ module _ (mode : Mode) (start : Parts) (items : List Item) (i : Item) (text : Mo
 
 -- The levels that an item leads to.
 module _ (start : Parts) where
-  opened : (trail : List Move) (holds : Bool) (around : List ModelLevel) (new : StoredLevels) → IsTrue (is_some (before_last start (record { trail = trail; has_own_move = holds }))) → IfSome (before_last start (record { trail = trail; has_own_move = holds })) (λ s. new ≡ record { present = level_at s; around = stored_level start (record { trail = trail; has_own_move = holds }) ∷ map (stored_level start) around }) → new ≡ stored_levels start (levels_after (record { present = record { trail = trail; has_own_move = holds }; around = around }) open_variation)
+  opened : (trail : List Move) (holds : Bool) (around : List ModelLevel) (new : StoredLevels)
+      → IsTrue (is_some (before_last start (record { trail = trail; has_own_move = holds })))
+      → IfSome (before_last start (record { trail = trail; has_own_move = holds }))
+      (λ s. new ≡ record { present = level_at s; around = stored_level start (record { trail = trail; has_own_move = holds }) ∷ map (stored_level start) around })
+      → new ≡ stored_levels start (levels_after (record { present = record { trail = trail; has_own_move = holds }; around = around }) open_variation)
   opened trail true around new some h = h
   opened trail false around new some h = absurd (cc)
 
-  closed : (present : ModelLevel) (around : List ModelLevel) (new : StoredLevels) → 0 < length (map (stored_level start) around) → ClosesLevel (map (stored_level start) around) new → new ≡ stored_levels start (levels_after (record { present = present; around = around }) close_variation)
+  closed : (present : ModelLevel) (around : List ModelLevel) (new : StoredLevels) → 0 < length (map (stored_level start) around)
+      → ClosesLevel (map (stored_level start) around) new
+      → new ≡ stored_levels start (levels_after (record { present = present; around = around }) close_variation)
   closed present [] new some h = absurd (omega arith)
   closed present (l ∷ around) new some h = h
 

@@ -32,7 +32,8 @@ module _ (old : ReaderState) (part : Part) where
   section_is is = grind (arith, common_steps)
 
   -- What items add: the tag section, where movetext begins, and what they add to the full lines.
-  pub gain_is : (more : List Item) → IsTrue (may_have_movetext old.stage) → IsOpen old part → section_due_of old ++ lines_gain old.profile.mode part.pairs part.items more ≡ gain_to (as_written old) part (going (with_items part more))
+  pub gain_is : (more : List Item) → IsTrue (may_have_movetext old.stage) → IsOpen old part
+      → section_due_of old ++ lines_gain old.profile.mode part.pairs part.items more ≡ gain_to (as_written old) part (going (with_items part more))
   gain_is more at is =
       let p = old.profile in
       cc (

@@ -110,7 +110,8 @@ module _ (mode : Mode) (start : Parts) (items : List Item) where
       (full_lines-grow (tokens_out mode start items) (tokens_behind mode start items more))
 
   -- So it does when the marker comes and the game ends.
-  pub full_text_marker : (marker : List ℕ) → IsPrefix (full_text mode start items) (text_of_lines (lines_of (tokens_out mode start items ++ marker ∷ [])) ++ 10 ∷ [])
+  pub full_text_marker : (marker : List ℕ) → IsPrefix (full_text mode start items)
+      (text_of_lines (lines_of (tokens_out mode start items ++ marker ∷ [])) ++ 10 ∷ [])
   full_text_marker marker =
       let ts = tokens_out mode start items in
       let full = full_lines-grow ts (marker ∷ []) in

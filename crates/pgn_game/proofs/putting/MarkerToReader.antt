@@ -108,7 +108,10 @@ finishes : (old new : ReaderState) (marker : Marker) (line : List ℕ) (d : Devi
 finishes old new marker line d at outside same still gained = grind (arith, common_steps, behind, marker_text, plies_before)
 
 module _ (old begun new : ReaderState) (marker : Marker) where
-  pub ends_well : (text : List ℕ) (a b d c : Option (List ℕ)) (n m k : ℕ) → EndsText old begun marker text a b n m → Appends b d (text_at begun.line (Put text)) → Appends d c (text_at (line_at begun.line (Put text)) EndGame) → new ≡ record begun { stage = Between; line = new.line; marker = marker_text marker } → new.line ≡ [] → k ≡ m → PutResult old (IsOpen old) (to_game marker) new (Ok Finished) (from_to a c n k)
+  pub ends_well : (text : List ℕ) (a b d c : Option (List ℕ)) (n m k : ℕ) → EndsText old begun marker text a b n m
+      → Appends b d (text_at begun.line (Put text)) → Appends d c (text_at (line_at begun.line (Put text)) EndGame)
+      → new ≡ record begun { stage = Between; line = new.line; marker = marker_text marker } → new.line ≡ [] → k ≡ m → PutResult old (IsOpen old)
+      (to_game marker) new (Ok Finished) (from_to a c n k)
   ends_well text a b d c n m k ends put last rest empty counted =
       finishes old new marker [] (from_to a c n k) ends.at ends.outside
       (rest ∙ ap (λ (l : List ℕ). record begun { stage = Between; line = l; marker = marker_text marker }) empty
@@ -121,14 +124,19 @@ module _ (old begun new : ReaderState) (marker : Marker) where
       ))
 
   -- nothing is written of a silent reader's game
-  pub ends_silent : (a b : Option (List ℕ)) (n m : ℕ) → old.writing.is_silent ≡ true → IsTrue (may_have_movetext old.stage) → old.text.levels.around ≡ [] → BeginsText {A = Unit} {E = WriteFault} old begun (Ok tt) (seen old.writing.is_silent (from_to a b n m)) → new ≡ record begun { stage = Between; marker = marker_text marker } → PutResult old (IsOpen old) (to_game marker) new (Ok Finished) (seen old.writing.is_silent (from_to a b n m))
+  pub ends_silent : (a b : Option (List ℕ)) (n m : ℕ) → old.writing.is_silent ≡ true → IsTrue (may_have_movetext old.stage)
+      → old.text.levels.around ≡ [] → BeginsText {A = Unit} {E = WriteFault} old begun (Ok tt) (seen old.writing.is_silent (from_to a b n m))
+      → new ≡ record begun { stage = Between; marker = marker_text marker } → PutResult old (IsOpen old) (to_game marker) new (Ok Finished)
+      (seen old.writing.is_silent (from_to a b n m))
   ends_silent a b n m silent at outside begins rest =
       finishes old new marker old.line (seen old.writing.is_silent (from_to a b n m)) at outside
       (rest ∙ ap (λ (r : ReaderState). record r { stage = Between; marker = marker_text marker }) begins.begun) begins.counted
       (λ part is. (rw silent at is.held.held, rw silent tt))
 
   -- a write failed behind the section
-  pub ends_ill : (text : List ℕ) (a b c : Option (List ℕ)) (n m k : ℕ) → EndsText old begun marker text a b n m → AppendsFront b c (ending begun.line text) → new ≡ record begun { line = new.line } → k ≡ one_more m → PutResult old (IsOpen old) (to_game marker) new (Err reasons.WriteFault) (from_to a c n k)
+  pub ends_ill : (text : List ℕ) (a b c : Option (List ℕ)) (n m k : ℕ) → EndsText old begun marker text a b n m
+      → AppendsFront b c (ending begun.line text) → new ≡ record begun { line = new.line } → k ≡ one_more m → PutResult old (IsOpen old)
+      (to_game marker) new (Err reasons.WriteFault) (from_to a c n k)
   ends_ill text a b c n m k ends front rest counted =
       let begins = ends.begins in
       unwritten old new (IsOpen old) (to_game marker) (from_to a c n k)

@@ -55,7 +55,10 @@ abbrev pub to_stage : Stage → Part → Next
 to_stage stage part = going (at_stage stage part)
 
 module _ (old : ReaderState) where
-  pub puts_value : (new : ReaderState) (value name : List ℕ) (start : Option Parts) (held : TagPairs) (o : Option (List ℕ)) (n : ℕ) → old.stage ≡ AfterName → IfSome old.tags.pending_name (λ m. held ≡ completed m value old.tags.held) → old.tags.pending_name ≡ Some name → fen_position name value ≡ Ok start → new ≡ record old { stage = AfterValue; tags = held; text = movetext_after_fen start old.text } → PutResult old (Agrees old) (to_value value) new (Ok More) (from_to o o n n)
+  pub puts_value : (new : ReaderState) (value name : List ℕ) (start : Option Parts) (held : TagPairs) (o : Option (List ℕ)) (n : ℕ)
+      → old.stage ≡ AfterName → IfSome old.tags.pending_name (λ m. held ≡ completed m value old.tags.held) → old.tags.pending_name ≡ Some name
+      → fen_position name value ≡ Ok start → new ≡ record old { stage = AfterValue; tags = held; text = movetext_after_fen start old.text }
+      → PutResult old (Agrees old) (to_value value) new (Ok More) (from_to o o n n)
   puts_value new value name start held o n at completes begun told is = search (rules, begun_name, held_at, text_at, with_pair, steps, begins_with)
 
   -- nothing changes at a comment in the tag section, or at a token between games
@@ -63,11 +66,15 @@ module _ (old : ReaderState) where
   puts_nothing o n = search (rules, le_refl, drop-length, Appends-nil, more_comes)
 
   -- a bracket changes the stage alone
-  pub puts_left_bracket : (new : ReaderState) (o : Option (List ℕ)) (n : ℕ) → old.stage ≡ AfterTags → new ≡ record old { stage = AfterLeftBracket } → PutResult old (Agrees old) (to_stage AfterLeftBracket) new (Ok More) (from_to o o n n)
+  pub puts_left_bracket : (new : ReaderState) (o : Option (List ℕ)) (n : ℕ) → old.stage ≡ AfterTags
+      → new ≡ record old { stage = AfterLeftBracket } → PutResult old (Agrees old) (to_stage AfterLeftBracket) new (Ok More) (from_to o o n n)
   puts_left_bracket new o n at is = search (rules, held_at, steps)
 
-  pub puts_right_bracket : (new : ReaderState) (o : Option (List ℕ)) (n : ℕ) → old.stage ≡ AfterValue → new ≡ record old { stage = AfterTags } → PutResult old (Agrees old) (to_stage AfterTags) new (Ok More) (from_to o o n n)
+  pub puts_right_bracket : (new : ReaderState) (o : Option (List ℕ)) (n : ℕ) → old.stage ≡ AfterValue → new ≡ record old { stage = AfterTags }
+      → PutResult old (Agrees old) (to_stage AfterTags) new (Ok More) (from_to o o n n)
   puts_right_bracket new o n at is = search (rules, held_at, steps)
 
-  pub puts_name : (new : ReaderState) (name : List ℕ) (held : TagPairs) (o : Option (List ℕ)) (n : ℕ) → old.stage ≡ AfterLeftBracket → has_pair old.tags.held name ≡ false → held ≡ record old.tags { pending_name = Some name } → new ≡ record old { stage = AfterName; tags = held } → PutResult old (Agrees old) (to_name name) new (Ok More) (from_to o o n n)
+  pub puts_name : (new : ReaderState) (name : List ℕ) (held : TagPairs) (o : Option (List ℕ)) (n : ℕ) → old.stage ≡ AfterLeftBracket
+      → has_pair old.tags.held name ≡ false → held ≡ record old.tags { pending_name = Some name }
+      → new ≡ record old { stage = AfterName; tags = held } → PutResult old (Agrees old) (to_name name) new (Ok More) (from_to o o n n)
   puts_name new name held o n at fresh begins is = search (rules, held_at, steps)

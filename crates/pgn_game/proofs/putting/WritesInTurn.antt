@@ -24,11 +24,13 @@ module _ {A : Type 0} (f : A → List ℕ) where
   text_by-next xs i x h e = cc (add-one i, take-suc xs i x h, text_by-append (take i xs) (x ∷ []), append-nil (f x))
 
   -- the texts so far, and the next one
-  pub next_text : (xs : List A) (i : ℕ) (x : A) (a b c : Option (List ℕ)) → i < length xs → get_or xs i x ≡ x → Appends a b (text_by f (take i xs)) → Appends b c (f x) → Appends a c (text_by f (take (i + 1) xs))
+  pub next_text : (xs : List A) (i : ℕ) (x : A) (a b c : Option (List ℕ)) → i < length xs → get_or xs i x ≡ x
+      → Appends a b (text_by f (take i xs)) → Appends b c (f x) → Appends a c (text_by f (take (i + 1) xs))
   next_text xs i x a b c h e done next = rw (text_by-next xs i x h e) (Appends-trans a b c _ _ done next)
 
   -- the texts so far, and a front of the next one
-  pub next_front : (xs : List A) (i : ℕ) (x : A) (a b c : Option (List ℕ)) → i < length xs → get_or xs i x ≡ x → Appends a b (text_by f (take i xs)) → AppendsFront b c (f x) → AppendsFront a c (text_by f xs)
+  pub next_front : (xs : List A) (i : ℕ) (x : A) (a b c : Option (List ℕ)) → i < length xs → get_or xs i x ≡ x
+      → Appends a b (text_by f (take i xs)) → AppendsFront b c (f x) → AppendsFront a c (text_by f xs)
   next_front xs i x a b c h e done next =
       let whole =
       ap (text_by f) (sym (take-append-drop _ xs)) ∙ text_by-append (take _ xs) (drop _ xs)

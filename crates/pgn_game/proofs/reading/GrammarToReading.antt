@@ -189,14 +189,18 @@ module _ (p : Profile) (ps : List Pair) (name : List ℕ) (items : List Item) wh
       (between p (at InMovetext ps name items) k is plain ∙ free, leads_between (at InMovetext ps name items) k is plain))
 
 module _ (p : Profile) (ps : List Pair) (name : List ℕ) where
-  whole_text_run : {text : List Kind} (rest : List Kind) {items : List Item} (last : Kind) {marker : List ℕ} (gs : List Game) → SpellsText p (start_of ps) 0 (new_level []) text items → marker_of last ≡ Some marker → IsResult p.missing_result (value_of ps (codes "Result")) marker → Runs p no_part rest gs → Runs p (at InMovetext ps name []) (text ++ last ∷ rest) (finished ps items marker ∷ gs)
+  whole_text_run : {text : List Kind} (rest : List Kind) {items : List Item} (last : Kind) {marker : List ℕ} (gs : List Game)
+      → SpellsText p (start_of ps) 0 (new_level []) text items → marker_of last ≡ Some marker
+      → IsResult p.missing_result (value_of ps (codes "Result")) marker → Runs p no_part rest gs → Runs p (at InMovetext ps name [])
+      (text ++ last ∷ rest) (finished ps items marker ∷ gs)
   whole_text_run rest {items} last {marker} gs spells is result runs =
       text_run ps name spells [] items {around = []} (last ∷ rest) (finished ps items marker ∷ gs) refl refl refl
       (λ m outside.
       let h = marker_finishes p ps name items last is (ap (λ x. depth x) outside) result in
       finishes _ last _ rest gs h.free h.goes h.leads runs)
 
-  opens_between : (ks : List Kind) (gs : List Game) → Runs p (at AfterTags ps name []) (tokens.left_bracket ∷ ks) gs → Runs p (at Between ps name []) (tokens.left_bracket ∷ ks) gs
+  opens_between : (ks : List Kind) (gs : List Game) → Runs p (at AfterTags ps name []) (tokens.left_bracket ∷ ks) gs
+      → Runs p (at Between ps name []) (tokens.left_bracket ∷ ks) gs
   opens_between ks gs h5 = search (rules, goes, finishes, open_refusal, open_between)
 
 has_fen : {o : Option (List ℕ)} {fen : Bool} → (o ≡ Some (codes "1") → fen ≡ true)

@@ -47,10 +47,13 @@ add_variation _ _ ks _ items _ holds room inner (inside l m around ls js more ot
     (variation _ l ks ls items more holds room inner text) rest))
 
 module _ (p : Profile) (first : Parts) (l : Level) where
-  add_open : {n : Level} (around : List Level) (ks : List Kind) (items : List Item) → IsTrue l.has_own_move → deep around < p.depth → n ≡ new_level (without_last l.trail) → Closes p first n (l ∷ around) ks items → Closes p first l around (tokens.left_paren ∷ ks) (games.open_variation ∷ items)
+  add_open : {n : Level} (around : List Level) (ks : List Kind) (items : List Item) → IsTrue l.has_own_move → deep around < p.depth
+      → n ≡ new_level (without_last l.trail) → Closes p first n (l ∷ around) ks items → Closes p first l around (tokens.left_paren ∷ ks)
+      (games.open_variation ∷ items)
   add_open around ks items holds room e h10 = search (rules, add_variation)
 
-  add_close : (m : Level) (around : List Level) (ks : List Kind) (items : List Item) → Closes p first m around ks items → Closes p first l (m ∷ around) (tokens.right_paren ∷ ks) (games.close_variation ∷ items)
+  add_close : (m : Level) (around : List Level) (ks : List Kind) (items : List Item) → Closes p first m around ks items
+      → Closes p first l (m ∷ around) (tokens.right_paren ∷ ks) (games.close_variation ∷ items)
   add_close m around ks items rest = inside l m around [] ks [] items (no_more _ l) rest
 
   nothing_left : (around : List Level) → length around ≡ 0 → Closes p first l around [] []
@@ -158,13 +161,15 @@ token_step : {p : Profile} {ps : List Pair} {items item : List Item} {k : Kind} 
 token_step {p} {items} {item} {k} stands h = grind (arith, common_steps, text_more, add_front, token, stands_levels)
 
 module _ (p : Profile) (ps : List Pair) (items : List Item) where
-  adds_move : (s : List ℕ) (played : Played) → Names (here (start_of ps) (levels_of items)) s played → Adds p ps items (tokens.symbol s) (games.move played.mv ∷ [])
+  adds_move : (s : List ℕ) (played : Played) → Names (here (start_of ps) (levels_of items)) s played → Adds p ps items (tokens.symbol s)
+      (games.move played.mv ∷ [])
   adds_move s played names text more c =
       let l = (levels_of items).present in
       add_front p l (level_after_move _ _) _ _ text (games.move _ ∷ []) more
       (λ d js is rest. move d l s played js is names rest) (rw (levels_more items (games.move played.mv)) at c)
 
-  adds_open : IsTrue (levels_of items).present.has_own_move → depth (levels_of items) < p.depth → Adds p ps items tokens.left_paren (games.open_variation ∷ [])
+  adds_open : IsTrue (levels_of items).present.has_own_move → depth (levels_of items) < p.depth
+      → Adds p ps items tokens.left_paren (games.open_variation ∷ [])
   adds_open holds room = search (rules, levels_more, deep-length, add_open)
 
 close_at : (p : Profile) (first : Parts) (l : Level) (around : List Level) (text : List Kind) (more : List Item) → (length around == 0) ≡ false

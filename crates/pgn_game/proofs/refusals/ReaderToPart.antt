@@ -60,5 +60,6 @@ module _ (old : ReaderState) (k : TokenKind) (part : Part) where
   pub entry_in_movetext : old.stage ≡ InMovetext → Agrees old part → IsEntry old (kind_of k) part
   entry_in_movetext at agrees = search (rules, row_in_movetext, next_in_movetext, part_stage, open_agrees)
 
-  pub entry_after_tags : old.stage ≡ AfterTags → IsTrue (is_textual (kind_of k)) → lacks_fen part.pairs ≡ false → Agrees old part → IsEntry old (kind_of k) part
+  pub entry_after_tags : old.stage ≡ AfterTags → IsTrue (is_textual (kind_of k)) → lacks_fen part.pairs ≡ false → Agrees old part
+      → IsEntry old (kind_of k) part
   entry_after_tags at is free agrees = search (rules, row_after_tags, next_after_tags, part_stage, open_agrees)

@@ -66,7 +66,8 @@ module _ (p : Profile) (part : Part) (s : List ℕ) where
   move_rows (Some (Err NoMove)) = refl
   move_rows _ = refl
 
-  pub move_refusal : is_number s ≡ false → is_score s ≡ false → text_refusal p part (symbol s) ≡ refused_as (position_in part) (move_of (position_in part) s)
+  pub move_refusal : is_number s ≡ false → is_score s ≡ false → text_refusal p part (symbol s) ≡ refused_as (position_in part)
+      (move_of (position_in part) s)
   move_refusal number score = search (rules, move_rows, or_from, symbol_refusal)
 
 found_free : (p : Parts) {r : MoveReading} {played : Played} → found_in p r ≡ Ok played → (refused_as p r ≡ None) × (r ≡ Some (Ok played))
@@ -146,14 +147,19 @@ marker_tested : (p : Profile) (part : Part) (missing marker : List ℕ) (inside 
 marker_tested p part missing marker inside other within known test = cc
 
 module _ (old : ReaderState) (k : Kind) where
-  pub marker_inside : (marker : List ℕ) (part : Part) → marker_of k ≡ Some marker → nat_le 1 (depth (levels_of_part part)) ≡ true → text_refusal old.profile part k ≡ Some MarkerInVariation
+  pub marker_inside : (marker : List ℕ) (part : Part) → marker_of k ≡ Some marker → nat_le 1 (depth (levels_of_part part)) ≡ true
+      → text_refusal old.profile part k ≡ Some MarkerInVariation
   marker_inside marker part is within = marker_refusal old.profile part k is ∙ hit _ _ _ within
 
-  pub marker_differs : (missing marker : List ℕ) (part : Part) → marker_of k ≡ Some marker → depth (levels_of_part part) ≡ 0 → result_for old.profile.missing_result marker ≡ missing → differs missing (value_of part.pairs (codes "Result")) marker ≡ true → text_refusal old.profile part k ≡ Some ResultDiffers
+  pub marker_differs : (missing marker : List ℕ) (part : Part) → marker_of k ≡ Some marker → depth (levels_of_part part) ≡ 0
+      → result_for old.profile.missing_result marker ≡ missing → differs missing (value_of part.pairs (codes "Result")) marker ≡ true
+      → text_refusal old.profile part k ≡ Some ResultDiffers
   marker_differs missing marker part is none known test =
       cc (marker_refusal old.profile part k is, marker_tested old.profile part missing marker false true (ap (λ n. nat_le 1 n) none) known test)
 
-  pub marker_free : (missing marker : List ℕ) (part : Part) → marker_of k ≡ Some marker → depth (levels_of_part part) ≡ 0 → result_for old.profile.missing_result marker ≡ missing → differs missing (value_of part.pairs (codes "Result")) marker ≡ false → text_refusal old.profile part k ≡ None
+  pub marker_free : (missing marker : List ℕ) (part : Part) → marker_of k ≡ Some marker → depth (levels_of_part part) ≡ 0
+      → result_for old.profile.missing_result marker ≡ missing → differs missing (value_of part.pairs (codes "Result")) marker ≡ false
+      → text_refusal old.profile part k ≡ None
   marker_free missing marker part is none known test = grind (arith, marker_refusal, marker_tested)
 
 pub marker_whole : (part : Part) (k : Kind) (marker : List ℕ) → marker_of k ≡ Some marker → in_text part k ≡ whole (game_of part marker)

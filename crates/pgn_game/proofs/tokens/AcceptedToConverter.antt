@@ -271,7 +271,8 @@ module _ (p : Profile) (old : Converter) (given : List Token) where
   read_at l finished h = read_as h refl refl refl tt
 
   -- No token more was read.
-  pub reads_none : (l : Standing) (finished : Bool) {a c : Option (List ℕ)} → HasRead p old given → c ≡ a → ReadsMore p given given (now_at l old.reading old.games finished) a c
+  pub reads_none : (l : Standing) (finished : Bool) {a c : Option (List ℕ)} → HasRead p old given → c ≡ a
+      → ReadsMore p given given (now_at l old.reading old.games finished) a c
   reads_none l finished has_read same = record {
     more = [];
     extends = sym (append-nil given);
@@ -281,7 +282,8 @@ module _ (p : Profile) (old : Converter) (given : List Token) where
   }
 
   -- A token was taken.
-  pub reads_token : (t : Token) (l : Standing) (new : ReaderState) (finished : Bool) (d : Device) → HasRead p old given → TakesToken old.reading t.kind new (Ok More) d → ReadsMore p given (given ++ t ∷ []) (now_at l new old.games finished) d.before d.after
+  pub reads_token : (t : Token) (l : Standing) (new : ReaderState) (finished : Bool) (d : Device) → HasRead p old given
+      → TakesToken old.reading t.kind new (Ok More) d → ReadsMore p given (given ++ t ∷ []) (now_at l new old.games finished) d.before d.after
   reads_token t l new finished d has_read takes =
       let h = takes.accepts (part_after p given) has_read.agrees in
       let keeps = takes.keeps in
@@ -300,7 +302,9 @@ module _ (p : Profile) (old : Converter) (given : List Token) where
       }
 
   -- A marker was met.
-  pub meets_marker : (t : Token) (marker : Marker) (l : Standing) (new : ReaderState) (finished : Bool) (d : Device) → HasRead p old given → MeetsMarker old.reading t.kind marker new d → Meets p given given t (record { marker = marker; at = t.at }) (now_at l new old.games finished) d.before d.after
+  pub meets_marker : (t : Token) (marker : Marker) (l : Standing) (new : ReaderState) (finished : Bool) (d : Device) → HasRead p old given
+      → MeetsMarker old.reading t.kind marker new d → Meets p given given t (record { marker = marker; at = t.at })
+      (now_at l new old.games finished) d.before d.after
   meets_marker t marker l new finished d has_read meets = record {
     reader = old.reading;
     reads = reads_none l finished has_read meets.unwritten;
@@ -310,7 +314,9 @@ module _ (p : Profile) (old : Converter) (given : List Token) where
   }
 
   -- A token was not taken.
-  pub not_taken : (t : Token) (new : ReaderState) (reason : Reason) (d : Device) → HasRead p old given → TakesToken old.reading t.kind new (Err reason) d → (reason ≡ WriteFault → marker_of t.kind ≡ None) → NotTaken p given given t (record { at = t.at; reason = reason }) new d.before d.after
+  pub not_taken : (t : Token) (new : ReaderState) (reason : Reason) (d : Device) → HasRead p old given
+      → TakesToken old.reading t.kind new (Err reason) d → (reason ≡ WriteFault → marker_of t.kind ≡ None)
+      → NotTaken p given given t (record { at = t.at; reason = reason }) new d.before d.after
   not_taken t new reason d has_read takes no_marker = grind (arith, common_steps, reads, reads_none)
 
 -- a rejection of the lexer is a row of its own
@@ -320,7 +326,8 @@ lexical-refusal p part f = refl
 
 -- it tries no pair, and rejects no move
 module _ (p : Profile) (old : Converter) where
-  pub not_taken_lexical : (given : List Token) (f : LexFault) (new : ReaderState) (o : Option (List ℕ)) → HasRead p old given → new ≡ old.reading → NotTaken p given given (refusal_token f) (record { at = f.at; reason = Lexical f.reason }) new o o
+  pub not_taken_lexical : (given : List Token) (f : LexFault) (new : ReaderState) (o : Option (List ℕ)) → HasRead p old given → new ≡ old.reading
+      → NotTaken p given given (refusal_token f) (record { at = f.at; reason = Lexical f.reason }) new o o
   not_taken_lexical given f new o has_read same =
       let some = lexical-refusal old.reading.profile (part_after p given) f in
       rw same (record {
@@ -336,7 +343,11 @@ module _ (p : Profile) (old : Converter) where
       })
 
   -- What the reader answers to a token of the piece.
-  pub took : (u : List ℕ) (given : List Token) (piece : List ℕ) (used : ℕ) (t : Token) (l : Standing) (new : ReaderState) (finished : Bool) (d : Device) (r : Result (Option Marker) Reason) → Reaches p old u (first piece) given → AfterScan u (first piece) given piece l used (token t) → EndsAt t.kind t.at l.count → l.count ≡ old.lexer.count + used → TakesUnlessMarker old.reading t.kind new r d → AfterStep p u given piece (record { lexer = l; reading = new; games = old.games; just_finished = None; is_finished = finished; fault = fault_of (outcome_at t.at r) }) used (outcome_at t.at r) d.before d.after
+  pub took : (u : List ℕ) (given : List Token) (piece : List ℕ) (used : ℕ) (t : Token) (l : Standing) (new : ReaderState) (finished : Bool)
+      (d : Device) (r : Result (Option Marker) Reason) → Reaches p old u (first piece) given
+      → AfterScan u (first piece) given piece l used (token t) → EndsAt t.kind t.at l.count → l.count ≡ old.lexer.count + used
+      → TakesUnlessMarker old.reading t.kind new r d
+      → AfterStep p u given piece (record { lexer = l; reading = new; games = old.games; just_finished = None; is_finished = finished; fault = fault_of (outcome_at t.at r) }) used (outcome_at t.at r) d.before d.after
   took u given piece used t l new finished d (Ok None) reaches scan ends count h =
       (t, ends_within reaches scan ends count, reads_token p old given t l new finished d reaches.has_read h)
   took u given piece used t l new finished d (Ok (Some marker)) reaches scan ends count h =
@@ -344,10 +355,14 @@ module _ (p : Profile) (old : Converter) where
   took u given piece used t l new finished d (Err why) reaches scan ends count h =
       (t, next_in_piece l u piece used scan.0, not_taken p old given t new why d reaches.has_read h.0 h.1)
 
-  pub took_none : (u : List ℕ) (given : List Token) (piece : List ℕ) (used : ℕ) (l : Standing) (o : Option (List ℕ)) → 0 < length piece → Reaches p old u (first piece) given → AfterScan u (first piece) given piece l used more → AfterStep p u given piece (now_at l old.reading old.games old.is_finished) used (Ok None) o o
+  pub took_none : (u : List ℕ) (given : List Token) (piece : List ℕ) (used : ℕ) (l : Standing) (o : Option (List ℕ)) → 0 < length piece
+      → Reaches p old u (first piece) given → AfterScan u (first piece) given piece l used more
+      → AfterStep p u given piece (now_at l old.reading old.games old.is_finished) used (Ok None) o o
   took_none u given piece used l o some reaches scan = grind (arith, common_steps, still_none, reads_none)
 
-  pub took_fault : (u : List ℕ) (given : List Token) (piece : List ℕ) (used : ℕ) (f : LexFault) (l : Standing) (new : Converter) (o : Option (List ℕ)) → 0 < length piece → Reaches p old u (first piece) given → AfterScan u (first piece) given piece l used (fault f) → new.reading ≡ old.reading → AfterStep p u given piece new used (Err (record { at = f.at; reason = Lexical f.reason })) o o
+  pub took_fault : (u : List ℕ) (given : List Token) (piece : List ℕ) (used : ℕ) (f : LexFault) (l : Standing) (new : Converter)
+      (o : Option (List ℕ)) → 0 < length piece → Reaches p old u (first piece) given → AfterScan u (first piece) given piece l used (fault f)
+      → new.reading ≡ old.reading → AfterStep p u given piece new used (Err (record { at = f.at; reason = Lexical f.reason })) o o
   took_fault u given piece used f l new o some reaches scan same = (
     refusal_token f,
     λ s. (

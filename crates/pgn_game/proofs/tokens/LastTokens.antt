@@ -168,14 +168,18 @@ module _ (p : Profile) (b : Progress) (l : Standing) where
   left_games = last_games p b (left l)
 
   -- if they pass, all that is due is the text of games
-  pub left_none_begun : (read_from p b (coming l [])).fault ≡ None → written p (read_from p b (coming l [])).progress ≡ text_of p (read_from p b (coming l [])).progress.games
+  pub left_none_begun : (read_from p b (coming l [])).fault ≡ None
+      → written p (read_from p b (coming l [])).progress ≡ text_of p (read_from p b (coming l [])).progress.games
   left_none_begun passes = search (rules, append-nil, left, none_torn)
 
   -- ---- a write that fails among them
 
   -- The token at fault adds to what is due, and so no game was finished before it: behind a game
   -- there is only the end, which adds nothing.
-  pub none_finished_before : (front : List Token) (token : Token) (rest : List Token) → coming l [] ≡ front ++ token ∷ rest → (read_from p b (front ++ token ∷ [])).fault ≡ None → length (written p (read_from p b front).progress) < length (written p (read_from p b (front ++ token ∷ [])).progress) → (read_from p b front).progress.games ≡ b.games
+  pub none_finished_before : (front : List Token) (token : Token) (rest : List Token) → coming l [] ≡ front ++ token ∷ rest
+      → (read_from p b (front ++ token ∷ [])).fault ≡ None
+      → length (written p (read_from p b front).progress) < length (written p (read_from p b (front ++ token ∷ [])).progress)
+      → (read_from p b front).progress.games ≡ b.games
   none_finished_before front token rest cut passes more = by_last front (coming l []) (left l) cut passes more
     where
       by_next : (m last : Token) (nx : Next) → last.kind ≡ tokens.end → next b.part m.kind ≡ nx

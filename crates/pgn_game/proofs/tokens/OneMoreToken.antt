@@ -15,7 +15,9 @@ module _ (p : Profile) (b : Progress) (t : Token) (ts : List Token) where
   read_from-test = cc
 
   -- what holds where a token is rejected, and where it passes, holds of what is read from it on
-  pub by_token : (P : Read → Type 0) → ((reason : Reason) → refusal p b.part t.kind ≡ Some reason → P (read_as b (Some (record { at = t.at; reason = reason })))) → (refusal p b.part t.kind ≡ None → P (read_from p (progress_after b t) ts)) → P (read_from p b (t ∷ ts))
+  pub by_token : (P : Read → Type 0)
+      → ((reason : Reason) → refusal p b.part t.kind ≡ Some reason → P (read_as b (Some (record { at = t.at; reason = reason }))))
+      → (refusal p b.part t.kind ≡ None → P (read_from p (progress_after b t) ts)) → P (read_from p b (t ∷ ts))
   by_token P rejected passes = grind (arith, common_steps, read_from-test)
 
   passed : (o : Option Reason) → (after_test p b t ts o).fault ≡ None → o ≡ None
@@ -29,17 +31,21 @@ module _ (p : Profile) (b : Progress) (t : Token) (ts : List Token) where
   goes_on none = read_from-test ∙ ap (after_test p b t ts) none
 
 module _ (p : Profile) where
-  after_those : (b : Progress) (ts : List Token) (t : Token) (us : List Token) → (read_from p b ts).fault ≡ None → read_from p b (ts ++ t ∷ us) ≡ after_test p (read_from p b ts).progress t us (refusal p (read_from p b ts).progress.part t.kind)
+  after_those : (b : Progress) (ts : List Token) (t : Token) (us : List Token) → (read_from p b ts).fault ≡ None
+      → read_from p b (ts ++ t ∷ us) ≡ after_test p (read_from p b ts).progress t us (refusal p (read_from p b ts).progress.part t.kind)
   after_those b [] t us e = read_from-test p b t us
   after_those b (x ∷ xs) t us e =
       let none = first_passes p b x xs e in
       let here : read_from p b (x ∷ xs) ≡ read_from p (progress_after b x) xs = goes_on p b x xs none in
       cc (goes_on p b x (xs ++ t ∷ us) none, after_those (progress_after b x) xs t us (rw here at e), here)
 
-  pub read-passes : (given : List Token) (t : Token) → (read p given).fault ≡ None → refusal p (read p given).progress.part t.kind ≡ None → read p (given ++ t ∷ []) ≡ read_as (progress_after (read p given).progress t) None
+  pub read-passes : (given : List Token) (t : Token) → (read p given).fault ≡ None → refusal p (read p given).progress.part t.kind ≡ None
+      → read p (given ++ t ∷ []) ≡ read_as (progress_after (read p given).progress t) None
   read-passes given t e none = after_those no_progress given t [] e ∙ ap (after_test p (read p given).progress t []) none
 
-  pub read-refuses : (given : List Token) (t : Token) (us : List Token) (reason : Reason) → (read p given).fault ≡ None → refusal p (read p given).progress.part t.kind ≡ Some reason → read p (given ++ t ∷ us) ≡ read_as (read p given).progress (Some (record { at = t.at; reason = reason }))
+  pub read-refuses : (given : List Token) (t : Token) (us : List Token) (reason : Reason) → (read p given).fault ≡ None
+      → refusal p (read p given).progress.part t.kind ≡ Some reason
+      → read p (given ++ t ∷ us) ≡ read_as (read p given).progress (Some (record { at = t.at; reason = reason }))
   read-refuses given t us reason e some = after_those no_progress given t us e ∙ ap (after_test p (read p given).progress t us) some
 
   pub text_of-snoc : (games : List Game) (g : Game) → text_of p (games ++ g ∷ []) ≡ text_of p games ++ game_text p g
@@ -57,7 +63,8 @@ module _ (p : Profile) (games : List Game) where
   written_with (going after) = refl
   written_with (whole g) = rw (torn-none p.missing_result p.mode) (append-nil (text_of p (games ++ g ∷ [])) ∙ text_of-snoc p games g)
 
-  written-next : (part : Part) (k : Kind) → written p (progress_with games (next part k)) ≡ written p (record { games = games; part = part }) ++ gain p part k
+  written-next : (part : Part) (k : Kind)
+      → written p (progress_with games (next part k)) ≡ written p (record { games = games; part = part }) ++ gain p part k
   written-next part k = cc (written_with (next part k), next_is p part k, append_assoc (text_of p games) (torn p part) (gain p part k))
 
 pub due-passes : (p : Profile) (given : List Token) (t : Token)

@@ -57,12 +57,14 @@ abbrev between : List Game → Progress
 between games = record { games = games; part = no_part }
 
 module _ (p : Profile) (games : List Game) (t : Token) (ts : List Token) where
-  passes_one : refusal p no_part t.kind ≡ None → next no_part t.kind ≡ going no_part → (is_comment t.kind || is_end t.kind) ≡ true → MostFrom false p (between games) ts 0 → MostFrom false p (between games) (t ∷ ts) 0
+  passes_one : refusal p no_part t.kind ≡ None → next no_part t.kind ≡ going no_part → (is_comment t.kind || is_end t.kind) ≡ true
+      → MostFrom false p (between games) ts 0 → MostFrom false p (between games) (t ∷ ts) 0
   passes_one free leads dropped rest =
       most_tried.passes (between games) t ts 0 0 free (tries_none p t.kind dropped)
       (subst (λ n. MostFrom false p (progress_with games n) ts 0) (sym leads) rest)
 
-  one_more : {to : Part} {ks : List Kind} → Runs p to ks [] → refusal p no_part t.kind ≡ None → next no_part t.kind ≡ going to → (to ≡ no_part → MostFrom false p (between games) ts 0) → Drops t.kind (going to) → MostFrom false p (between games) (t ∷ ts) 0
+  one_more : {to : Part} {ks : List Kind} → Runs p to ks [] → refusal p no_part t.kind ≡ None → next no_part t.kind ≡ going to
+      → (to ≡ no_part → MostFrom false p (between games) ts 0) → Drops t.kind (going to) → MostFrom false p (between games) (t ∷ ts) 0
   one_more runs free leads rest (inl begun) = absurd (finishes_one p runs begun refl)
   one_more runs free leads rest (inr (same, dropped)) =
       passes_one free (leads ∙ ap going same) dropped (rest same)

@@ -10,7 +10,8 @@ use Rattle.pgn_game.proofs.refusals.ReaderToPart.{held_at, text_at}
 -- Tokens in turn.
 -- what is tried for tokens, and for those behind them
 module _ (silent : Bool) (p : Profile) where
-  pub most_then : {b : Progress} {ts : List Token} {most : ℕ} → MostFrom silent p b ts most → (us : List Token) (n : ℕ) → (read_from p b ts).fault ≡ None → MostFrom silent p (read_from p b ts).progress us n → MostFrom silent p b (ts ++ us) (max most n)
+  pub most_then : {b : Progress} {ts : List Token} {most : ℕ} → MostFrom silent p b ts most → (us : List Token) (n : ℕ)
+      → (read_from p b ts).fault ≡ None → MostFrom silent p (read_from p b ts).progress us n → MostFrom silent p b (ts ++ us) (max most n)
   most_then (most_tried.none c) us n clear then = let most_of_one : n ≡ max 0 n = omega arith in subst (MostFrom silent p c us) most_of_one then
   most_then (most_tried.refused c x xs m reason some h) us n clear then = cc
   most_then (most_tried.passes c x xs m rest is h more) us n clear then =
@@ -20,7 +21,9 @@ module _ (silent : Bool) (p : Profile) where
       (most_then more us n (rw same at clear) (rw same at then)))
 
   -- so from the start on: a token more, and one that is rejected, whatever comes behind it
-  pub most_with : {given : List Token} (t : Token) {old new : ℕ} → MostTried silent p given old → (read p given).fault ≡ None → refusal p (read p given).progress.part t.kind ≡ None → Raises (Tries silent p (read p given).progress.part t.kind) old new → MostTried silent p (given ++ t ∷ []) new
+  pub most_with : {given : List Token} (t : Token) {old new : ℕ} → MostTried silent p given old → (read p given).fault ≡ None
+      → refusal p (read p given).progress.part t.kind ≡ None → Raises (Tries silent p (read p given).progress.part t.kind) old new
+      → MostTried silent p (given ++ t ∷ []) new
   most_with {given} t before clear free raised =
       let b = (read p given).progress in
       let one = most_tried.passes b t [] raised.tried 0 free raised.allowed (most_tried.none (progress_after b t)) in
@@ -28,7 +31,9 @@ module _ (silent : Bool) (p : Profile) where
       let then = subst (MostFrom silent p b (t ∷ [])) least one in
       subst (MostTried silent p (given ++ t ∷ [])) (sym raised.most) (most_then before (t ∷ []) raised.tried clear then)
 
-  pub most_to_refused : {given : List Token} (t : Token) (us : List Token) {why : Reason} {old new : ℕ} → MostTried silent p given old → (read p given).fault ≡ None → refusal p (read p given).progress.part t.kind ≡ Some why → Raises (Tries silent p (read p given).progress.part t.kind) old new → MostTried silent p (given ++ t ∷ us) new
+  pub most_to_refused : {given : List Token} (t : Token) (us : List Token) {why : Reason} {old new : ℕ} → MostTried silent p given old
+      → (read p given).fault ≡ None → refusal p (read p given).progress.part t.kind ≡ Some why
+      → Raises (Tries silent p (read p given).progress.part t.kind) old new → MostTried silent p (given ++ t ∷ us) new
   most_to_refused {given} t us {why} before clear is raised =
       let then = most_tried.refused (read p given).progress t us raised.tried why is raised.allowed in
       subst (MostTried silent p (given ++ t ∷ us)) (sym raised.most) (most_then before (t ∷ us) raised.tried clear then)
@@ -89,7 +94,8 @@ module _ (mode : Option Mode) (part : Part) where
   tries_put to (Err reason) n k costs = inl costs
 
   -- an item other than a move, and none; and a token that leaves the items as they are
-  adds_items : (items : List Item) (n k : ℕ) → CostsToAdd mode (depth (levels_of_part part)) (position_in part) items n k → CostsToPut mode part (going (with_items part items)) n k
+  adds_items : (items : List Item) (n k : ℕ) → CostsToAdd mode (depth (levels_of_part part)) (position_in part) items n k
+      → CostsToPut mode part (going (with_items part items)) n k
   adds_items items n k costs = grind (arith, common_steps, drop-append_seam)
 
   pub adds_none : CostsToPut mode part (going (with_items part [])) 0 0

@@ -137,10 +137,14 @@ puts_entry {old} {new} k {items} {r} put costs says finds =
     (λ part is. tries_put (mode_written old) part (going (with_items part items)) r 0 0 (costs (mode_written old) part))
 
 module _ (old new : ReaderState) (k : Kind) where
-  pub passes_entry : (r : Result Accepted Reason) (d : Device) → PutsItems old [] new r d → ((part : Part) → IsOpen old part → (text_refusal old.profile part k ≡ None) × (in_text part k ≡ going (with_items part []))) → ((part : Part) → CostsToFind part k 0) → TakesEntry old k new r d
+  pub passes_entry : (r : Result Accepted Reason) (d : Device) → PutsItems old [] new r d
+      → ((part : Part) → IsOpen old part → (text_refusal old.profile part k ≡ None) × (in_text part k ≡ going (with_items part [])))
+      → ((part : Part) → CostsToFind part k 0) → TakesEntry old k new r d
   passes_entry r d put says finds = puts_entry k put adds_none says finds
 
-  pub item_entry : (i : Annotation) (r : Result Accepted Reason) (d : Device) → PutsItems old (model_item i ∷ []) new r d → ((part : Part) → IsOpen old part → (text_refusal old.profile part k ≡ None) × (in_text part k ≡ going (with_items part (model_item i ∷ [])))) → ((part : Part) → CostsToFind part k 0) → TakesEntry old k new r d
+  pub item_entry : (i : Annotation) (r : Result Accepted Reason) (d : Device) → PutsItems old (model_item i ∷ []) new r d
+      → ((part : Part) → IsOpen old part → (text_refusal old.profile part k ≡ None) × (in_text part k ≡ going (with_items part (model_item i ∷ []))))
+      → ((part : Part) → CostsToFind part k 0) → TakesEntry old k new r d
   item_entry i r d put says finds = puts_entry k put (λ mode part. adds_item mode i part) says finds
 
 -- A token that belongs to movetext at the stage of the reader.
@@ -169,7 +173,9 @@ module _ (silent : Bool) (p : Profile) (k : TokenKind) (row : refusal p no_pairs
   gain_alike w = grind (arith, common_steps, no_torn)
 
 module _ (old new : ReaderState) where
-  answers_alike : (k : TokenKind) (r : Result Accepted Reason) (a b : Option (List ℕ)) → old.stage ≡ Between → refusal old.profile no_pairs (kind_of k) ≡ refusal old.profile no_part (kind_of k) → next no_pairs (kind_of k) ≡ next no_part (kind_of k) → Answers (at_game_start old) no_pairs (kind_of k) new r a b → Answers old no_part (kind_of k) new r a b
+  answers_alike : (k : TokenKind) (r : Result Accepted Reason) (a b : Option (List ℕ)) → old.stage ≡ Between
+      → refusal old.profile no_pairs (kind_of k) ≡ refusal old.profile no_part (kind_of k) → next no_pairs (kind_of k) ≡ next no_part (kind_of k)
+      → Answers (at_game_start old) no_pairs (kind_of k) new r a b → Answers old no_part (kind_of k) new r a b
   answers_alike k (Ok accepted) a b at row leads h =
       grind (arith, common_steps, gain_alike, tries_alike)
   answers_alike k (Err reason) a b at row leads (reader_state.refused why is none t here) =
@@ -179,11 +185,14 @@ module _ (old new : ReaderState) where
       reader_state.unwritten (sym row ∙ free) (subst (AppendsFront a b) (gain_alike old.writing.is_silent old.profile k row leads (as_written old)) front)
       (record { tried = t.tried; allowed = unwritten_alike old.writing.is_silent old.profile k row leads t.allowed; most = t.most })
 
-  pub takes_first : (k : TokenKind) (r : Result Accepted Reason) (d : Device) → old.stage ≡ Between → is_comment (kind_of k) ≡ false → is_end (kind_of k) ≡ false → TakesToken (at_game_start old) (kind_of k) new r d → TakesToken old (kind_of k) new r d
+  pub takes_first : (k : TokenKind) (r : Result Accepted Reason) (d : Device) → old.stage ≡ Between → is_comment (kind_of k) ≡ false
+      → is_end (kind_of k) ≡ false → TakesToken (at_game_start old) (kind_of k) new r d → TakesToken old (kind_of k) new r d
   takes_first k r d at comment over t = search (rules, answers_alike, begins_alike, held_at)
 
   -- Markers.
-  pub takes_marker : (k : Kind) (marker : Marker) (r : Result Accepted Reason) (d : Device) → PutResult old (IsOpen old) (to_game marker) new r d → FinishesAtMarker k new r → new.most_probes ≡ old.most_probes → marker_of k ≡ Some (marker_text marker) → ((part : Part) → IsOpen old part → text_refusal old.profile part k ≡ None) → TakesEntry old k new r d
+  pub takes_marker : (k : Kind) (marker : Marker) (r : Result Accepted Reason) (d : Device) → PutResult old (IsOpen old) (to_game marker) new r d
+      → FinishesAtMarker k new r → new.most_probes ≡ old.most_probes → marker_of k ≡ Some (marker_text marker)
+      → ((part : Part) → IsOpen old part → text_refusal old.profile part k ≡ None) → TakesEntry old k new r d
   takes_marker k marker r d puts finished most is free =
       takes_put old (IsEntry old k) (IsOpen old) k 0 0
       (counting_none old) puts finished (λ at. refl) (omega (arith, most)) (λ part at. at.is_open)
@@ -239,7 +248,8 @@ bare_untried (token_kinds.Symbol s) part is = absurd (false≢true is)
 bare_untried _ part is = refl
 
 module _ (old : ReaderState) where
-  pub passes_first : (new : ReaderState) (k : TokenKind) (o : Option (List ℕ)) (m : ℕ) → new ≡ old → old.stage ≡ Between → (is_comment (kind_of k) || is_end (kind_of k)) ≡ true → TakesToken old (kind_of k) new (Ok More) (unused o m)
+  pub passes_first : (new : ReaderState) (k : TokenKind) (o : Option (List ℕ)) (m : ℕ) → new ≡ old → old.stage ≡ Between
+      → (is_comment (kind_of k) || is_end (kind_of k)) ≡ true → TakesToken old (kind_of k) new (Ok More) (unused o m)
   passes_first new k o m same at is =
       subst (λ (r : ReaderState). TakesToken old (kind_of k) r (Ok More) (unused o m)) (sym same)
       (takes_step old old (kind_of k) going o m (puts_nothing old o m) refl
@@ -255,7 +265,9 @@ module _ (old : ReaderState) where
   plain_counted s plain = record { pairs = 0; counted = counting_none old; tried = λ part agrees. plain_untried part s plain }
 
   -- The first token of a game is taken as after pairs, of which there is none.
-  pub takes_outside_first : (new : ReaderState) (k : TokenKind) (o : Option (Result Accepted Reason)) → old.stage ≡ Between → is_comment (kind_of k) ≡ false → is_end (kind_of k) ≡ false → TakesOutside (at_game_start old) (kind_of k) new o → TakesOutside old (kind_of k) new o
+  pub takes_outside_first : (new : ReaderState) (k : TokenKind) (o : Option (Result Accepted Reason)) → old.stage ≡ Between
+      → is_comment (kind_of k) ≡ false → is_end (kind_of k) ≡ false → TakesOutside (at_game_start old) (kind_of k) new o
+      → TakesOutside old (kind_of k) new o
   takes_outside_first new k (Some r) at comment over t =
       λ taken failures. takes_first old new k r (unused taken failures) at comment over (t taken failures)
   takes_outside_first new k None at comment over t = record {
@@ -268,7 +280,8 @@ module _ (old : ReaderState) where
   }
 
   -- a token that enters movetext is met there
-  pub entry_met : (ready new : ReaderState) (k : Kind) (r : Result (Option Marker) Reason) (d : Device) → EntersMovetext old k ready → MeetsEntry ready k new r d → TakesUnlessMarker old k new r d
+  pub entry_met : (ready new : ReaderState) (k : Kind) (r : Result (Option Marker) Reason) (d : Device) → EntersMovetext old k ready
+      → MeetsEntry ready k new r d → TakesUnlessMarker old k new r d
   entry_met ready new k (Ok (Some marker)) d enters h =
       record { is = h.is; enters = subst (EntersMovetext old k) (sym h.same) enters; unwritten = h.unwritten; still = h.still }
   entry_met ready new k (Ok None) d enters h = enters.takes new (Ok _) d h.takes

@@ -43,11 +43,13 @@ goes_then piece end used outcome a c e x y z here one two = grind (arith, common
 
 -- behind them there is still room for the rest of the piece
 module _ {old now : Converter} {piece : List ℕ} {at : ℕ} {sink : Device} where
-  pub room_behind : old.lexer.count + length piece ≤ 2 ^ 62 → StepGoes old piece now at (Ok (Some Other)) sink → now.lexer.count + length (drop at piece) ≤ 2 ^ 62
+  pub room_behind : old.lexer.count + length piece ≤ 2 ^ 62 → StepGoes old piece now at (Ok (Some Other)) sink
+      → now.lexer.count + length (drop at piece) ≤ 2 ^ 62
   room_behind short goes = omega (arith, goes.count, goes.within, short, length-drop at piece)
 
   -- and a step can be taken, if a byte is left
-  pub before_rest : old.lexer.count + length piece ≤ 2 ^ 62 → StepGoes old piece now at (Ok (Some Other)) sink → at < length piece → IsBeforePiece now (drop at piece)
+  pub before_rest : old.lexer.count + length piece ≤ 2 ^ 62 → StepGoes old piece now at (Ok (Some Other)) sink → at < length piece
+      → IsBeforePiece now (drop at piece)
   before_rest short goes here = grind (arith, common_steps, length-drop, room_behind)
 
 -- no byte is used

@@ -95,7 +95,9 @@ after_at_end l r games finished at answer =
 
 -- The end was reached.
 module _ (p : Profile) (old : Converter) (u : List ℕ) (given : List Token) (t : Token) (l : Standing) (new : ReaderState) where
-  pub closes_end : (d : Device) (r : Result (Option Marker) Reason) → is_end t.kind ≡ true → IsTrue (is_ok (outcome_at t.at r)) → HasRead p old given → tokens_of u ≡ given ++ t ∷ [] → TakesUnlessMarker old.reading t.kind new r d → AfterStepAtEnd p u given old (after_at_end l new old.games true t.at r) (Ok None) d.before d.after
+  pub closes_end : (d : Device) (r : Result (Option Marker) Reason) → is_end t.kind ≡ true → IsTrue (is_ok (outcome_at t.at r))
+      → HasRead p old given → tokens_of u ≡ given ++ t ∷ [] → TakesUnlessMarker old.reading t.kind new r d
+      → AfterStepAtEnd p u given old (after_at_end l new old.games true t.at r) (Ok None) d.before d.after
   closes_end d (Ok None) is_e ok has_read left takes =
       let h = takes.accepts (part_after p given) has_read.agrees in
       let keeps = takes.keeps in
@@ -120,7 +122,9 @@ module _ (p : Profile) (old : Converter) (u : List ℕ) (given : List Token) (t 
   closes_end d (Err why) is_e ok has_read left takes = absurd (false≢true ok)
 
   -- A token was taken that is not the end, or a marker was met, or a token was not taken.
-  pub closes_token : (finished : Bool) (d : Device) (e : Bool) (r : Result (Option Marker) Reason) → (e && is_ok (outcome_at t.at r)) ≡ false → HasRead p old given → Left u given e l t → TakesUnlessMarker old.reading t.kind new r d → AfterStepAtEnd p u given old (after_at_end l new old.games finished t.at r) (outcome_at t.at r) d.before d.after
+  pub closes_token : (finished : Bool) (d : Device) (e : Bool) (r : Result (Option Marker) Reason) → (e && is_ok (outcome_at t.at r)) ≡ false
+      → HasRead p old given → Left u given e l t → TakesUnlessMarker old.reading t.kind new r d
+      → AfterStepAtEnd p u given old (after_at_end l new old.games finished t.at r) (outcome_at t.at r) d.before d.after
   closes_token finished d true (Ok None) not_ok has_read left takes = absurd (false≢true (sym not_ok))
   closes_token finished d true (Ok (Some marker)) not_ok has_read left takes = absurd (false≢true (sym not_ok))
   closes_token finished d false (Ok None) not_ok has_read left takes =
@@ -153,7 +157,11 @@ keeps_met {view = view} {new = new} same keeps games none_just_finished finished
 
 -- a marker that was met behind the last piece can be taken
 module _ (old : Standing) where
-  pub ready_at_end : (new : Standing) (before after : ReaderState) (games at : ℕ) (k : Kind) (d : Device) (e : Bool) (r : Result (Option Marker) Reason) → (e && is_ok (outcome_at at r)) ≡ false → Nearer e old new → TakesUnlessMarker before k after r d → games + waiting old ≤ 2 * old.count + 2 → before.earlier_plies + before.text.plies + waiting old ≤ 2 * old.count + 2 → IsReadyAfter (record { lexer = new; reading = after; games = games; just_finished = None; is_finished = false; fault = fault_of (outcome_at at r) }) (outcome_at at r)
+  pub ready_at_end : (new : Standing) (before after : ReaderState) (games at : ℕ) (k : Kind) (d : Device) (e : Bool)
+      (r : Result (Option Marker) Reason) → (e && is_ok (outcome_at at r)) ≡ false → Nearer e old new → TakesUnlessMarker before k after r d
+      → games + waiting old ≤ 2 * old.count + 2 → before.earlier_plies + before.text.plies + waiting old ≤ 2 * old.count + 2
+      → IsReadyAfter (record { lexer = new; reading = after; games = games; just_finished = None; is_finished = false; fault = fault_of (outcome_at at r) })
+      (outcome_at at r)
   ready_at_end new before after games at k d e (Ok None) not_ok near takes few plies = tt
   ready_at_end new before after games at k d true (Ok (Some marker)) not_ok near meets few plies =
       absurd (false≢true (sym not_ok))
@@ -161,12 +169,14 @@ module _ (old : Standing) where
   ready_at_end new before after games at k d e (Err why) not_ok near takes few plies = tt
 
   -- a token in a piece brings the lexer on, and one behind the last piece too
-  pub advances_token : (piece : List ℕ) (new : Standing) (used at : ℕ) (r : Result (Option Marker) Reason) → waiting new < 2 * used + waiting old → StepAdvances old piece new used (outcome_at at r)
+  pub advances_token : (piece : List ℕ) (new : Standing) (used at : ℕ) (r : Result (Option Marker) Reason) → waiting new < 2 * used + waiting old
+      → StepAdvances old piece new used (outcome_at at r)
   advances_token piece new used at (Ok None) sooner = sooner
   advances_token piece new used at (Ok (Some marker)) sooner = sooner
   advances_token piece new used at (Err why) sooner = tt
 
-  pub advances_at_end : (new : Standing) (at : ℕ) (e : Bool) (r : Result (Option Marker) Reason) → (e && is_ok (outcome_at at r)) ≡ false → Nearer e old new → StepAtEndAdvances old new (outcome_at at r)
+  pub advances_at_end : (new : Standing) (at : ℕ) (e : Bool) (r : Result (Option Marker) Reason) → (e && is_ok (outcome_at at r)) ≡ false
+      → Nearer e old new → StepAtEndAdvances old new (outcome_at at r)
   advances_at_end new at true (Ok None) not_ok near = absurd (false≢true (sym not_ok))
   advances_at_end new at true (Ok (Some marker)) not_ok near = absurd (false≢true (sym not_ok))
   advances_at_end new at false (Ok None) not_ok near = near.0
@@ -215,22 +225,29 @@ module _ (lexer : Standing) (reading : ReaderState) (games : ℕ) (is_finished :
   pub sound_behind_fault : (f : Fault) → lexer.count ≤ 2 ^ 62 → IsSound lexer reading games false is_finished (Some f)
   sound_behind_fault f count = search rules
 
-  pub sound_if_not_ok : (at : ℕ) (r : Result (Option Marker) Reason) → is_ok (outcome_at at r) ≡ false → lexer.count ≤ 2 ^ 62 → IsSound lexer reading games false is_finished (fault_of (outcome_at at r))
+  pub sound_if_not_ok : (at : ℕ) (r : Result (Option Marker) Reason) → is_ok (outcome_at at r) ≡ false → lexer.count ≤ 2 ^ 62
+      → IsSound lexer reading games false is_finished (fault_of (outcome_at at r))
   sound_if_not_ok at (Ok None) not_ok count = absurd (false≢true (sym not_ok))
   sound_if_not_ok at (Ok (Some marker)) not_ok count = absurd (false≢true (sym not_ok))
   sound_if_not_ok at (Err why) not_ok count = sound_behind_fault _ count
 
 -- a token behind the last piece keeps the counts small
 module _ (old new : Standing) (before after : ReaderState) (games : ℕ) where
-  pub sound_behind : {finished : Bool} {fault : Option Fault} → Nearer false old new → old.count ≤ 2 ^ 62 → games + waiting old ≤ 2 * old.count + 2 → before.earlier_plies + before.text.plies + waiting old ≤ 2 * old.count + 2 → Keeps before after → IsSound new after games false finished fault
+  pub sound_behind : {finished : Bool} {fault : Option Fault} → Nearer false old new → old.count ≤ 2 ^ 62
+      → games + waiting old ≤ 2 * old.count + 2 → before.earlier_plies + before.text.plies + waiting old ≤ 2 * old.count + 2 → Keeps before after
+      → IsSound new after games false finished fault
   sound_behind near count few plies keeps = grind (arith, common_steps, false≢true)
 
   -- the end keeps them as they are, or nearly
-  pub sound_at_end : {fault : Option Fault} → Nearer true old new → old.count ≤ 2 ^ 62 → games + waiting old ≤ 2 * old.count + 2 → before.earlier_plies + before.text.plies + waiting old ≤ 2 * old.count + 2 → Keeps before after → IsSound new after games false true fault
+  pub sound_at_end : {fault : Option Fault} → Nearer true old new → old.count ≤ 2 ^ 62 → games + waiting old ≤ 2 * old.count + 2
+      → before.earlier_plies + before.text.plies + waiting old ≤ 2 * old.count + 2 → Keeps before after → IsSound new after games false true fault
   sound_at_end near count few plies keeps = grind (arith, common_steps, false≢true)
 
   -- and so does one in a piece
-  pub sound_in_piece : (used size : ℕ) {finished : Bool} {fault : Option Fault} → waiting new < 2 * used + waiting old → new.count ≡ old.count + used → used ≤ size → old.count + size ≤ 2 ^ 62 → games + waiting old ≤ 2 * old.count + 2 → before.earlier_plies + before.text.plies + waiting old ≤ 2 * old.count + 2 → Keeps before after → IsSound new after games false finished fault
+  pub sound_in_piece : (used size : ℕ) {finished : Bool} {fault : Option Fault} → waiting new < 2 * used + waiting old
+      → new.count ≡ old.count + used → used ≤ size → old.count + size ≤ 2 ^ 62 → games + waiting old ≤ 2 * old.count + 2
+      → before.earlier_plies + before.text.plies + waiting old ≤ 2 * old.count + 2 → Keeps before after
+      → IsSound new after games false finished fault
   sound_in_piece used size sooner count within short few plies keeps = grind (arith, common_steps, false≢true)
 
 pub not_just_finished : (b : Bool) (r : ReaderState) → game_in_reader_if b r ≡ None → b ≡ false

@@ -41,7 +41,8 @@ module _ (p : Profile) (u : List ℕ) (b : Option ℕ) (given : List Token) (pie
   reads_behind so end = grind (arith, common_steps, take_all, drop_of_length-le, next_behind, decided_at_end)
 
   -- a converter in the piece stands before the rest
-  pub stands_here : (so : SoFar p u b given piece at now a c) → at < length piece → Reaches p now (u ++ take at piece) (first (drop at piece)) so.tokens
+  pub stands_here : (so : SoFar p u b given piece at now a c) → at < length piece → Reaches p now (u ++ take at piece)
+      (first (drop at piece)) so.tokens
   stands_here so within =
       record { lexer = rw (next_within b piece at (omega (arith, within))) at so.stands; has_read = so.reads.has_read }
 

@@ -18,10 +18,14 @@ verdict_refused r e = rw e
 
 -- the counts of a converter that has read the whole text are those of the text
 module _ {p : Profile} where
-  pub totalled : {s : List ℕ} {c : Converter} (t : Totals) → HasRead p c (tokens_of s) → t.games ≡ c.games → t.plies ≡ whole_plies c.reading → t.most_probes ≡ c.reading.most_probes → t.most_probes ≤ 1040 → (verdict p s ≡ verdict_in t) × MostProbes c.reading.writing.is_silent p s t.most_probes
+  pub totalled : {s : List ℕ} {c : Converter} (t : Totals) → HasRead p c (tokens_of s) → t.games ≡ c.games → t.plies ≡ whole_plies c.reading
+      → t.most_probes ≡ c.reading.most_probes → t.most_probes ≤ 1040
+      → (verdict p s ≡ verdict_in t) × MostProbes c.reading.writing.is_silent p s t.most_probes
   totalled t has games plies probes bound = search (rules, in_games, verdict_passes)
 
-  pub ended : {u : List ℕ} {given : List Token} {new : Converter} {finished_game : _} (t : Totals) {a c : Option (List ℕ)} → Finishes p u given new finished_game a c → t.games ≡ new.games → t.plies ≡ whole_plies new.reading → t.most_probes ≡ new.reading.most_probes → t.most_probes ≤ 1040 → AfterEnd new.reading.writing.is_silent p u given (Ok t) a c
+  pub ended : {u : List ℕ} {given : List Token} {new : Converter} {finished_game : _} (t : Totals) {a c : Option (List ℕ)}
+      → Finishes p u given new finished_game a c → t.games ≡ new.games → t.plies ≡ whole_plies new.reading
+      → t.most_probes ≡ new.reading.most_probes → t.most_probes ≤ 1040 → AfterEnd new.reading.writing.is_silent p u given (Ok t) a c
   ended t done games plies probes bound = grind (arith, common_steps, totalled)
 
   pub appended : {tokens : List Token} {a c : Option (List ℕ)} → Gains p [] tokens a c → Appends a c (due p tokens)
@@ -61,7 +65,8 @@ no_more is_decided passes gains = grind (arith, common_steps, appended)
 
 -- the tokens up to a rejected one decide the verdict
 module _ {p : Profile} (s : List ℕ) {tokens : List Token} where
-  refused_text : (more : List Token) {f : Fault} {a c : Option (List ℕ)} → tokens_of s ≡ tokens ++ more → (read p tokens).fault ≡ Some f → Gains p [] tokens a c → IsConverted p s (is_refused f) a c
+  refused_text : (more : List Token) {f : Fault} {a c : Option (List ℕ)} → tokens_of s ≡ tokens ++ more → (read p tokens).fault ≡ Some f
+      → Gains p [] tokens a c → IsConverted p s (is_refused f) a c
   refused_text more cut fault gains =
       let same : read p (tokens_of s) ≡ read p tokens = ap (read p) cut ∙ stops_from p no_progress tokens more fault in (
         ap verdict_of same ∙ verdict_refused (read p tokens) fault,
@@ -69,7 +74,8 @@ module _ {p : Profile} (s : List ℕ) {tokens : List Token} where
       )
 
   -- and that its bytes before place 2^62 show it
-  refused_by : {f : Fault} {a c : Option (List ℕ)} → AreShown s tokens → (read p tokens).fault ≡ Some f → Gains p [] tokens a c → IsRefused p s f × IsConverted p s (is_refused f) a c
+  refused_by : {f : Fault} {a c : Option (List ℕ)} → AreShown s tokens → (read p tokens).fault ≡ Some f → Gains p [] tokens a c
+      → IsRefused p s f × IsConverted p s (is_refused f) a c
   refused_by shown fault gains =
       let here = shown_begins s tokens shown in
       (record { tokens = tokens; shown = shown; fault = fault }, refused_text here.0 here.1 fault gains)
@@ -139,12 +145,14 @@ module _ (p : Profile) (left_old left left_new : Option (List ℕ)) (now : Games
 
 -- a text that was converted has at most 2^62 bytes
 module _ (silent : Bool) (p : Profile) where
-  pub is_short : (left_old left_new a c : Option (List ℕ)) (r : Result Totals Fault) → AfterConversion silent p left_old left_new r a c → OnOk r (IfSome left_old (λ s. length s ≤ 2 ^ 62))
+  pub is_short : (left_old left_new a c : Option (List ℕ)) (r : Result Totals Fault) → AfterConversion silent p left_old left_new r a c
+      → OnOk r (IfSome left_old (λ s. length s ≤ 2 ^ 62))
   is_short left_old left_new a c (Ok t) h =
       IfSome_then left_old {P = λ s. IsTotalled silent p s t a c} {Q = λ s. length s ≤ 2 ^ 62} h (λ s whole. whole.short)
   is_short left_old left_new a c (Err f) h = tt
 
-  pub is_short_slice : (text : List ℕ) (a c : Option (List ℕ)) (r : Result Totals Fault) → AfterSlice silent p text r a c → OnOk r (length text ≤ 2 ^ 62)
+  pub is_short_slice : (text : List ℕ) (a c : Option (List ℕ)) (r : Result Totals Fault) → AfterSlice silent p text r a c
+      → OnOk r (length text ≤ 2 ^ 62)
   is_short_slice text a c (Ok t) h = h.short
   is_short_slice text a c (Err f) h = tt
 

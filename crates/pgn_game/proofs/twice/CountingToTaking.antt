@@ -87,11 +87,13 @@ abbrev AreAlike : Profile → List ℕ → List Game → Type 0
 AreAlike q text games = text_of q games ≡ text_of (counting q text) games
 
 module _ (q : Profile) (text : List ℕ) where
-  one_more : (games : List Game) (to : Next) → AreAlike q text games → ((g : Game) → to ≡ whole g → game_text q g ≡ game_text (counting q text) g) → AreAlike q text (progress_with games to).games
+  one_more : (games : List Game) (to : Next) → AreAlike q text games → ((g : Game) → to ≡ whole g → game_text q g ≡ game_text (counting q text) g)
+      → AreAlike q text (progress_with games to).games
   one_more games (going part) before same = before
   one_more games (whole g) before same = cc (text_of-snoc q games g, before, same g refl, text_of-snoc (counting q text) games g)
 
-  all_alike : (b : Progress) (ts : List Token) → q.missing_result ≡ takes_the_marker → AreAlike q text b.games → AreAlike q text (read_from (counting q text) b ts).progress.games
+  all_alike : (b : Progress) (ts : List Token) → q.missing_result ≡ takes_the_marker → AreAlike q text b.games
+      → AreAlike q text (read_from (counting q text) b ts).progress.games
   all_alike b [] takes before = before
   all_alike b (t ∷ ts) takes before =
       by_token (counting q text) b t ts (λ r. AreAlike q text r.progress.games) (λ reason is. before)
@@ -101,7 +103,8 @@ module _ (q : Profile) (text : List ℕ) where
   -- Reading.
 
   -- a token that is rejected for another reason, and one that is not rejected
-  reads_alike : (b : Progress) (ts : List Token) → q.missing_result ≡ takes_the_marker → rejects_marker (read_from (counting q text) b ts).fault ≡ false → read_from q b ts ≡ read_from (counting q text) b ts
+  reads_alike : (b : Progress) (ts : List Token) → q.missing_result ≡ takes_the_marker
+      → rejects_marker (read_from (counting q text) b ts).fault ≡ false → read_from q b ts ≡ read_from (counting q text) b ts
   reads_alike b [] takes plain = refl
   reads_alike b (t ∷ ts) takes plain =
       by_token (counting q text) b t ts (λ r. rejects_marker r.fault ≡ false → read_from q b (t ∷ ts) ≡ r)

@@ -100,7 +100,8 @@ module _ (left_old left_now : Option (List ℕ)) (r : Reading) where
       h.shown (λ s shown. shown_begins s ts shown)
 
   -- What a reading has come to is not moved by the marker that its converter takes.
-  come_still : (s : Reading) (ts : List Token) → s.converter.lexer ≡ r.converter.lexer → s.unused ≡ r.unused → s.has_ended ≡ r.has_ended → HasCome left_old left_now r ts → HasCome left_old left_now s ts
+  come_still : (s : Reading) (ts : List Token) → s.converter.lexer ≡ r.converter.lexer → s.unused ≡ r.unused → s.has_ended ≡ r.has_ended
+      → HasCome left_old left_now r ts → HasCome left_old left_now s ts
   come_still s ts lexer unused ended h = grind (arith, common_steps)
 
 -- The marker that one of the readings has met is taken.
@@ -205,12 +206,14 @@ text_told marker r here InMovetext h = h
 text_told marker r here _ h = h
 
 module _ (q : Profile) (left_old left : Option (List ℕ)) (r : Reading) where
-  pub told_reading : (given : List Token) (m : Marker) (d : Converter) → d ≡ announcing m r.converter → HasGiven q left_old left r given → HasGiven q left_old left (record { converter = d; unused = r.unused; has_ended = r.has_ended }) given
+  pub told_reading : (given : List Token) (m : Marker) (d : Converter) → d ≡ announcing m r.converter → HasGiven q left_old left r given
+      → HasGiven q left_old left (record { converter = d; unused = r.unused; has_ended = r.has_ended }) given
   told_reading given m d is h =
       grind (arith, common_steps, takes, come_still, passes, text_told)
 
   -- nothing is written from now on
-  pub silent_reading : (d : Converter) → d ≡ writing_nothing r.converter → HasGiven q left_old left r [] → HasGiven q left_old left (record { converter = d; unused = r.unused; has_ended = r.has_ended }) []
+  pub silent_reading : (d : Converter) → d ≡ writing_nothing r.converter → HasGiven q left_old left r []
+      → HasGiven q left_old left (record { converter = d; unused = r.unused; has_ended = r.has_ended }) []
   silent_reading d is h = grind (arith, common_steps, takes, come_still, reads_silently)
 
 pub told_by : (q : Profile) (c d : Converter) (m : Marker) → d ≡ announcing m c → q.missing_result ≡ takes_the_marker → c.reading.profile ≡ q
@@ -226,7 +229,8 @@ module _ (q : Profile) (m : Mark) (part : Part) (t : Token) where
   differs_refused reason some = ap (λ (o : Option Reason). is_some o || is_other m (next part t.kind) t) some
 
   -- a marker that differs from the mark, whether it is rejected or not
-  differs_at_marker : (marker : List ℕ) → marker_of t.kind ≡ Some marker → not (bytes_eq marker m.text && (t.at == m.at)) ≡ true → is_changed q m part t ≡ true
+  differs_at_marker : (marker : List ℕ) → marker_of t.kind ≡ Some marker → not (bytes_eq marker m.text && (t.at == m.at)) ≡ true
+      → is_changed q m part t ≡ true
   differs_at_marker marker is other =
       grind (arith, common_steps, differs_refused, free, differs_if, marker_finishes)
 

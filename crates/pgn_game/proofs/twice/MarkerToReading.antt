@@ -39,7 +39,8 @@ module _ (q : Profile) (left_old left : Option (List ℕ)) (r : Reading) (given 
   pub within_source : r.has_ended ≡ false → StandsWithin h.come.bytes (games_of r.converter r.unused) given
   within_source is = (subst (λ e. StandsIn e r h.come.bytes given left_old) is h.come.stands).0
 
-  pub behind_source : r.has_ended ≡ true → HasLeft r.converter.lexer h.come.bytes given × (r.converter.lexer.count ≡ length h.come.bytes) × (length h.come.bytes ≤ 2 ^ 62) × IfSome left_old (λ s. s ≡ h.come.bytes)
+  pub behind_source : r.has_ended ≡ true
+      → HasLeft r.converter.lexer h.come.bytes given × (r.converter.lexer.count ≡ length h.come.bytes) × (length h.come.bytes ≤ 2 ^ 62) × IfSome left_old (λ s. s ≡ h.come.bytes)
   behind_source is = subst (λ e. StandsIn e r h.come.bytes given left_old) is h.come.stands
 
 -- In the bytes of the source.

@@ -8,14 +8,18 @@ use Rattle.pgn_game.proofs.tokens.OneMoreToken.{first_passes, goes_on, read-pass
 use Rattle.pgn_game.proofs.twice.CountingToTaking.{game_stays}
 
 module _ (q : Profile) (given : List Token) (t : Token) (ms : List Mark) where
-  marked_token : (read q given).fault ≡ None → refusal q (part_after q given) t.kind ≡ None → HasMarked q given ms → HasMarked q (given ++ t ∷ []) (ms ++ mark_at t.at (next (part_after q given) t.kind))
+  marked_token : (read q given).fault ≡ None → refusal q (part_after q given) t.kind ≡ None → HasMarked q given ms → HasMarked q (given ++ t ∷ [])
+      (ms ++ mark_at t.at (next (part_after q given) t.kind))
   marked_token passes free so ts =
       grind (arith, common_steps, append_assoc, marks_test, read-passes)
 
-  pub marked_more : (to : Part) → (read q given).fault ≡ None → refusal q (part_after q given) t.kind ≡ None → next (part_after q given) t.kind ≡ going to → HasMarked q given ms → HasMarked q (given ++ t ∷ []) ms
+  pub marked_more : (to : Part) → (read q given).fault ≡ None → refusal q (part_after q given) t.kind ≡ None
+      → next (part_after q given) t.kind ≡ going to → HasMarked q given ms → HasMarked q (given ++ t ∷ []) ms
   marked_more to passes free leads so = grind (arith, common_steps, append-nil, marked_token)
 
-  pub marked_game : (g : Game) → (read q given).fault ≡ None → refusal q (part_after q given) t.kind ≡ None → next (part_after q given) t.kind ≡ whole g → HasMarked q given ms → HasMarked q (given ++ t ∷ []) (ms ++ record { text = g.marker; at = t.at } ∷ [])
+  pub marked_game : (g : Game) → (read q given).fault ≡ None → refusal q (part_after q given) t.kind ≡ None
+      → next (part_after q given) t.kind ≡ whole g → HasMarked q given ms → HasMarked q (given ++ t ∷ [])
+      (ms ++ record { text = g.marker; at = t.at } ∷ [])
   marked_game g passes free leads so = grind (arith, common_steps, marked_token)
 
 pub matched_mark : (q : Profile) (ms : List Mark) (m : Mark) (us : List Token)
@@ -37,11 +41,13 @@ marks_behind (going to) m ns = refl
 marks_behind (whole g) m ns = refl
 
 module _ (q : Profile) (ms : List Mark) (m : Mark) (us : List Token) (t : Token) where
-  matched_token : (read q us).fault ≡ None → is_changed q m (part_after q us) t ≡ false → HasMatched q ms us (m ∷ []) → HasMatched q ms (us ++ t ∷ []) (marks_after (next (part_after q us) t.kind) m [])
+  matched_token : (read q us).fault ≡ None → is_changed q m (part_after q us) t ≡ false → HasMatched q ms us (m ∷ [])
+      → HasMatched q ms (us ++ t ∷ []) (marks_after (next (part_after q us) t.kind) m [])
   matched_token passes same so ns ts =
       grind (arith, common_steps, append_assoc, change_test, marks_behind, read-passes, not_changed)
 
-  pub matched_next : (n : Next) → (read q us).fault ≡ None → is_changed q m (part_after q us) t ≡ false → next (part_after q us) t.kind ≡ n → HasMatched q ms us (m ∷ []) → HasMatched q ms (us ++ t ∷ []) (marks_after n m [])
+  pub matched_next : (n : Next) → (read q us).fault ≡ None → is_changed q m (part_after q us) t ≡ false → next (part_after q us) t.kind ≡ n
+      → HasMatched q ms us (m ∷ []) → HasMatched q ms (us ++ t ∷ []) (marks_after n m [])
   matched_next n passes same leads so =
       subst (λ (n : Next). HasMatched q ms (us ++ t ∷ []) (marks_after n m [])) leads (matched_token passes same so)
 

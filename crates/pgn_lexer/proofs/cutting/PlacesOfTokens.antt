@@ -14,10 +14,12 @@ ReadingFrom at (closed text) = Unit {0}
 ReadingFrom at (broken place r) = at ≤ place
 
 module _ (start at n b : ℕ) (bs : List ℕ) (c : StringClass) where
-  plain_from : start ≤ at → ReadingFrom start (reading start (at + 1) n true bs) → ReadingFrom start (reading start (at + 1) (n + 1) false bs) → ReadingFrom start (read_plain start at n b bs c)
+  plain_from : start ≤ at → ReadingFrom start (reading start (at + 1) n true bs) → ReadingFrom start (reading start (at + 1) (n + 1) false bs)
+      → ReadingFrom start (read_plain start at n b bs c)
   plain_from h1 h2 h3 = grind arith
 
-  escaped_from : start ≤ at → ReadingFrom start (reading start (at + 1) (n + 1) false bs) → ReadingFrom start (reading start (at + 1) (n + 2) false bs) → ReadingFrom start (read_escaped start at n b bs c)
+  escaped_from : start ≤ at → ReadingFrom start (reading start (at + 1) (n + 1) false bs)
+      → ReadingFrom start (reading start (at + 1) (n + 2) false bs) → ReadingFrom start (read_escaped start at n b bs c)
   escaped_from h1 h2 h3 = grind arith
 
 reading_from : (start at n : ℕ) (e : Bool) (s : List ℕ) → start ≤ at → ReadingFrom start (reading start at n e s)

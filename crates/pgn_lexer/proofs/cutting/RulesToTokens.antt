@@ -53,13 +53,16 @@ module _ (first : Bool) (at : ℕ) where
   space_skips : (b : ℕ) (s : List ℕ) → is_space b ≡ true → outer first at (b ∷ s) ≡ outer (is_line_end b) (at + 1) s
   space_skips b s e = grind (arith, line_end_class, blank_class)
 
-  symbol_cut : (b : ℕ) (run s : List ℕ) → starts_symbol b ≡ true → IsRun continues_symbol run s → outer first at (b ∷ (run ++ s)) ≡ onto at (symbol_at at (b ∷ run)) (tokens_from (at + 1 + length run) outside s)
+  symbol_cut : (b : ℕ) (run s : List ℕ) → starts_symbol b ≡ true → IsRun continues_symbol run s
+      → outer first at (b ∷ (run ++ s)) ≡ onto at (symbol_at at (b ∷ run)) (tokens_from (at + 1 + length run) outside s)
   symbol_cut b run s e long = grind (arith, take_run, skips)
 
-  glyph_cut : (run s : List ℕ) → IsRun is_digit run s → outer first at (36 ∷ (run ++ s)) ≡ onto at (glyph_at at run) (tokens_from (at + 1 + length run) outside s)
+  glyph_cut : (run s : List ℕ) → IsRun is_digit run s → outer first at (36 ∷ (run ++ s)) ≡ onto at (glyph_at at run)
+      (tokens_from (at + 1 + length run) outside s)
   glyph_cut run s long = grind (arith, take_run, skips)
 
-  suffix_cut : (b : ℕ) (run s : List ℕ) → is_suffix b ≡ true → IsRun is_suffix run s → outer first at (b ∷ (run ++ s)) ≡ onto at (suffix_at at (b ∷ run)) (tokens_from (at + 1 + length run) outside s)
+  suffix_cut : (b : ℕ) (run s : List ℕ) → is_suffix b ≡ true → IsRun is_suffix run s
+      → outer first at (b ∷ (run ++ s)) ≡ onto at (suffix_at at (b ∷ run)) (tokens_from (at + 1 + length run) outside s)
   suffix_cut b run s e long = search (rules, from_class, suffix_class, take_run, skips, in_suffix, outside, suffix_goes, suffix_stops)
 
 escape_line_goes : (at b : ℕ) (s : List ℕ) → not (is_line_end b) ≡ true

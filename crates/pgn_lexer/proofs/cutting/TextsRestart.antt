@@ -47,7 +47,8 @@ module _ (at : ℕ) where
   first_goes_on Class.Percent b bs = tt
   first_goes_on c b bs = class_goes_on c b bs
 
-  run_goes_on : (goes : Bool) (within : Within) (c : Class) (b : ℕ) (bs : List ℕ) → FoundGoesOn at b bs (begins_after goes at c b bs) (tokens_from (at + 1) (after_run goes within c) bs)
+  run_goes_on : (goes : Bool) (within : Within) (c : Class) (b : ℕ) (bs : List ℕ) → FoundGoesOn at b bs (begins_after goes at c b bs)
+      (tokens_from (at + 1) (after_run goes within c) bs)
   run_goes_on goes within c b bs = grind (arith, class_goes_on)
 
   begins_goes_on : (within : Within) (b : ℕ) (bs : List ℕ) → FoundGoesOn at b bs (begins at within b bs) (tokens_from (at + 1) (next within b) bs)
@@ -60,7 +61,8 @@ module _ (at : ℕ) where
       here : GoesOn at (b ∷ bs) t ts
       here behind ends can = let later = all.0 _ ends can in (suc _, omega arith, later.2)
 
-  onto_goes_on : (b : ℕ) (bs : List ℕ) (f : Found) (ts : List Token) → FoundGoesOn at b bs f ts → AllGoOn (at + 1) bs ts → AllGoOn at (b ∷ bs) (onto at f ts)
+  onto_goes_on : (b : ℕ) (bs : List ℕ) (f : Found) (ts : List Token) → FoundGoesOn at b bs f ts → AllGoOn (at + 1) bs ts → AllGoOn at (b ∷ bs)
+      (onto at f ts)
   onto_goes_on b bs f ts h1 h2 = grind (arith, one_before)
 
   end_goes_on : (within : Within) → AllGoOn at [] (at_end at within)

@@ -21,11 +21,14 @@ decided_is given u comes tokens = grind (arith, append-nil, common_of-append)
 
 -- what a lexer that goes on gives next is not decided yet
 module _ (place : ℕ) (h : PartialToken) where
-  pub going_none : IsSound place h → HasNotFailed h.mode → common_of (tokens_to_come place h []) (tokens_to_come place h (49 ∷ [])) (tokens_to_come place h (33 ∷ [])) (tokens_to_come place h (34 ∷ 34 ∷ [])) (tokens_to_come place h (191 ∷ [])) (tokens_to_come place h (187 ∷ 191 ∷ [])) ≡ []
+  pub going_none : IsSound place h → HasNotFailed h.mode → common_of (tokens_to_come place h []) (tokens_to_come place h (49 ∷ []))
+      (tokens_to_come place h (33 ∷ [])) (tokens_to_come place h (34 ∷ 34 ∷ [])) (tokens_to_come place h (191 ∷ []))
+      (tokens_to_come place h (187 ∷ 191 ∷ [])) ≡ []
   going_none sound not_failed = grind (arith, common_steps)
 
   -- of a lexer that goes on, nothing more is decided
-  pub going_decides : (u : List ℕ) (given : List Token) → IsSound place h → HasNotFailed h.mode → ((s : List ℕ) → tokens_of (u ++ s) ≡ given ++ tokens_to_come place h s) → given ≡ decided u
+  pub going_decides : (u : List ℕ) (given : List Token) → IsSound place h → HasNotFailed h.mode
+      → ((s : List ℕ) → tokens_of (u ++ s) ≡ given ++ tokens_to_come place h s) → given ≡ decided u
   going_decides u given sound not_failed tokens = grind (arith, decided_is, going_none sound not_failed, append-nil given)
 
 -- and where the same comes whatever follows, all of it is decided

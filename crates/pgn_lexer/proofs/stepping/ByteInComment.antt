@@ -26,10 +26,12 @@ line_tokens place goes b s c = onto place (begins_line place goes c b s) (tokens
 
 -- between the words of a comment in braces, and of one that goes to the end of its line
 module _ (c : CommentClass) (place b : ℕ) where
-  pub brace_gives : (h : PartialToken) (ended : List Token) (waits : ℕ) → length h.text ≤ 255 → Gives (front_by place b ended waits (λ s. brace_tokens place false b s c)) (byte_result.brace place h b c)
+  pub brace_gives : (h : PartialToken) (ended : List Token) (waits : ℕ) → length h.text ≤ 255
+      → Gives (front_by place b ended waits (λ s. brace_tokens place false b s c)) (byte_result.brace place h b c)
   brace_gives h ended waits h1 = grind arith
 
-  pub line_gives : (h : PartialToken) (ended : List Token) (waits : ℕ) → length h.text ≤ 255 → Gives (front_by place b ended waits (λ s. line_tokens place false b s c)) (byte_result.line place h b c)
+  pub line_gives : (h : PartialToken) (ended : List Token) (waits : ℕ) → length h.text ≤ 255
+      → Gives (front_by place b ended waits (λ s. line_tokens place false b s c)) (byte_result.line place h b c)
   line_gives h ended waits h1 = grind arith
 
   -- where no word goes on, it is the same as where none was

@@ -70,7 +70,8 @@ module _ (at b : ℕ) (run : List ℕ) (c : Bool) where
   second_good : (b == 33) ≡ c → suffix_at at (33 ∷ b ∷ run) ≡ suffix_at at (spelling (if c then SuffixRun.VeryGood else SuffixRun.Speculative) ++ run)
   second_good h1 = grind arith
 
-  second_poor : (b == 33) ≡ c → suffix_at at (63 ∷ b ∷ run) ≡ suffix_at at (spelling (if c then SuffixRun.Questionable else SuffixRun.VeryPoor) ++ run)
+  second_poor : (b == 33) ≡ c
+      → suffix_at at (63 ∷ b ∷ run) ≡ suffix_at at (spelling (if c then SuffixRun.Questionable else SuffixRun.VeryPoor) ++ run)
   second_poor h1 = grind arith
 
 module _ (place at b : ℕ) (text : List ℕ) (fits : length text ≤ 255) (began : at < place) where

@@ -3,11 +3,15 @@ use Rattle.pgn_lexer.proofs.Words.{◌≡◌, ℕ, ◌≤◌, Bool, false, List,
 use Rattle.pgn_lexer.proofs.stepping.StepGives.{Front, StepGives, GivesIn, Gives, front_by}
 
 module _ (c : Class) (place b : ℕ) (h : PartialToken) (ended : List Token) (waits : ℕ) where
-  pub begin_gives : length h.text ≤ 255 → Gives (front_by place b ended waits (λ s. onto place (begins_class place c b s) (tokens_from (place + 1) (after_class c) s))) (begin place h b c)
+  pub begin_gives : length h.text ≤ 255
+      → Gives (front_by place b ended waits (λ s. onto place (begins_class place c b s) (tokens_from (place + 1) (after_class c) s)))
+      (begin place h b c)
   begin_gives h1 = grind arith
 
   -- in the first column
-  pub begin_line_gives : length h.text ≤ 255 → Gives (front_by place b ended waits (λ s. onto place (begins_first place c b s) (tokens_from (place + 1) (after_first c) s))) (begin_line place h b c)
+  pub begin_line_gives : length h.text ≤ 255
+      → Gives (front_by place b ended waits (λ s. onto place (begins_first place c b s) (tokens_from (place + 1) (after_first c) s)))
+      (begin_line place h b c)
   begin_line_gives h1 = grind arith
 
 same_front : (f : Front) (front : List ℕ → List Token) → ((s : List ℕ) → front s ≡ f.front s) → (new : PartialToken) (step : Step)

@@ -120,10 +120,12 @@ unfolding after_byte
 takes_symbol place b h new answer e t = grind arith
 
 module _ (place b : ℕ) (h new : PartialToken) where
-  pub takes_symbol_byte : h.mode ≡ Symbol → continues_symbol b ≡ true → length h.text < 255 → new ≡ record { mode = h.mode; at = h.at; text = h.text ++ b ∷ [] } → IsAfterByte (after_byte place h b) new Used
+  pub takes_symbol_byte : h.mode ≡ Symbol → continues_symbol b ≡ true → length h.text < 255
+      → new ≡ record { mode = h.mode; at = h.at; text = h.text ++ b ∷ [] } → IsAfterByte (after_byte place h b) new Used
   takes_symbol_byte e goes room grows = takes_symbol _ b h new _ e (grind arith)
 
-  pub takes_symbol_end : h.mode ≡ Symbol → continues_symbol b ≡ false → new ≡ record { mode = Outside; at = h.at; text = h.text } → IsAfterByte (after_byte place h b) new (EndsBefore TokenForm.Symbol)
+  pub takes_symbol_end : h.mode ≡ Symbol → continues_symbol b ≡ false → new ≡ record { mode = Outside; at = h.at; text = h.text }
+      → IsAfterByte (after_byte place h b) new (EndsBefore TokenForm.Symbol)
   takes_symbol_end e ends is = takes_symbol _ b h new _ e (grind arith)
 
 pub takes_outside : (place b : ℕ) (h new : PartialToken) (answer : Step) (c : Class) → IsOutside h.mode → class b ≡ c
@@ -141,10 +143,12 @@ unfolding after_byte
 taken_string place b h c e same = grind arith
 
 module _ (place b : ℕ) (h new : PartialToken) where
-  pub takes_plain : h.mode ≡ Str → string_class b ≡ StringClass.Plain → length h.text < 255 → new ≡ record { mode = h.mode; at = h.at; text = h.text ++ b ∷ [] } → IsAfterByte (after_byte place h b) new Used
+  pub takes_plain : h.mode ≡ Str → string_class b ≡ StringClass.Plain → length h.text < 255
+      → new ≡ record { mode = h.mode; at = h.at; text = h.text ++ b ∷ [] } → IsAfterByte (after_byte place h b) new Used
   takes_plain e same room grows = rw (taken_string _ b h _ e same) (grind arith)
 
-  pub takes_backslash : h.mode ≡ Str → string_class b ≡ StringClass.Backslash → length h.text < 255 → new ≡ record { mode = AfterBackslash; at = h.at; text = h.text } → IsAfterByte (after_byte place h b) new Used
+  pub takes_backslash : h.mode ≡ Str → string_class b ≡ StringClass.Backslash → length h.text < 255
+      → new ≡ record { mode = AfterBackslash; at = h.at; text = h.text } → IsAfterByte (after_byte place h b) new Used
   takes_backslash e same room goes = rw (taken_string _ b h _ e same) (grind arith)
 
 escaped_class : (b : ℕ) → is_escaped b ≡ true → (string_class b ≡ StringClass.Quote) ⊎ (string_class b ≡ StringClass.Backslash)

@@ -7,7 +7,8 @@ use Rattle.pgn_lexer.proofs.cutting.PlacesOfTokens.{AllFrom, tokens_from-from, a
 
 -- what may follow the front of a piece
 module _ (b : Option ℕ) (piece : List ℕ) where
-  follows_front : (s : List ℕ) (used : ℕ) → 0 < length piece → Follows b piece → Follows (first (drop used piece)) s → Follows b (take used piece ++ s)
+  follows_front : (s : List ℕ) (used : ℕ) → 0 < length piece → Follows b piece → Follows (first (drop used piece)) s
+      → Follows b (take used piece ++ s)
   follows_front s used h1 h2 h3 = grind arith
 
   follows_piece : (s : List ℕ) → Follows b piece → Follows (still b piece) s → Follows b (piece ++ s)

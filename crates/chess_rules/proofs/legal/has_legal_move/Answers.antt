@@ -17,7 +17,20 @@ record Searches (p : Parts) (w r : ℕ) : Type 0 where
 
 searches : (p : Parts) (w r : ℕ) → is_position p ≡ true → Bits r (λ i. not (has w i)) → Searches p w r
 searches p w r position rest =
-    grind (arith, common_steps, legal_move_found, has_king_step, any_both, has_untried_move, pair_count_parts, sound_from_position, count_king_steps, sum_both_sets, count_untried, pair_count_most)
+    grind (
+      arith,
+      common_steps,
+      legal_move_found,
+      has_king_step,
+      any_both,
+      has_untried_move,
+      pair_count_parts,
+      sound_from_position,
+      count_king_steps,
+      sum_both_sets,
+      count_untried,
+      pair_count_most,
+    )
 
 pub has_king_step-requires : goal.has_king_step-requires
 has_king_step-requires c = grind (arith, pair_count_parts, sound_from_position, pair_count_most)

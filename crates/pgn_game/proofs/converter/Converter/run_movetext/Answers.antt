@@ -64,7 +64,8 @@ module _ (g : _) (c : After-accept_entry-met g) where
       (rw (take_rest, c.in-Some.is) at c.whole_token-count.ensures.reads) (rw take_rest at c.whole_token-count.ensures.used)
       c.accept_entry-met.new.self c.accept_entry-met.result _ takes
 
-  still_sound : {finished : _} {fault : _} → IsSound c.whole_token-count.new.self c.accept_entry-met.new.self c.loop-used.self-inside.games false finished fault
+  still_sound : {finished : _} {fault : _}
+      → IsSound c.whole_token-count.new.self c.accept_entry-met.new.self c.loop-used.self-inside.games false finished fault
   still_sound =
       let here = c.loop-used.invariant in
       sound_met_behind _ _ _ _ here.sound (room_behind c.requires.piece.short here.runs.goes) (λ _. here.stage)

@@ -13,7 +13,8 @@ met k (Ok done) none call = record { takes = record { no_marker = none; takes = 
 met k (Err reason) none call = record { takes = record { no_marker = none; takes = call.takes }; silent = call.silent }
 
 -- a token that adds an item, and is no marker
-item : {S : Type 0} {taken : S → Option (List ℕ)} {failures : S → ℕ} {old new : ReaderState} {a b : S} (k : Kind) (i : Annotation) (r : Result Unit Reason)
+item : {S : Type 0} {taken : S → Option (List ℕ)} {failures : S → ℕ} {old new : ReaderState} {a b : S} (k : Kind) (i : Annotation)
+    (r : Result Unit Reason)
     → marker_of k ≡ None → ((part : Part) → IsOpen old part
     → (text_refusal old.profile part k ≡ None) × (in_text part k ≡ going (with_items part (model_item i ∷ []))))
     → ((part : Part) → CostsToFind part k 0) → ReaderCall taken failures old new a b (PutsItems old (model_item i ∷ []) new (continued r))
@@ -34,19 +35,27 @@ returns-in-Period g c =
 
 pub returns-in-Word : goal.returns-in-Word
 returns-in-Word g c =
-    rw (c.in-Word.is, c.unmarked-in-Word.ensures) (item (tokens.word c.in-Word.word.now) (Word c.in-Word.word) c.put.result refl (λ part is. (refl, refl)) (λ part. refl) c.put.ensures)
+    rw (c.in-Word.is, c.unmarked-in-Word.ensures)
+    (item (tokens.word c.in-Word.word.now) (Word c.in-Word.word) c.put.result refl
+    (λ part is. (refl, refl)) (λ part. refl) c.put.ensures)
 
 pub returns-in-CommentOpen : goal.returns-in-CommentOpen
 returns-in-CommentOpen g c =
-    rw (c.in-CommentOpen.is, c.unmarked-in-CommentOpen.ensures) (item tokens.comment_open CommentOpen c.put-in-CommentOpen.result refl (λ part is. (refl, refl)) (λ part. refl) c.put-in-CommentOpen.ensures)
+    rw (c.in-CommentOpen.is, c.unmarked-in-CommentOpen.ensures)
+    (item tokens.comment_open CommentOpen c.put-in-CommentOpen.result refl
+    (λ part is. (refl, refl)) (λ part. refl) c.put-in-CommentOpen.ensures)
 
 pub returns-in-CommentClose : goal.returns-in-CommentClose
 returns-in-CommentClose g c =
-    rw (c.in-CommentClose.is, c.unmarked-in-CommentClose.ensures) (item tokens.comment_close CommentClose c.put-in-CommentClose.result refl (λ part is. (refl, refl)) (λ part. refl) c.put-in-CommentClose.ensures)
+    rw (c.in-CommentClose.is, c.unmarked-in-CommentClose.ensures)
+    (item tokens.comment_close CommentClose c.put-in-CommentClose.result refl
+    (λ part is. (refl, refl)) (λ part. refl) c.put-in-CommentClose.ensures)
 
 pub returns-in-Glyph : goal.returns-in-Glyph
 returns-in-Glyph g c =
-    rw (c.in-Glyph.is, c.unmarked-in-Glyph.ensures) (item (tokens.glyph c.in-Glyph.glyph) (Glyph c.in-Glyph.glyph) c.put-in-Glyph.result refl (λ part is. (refl, refl)) (λ part. refl) c.put-in-Glyph.ensures)
+    rw (c.in-Glyph.is, c.unmarked-in-Glyph.ensures)
+    (item (tokens.glyph c.in-Glyph.glyph) (Glyph c.in-Glyph.glyph) c.put-in-Glyph.result refl
+    (λ part is. (refl, refl)) (λ part. refl) c.put-in-Glyph.ensures)
 
 pub returns-in-LeftParen : goal.returns-in-LeftParen
 returns-in-LeftParen g c =

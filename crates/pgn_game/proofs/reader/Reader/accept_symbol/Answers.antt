@@ -9,7 +9,8 @@ use Rattle.pgn_game.proofs.reader.Reader.accept_symbol.Goals.{then-may_be_score_
 unmarked : (s : List ℕ) → is_score s ≡ false → marker_of (symbol s) ≡ None
 unmarked s is = rw (is, marker_of) refl
 
-number_entry : {S : Type 0} {taken : S → Option (List ℕ)} {failures : S → ℕ} {old new : ReaderState} {a b : S} (s : List ℕ) (r : Result Accepted Reason)
+number_entry : {S : Type 0} {taken : S → Option (List ℕ)} {failures : S → ℕ} {old new : ReaderState} {a b : S} (s : List ℕ)
+    (r : Result Accepted Reason)
     → is_number s ≡ true → ReaderCall taken failures old new a b (PutsItems old [] new r)
     → ReaderCall taken failures old new a b (TakesOther old (symbol s) new r)
 number_entry {old} {new} s r number call =
