@@ -17,7 +17,7 @@ unfoldable pub use Rattle.chess_rules.specs.Square.{squares}
 pub use Rattle.chess_rules.specs.Step.{Wing, after, board_after, captured_pawn, carried, castled, castles, castles_long, castles_short, double_rank, en_passant_board, full_after, half_after, home, home_rank, is_advance, is_double_step, is_en_passant, is_on_board, is_pawn_step, is_pawn_way, is_piece_step, is_target, keeps, kind_of, last_rank, long_right, long_wing, own, pawn_rank, promoted, promotion_fits, rights_after, short_right, short_wing, step, target_after, is_king_move, is_unattacked, stand_ready}
 unfoldable pub use Rattle.chess_rules.specs.StepKinds.{step_kind}
 pub use Rattle.chess_rules.specs.StoredPosition.{FitsPosition, parts_of}
-pub use Rattle.chess_rules.specs.Words.{AreWords, Bits, HasNone, IsFirst, IsFrom, IsHighest, IsLowest, IsUpTo, Places, Sets, TakesLowest, cell_in, coded, lanes, lanes_of, word, words}
+pub use Rattle.chess_rules.specs.Words.{AreWords, Bits, HasNone, IsFirst, IsFrom, IsHighest, IsLowest, IsUpTo, Places, Sets, TakesLowest, cell_in, coded, lanes_of, word, words}
 pub use Rattle.chess_rules.specs.Words.{diagonal_of, straight_of}
 unfoldable pub use Rattle.chess_rules.specs.Words.{cells, has, has_any, members, word}
 pub use Rattle.chess_rules.specs.declared.piece.Colour.{Colour}

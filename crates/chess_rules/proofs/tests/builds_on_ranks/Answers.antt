@@ -1,4 +1,11 @@
-use Rattle.chess_rules.proofs.Words.{[], ◌∷◌, List, Option, None, Some, refl, Colour, Black, White, Kind, Bishop, King, Knight, Pawn, Queen, Rook, Piece, lanes, word}
+use Rattle.std.specs.Prelude.{[], ◌∷◌, List, Option, None, Some}
+use Rattle.std.proofs.Common.{refl}
+use Rattle.chess_rules.specs.declared.piece.Colour.{Colour}
+use Rattle.chess_rules.specs.declared.piece.Colour.TheVariants.{Black, White}
+use Rattle.chess_rules.specs.declared.piece.Kind.{Kind}
+use Rattle.chess_rules.specs.declared.piece.Kind.TheVariants.{Bishop, King, Knight, Pawn, Queen, Rook}
+use Rattle.chess_rules.specs.declared.piece.Piece.{Piece}
+use Rattle.chess_rules.specs.Words.{lanes, word}
 use Rattle.chess_rules.proofs.tests.builds_on_ranks.Goals as goal
 
 abbrev man : Colour → Kind → Option Piece
