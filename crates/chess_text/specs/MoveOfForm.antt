@@ -1,5 +1,5 @@
 -- **Definition**: which move a form means in a position (PGN 8.2.3).
-use Rattle.std.specs.Prelude.{ℕ, Bool, true, false, ◌&&◌, ◌||◌, not, List, [], ◌∷◌, Option, None, Some, Result, Ok, Err, length, map, ◌==◌, if◌then◌else◌}
+use Rattle.std.specs.Prelude.{◌≡◌, ◌≢◌, ℕ, ◌+◌, ◌<◌, ◌≤◌, Bool, true, false, ◌&&◌, ◌||◌, not, List, [], ◌∷◌, Option, None, Some, Result, Ok, Err, OnOk, length, map, ◌==◌, if◌then◌else◌}
 use Rattle.std.specs.List.{filter_map}
 use Rattle.std.specs.Option.{ok_or}
 use Rattle.chess_rules.specs.declared.piece.Colour.{Colour}
@@ -100,6 +100,15 @@ with_next_position p (Err fault) = Err fault
 abbrev pub form_pairs : Parts → Form → ℕ
 form_pairs p (Castle long) = 1
 form_pairs p (Man k file rank to promotion) = length (candidates p k to)
+
+-- The count of tried pairs goes from old to new, where pairs could be tried: by each of them, or,
+-- if two moves agree, by at least two.
+pub record CountsPairs {A : Type 0} (pairs : ℕ) (answer : Result A SanFault) (old new : ℕ) : Type 0 where
+  pub each : answer ≢ Err Ambiguous → new ≡ old + pairs
+  pub two : answer ≡ Err Ambiguous → old + 2 ≤ new
+  pub most : new ≤ old + pairs
+  pub some : OnOk answer (old < new)
+  pub bound : new ≤ old + 8
 
 -- what a form of no castling says beside the kind, the target and the promotion
 abbrev pub piece_move_fits : Parts → Option ℕ → Option ℕ → Move → Bool

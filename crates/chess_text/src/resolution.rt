@@ -1,7 +1,7 @@
 //! The move that a form names in a position. (PGN 8.2.3)
 
-ghost use Rattle.std.specs.Prelude.{◌≡◌, ◌≢◌, ◌+◌, ◌<◌, ◌≤◌, ◌^◌, ◌&&◌, Err, IsTrue, Some, length};
-ghost use Rattle.std.specs.Prelude.{IfOk, OnOk, is_some};
+ghost use Rattle.std.specs.Prelude.{◌≡◌, ◌≢◌, ◌+◌, ◌<◌, ◌^◌, ◌&&◌, Err, IsTrue, Some, length};
+ghost use Rattle.std.specs.Prelude.{IfOk, is_some};
 ghost use Rattle.chess_rules.specs.Candidate.{candidates};
 ghost use Rattle.chess_rules.specs.Legal.{is_legal, legal};
 ghost use Rattle.chess_rules.specs.Step.{own, step};
@@ -66,12 +66,8 @@ pub enum SanFault {
 pub fn resolve(position: &Position, form: &Form, probes: &mut Probes) -> Result<Played, SanFault>
     requires { probes.old + 8 < 2 ^ 32 }
     ensures answer { result ≡ spec.move_of_form position.now form.now }
-    ensures each { result ≢ Err Ambiguous
-        → probes.new ≡ probes.old + spec.form_pairs position.now form.now }
-    ensures two { result ≡ Err Ambiguous → probes.old + 2 ≤ probes.new }
-    ensures most { probes.new ≤ probes.old + spec.form_pairs position.now form.now }
-    ensures some { OnOk result (probes.old < probes.new) }
-    ensures bound { probes.new ≤ probes.old + 8 }
+    ensures pairs { spec.CountsPairs (spec.form_pairs position.now form.now) result probes.old
+        probes.new }
 {
     match resolve_move(position, form, probes) {
         Err(fault) => Err(fault),
@@ -91,12 +87,8 @@ pub fn resolve_move(position: &Position, form: &Form, probes: &mut Probes) -> Re
     ensures answer { spec.with_next_position position.now result
         ≡ spec.move_of_form position.now form.now }
     ensures legal { IfOk result (λ mv. IsTrue (is_legal position.now mv)) }
-    ensures each { result ≢ Err Ambiguous
-        → probes.new ≡ probes.old + spec.form_pairs position.now form.now }
-    ensures two { result ≡ Err Ambiguous → probes.old + 2 ≤ probes.new }
-    ensures most { probes.new ≤ probes.old + spec.form_pairs position.now form.now }
-    ensures some { OnOk result (probes.old < probes.new) }
-    ensures bound { probes.new ≤ probes.old + 8 }
+    ensures pairs { spec.CountsPairs (spec.form_pairs position.now form.now) result probes.old
+        probes.new }
 {
     match *form {
         Form::Castle { long } => resolve_castling(position, long, probes),
@@ -229,12 +221,8 @@ fn resolve_piece_move(
     ensures answer { spec.with_next_position position.now result
         ≡ spec.move_of_form position.now (Man kind hints.file hints.rank to promotion) }
     ensures legal { IfOk result (λ mv. IsTrue (is_legal position.now mv)) }
-    ensures each { result ≢ Err Ambiguous
-        → probes.new ≡ probes.old + length (candidates position.now kind to) }
-    ensures two { result ≡ Err Ambiguous → probes.old + 2 ≤ probes.new }
-    ensures most { probes.new ≤ probes.old + length (candidates position.now kind to) }
-    ensures some { OnOk result (probes.old < probes.new) }
-    ensures bound { probes.new ≤ probes.old + 8 }
+    ensures pairs { spec.CountsPairs (length (candidates position.now kind to)) result probes.old
+        probes.new }
 {
     candidates_are_complete();
     if let Some(origin) = only_origin(position, kind, to) {

@@ -10,9 +10,6 @@ use Rattle.chess_text.proofs.resolution.resolve_piece_move.Goals.{After-as_slice
 lone_is : (xs : List Square) (s : Square) → Some s ≡ lone xs → xs ≡ s ∷ []
 lone_is xs s e = grind arith
 
-one_there : (xs : List Square) (o : Option Square) (s : Square) → o ≡ Some s → o ≡ lone xs → length xs ≡ 1
-one_there xs o s e f = cc (lone_is xs s (sym e ∙ f))
-
 only_found : (o : Option Played) → ok_or o NoMove ≡ only (cons_option o [])
 only_found o = grind arith
 
@@ -71,17 +68,6 @@ returns-then-is_some-clause-answer c =
     (fitting_is_played p m fits agreed ∙ is)
     (kept_is_some p _ c.loop-origin.invariant.legal ∙ sym c.is_some.ensures ∙ c.if-is_some.true) ∙ reads o
 
-pub returns-then-is_some-clause-two : goal.returns-then-is_some-clause-two
-returns-then-is_some-clause-two c _ =
-    let o = (goal.at.returns-then-is_some-clause-two c).After-as_slice-origin-items in
-    let late =
-    not_at_once (tried_from o) _ _ _ c.loop-origin.invariant.found
-    (kept_is_some c.args.position.now c.loop-origin.found c.loop-origin.invariant.legal ∙ (sym c.is_some.ensures ∙ c.if-is_some.true)) in
-    omega arith
-
-pub returns-then-is_some-clause-most : goal.returns-then-is_some-clause-most
-returns-then-is_some-clause-most c = omega (arith, count (goal.at.returns-then-is_some-clause-most c).After-as_slice-origin-items)
-
 pub loop-origin-preserved : goal.loop-origin-preserved
 loop-origin-preserved c =
     let o = (goal.at.loop-origin-preserved c).After-as_slice-origin-items in
@@ -119,12 +105,6 @@ loop-origin-preserved c =
 pub returns-in-None-clause-answer : goal.returns-in-None-clause-answer
 returns-in-None-clause-answer c = grind (arith, common_steps, ok_or, with_position, at_the_end, reads)
 
-pub returns-in-None-clause-each : goal.returns-in-None-clause-each
-returns-in-None-clause-each c _ = omega (arith, count (goal.at.returns-in-None-clause-each c).After-as_slice-origin-items)
-
-pub returns-in-None-clause-most : goal.returns-in-None-clause-most
-returns-in-None-clause-most c = omega (arith, count (goal.at.returns-in-None-clause-most c).After-as_slice-origin-items)
-
 pub returns-in-Some-found-clause-answer : goal.returns-in-Some-found-clause-answer
 returns-in-Some-found-clause-answer c =
     let o = (goal.at.returns-in-Some-found-clause-answer c).After-as_slice-origin-items in
@@ -132,20 +112,6 @@ returns-in-Some-found-clause-answer c =
     ap (λ x. ok_or (with_position p x) NoMove) (sym c.in-Some-found.is)
     ∙ (at_the_end (tried_from o) _ c.loop-origin.origin-index
     (with_position p c.loop-origin.found) c.loop-origin.invariant.found (omega arith) ∙ reads o)
-
-pub returns-in-Some-found-clause-each : goal.returns-in-Some-found-clause-each
-returns-in-Some-found-clause-each c _ = omega (arith, count (goal.at.returns-in-Some-found-clause-each c).After-as_slice-origin-items)
-
-pub returns-in-Some-found-clause-most : goal.returns-in-Some-found-clause-most
-returns-in-Some-found-clause-most c = omega (arith, count (goal.at.returns-in-Some-found-clause-most c).After-as_slice-origin-items)
-
-pub returns-in-Some-found-clause-some : goal.returns-in-Some-found-clause-some
-returns-in-Some-found-clause-some c =
-    let o = (goal.at.returns-in-Some-found-clause-some c).After-as_slice-origin-items in
-    let late =
-    not_at_once (tried_from o) _ _ _ c.loop-origin.invariant.found
-    (kept_is_some c.args.position.now c.loop-origin.found c.loop-origin.invariant.legal ∙ ap is_some c.in-Some-found.is) in
-    omega arith
 
 pub returns-then-agrees-clause-answer : goal.returns-then-agrees-clause-answer
 returns-then-agrees-clause-answer c =
@@ -166,17 +132,44 @@ returns-else-agrees-clause-answer c =
     ap (λ o. ok_or o NoMove) (sym (other_is_not_played p m fits (sym c.agrees.ensures.agrees ∙ c.if-agrees.false)))
     ∙ lone_gives c.candidates_are_complete.ensures p _ _ _ _ _ c.in-Some.origin (sym c.in-Some.is ∙ c.only_origin.ensures)
 
-pub returns-then-agrees-clause-each : goal.returns-then-agrees-clause-each
-returns-then-agrees-clause-each c _ = omega (arith, one_there (candidates _ _ _) _ _ c.in-Some.is c.only_origin.ensures)
+pub returns-then-is_some-clause-pairs : goal.returns-then-is_some-clause-pairs
+returns-then-is_some-clause-pairs c =
+    let o = (goal.at.returns-then-is_some-clause-pairs c).After-as_slice-origin-items in
+    let late =
+    not_at_once (tried_from o) _ _ _ c.loop-origin.invariant.found
+    (kept_is_some c.args.position.now c.loop-origin.found c.loop-origin.invariant.legal ∙ (sym c.is_some.ensures ∙ c.if-is_some.true)) in
+    record {
+      each = λ other. absurd (other refl);
+      two = λ _. omega arith;
+      most = omega (arith, count o);
+      some = tt;
+      bound = omega arith;
+    }
 
-pub returns-then-agrees-clause-most : goal.returns-then-agrees-clause-most
-returns-then-agrees-clause-most c = omega (arith, one_there (candidates _ _ _) _ _ c.in-Some.is c.only_origin.ensures)
+pub returns-in-None-clause-pairs : goal.returns-in-None-clause-pairs
+returns-in-None-clause-pairs c =
+    let o = (goal.at.returns-in-None-clause-pairs c).After-as_slice-origin-items in
+    record {
+      each = λ _. omega (arith, count o);
+      two = λ e. absurd (cc);
+      most = omega (arith, count o);
+      some = tt;
+      bound = omega arith;
+    }
 
-pub returns-else-agrees-clause-each : goal.returns-else-agrees-clause-each
-returns-else-agrees-clause-each c _ = omega (arith, one_there (candidates _ _ _) _ _ c.in-Some.is c.only_origin.ensures)
-
-pub returns-else-agrees-clause-most : goal.returns-else-agrees-clause-most
-returns-else-agrees-clause-most c = omega (arith, one_there (candidates _ _ _) _ _ c.in-Some.is c.only_origin.ensures)
+pub returns-in-Some-found-clause-pairs : goal.returns-in-Some-found-clause-pairs
+returns-in-Some-found-clause-pairs c =
+    let o = (goal.at.returns-in-Some-found-clause-pairs c).After-as_slice-origin-items in
+    let late =
+    not_at_once (tried_from o) _ _ _ c.loop-origin.invariant.found
+    (kept_is_some c.args.position.now c.loop-origin.found c.loop-origin.invariant.legal ∙ ap is_some c.in-Some-found.is) in
+    record {
+      each = λ _. omega (arith, count o);
+      two = λ e. absurd (cc);
+      most = omega (arith, count o);
+      some = omega arith;
+      bound = omega arith;
+    }
 
 pub agrees-requires-clause-kind : goal.agrees-requires-clause-kind
 agrees-requires-clause-kind c = lone_own c.args.position.now c.args.kind c.args.to c.in-Some.origin (sym c.in-Some.is ∙ c.only_origin.ensures)

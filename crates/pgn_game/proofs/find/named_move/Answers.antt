@@ -72,8 +72,8 @@ returns-in-Err-NoMove c =
       found = ap (found_in c.args.position.now) (sym (of_form c.args.position.now c.args.text.now c.in-Some.form _ c.in-Some.ensures answer));
       legal = tt;
       tried = of_answer c.args.position.now c.args.text.now c.in-Some.form _ _ c.in-Some.ensures answer
-          (from_none _ _ _ c.requires (c.in-Err-NoMove.ensures.each (λ e. cc)));
-      few = omega (arith, c.requires, c.in-Err-NoMove.ensures.bound);
+          (from_none _ _ _ c.requires (c.in-Err-NoMove.ensures.pairs.each (λ e. cc)));
+      few = omega (arith, c.requires, c.in-Err-NoMove.ensures.pairs.bound);
       some = tt;
     }
 
@@ -84,10 +84,10 @@ returns-in-Err-Ambiguous c =
       found = ap (found_in c.args.position.now) (sym (of_form c.args.position.now c.args.text.now c.in-Some.form _ c.in-Some.ensures answer));
       legal = tt;
       tried = of_answer c.args.position.now c.args.text.now c.in-Some.form _ _ c.in-Some.ensures answer (
-        omega (arith, c.in-Err-Ambiguous.ensures.two (ap Err c.in-Err-Ambiguous.field-0-is), c.requires),
-        omega (arith, c.in-Err-Ambiguous.ensures.most, c.requires),
+        omega (arith, c.in-Err-Ambiguous.ensures.pairs.two (ap Err c.in-Err-Ambiguous.field-0-is), c.requires),
+        omega (arith, c.in-Err-Ambiguous.ensures.pairs.most, c.requires),
       );
-      few = omega (arith, c.requires, c.in-Err-Ambiguous.ensures.bound);
+      few = omega (arith, c.requires, c.in-Err-Ambiguous.ensures.pairs.bound);
       some = tt;
     }
 
@@ -100,8 +100,8 @@ returns-then-is_at_limit c =
       found = stopped p c.in-Ok.mv (legal p c.in-Ok.mv) found.legal (sym c.is_at_limit.ensures ∙ c.if-is_at_limit.true)
           ∙ ap (found_in p) (sym (of_form p c.args.text.now f _ c.in-Some.ensures found.answer));
       legal = tt;
-      tried = of_move p c.args.text.now f c.in-Ok.mv _ _ c.in-Some.ensures found.answer found.legal c.requires (found.each (λ e. false≢true (sym (ap is_ok e))));
-      few = omega (arith, c.requires, found.bound);
+      tried = of_move p c.args.text.now f c.in-Ok.mv _ _ c.in-Some.ensures found.answer found.legal c.requires (found.pairs.each (λ e. false≢true (sym (ap is_ok e))));
+      few = omega (arith, c.requires, found.pairs.bound);
       some = tt;
     }
 
@@ -114,7 +114,7 @@ returns-else-is_at_limit c =
       found = free p c.in-Ok.mv (legal p c.in-Ok.mv) found.legal (sym c.is_at_limit.ensures ∙ c.if-is_at_limit.false)
           ∙ ap (found_in p) (sym (of_form p c.args.text.now f _ c.in-Some.ensures found.answer));
       legal = found.legal;
-      tried = of_move p c.args.text.now f c.in-Ok.mv _ _ c.in-Some.ensures found.answer found.legal c.requires (found.each (λ e. false≢true (sym (ap is_ok e))));
-      few = omega (arith, c.requires, found.bound);
-      some = omega (arith, c.requires, found.some);
+      tried = of_move p c.args.text.now f c.in-Ok.mv _ _ c.in-Some.ensures found.answer found.legal c.requires (found.pairs.each (λ e. false≢true (sym (ap is_ok e))));
+      few = omega (arith, c.requires, found.pairs.bound);
+      some = omega (arith, c.requires, found.pairs.some);
     }
