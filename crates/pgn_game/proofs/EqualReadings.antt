@@ -1,12 +1,12 @@
 -- Two equal readings: no token of the second shows a difference, also where one stops early.
-use Rattle.pgn_game.proofs.Words.{◌≡◌, ℕ, Bool, true, false, List, [], ◌∷◌, ◌++◌, inl, inr, Option, None, Some, refl, ap, ◌∙◌, append-nil, ◌==◌, bytes_eq-Decides, tokens_of, RisesTo, TokensRise, Token, Reason, Changed, Fault, Profile, takes_the_marker, Game, Part, refusal, is_end, Next, going, whole, next, Progress, no_progress, progress_after, read, read_from, eqb_tells, arith, rules, Mark, mark_at, marks_from, Comparison, compared_from, compared, written_by, is_other, is_changed, marks_after, written_so_far as written, verdict_of, sym, EqualReadings}
+use Rattle.pgn_game.proofs.Words.{◌≡◌, ℕ, Bool, true, false, List, [], ◌∷◌, ◌++◌, inl, inr, Option, None, Some, refl, ap, ◌∙◌, append-nil, ◌==◌, bytes_eq-Decides, tokens_of, RisesTo, TokensRise, Token, Reason, Changed, Fault, Profile, takes_the_marker, Game, Part, refusal, is_end, Next, going, whole, next, Progress, no_progress, progress_after, read, read_from, eqb_tells, arith, rules, PlacedMarker, marker_at, markers_from, Comparison, compared_from, compared, written_by, is_other, is_changed, markers_after, written_so_far as written, verdict_of, sym, EqualReadings}
 use Rattle.pgn_game.proofs.tokens.OneMoreToken.{by_token}
 use Rattle.pgn_game.proofs.reading.RunsToEnd.{not_end}
 
 -- how far the second reading is: its games, and no difference is seen
 pub record Same (f : Comparison) (gs : List Game) : Type 0 where
   pub fault : f.fault ≡ None
-  pub marks_left : f.marks_left ≡ []
+  pub markers_left : f.markers_left ≡ []
   pub games : f.progress.games ≡ gs
 
 -- only the last token may be the end
@@ -21,67 +21,67 @@ ends (t ∷ []) rises = tt
 ends (t ∷ u ∷ ts) rises = (not_end t.kind rises.0, ends (u ∷ ts) rises.2)
 
 -- One token, by what it is rejected for, and by whether it shows a difference.
-abbrev pub after_marks : Profile → Progress → Token → List Token → Option Reason → List Mark
-after_marks p b t ts (Some reason) = []
-after_marks p b t ts None = mark_at t.at (next b.part t.kind) ++ marks_from p (progress_after b t) ts
+abbrev pub after_markers : Profile → Progress → Token → List Token → Option Reason → List PlacedMarker
+after_markers p b t ts (Some reason) = []
+after_markers p b t ts None = marker_at t.at (next b.part t.kind) ++ markers_from p (progress_after b t) ts
 
-pub marks_test : (p : Profile) (b : Progress) (t : Token) (ts : List Token)
-    → marks_from p b (t ∷ ts) ≡ after_marks p b t ts (refusal p b.part t.kind)
-marks_test p b t ts = cc
+pub markers_test : (p : Profile) (b : Progress) (t : Token) (ts : List Token)
+    → markers_from p b (t ∷ ts) ≡ after_markers p b t ts (refusal p b.part t.kind)
+markers_test p b t ts = cc
 
-abbrev pub after_change : Profile → Mark → List Mark → Progress → Token → List Token → Bool → Comparison
-after_change p m ms b t ts true = record { progress = b; marks_left = m ∷ ms; fault = Some (record { at = t.at; reason = Changed }) }
-after_change p m ms b t ts false = compared_from p (marks_after (next b.part t.kind) m ms) (progress_after b t) ts
+abbrev pub after_change : Profile → PlacedMarker → List PlacedMarker → Progress → Token → List Token → Bool → Comparison
+after_change p m ms b t ts true = record { progress = b; markers_left = m ∷ ms; fault = Some (record { at = t.at; reason = Changed }) }
+after_change p m ms b t ts false = compared_from p (markers_after (next b.part t.kind) m ms) (progress_after b t) ts
 
-pub change_test : (p : Profile) (m : Mark) (ms : List Mark) (b : Progress) (t : Token) (ts : List Token)
+pub change_test : (p : Profile) (m : PlacedMarker) (ms : List PlacedMarker) (b : Progress) (t : Token) (ts : List Token)
     → compared_from p (m ∷ ms) b (t ∷ ts) ≡ after_change p m ms b t ts (is_changed p m b.part t)
 change_test p m ms b t ts = cc
 
 same_place : (n : ℕ) → (n == n) ≡ true
 same_place n = elim (eqb_tells n n) [ inl h ↦ h.0 | inr h ↦ absurd (h.1 refl) ]
 
-same_mark : (g : Game) (t : Token) → is_other (record { text = g.marker; at = t.at }) (whole g) t ≡ false
-same_mark g t = grind (arith, bytes_eq-Decides, same_place)
+same_marker : (g : Game) (t : Token) → is_other (record { text = g.marker; at = t.at }) (whole g) t ≡ false
+same_marker g t = grind (arith, bytes_eq-Decides, same_place)
 
-pub no_mark : (p : Profile) (b : Progress) (ts : List Token) → compared_from p [] b ts ≡ record { progress = b; marks_left = []; fault = None }
-no_mark p b [] = refl
-no_mark p b (t ∷ ts) = refl
+pub no_marker_ahead : (p : Profile) (b : Progress) (ts : List Token) → compared_from p [] b ts ≡ record { progress = b; markers_left = []; fault = None }
+no_marker_ahead p b [] = refl
+no_marker_ahead p b (t ∷ ts) = refl
 
 -- a token that neither is rejected nor shows a difference
-unchanged : (p : Profile) (m : Mark) (b : Progress) (t : Token) {n : Next}
+unchanged : (p : Profile) (m : PlacedMarker) (b : Progress) (t : Token) {n : Next}
     → refusal p b.part t.kind ≡ None → next b.part t.kind ≡ n → is_other m n t ≡ false → is_changed p m b.part t ≡ false
 unchanged p m b t free leads same = cc
 
--- Behind the last mark, P depends on the finished games and not on the current one.
+-- Behind the last marker, P depends on the finished games and not on the current one.
 abbrev pub SeesGames : (Comparison → Type 0) → Type 0
-SeesGames P = (b c : Progress) → c.games ≡ b.games → P (record { progress = c; marks_left = []; fault = None })
-    → P (record { progress = b; marks_left = []; fault = None })
+SeesGames P = (b c : Progress) → c.games ≡ b.games → P (record { progress = c; markers_left = []; fault = None })
+    → P (record { progress = b; markers_left = []; fault = None })
 
 -- A token that both readings have and that is not rejected: what holds behind it holds before it.
 module _ (P : Comparison → Type 0) (sees : SeesGames P) (p : Profile) (b : Progress) (t : Token)
     (ts us : List Token) (last : Ends (t ∷ ts)) (free : refusal p b.part t.kind ≡ None)
-    (so : P (compared_from p (marks_from p (progress_after b t) ts) (progress_after b t) us)) where
-  abbrev rest : List Mark
-  rest = marks_from p (progress_after b t) ts
+    (so : P (compared_from p (markers_from p (progress_after b t) ts) (progress_after b t) us)) where
+  abbrev rest : List PlacedMarker
+  rest = markers_from p (progress_after b t) ts
 
-  -- at a mark
-  at_mark : {g : Game} → next b.part t.kind ≡ whole g → P (compared_from p (mark_at t.at (next b.part t.kind) ++ rest) b (t ∷ us))
-  at_mark leads = search (rules, change_test, same_mark, unchanged)
+  -- at a marker
+  at_marker : {g : Game} → next b.part t.kind ≡ whole g → P (compared_from p (marker_at t.at (next b.part t.kind) ++ rest) b (t ∷ us))
+  at_marker leads = search (rules, change_test, same_marker, unchanged)
 
-  -- within a game, with more marks or without
-  in_game : {part : Part} → next b.part t.kind ≡ going part → {ms : List Mark}
-      → (vs : List Token) → Ends (t ∷ vs) → marks_from p (progress_after b t) vs ≡ ms
+  -- within a game, with more markers or without
+  in_game : {part : Part} → next b.part t.kind ≡ going part → {ms : List PlacedMarker}
+      → (vs : List Token) → Ends (t ∷ vs) → markers_from p (progress_after b t) vs ≡ ms
       → P (compared_from p ms (progress_after b t) us) → P (compared_from p ms b (t ∷ us))
-  in_game leads vs ends_so is h = search (rules, change_test, no_mark, unchanged)
+  in_game leads vs ends_so is h = search (rules, change_test, no_marker_ahead, unchanged)
 
-  by_next : (n : Next) → next b.part t.kind ≡ n → P (compared_from p (mark_at t.at (next b.part t.kind) ++ rest) b (t ∷ us))
-  by_next n leads = search (rules, at_mark, in_game)
+  by_next : (n : Next) → next b.part t.kind ≡ n → P (compared_from p (marker_at t.at (next b.part t.kind) ++ rest) b (t ∷ us))
+  by_next n leads = search (rules, at_marker, in_game)
 
-  pub same_token : P (compared_from p (marks_from p b (t ∷ ts)) b (t ∷ us))
-  same_token = rw (marks_test p b t ts ∙ ap (after_marks p b t ts) free) (by_next (next b.part t.kind) refl)
+  pub same_token : P (compared_from p (markers_from p b (t ∷ ts)) b (t ∷ us))
+  same_token = rw (markers_test p b t ts ∙ ap (after_markers p b t ts) free) (by_next (next b.part t.kind) refl)
 
 pub rejected_token : (p : Profile) (b : Progress) (t : Token) (ts us : List Token) {reason : Reason} → refusal p b.part t.kind ≡ Some reason
-    → compared_from p (marks_from p b (t ∷ ts)) b (t ∷ us) ≡ record { progress = b; marks_left = []; fault = None }
+    → compared_from p (markers_from p b (t ∷ ts)) b (t ∷ us) ≡ record { progress = b; markers_left = []; fault = None }
 rejected_token p b t ts us is = cc
 
 pub rest_ends : (t : Token) (ts : List Token) → Ends (t ∷ ts) → Ends ts
@@ -90,17 +90,17 @@ rest_ends t (u ∷ ts) last = last.1
 
 -- The second reading has the tokens of the first, and more.
 pub compared_same : (p : Profile) (b : Progress) (ts more : List Token) → Ends ts
-    → Same (compared_from p (marks_from p b ts) b (ts ++ more)) (read_from p b ts).progress.games
-compared_same p b [] more last = (rw (no_mark p b more) (record { fault = refl; marks_left = refl; games = refl }))
+    → Same (compared_from p (markers_from p b ts) b (ts ++ more)) (read_from p b ts).progress.games
+compared_same p b [] more last = (rw (no_marker_ahead p b more) (record { fault = refl; markers_left = refl; games = refl }))
 compared_same p b (t ∷ ts) more last =
-    by_token p b t ts (λ r. Same (compared_from p (marks_from p b (t ∷ ts)) b (t ∷ ts ++ more)) r.progress.games)
-    (λ reason is. rw (rejected_token p b t ts (ts ++ more) is) (record { fault = refl; marks_left = refl; games = refl }))
+    by_token p b t ts (λ r. Same (compared_from p (markers_from p b (t ∷ ts)) b (t ∷ ts ++ more)) r.progress.games)
+    (λ reason is. rw (rejected_token p b t ts (ts ++ more) is) (record { fault = refl; markers_left = refl; games = refl }))
     (λ is.
     same_token (λ (f : Comparison). Same f (read_from p (progress_after b t) ts).progress.games)
-    (λ b c alike so. record { fault = refl; marks_left = refl; games = sym alike ∙ so.games }) p b t ts (ts ++ more) last is
+    (λ b c alike so. record { fault = refl; markers_left = refl; games = sym alike ∙ so.games }) p b t ts (ts ++ more) last is
     (compared_same p (progress_after b t) ts more (rest_ends t ts last)))
 
--- What is written at the last mark: the finished games, as in one reading.
+-- What is written at the last marker: the finished games, as in one reading.
 pub written_same : (p : Profile) {f : Comparison} (b : Progress)
     → p.missing_result ≡ takes_the_marker → Same f b.games → written_by p f ≡ written p b
 written_same p b takes so = cc

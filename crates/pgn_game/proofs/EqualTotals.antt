@@ -1,5 +1,5 @@
 -- Two equal readings: the most pairs tried are those of the second one.
-use Rattle.pgn_game.proofs.Words.{◌≡◌, ℕ, max, Bool, true, false, List, [], ◌∷◌, ◌++◌, None, refl, sym, ap, subst, ◌∙◌, append-nil, arith, Token, TokensRise, RisesTo, tokens_of, Profile, takes_the_marker, Game, no_part, Next, going, whole, next, Progress, no_progress, progress_with, progress_after, Read, read, read_from, verdict, verdict_of, Mark, Comparison, compared, compared_from, marks_after, marks_from, is_changed, MostFrom, MostTried, Totals, Device, verdict_in, IsTotalled, IsTrue, play_moves, append_cancel_left, AreTotalled, HasTaken, MostOfBoth, EqualTotals, common_steps}
+use Rattle.pgn_game.proofs.Words.{◌≡◌, ℕ, max, Bool, true, false, List, [], ◌∷◌, ◌++◌, None, refl, sym, ap, subst, ◌∙◌, append-nil, arith, Token, TokensRise, RisesTo, tokens_of, Profile, takes_the_marker, Game, no_part, Next, going, whole, next, Progress, no_progress, progress_with, progress_after, Read, read, read_from, verdict, verdict_of, PlacedMarker, Comparison, compared, compared_from, markers_after, markers_from, is_changed, MostFrom, MostTried, Totals, Device, verdict_in, IsTotalled, IsTrue, play_moves, append_cancel_left, AreTotalled, HasTaken, MostOfBoth, EqualTotals, common_steps}
 use Rattle.pgn_game.proofs.EqualReadings.{equal_readings, after_change, change_test, compared_same, ends, Same}
 use Rattle.pgn_game.proofs.reading.RunsToEnd.{Runs, kinds, from_read}
 use Rattle.pgn_game.proofs.tokens.NoneBeforeFault.{reads_behind}
@@ -7,35 +7,35 @@ use Rattle.pgn_game.proofs.tokens.PairsTriedBetweenGames.{none_tried}
 use Rattle.pgn_game.proofs.tokens.PairsTriedForToken.{most_then}
 use Rattle.pgn_game.proofs.tokens.PairsTriedSilently.{tries_fewer}
 
--- At the last mark no game is begun, if that was so before the first token.
+-- At the last marker no game is begun, if that was so before the first token.
 abbrev EndsBetween : Comparison → Type 0
-EndsBetween f = f.fault ≡ None → f.marks_left ≡ [] → f.progress.part ≡ no_part
+EndsBetween f = f.fault ≡ None → f.markers_left ≡ [] → f.progress.part ≡ no_part
 
-by_change : (p : Profile) (m : Mark) (ms : List Mark) (b : Progress) (t : Token) (ts : List Token) (changed : Bool)
-    → EndsBetween (compared_from p (marks_after (next b.part t.kind) m ms) (progress_after b t) ts) → EndsBetween (after_change p m ms b t ts changed)
+by_change : (p : Profile) (m : PlacedMarker) (ms : List PlacedMarker) (b : Progress) (t : Token) (ts : List Token) (changed : Bool)
+    → EndsBetween (compared_from p (markers_after (next b.part t.kind) m ms) (progress_after b t) ts) → EndsBetween (after_change p m ms b t ts changed)
 by_change p m ms b t ts true rest = λ same none. absurd (cc)
 by_change p m ms b t ts false rest = rest
 
--- a token that finishes no game leaves its mark
-between_next : (n : Next) (m : Mark) (ms : List Mark) (games : List Game) → marks_after n m ms ≡ [] → (progress_with games n).part ≡ no_part
+-- a token that finishes no game leaves its marker
+between_next : (n : Next) (m : PlacedMarker) (ms : List PlacedMarker) (games : List Game) → markers_after n m ms ≡ [] → (progress_with games n).part ≡ no_part
 between_next (going to) m ms games none = absurd (cc)
 between_next (whole g) m ms games none = refl
 
-last_mark : (p : Profile) (ms : List Mark) (b : Progress) (us : List Token) → (ms ≡ [] → b.part ≡ no_part) → EndsBetween (compared_from p ms b us)
-last_mark p ms b [] between = λ same none. between none
-last_mark p [] b (t ∷ ts) between = λ same none. between refl
-last_mark p (m ∷ ms) b (t ∷ ts) between =
+last_marker : (p : Profile) (ms : List PlacedMarker) (b : Progress) (us : List Token) → (ms ≡ [] → b.part ≡ no_part) → EndsBetween (compared_from p ms b us)
+last_marker p ms b [] between = λ same none. between none
+last_marker p [] b (t ∷ ts) between = λ same none. between refl
+last_marker p (m ∷ ms) b (t ∷ ts) between =
     let n = next b.part t.kind in
     subst EndsBetween (sym (change_test p m ms b t ts))
     (by_change p m ms b t ts (is_changed p m b.part t)
-    (last_mark p (marks_after n m ms) (progress_after b t) ts (between_next n m ms b.games)))
+    (last_marker p (markers_after n m ms) (progress_after b t) ts (between_next n m ms b.games)))
 
 rises_behind : (front : List Token) (t : Token) (rest : List Token) → RisesTo (front ++ t ∷ rest) → RisesTo (t ∷ rest)
 rises_behind [] t rest rises = rises
 rises_behind (x ∷ []) t rest rises = rises.2
 rises_behind (x ∷ y ∷ front) t rest rises = rises_behind (y ∷ front) t rest rises.2
 
--- Behind the last mark the tokens try none.
+-- Behind the last marker the tokens try none.
 none_behind : (p : Profile) (b : Progress) (front rest : List Token) → RisesTo (front ++ rest) → b.part ≡ no_part
     → (read_from p b rest).fault ≡ None → (read_from p b rest).progress.games ≡ b.games → MostFrom false p b rest 0
 none_behind p b front [] rises between passes same = MostFrom.none b
@@ -56,7 +56,7 @@ module _ (rise : TokensRise) (p : Profile) (s : List ℕ) (t : Totals) (sink : D
   abbrev tried : MostOfBoth p ts ts t.most_probes
   tried = both.probes.tried
 
-  -- the progress of the second reading at the last mark
+  -- the progress of the second reading at the last marker
   abbrev b : Progress
   b = (read p tried.front).progress
 
@@ -75,7 +75,7 @@ module _ (rise : TokensRise) (p : Profile) (s : List ℕ) (t : Totals) (sink : D
   between : b.part ≡ no_part
   between =
       ap (λ (c : Progress). c.part) tried.same
-      ∙ last_mark p (marks_from p no_progress ts) no_progress ts (λ none. refl) alike.fault alike.marks_left
+      ∙ last_marker p (markers_from p no_progress ts) no_progress ts (λ none. refl) alike.fault alike.markers_left
 
   no_more : (read_from p b tried.rest).progress.games ≡ b.games
   no_more = ap (λ (r : Read). r.progress.games) (sym reads) ∙ sym alike.games ∙ ap (λ (c : Progress). c.games) (sym tried.same)

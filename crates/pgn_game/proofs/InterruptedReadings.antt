@@ -1,8 +1,8 @@
 -- Two readings of one text, of which one stops early or a write fails: what is written is a prefix.
-use Rattle.pgn_game.proofs.Words.{◌≡◌, ℕ, List, [], ◌∷◌, ◌++◌, take, drop, ◌⊎◌, inl, inr, None, refl, sym, ap, subst, ◌∙◌, append_assoc, append-nil, take-append-drop, tokens_of, TokensRise, Token, Profile, takes_the_marker, game_text, torn, torn_for, Next, going, whole, next, Progress, no_progress, progress_with, progress_after, Read, read_from, IsPrefix, rules, Mark, mark_at, marks_from, Comparison, compared_from, compared, written_by, with_mark, decided, text_of_games as text_of, written_so_far as written, due, DecidedIsPrefix, AreWritten, AreWrittenWithin, InterruptedReadings}
+use Rattle.pgn_game.proofs.Words.{◌≡◌, ℕ, List, [], ◌∷◌, ◌++◌, take, drop, ◌⊎◌, inl, inr, None, refl, sym, ap, subst, ◌∙◌, append_assoc, append-nil, take-append-drop, tokens_of, TokensRise, Token, Profile, takes_the_marker, game_text, torn, torn_for, Next, going, whole, next, Progress, no_progress, progress_with, progress_after, Read, read_from, IsPrefix, rules, PlacedMarker, marker_at, markers_from, Comparison, compared_from, compared, written_by, with_marker, decided, text_of_games as text_of, written_so_far as written, due, DecidedIsPrefix, AreWritten, AreWrittenWithin, InterruptedReadings}
 use Rattle.pgn_game.proofs.tokens.OneMoreToken.{by_token, goes_on, also, grows_from, due_grows, text_of-snoc}
 use Rattle.pgn_game.proofs.tokens.NextGrows.{behind, next_grows}
-use Rattle.pgn_game.proofs.EqualReadings.{Ends, ends, rest_ends, after_marks, marks_test, SeesGames, same_token, rejected_token, compared_same}
+use Rattle.pgn_game.proofs.EqualReadings.{Ends, ends, rest_ends, after_markers, markers_test, SeesGames, same_token, rejected_token, compared_same}
 use Rattle.pgn_game.proofs.EqualReadings.{written_same}
 use Rattle.pgn_game.proofs.twice.MarkerCounts.{same_game_text}
 
@@ -33,31 +33,31 @@ module _ (p : Profile) (takes : p.missing_result ≡ takes_the_marker) where
   games_grow : (b : Progress) (ts : List Token) → IsPrefix (text_of p b.games) (written p (read_from p b ts).progress)
   games_grow b ts = subst (λ (l : List ℕ). IsPrefix l (written p (read_from p b ts).progress)) (whole_games b) (grows_from p b ts)
 
-  -- The text of the current game under the mark ahead is a prefix of the text of that game.
-  abbrev Ahead : Progress → Mark → Read → Type 0
-  Ahead b m r = IsPrefix (text_of p b.games ++ torn (with_mark p m) b.part) (written p r.progress)
+  -- The text of the current game under the marker ahead is a prefix of the text of that game.
+  abbrev Ahead : Progress → PlacedMarker → Read → Type 0
+  Ahead b m r = IsPrefix (text_of p b.games ++ torn (with_marker p m) b.part) (written p r.progress)
 
-  torn_at_mark : (b : Progress) (t : Token) (ts : List Token) (m : Mark) {ms : List Mark} (n : Next) → next b.part t.kind ≡ n
-      → mark_at t.at n ++ marks_from p (progress_with b.games n) ts ≡ m ∷ ms
-      → (marks_from p (progress_with b.games n) ts ≡ m ∷ ms → Ahead (progress_with b.games n) m (read_from p (progress_with b.games n) ts))
+  torn_at_marker : (b : Progress) (t : Token) (ts : List Token) (m : PlacedMarker) {ms : List PlacedMarker} (n : Next) → next b.part t.kind ≡ n
+      → marker_at t.at n ++ markers_from p (progress_with b.games n) ts ≡ m ∷ ms
+      → (markers_from p (progress_with b.games n) ts ≡ m ∷ ms → Ahead (progress_with b.games n) m (read_from p (progress_with b.games n) ts))
       → Ahead b m (read_from p (progress_with b.games n) ts)
-  torn_at_mark b t ts m (going part) leads is further =
-      also _ _ _ (behind (text_of p b.games) _ _ (rw leads at (next_grows (with_mark p m) b.part t.kind))) (further is)
-  torn_at_mark b t ts m (whole g) leads is further =
+  torn_at_marker b t ts m (going part) leads is further =
+      also _ _ _ (behind (text_of p b.games) _ _ (rw leads at (next_grows (with_marker p m) b.part t.kind))) (further is)
+  torn_at_marker b t ts m (whole g) leads is further =
       let c : Progress = progress_with b.games (whole g) in
       let same : m ≡ record { text = g.marker; at = t.at } = cc in
-      let grown : IsPrefix (torn (with_mark p m) b.part) (game_text (with_mark p m) g) =
-      rw leads at (next_grows (with_mark p m) b.part t.kind) in
-      let text : game_text (with_mark p m) g ≡ game_text p g = rw same (same_game_text p g takes) in
-      also _ _ _ (behind (text_of p b.games) _ _ (subst (IsPrefix (torn (with_mark p m) b.part)) text grown))
+      let grown : IsPrefix (torn (with_marker p m) b.part) (game_text (with_marker p m) g) =
+      rw leads at (next_grows (with_marker p m) b.part t.kind) in
+      let text : game_text (with_marker p m) g ≡ game_text p g = rw same (same_game_text p g takes) in
+      also _ _ _ (behind (text_of p b.games) _ _ (subst (IsPrefix (torn (with_marker p m) b.part)) text grown))
       (rw (text_of-snoc p b.games g) at (games_grow c ts))
 
-  torn_ahead : (b : Progress) (ts : List Token) (m : Mark) (ms : List Mark) → marks_from p b ts ≡ m ∷ ms → Ahead b m (read_from p b ts)
+  torn_ahead : (b : Progress) (ts : List Token) (m : PlacedMarker) (ms : List PlacedMarker) → markers_from p b ts ≡ m ∷ ms → Ahead b m (read_from p b ts)
   torn_ahead b [] m ms is = absurd (cc)
   torn_ahead b (t ∷ ts) m ms is =
-      by_token p b t ts (Ahead b m) (λ reason rejects. let none : marks_from p b (t ∷ ts) ≡ [] = cc in absurd (cc))
+      by_token p b t ts (Ahead b m) (λ reason rejects. let none : markers_from p b (t ∷ ts) ≡ [] = cc in absurd (cc))
       (λ free.
-      torn_at_mark b t ts m (next b.part t.kind) refl (sym (marks_test p b t ts ∙ ap (after_marks p b t ts) free) ∙ is)
+      torn_at_marker b t ts m (next b.part t.kind) refl (sym (markers_test p b t ts ∙ ap (after_markers p b t ts) free) ∙ is)
       (torn_ahead (progress_after b t) ts m ms))
 
   -- What is written of one text where `second` stops behind a front of its tokens: `low` is what
@@ -71,21 +71,21 @@ module _ (p : Profile) (takes : p.missing_result ≡ takes_the_marker) where
   sees_within low high = search rules
 
   none_written : {b high : Progress} → IsPrefix (text_of p b.games) (written p high)
-      → Within b high (record { progress = b; marks_left = []; fault = None })
+      → Within b high (record { progress = b; markers_left = []; fault = None })
   none_written grown = search (rules, append-nil)
 
-  waits : (b : Progress) (more : List Token) (ms : List Mark) → marks_from p b more ≡ ms
-      → Within b (read_from p b more).progress (record { progress = b; marks_left = ms; fault = None })
+  waits : (b : Progress) (more : List Token) (ms : List PlacedMarker) → markers_from p b more ≡ ms
+      → Within b (read_from p b more).progress (record { progress = b; markers_left = ms; fault = None })
   waits b more [] is = none_written (games_grow b more)
   waits b more (m ∷ ms) is = record { fault = refl; least = (_, refl); most = torn_ahead b more m ms is }
 
   abbrev ForToken : Progress → Token → List Token → List Token → Read → Read → Type 0
-  ForToken b t us more low high = Within low.progress high.progress (compared_from p (marks_from p b (t ∷ us ++ more)) b (t ∷ us))
+  ForToken b t us more low high = Within low.progress high.progress (compared_from p (markers_from p b (t ∷ us ++ more)) b (t ∷ us))
 
   -- The first reading has the tokens of the second, and more.
   compared_within : (b : Progress) (us more : List Token) → Ends (us ++ more)
-      → Within (read_from p b us).progress (read_from p b (us ++ more)).progress (compared_from p (marks_from p b (us ++ more)) b us)
-  compared_within b [] more last = waits b more (marks_from p b more) refl
+      → Within (read_from p b us).progress (read_from p b (us ++ more)).progress (compared_from p (markers_from p b (us ++ more)) b us)
+  compared_within b [] more last = waits b more (markers_from p b more) refl
   compared_within b (t ∷ us) more last =
       by_token p b t us (λ r. ForToken b t us more r (read_from p b (t ∷ us ++ more)))
       (λ reason is. subst (Within b _) (sym (rejected_token p b t (us ++ more) us is)) (none_written (games_grow b (t ∷ us ++ more))))
@@ -105,17 +105,17 @@ module _ (p : Profile) (takes : p.missing_result ≡ takes_the_marker) where
       let so = compared_within no_progress us more last in
       record { fault = so.fault; least = search (rules, whole_games); most = so.most }
 
-  -- The same where `first` has given the tokens ts, of which a mark is ahead.
-  pub before_mark : (us more ts rest : List Token) {m : Mark} {ms : List Mark} → Ends (us ++ more)
-      → us ++ more ≡ ts ++ rest → (compared p ts us).marks_left ≡ m ∷ ms
+  -- The same where `first` has given the tokens ts, of which a marker is ahead.
+  pub before_marker : (us more ts rest : List Token) {m : PlacedMarker} {ms : List PlacedMarker} → Ends (us ++ more)
+      → us ++ more ≡ ts ++ rest → (compared p ts us).markers_left ≡ m ∷ ms
       → AreWrittenWithin p (compared p ts us) (due p us) (due p (us ++ more))
-  before_mark us more ts rest last same ahead = by_length (longer ts us rest more (sym same))
+  before_marker us more ts rest last same ahead = by_length (longer ts us rest more (sym same))
     where
       by_length : ((z : List Token) × (us ≡ ts ++ z)) ⊎ ((z : List Token) × (ts ≡ us ++ z))
           → AreWrittenWithin p (compared p ts us) (due p us) (due p (us ++ more))
       by_length (inl h) =
-          let none : (compared p ts us).marks_left ≡ [] =
-          rw h.1 ((first_stops ts h.0 (subst Ends h.1 (front_ends us more last))).no_mark_left) in
+          let none : (compared p ts us).markers_left ≡ [] =
+          rw h.1 ((first_stops ts h.0 (subst Ends h.1 (front_ends us more last))).no_marker_left) in
           absurd (cc (none, ahead))
       by_length (inr h) =
           let so = second_stops us h.0 (subst Ends h.1 (front_ends ts rest (subst Ends same last))) in
@@ -149,7 +149,7 @@ interrupted_readings decides rise =
           rw h.1 (first_stops p takes (decided u) h.0 (subst Ends h.1 (ends (tokens_of (u ++ x)) (rise (u ++ x)))));
       second_stops = λ p u x ts rest m ms takes cut ahead.
           let h = decides u x in
-          rw h.1 (before_mark p takes (decided u) h.0 ts rest (subst Ends h.1 (ends (tokens_of (u ++ x)) (rise (u ++ x)))) (sym h.1 ∙ cut) ahead);
+          rw h.1 (before_marker p takes (decided u) h.0 ts rest (subst Ends h.1 (ends (tokens_of (u ++ x)) (rise (u ++ x)))) (sym h.1 ∙ cut) ahead);
       write_fails = λ p s ts rest front after token count takes cut at.
           let us = front ++ token ∷ [] in
           let here : ts ++ rest ≡ us ++ after = sym cut ∙ at ∙ sym (append_assoc front (token ∷ []) after) in

@@ -4,6 +4,6 @@ pub mod FailuresOfSteps
 pub mod GamesOfReadings
 pub mod MarkerCounts
 pub mod MarkerToReading
-pub mod MarksInTurn
+pub mod MarkersInTurn
 pub mod ReadingsToConversion
 pub mod TakingToCounting

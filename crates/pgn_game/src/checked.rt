@@ -10,14 +10,14 @@ ghost use Rattle.pgn_game.specs.state.GamesSteps.{CountsReading};
 ghost use Rattle.pgn_game.specs.games.Markers.{marker_text};
 ghost use Rattle.pgn_game.specs.state.Readings.{GoesOnAfterGame, HasGiven, ReadsGame, StillGivenNone};
 ghost use Rattle.pgn_game.specs.state.Readings.{ReadsUpToMarker, WritesGame, as_changed, no_sink};
-ghost use Rattle.pgn_game.specs.state.ReaderState.{KeepsSilence, sink_of, whole_plies};
+ghost use Rattle.pgn_game.specs.state.ReaderState.{KeepsSilence, sink_of, plies_of_finished_games};
 ghost use Rattle.pgn_game.specs.calls.Written.{bytes_seen};
 ghost use Rattle.pgn_game.specs.calls.Size.{HoldsTwice};
 
 use crate::conversion::Totals;
 use crate::converter::Converter;
 use crate::games::next_marker;
-use crate::marker::Mark;
+use crate::marker::PlacedMarker;
 use crate::mode::Mode;
 use crate::read_buffer::ReadBuffer;
 use crate::reason::{Fault, Reason};
@@ -82,8 +82,8 @@ pub fn convert_checked<const T: usize, const L: usize, Q: Source, R: Source, W: 
     let mut ahead = Reading::<T, L>::new(mode);
     ahead.write_nothing();
     let mut behind = Reading::<T, L>::new(mode);
-    while let Some(mark) = ahead.read_game(first)? {
-        behind.write_game(second, mark, writer)?;
+    while let Some(marker) = ahead.read_game(first)? {
+        behind.write_game(second, marker, writer)?;
     }
     Ok(behind.totals(ahead.most_probes()))
 }
@@ -143,14 +143,14 @@ impl<const T: usize, const L: usize> Reading<T, L> {
         requires going { IsGoing self.now.converter }
         requires bound { other_probes ≤ 1040 }
         ensures games { result.games ≡ self.now.converter.games }
-        ensures plies { result.plies ≡ whole_plies self.now.converter.reading }
+        ensures plies { result.plies ≡ plies_of_finished_games self.now.converter.reading }
         ensures probes { result.most_probes
             ≡ max other_probes self.now.converter.reading.most_probes }
         ensures bound { result.most_probes ≤ 1040 }
     {
         Totals {
             games: self.converter.games(),
-            plies: self.converter.whole_plies(),
+            plies: self.converter.plies_of_finished_games(),
             most_probes: other_probes.max(self.converter.most_probes()),
         }
     }
@@ -163,9 +163,9 @@ impl<const T: usize, const L: usize> Reading<T, L> {
         self.converter.most_probes()
     }
 
-    // Reads to the end of the next game, and returns its mark. `None` is the end of the input.
-    // Nothing is written.
-    fn read_game<R: Source>(&mut self, source: &mut R) -> Result<Option<Mark>, Fault>
+    // Reads to the end of the next game, and returns its placed marker. `None` is the end of the
+    // input. Nothing is written.
+    fn read_game<R: Source>(&mut self, source: &mut R) -> Result<Option<PlacedMarker>, Fault>
         requires going { IsGoing self.old.converter }
         ensures reads { ReadsGame (R.left source.old) (R.left source.new) self.old self.new
             result }
@@ -175,25 +175,26 @@ impl<const T: usize, const L: usize> Reading<T, L> {
         ensures counted { CountsReading result (device R.left R.failures source.old source.new)
             no_sink }
     {
-        let Some(mark) = self.next_marker(source, &mut Nowhere)? else {
+        let Some(marker) = self.read_to_marker(source, &mut Nowhere)? else {
             return Ok(None);
         };
-        self.converter.end_game(mark, &mut Nowhere)?;
-        Ok(Some(mark))
+        self.converter.end_game(marker, &mut Nowhere)?;
+        Ok(Some(marker))
     }
 
-    // Reads the next game, and writes it. It has to end with this mark.
+    // Reads the next game, and writes it. It has to end with this marker, at its place.
     //
     // A missing Result is written as that marker. A fault of the input's own is `Reason::Changed`.
     fn write_game<R: Source, W: Sink>(
         &mut self,
         source: &mut R,
-        mark: Mark,
+        expected: PlacedMarker,
         out: &mut W,
     ) -> Result<(), Fault>
         requires going { IsGoing self.old.converter }
-        ensures writes { WritesGame (R.left source.old) (R.left source.new) self.old mark self.new
-            result (bytes_seen self.old.converter.reading.writing.is_silent (W.taken out.old))
+        ensures writes { WritesGame (R.left source.old) (R.left source.new) self.old expected
+            self.new result
+            (bytes_seen self.old.converter.reading.writing.is_silent (W.taken out.old))
             (bytes_seen self.old.converter.reading.writing.is_silent (W.taken out.new)) }
         ensures going { OnOk result (IsGoing self.new.converter) }
         ensures counted { CountsReading result (device R.left R.failures source.old source.new)
@@ -202,12 +203,12 @@ impl<const T: usize, const L: usize> Reading<T, L> {
             out.new }
     {
         tokens_rise();
-        self.converter.announce_marker(mark.marker);
-        match self.next_marker(source, out) {
+        self.converter.announce_marker(expected.marker);
+        match self.read_to_marker(source, out) {
             Err(fault) => Err(changed(fault)),
             Ok(None) => Err(differs(self.converter.count())),
             Ok(Some(found)) => {
-                if is_other(found, mark) {
+                if is_other(found, expected) {
                     return Err(differs(found.at));
                 }
                 if let Err(fault) = self.converter.end_game(found, out) {
@@ -219,11 +220,11 @@ impl<const T: usize, const L: usize> Reading<T, L> {
     }
 
     // Reads up to the next marker, which `end_game` takes then. `None` is the end of the input.
-    fn next_marker<R: Source, W: Sink>(
+    fn read_to_marker<R: Source, W: Sink>(
         &mut self,
         source: &mut R,
         out: &mut W,
-    ) -> Result<Option<Mark>, Fault>
+    ) -> Result<Option<PlacedMarker>, Fault>
         requires going { IsGoing self.old.converter }
         ensures reads { ReadsUpToMarker self.old self.new result
             (device R.left R.failures source.old source.new)
@@ -234,8 +235,8 @@ impl<const T: usize, const L: usize> Reading<T, L> {
         if self.has_ended {
             return self.converter.finish_to_marker(out);
         }
-        if let Some(mark) = next_marker(&mut self.converter, &mut self.buffer, source, out)? {
-            return Ok(Some(mark));
+        if let Some(marker) = next_marker(&mut self.converter, &mut self.buffer, source, out)? {
+            return Ok(Some(marker));
         }
         self.has_ended = true;
         self.converter.finish_to_marker(out)
@@ -252,12 +253,12 @@ fn differs(at: u64) -> Fault
     }
 }
 
-// Whether the mark differs from the one that the other reading has found.
-fn is_other(mark: Mark, expected: Mark) -> bool
-    ensures { result ≡ not (bytes_eq (marker_text mark.marker) (marker_text expected.marker)
-        && (mark.at == expected.at)) }
+// Whether the marker or its place differs from that of the other reading.
+fn is_other(found: PlacedMarker, expected: PlacedMarker) -> bool
+    ensures { result ≡ not (bytes_eq (marker_text found.marker) (marker_text expected.marker)
+        && (found.at == expected.at)) }
 {
-    mark.marker.text() != expected.marker.text() || mark.at != expected.at
+    found.marker.text() != expected.marker.text() || found.at != expected.at
 }
 
 // The fault of the second reading: its own faults show that the input has changed.

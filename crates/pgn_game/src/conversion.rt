@@ -5,7 +5,7 @@ ghost use Rattle.pgn_game.specs.calls.ConverterCalls.{CountsFault, Stands, profi
 ghost use Rattle.pgn_game.specs.state.ConverterSteps.{IsGoing};
 ghost use Rattle.pgn_game.specs.games.Profile.{Profile};
 ghost use Rattle.pgn_game.specs.calls.Written.{bytes_seen};
-ghost use Rattle.pgn_game.specs.state.ReaderState.{sink_of, whole_plies};
+ghost use Rattle.pgn_game.specs.state.ReaderState.{sink_of, plies_of_finished_games};
 ghost use Rattle.pgn_game.specs.calls.Size.{Holds};
 ghost use Rattle.pgn_game.specs.calls.Conversion.{AfterConversion, AfterSlice, Concludes};
 ghost use Rattle.pgn_game.specs.calls.Conversion.{Checks, ChecksSlice, Converts, ConvertsSlice};
@@ -222,13 +222,13 @@ fn end<const T: usize, const L: usize, W: Sink>(
 fn totals_of<const T: usize, const L: usize>(converter: &Converter<T, L>) -> Totals
     requires no_fault { converter.now.fault ≡ None }
     ensures games { result.games ≡ converter.now.games }
-    ensures plies { result.plies ≡ whole_plies converter.now.reading }
+    ensures plies { result.plies ≡ plies_of_finished_games converter.now.reading }
     ensures probes { result.most_probes ≡ converter.now.reading.most_probes }
     ensures bound { result.most_probes ≤ 1040 }
 {
     Totals {
         games: converter.games(),
-        plies: converter.whole_plies(),
+        plies: converter.plies_of_finished_games(),
         most_probes: converter.most_probes(),
     }
 }

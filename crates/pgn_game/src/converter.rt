@@ -14,18 +14,18 @@ ghost use Rattle.pgn_game.specs.state.ConverterSteps.{IsBeforePiece, IsBeforeTok
 ghost use Rattle.pgn_game.specs.state.ConverterSteps.{Steps, StepsAtEnd, FeedsFront, FeedsToMarker};
 ghost use Rattle.pgn_game.specs.state.ConverterSteps.{GoesToMarker, GoesToEndOfPiece, EndsToMarker};
 ghost use Rattle.pgn_game.specs.state.ConverterSteps.{EndsGame, CountsGame, fault_of, outcome_at};
-ghost use Rattle.pgn_game.specs.state.ConverterSteps.{taking_marker, announcing};
+ghost use Rattle.pgn_game.specs.state.ConverterSteps.{taking_announced_marker, announcing};
 ghost use Rattle.pgn_game.specs.calls.ConverterCalls.{Stands, Feeds, KeepsGames, FeedsAll, Ends};
 ghost use Rattle.pgn_game.specs.calls.ConverterCalls.{Again, KeepsFault, CountsFault, Advances, profile_of};
 ghost use Rattle.pgn_game.specs.calls.ConverterCalls.{used_of, finished_game_value};
 ghost use Rattle.pgn_game.specs.calls.ConverterCalls.{finished_game_plies, finished_game_position};
 ghost use Rattle.pgn_game.specs.calls.ConverterCalls.{refused_position};
 ghost use Rattle.pgn_game.specs.calls.ConverterCalls.{CountsMissingAs, counting_missing_as};
-ghost use Rattle.pgn_game.specs.state.ReaderState.{KeepsSilence, sink_of, whole_plies};
+ghost use Rattle.pgn_game.specs.state.ReaderState.{KeepsSilence, sink_of, plies_of_finished_games};
 ghost use Rattle.pgn_game.specs.calls.ConverterCalls.{NoWriteFails, StillStands, writing_nothing};
 ghost use Rattle.pgn_game.specs.calls.ConverterCalls.{ReadsByMarker, reading_by_marker};
 
-use crate::marker::{Mark, Marker, MissingResult};
+use crate::marker::{Marker, MissingResult, PlacedMarker};
 use crate::mode::Mode;
 use crate::reader::{MOVETEXT, Reader, WHOLE};
 use crate::reason::{Fault, Reason};
@@ -56,16 +56,16 @@ pub enum FedUpTo {
     /// The whole piece was used, and no marker ends in it.
     All,
     /// This many of its bytes were used, and a marker ends there, which `end_game` takes.
-    Marker(usize, Mark),
+    Marker(usize, PlacedMarker),
 }
 
 /// What was met in a step.
 #[derive(Clone, Copy)]
 enum StepEnd {
     /// Tokens that are no markers, and were taken, or white space.
-    Token,
+    NoMarker,
     /// A marker, which was not taken yet.
-    Marker(Mark),
+    Marker(PlacedMarker),
 }
 
 /// One step in a piece: how many of its bytes were used, and what was met. The outcome is
@@ -254,7 +254,7 @@ impl<const T: usize, const L: usize> Converter<T, L> {
     /// From now on a missing Result takes the marker that ends its game. A converter that writes
     /// needs that marker before the game (`announce_marker`).
     pub(crate) fn take_announced_marker(&mut self)
-        ensures { self.new ≡ taking_marker self.old }
+        ensures { self.new ≡ taking_announced_marker self.old }
     {
         self.reader
             .count_missing_result_as(MissingResult::TakesTheMarker);
@@ -265,7 +265,7 @@ impl<const T: usize, const L: usize> Converter<T, L> {
     pub(crate) fn announce_marker(&mut self, marker: Marker)
         ensures { self.new ≡ announcing marker self.old }
     {
-        self.reader.tell(marker);
+        self.reader.announce_marker(marker);
     }
 
     /// Converts the piece up to the end of the next game, and reports how much of it was used.
@@ -307,8 +307,8 @@ impl<const T: usize, const L: usize> Converter<T, L> {
     {
         match self.feed_to_marker(piece, out)? {
             FedUpTo::All => Ok(Fed::All),
-            FedUpTo::Marker(used, mark) => {
-                self.end_game(mark, out)?;
+            FedUpTo::Marker(used, marker) => {
+                self.end_game(marker, out)?;
                 Ok(Fed::Game(used))
             }
         }
@@ -338,7 +338,7 @@ impl<const T: usize, const L: usize> Converter<T, L> {
         }
         let front = within_limit(self.lexer.count(), piece);
         match self.feed_front(front, out)? {
-            FedUpTo::Marker(used, mark) => Ok(FedUpTo::Marker(used, mark)),
+            FedUpTo::Marker(used, marker) => Ok(FedUpTo::Marker(used, marker)),
             FedUpTo::All => {
                 if front.len() < piece.len() {
                     return Err(too_long(&mut self.fault));
@@ -353,15 +353,15 @@ impl<const T: usize, const L: usize> Converter<T, L> {
     /// # Errors
     ///
     /// The row of the fault table that rejects the marker, or `Reason::WriteFault`.
-    pub(crate) fn end_game<W: Sink>(&mut self, mark: Mark, out: &mut W) -> Result<(), Fault>
+    pub(crate) fn end_game<W: Sink>(&mut self, met: PlacedMarker, out: &mut W) -> Result<(), Fault>
         requires { IsReady self.old }
-        ensures ends { EndsGame self.old.reading mark self.new.reading result
+        ensures ends { EndsGame self.old.reading met self.new.reading result
             (sink_of self.old.reading W.taken W.failures out.old out.new) }
         ensures counts { CountsGame self.old self.new result
             (sink_of self.old.reading W.taken W.failures out.old out.new) }
         ensures silent { KeepsSilence self.old.reading self.new.reading out.old out.new }
     {
-        let Mark { marker, at } = mark;
+        let PlacedMarker { marker, at } = met;
         match self.reader.end_game(marker, out) {
             Err(reason) => {
                 let fault = Fault { at, reason };
@@ -425,8 +425,8 @@ impl<const T: usize, const L: usize> Converter<T, L> {
         let mut finished_game = false;
         loop {
             match self.finish_to_marker(out)? {
-                Some(mark) => {
-                    self.end_game(mark, out)?;
+                Some(marker) => {
+                    self.end_game(marker, out)?;
                     finished_game = true;
                 }
                 None => {
@@ -444,7 +444,10 @@ impl<const T: usize, const L: usize> Converter<T, L> {
     /// # Errors
     ///
     /// As `finish`.
-    pub(crate) fn finish_to_marker<W: Sink>(&mut self, out: &mut W) -> Result<Option<Mark>, Fault>
+    pub(crate) fn finish_to_marker<W: Sink>(
+        &mut self,
+        out: &mut W,
+    ) -> Result<Option<PlacedMarker>, Fault>
         requires { IsGoing self.old }
         ensures ends { EndsToMarker self.old self.new result
             (sink_of self.old.reading W.taken W.failures out.old out.new) }
@@ -453,8 +456,8 @@ impl<const T: usize, const L: usize> Converter<T, L> {
         self.has_finished_game = false;
         loop {
             match self.step_at_end(out)? {
-                Some(StepEnd::Token) => {}
-                Some(StepEnd::Marker(mark)) => return Ok(Some(mark)),
+                Some(StepEnd::NoMarker) => {}
+                Some(StepEnd::Marker(marker)) => return Ok(Some(marker)),
                 None => return Ok(None),
             }
         }
@@ -599,11 +602,11 @@ impl<const T: usize, const L: usize> Converter<T, L> {
     }
 
     // Returns the number of moves outside variations of all finished games.
-    pub(crate) fn whole_plies(&self) -> u64
+    pub(crate) fn plies_of_finished_games(&self) -> u64
         requires { self.now.fault ≡ None }
-        ensures { result ≡ whole_plies self.now.reading }
+        ensures { result ≡ plies_of_finished_games self.now.reading }
     {
-        self.reader.whole_plies()
+        self.reader.plies_of_finished_games()
     }
 
     /// Returns the place of the next byte: where it began, and how many bytes were used since.
@@ -647,8 +650,8 @@ impl<const T: usize, const L: usize> Converter<T, L> {
             at += step.used;
             match step.outcome {
                 Ok(None) => return Ok(FedUpTo::All),
-                Ok(Some(StepEnd::Token)) => {}
-                Ok(Some(StepEnd::Marker(mark))) => return Ok(FedUpTo::Marker(at, mark)),
+                Ok(Some(StepEnd::NoMarker)) => {}
+                Ok(Some(StepEnd::Marker(marker))) => return Ok(FedUpTo::Marker(at, marker)),
                 Err(fault) => return Err(fault),
             }
         }
@@ -710,7 +713,7 @@ impl<const T: usize, const L: usize> Converter<T, L> {
         if used == piece.len() {
             return Step {
                 used,
-                outcome: Ok(Some(StepEnd::Token)),
+                outcome: Ok(Some(StepEnd::NoMarker)),
             };
         }
         let step = self.step_on(&piece[used..], out);
@@ -737,7 +740,7 @@ impl<const T: usize, const L: usize> Converter<T, L> {
             if used == piece.len() {
                 return Step {
                     used,
-                    outcome: Ok(Some(StepEnd::Token)),
+                    outcome: Ok(Some(StepEnd::NoMarker)),
                 };
             }
             let rest = self.step_on(&piece[used..], out);
@@ -846,8 +849,8 @@ fn settle(
     ensures fault { fault.new ≡ fault_of result }
 {
     match met {
-        Ok(None) => Ok(Some(StepEnd::Token)),
-        Ok(Some(marker)) => Ok(Some(StepEnd::Marker(Mark { marker, at }))),
+        Ok(None) => Ok(Some(StepEnd::NoMarker)),
+        Ok(Some(marker)) => Ok(Some(StepEnd::Marker(PlacedMarker { marker, at }))),
         Err(reason) => fail(Fault { at, reason }, fault),
     }
 }

@@ -3,8 +3,9 @@ ghost use Rattle.std.specs.Prelude.{◌≡◌, ◌<◌, ◌≤◌, Some, IfOk, O
 ghost use Rattle.chess_rules.specs.Legal.{legal};
 ghost use Rattle.pgn_game.specs.games.Chess.{move_of};
 ghost use Rattle.pgn_game.specs.games.FaultTable as spec;
-ghost use Rattle.pgn_game.specs.calls.FoundMove.{NamesMove, found_in};
+ghost use Rattle.pgn_game.specs.calls.FoundMove.{found_in};
 ghost use Rattle.pgn_game.specs.calls.Tried.{Costs};
+ghost use Rattle.pgn_game.specs.state.PutResult.{NamesMove};
 
 use crate::reason::Reason;
 use chess_rules::{Colour, Move, Position, Probes, position_after};

@@ -14,7 +14,7 @@ ghost use Rattle.pgn_game.specs.state.ConverterSteps.{IsGoing};
 ghost use Rattle.pgn_game.specs.state.ReaderState.{KeepsSilence, sink_of};
 
 use crate::converter::{Converter, FedUpTo};
-use crate::marker::Mark;
+use crate::marker::PlacedMarker;
 use crate::mode::Mode;
 use crate::read_buffer::ReadBuffer;
 use crate::reason::Fault;
@@ -189,11 +189,11 @@ pub(crate) fn next_game<const T: usize, const L: usize, R: Source, W: Sink>(
         converter.forget_game();
         return Ok(false);
     }
-    read_game(converter, buffer, source, out)
+    convert_game(converter, buffer, source, out)
 }
 
 // Converts the next game of a source whose end was not read yet.
-fn read_game<const T: usize, const L: usize, R: Source, W: Sink>(
+fn convert_game<const T: usize, const L: usize, R: Source, W: Sink>(
     converter: &mut Converter<T, L>,
     buffer: &mut ReadBuffer,
     source: &mut R,
@@ -207,8 +207,8 @@ fn read_game<const T: usize, const L: usize, R: Source, W: Sink>(
     ensures silent { KeepsSilence converter.old.reading converter.new.reading out.old out.new }
 {
     match next_marker(converter, buffer, source, out)? {
-        Some(mark) => {
-            converter.end_game(mark, out)?;
+        Some(marker) => {
+            converter.end_game(marker, out)?;
             Ok(true)
         }
         None => converter.finish(out),
@@ -222,7 +222,7 @@ pub(crate) fn next_marker<const T: usize, const L: usize, R: Source, W: Sink>(
     buffer: &mut ReadBuffer,
     source: &mut R,
     out: &mut W,
-) -> Result<Option<Mark>, Fault>
+) -> Result<Option<PlacedMarker>, Fault>
     requires { IsGoing converter.old }
     ensures reads { ReadsNextMarker (games_of converter.old buffer.old)
         (games_of converter.new buffer.new) result
@@ -234,8 +234,8 @@ pub(crate) fn next_marker<const T: usize, const L: usize, R: Source, W: Sink>(
     ensures silent { KeepsSilence converter.old.reading converter.new.reading out.old out.new }
 {
     loop {
-        if let Some(mark) = feed_rest(converter, buffer, out)? {
-            return Ok(Some(mark));
+        if let Some(marker) = feed_rest(converter, buffer, out)? {
+            return Ok(Some(marker));
         }
         if !read_more(converter, buffer, source)? {
             return Ok(None);
@@ -248,7 +248,7 @@ fn feed_rest<const T: usize, const L: usize, W: Sink>(
     converter: &mut Converter<T, L>,
     buffer: &mut ReadBuffer,
     out: &mut W,
-) -> Result<Option<Mark>, Fault>
+) -> Result<Option<PlacedMarker>, Fault>
     requires { IsGoing converter.old }
     ensures feeds { FeedsRest (games_of converter.old buffer.old)
         (games_of converter.new buffer.new) result
@@ -260,9 +260,9 @@ fn feed_rest<const T: usize, const L: usize, W: Sink>(
             buffer.clear();
             Ok(None)
         }
-        FedUpTo::Marker(used, mark) => {
+        FedUpTo::Marker(used, marker) => {
             buffer.skip(used);
-            Ok(Some(mark))
+            Ok(Some(marker))
         }
     }
 }

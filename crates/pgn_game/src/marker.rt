@@ -52,7 +52,7 @@ impl Marker {
 
 /// How a game ends: its termination marker, and the place of that.
 #[derive(Clone, Copy)]
-pub struct Mark {
+pub struct PlacedMarker {
     pub marker: Marker,
     pub at: u64,
 }

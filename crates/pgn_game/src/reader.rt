@@ -13,7 +13,7 @@ ghost use Rattle.pgn_game.specs.declared.stage.Stage.TheVariants.{AfterValue, Af
 ghost use Rattle.pgn_game.specs.games.Profile.{counts_as, known_result};
 ghost use Rattle.pgn_game.specs.games.Markers.{marker_text, missing_of};
 ghost use Rattle.pgn_game.specs.state.Movetext.{movetext_from};
-ghost use Rattle.pgn_game.specs.state.ReaderState.{ReaderCall, known_of, silenced, telling, whole_plies};
+ghost use Rattle.pgn_game.specs.state.ReaderState.{ReaderCall, known_of, silenced, with_announced, plies_of_finished_games};
 ghost use Rattle.pgn_game.specs.state.TokenInMovetext.{ItemFits, MayTakeMove, may_have_movetext};
 ghost use Rattle.pgn_game.specs.state.TokenInMovetext.{model_item};
 ghost use Rattle.pgn_game.specs.state.TokenInMovetext.{fen_position as position_in_fen};
@@ -65,7 +65,7 @@ pub struct Reader<const T: usize, const L: usize> {
     mode: Mode,
     written: Written,
     missing_result: MissingResult,
-    told: Option<Marker>,
+    announced: Option<Marker>,
     marker: Marker,
     stage: Stage,
 }
@@ -86,7 +86,7 @@ impl<const T: usize, const L: usize> Model for Reader<T, L> {
         missing_result = missing_of r.missing_result;
       };
       writing = record {
-        told = option_map marker_text r.told;
+        announced = option_map marker_text r.announced;
         is_silent = is_nothing r.written;
       };
       stage = r.stage;
@@ -113,7 +113,7 @@ impl<const T: usize, const L: usize> Reader<T, L> {
             mode = mode;
             missing_result = counts_as (codes "*");
           };
-          writing = record { told = None; is_silent = false };
+          writing = record { announced = None; is_silent = false };
           stage = Between;
           tags = record { held = []; pending_name = None };
           text = movetext_from first_position;
@@ -127,7 +127,7 @@ impl<const T: usize, const L: usize> Reader<T, L> {
             mode,
             written: Written::by(mode),
             missing_result: MissingResult::CountsAs(Marker::Unknown),
-            told: None,
+            announced: None,
             marker: Marker::Unknown,
             stage: Stage::Between,
             tags: TagPairs::new(),
@@ -189,9 +189,9 @@ impl<const T: usize, const L: usize> Reader<T, L> {
     }
 
     /// Returns the number of moves outside variations of all whole games so far.
-    pub fn whole_plies(&self) -> u64
+    pub fn plies_of_finished_games(&self) -> u64
         requires { self.now.earlier_plies + self.now.text.plies < 2 ^ 64 }
-        ensures { result ≡ whole_plies self.now }
+        ensures { result ≡ plies_of_finished_games self.now }
     {
         if self.is_between() {
             return self.earlier_plies + self.text.plies();
@@ -239,12 +239,12 @@ impl<const T: usize, const L: usize> Reader<T, L> {
         self.written = Written::Nothing;
     }
 
-    /// Tells the marker that the next game ends with. A missing Result that takes it is written so,
-    /// where it would be written as nothing.
-    pub fn tell(&mut self, marker: Marker)
-        ensures { self.new ≡ telling (marker_text marker) self.old }
+    /// Announces the marker that the next game ends with. A missing Result that takes it is written
+    /// so, where it would be written as nothing.
+    pub fn announce_marker(&mut self, marker: Marker)
+        ensures { self.new ≡ with_announced (marker_text marker) self.old }
     {
-        self.told = Some(marker);
+        self.announced = Some(marker);
     }
 
     /// Takes one token, and writes what it adds to the text of its game. A marker that may end the
@@ -692,8 +692,8 @@ impl<const T: usize, const L: usize> Reader<T, L> {
     fn known_missing_result(&self) -> MissingResult
         ensures { known_result (missing_of result) ≡ known_of self.now }
     {
-        match (self.missing_result, self.told) {
-            (MissingResult::TakesTheMarker, Some(told)) => MissingResult::CountsAs(told),
+        match (self.missing_result, self.announced) {
+            (MissingResult::TakesTheMarker, Some(announced)) => MissingResult::CountsAs(announced),
             (missing, _) => missing,
         }
     }

@@ -3,13 +3,13 @@ use Rattle.std.specs.Prelude.{ℕ, ◌+◌, ◌-◌, Bool, true, false, ◌||◌
 use Rattle.std.specs.Option.{option_and_then}
 use Rattle.std.specs.List.{prefix_len}
 use Rattle.pgn_sections.specs.Bytes.{is_line_end, is_stray, name_length, begins_with, has_mark, behind_byte, behind_space, behind_name}
-use Rattle.pgn_sections.specs.declared.tag_line.Mark.{Mark}
-use Rattle.pgn_sections.specs.declared.tag_line.Mark.TheVariants.{Outside, BehindFirst, BehindSecond}
+use Rattle.pgn_sections.specs.declared.tag_line.MarkProgress.{MarkProgress}
+use Rattle.pgn_sections.specs.declared.tag_line.MarkProgress.TheVariants.{Outside, BehindFirst, BehindSecond}
 use Rattle.pgn_sections.specs.declared.tag_line.TagLine.{TagLine}
 
 -- Where a byte stands to byte order marks (239 187 191), if it is stray or of a mark. The state
 -- before it says how many bytes of a mark are read.
-abbrev pub mark_after : Mark → ℕ → Option Mark
+abbrev pub mark_after : MarkProgress → ℕ → Option MarkProgress
 mark_after Outside b = if is_stray b then Some Outside else if b == 239 then Some BehindFirst else None
 mark_after BehindFirst b = if b == 187 then Some BehindSecond else None
 mark_after BehindSecond b = if b == 191 then Some Outside else None
@@ -19,13 +19,13 @@ abbrev pub one_more : Option ℕ → Option ℕ
 one_more o = option_map (λ n. n + 1) o
 
 -- a bracket is the first byte that is neither stray nor of a mark
-abbrev pub is_at_bracket : Mark → ℕ → Bool
+abbrev pub is_at_bracket : MarkProgress → ℕ → Bool
 is_at_bracket Outside b = b == 91
 is_at_bracket BehindFirst b = false
 is_at_bracket BehindSecond b = false
 
 -- how many bytes are before a bracket that only stray bytes and byte order marks are before
-abbrev pub bytes_before_bracket : Mark → List ℕ → Option ℕ
+abbrev pub bytes_before_bracket : MarkProgress → List ℕ → Option ℕ
 bytes_before_bracket m [] = None
 bytes_before_bracket m (b ∷ s) =
     elim (mark_after m b) [

@@ -2,7 +2,7 @@
 ghost use Rattle.std.specs.Prelude.{◌≡◌, ◌+◌, ◌<◌, ◌≤◌, IfSome, false, drop, length};
 ghost use Rattle.std.specs.List.{prefix_len};
 ghost use Rattle.std.specs.Option.{option_copied};
-ghost use Rattle.pgn_sections.specs.declared.tag_line.Mark.TheVariants.{Outside};
+ghost use Rattle.pgn_sections.specs.declared.tag_line.MarkProgress.TheVariants.{Outside};
 ghost use Rattle.pgn_sections.specs.TagLine as spec;
 
 use crate::bytes::{
@@ -12,7 +12,7 @@ use crate::bytes::{
 
 /// How many bytes of a byte order mark are read.
 #[derive(Clone, Copy)]
-pub(crate) enum Mark {
+pub(crate) enum MarkProgress {
     Outside,
     BehindFirst,
     BehindSecond,
@@ -48,11 +48,11 @@ fn bytes_before_bracket(line: &[u8]) -> Option<usize>
     ensures bytes { result ≡ spec.bytes_before_bracket Outside line.now }
     ensures within { IfSome result (λ n. n < length line.now) }
 {
-    let mut mark = Mark::Outside;
+    let mut progress = MarkProgress::Outside;
     for (index, byte) in line.iter().enumerate() {
-        match mark_after(mark, *byte) {
-            Some(next) => mark = next,
-            None => return if is_at_bracket(mark, *byte) {
+        match mark_after(progress, *byte) {
+            Some(next) => progress = next,
+            None => return if is_at_bracket(progress, *byte) {
                 Some(index)
             } else {
                 None
@@ -62,29 +62,29 @@ fn bytes_before_bracket(line: &[u8]) -> Option<usize>
     None
 }
 
-fn mark_after(mark: Mark, byte: u8) -> Option<Mark>
-    ensures { result ≡ spec.mark_after mark byte }
+fn mark_after(progress: MarkProgress, byte: u8) -> Option<MarkProgress>
+    ensures { result ≡ spec.mark_after progress byte }
 {
-    match mark {
-        Mark::Outside => {
+    match progress {
+        MarkProgress::Outside => {
             if is_stray(byte) {
-                Some(Mark::Outside)
+                Some(MarkProgress::Outside)
             } else if byte == 0xef {
-                Some(Mark::BehindFirst)
+                Some(MarkProgress::BehindFirst)
             } else {
                 None
             }
         }
-        Mark::BehindFirst => {
+        MarkProgress::BehindFirst => {
             if byte == 0xbb {
-                Some(Mark::BehindSecond)
+                Some(MarkProgress::BehindSecond)
             } else {
                 None
             }
         }
-        Mark::BehindSecond => {
+        MarkProgress::BehindSecond => {
             if byte == 0xbf {
-                Some(Mark::Outside)
+                Some(MarkProgress::Outside)
             } else {
                 None
             }
@@ -92,11 +92,11 @@ fn mark_after(mark: Mark, byte: u8) -> Option<Mark>
     }
 }
 
-fn is_at_bracket(mark: Mark, byte: u8) -> bool
-    ensures { result ≡ spec.is_at_bracket mark byte }
+fn is_at_bracket(progress: MarkProgress, byte: u8) -> bool
+    ensures { result ≡ spec.is_at_bracket progress byte }
 {
-    match mark {
-        Mark::Outside => byte == b'[',
+    match progress {
+        MarkProgress::Outside => byte == b'[',
         _ => false,
     }
 }

@@ -57,7 +57,7 @@ two_readings =
 abbrev FirstStops : List ℕ → List ℕ → List ℕ → Type 0
 FirstStops u x text =
     let f = compared twice (decided u) (tokens_of (u ++ x)) in
-    (f.fault ≡ None) × (f.marks_left ≡ []) × (written_by twice f ≡ text) × (due twice (decided u) ≡ text)
+    (f.fault ≡ None) × (f.markers_left ≡ []) × (written_by twice f ≡ text) × (due twice (decided u) ≡ text)
 
 -- `second` gives u alone: one reading has written `before` by then, and two write `torn` of the
 -- current game behind it. The whole output goes on with `after`.
@@ -122,9 +122,9 @@ writing_stops =
     }
 
 -- The first token of `second` shows that it is at the only mark of `first`. No token shows nothing.
-shown_up_to_the_mark : Unit {0}
+shown_up_to_the_marker : Unit {0}
 unfolding of_moves
-shown_up_to_the_mark =
-    let by_its_marker : (compared twice (tokens_of (codes "1-0")) (take 1 (tokens_of (codes "1-0 0-1")))).marks_left ≡ [] = refl in
-    let not_before_it : length (compared twice (tokens_of (codes "1-0")) []).marks_left ≡ 1 = refl in
+shown_up_to_the_marker =
+    let by_its_marker : (compared twice (tokens_of (codes "1-0")) (take 1 (tokens_of (codes "1-0 0-1")))).markers_left ≡ [] = refl in
+    let not_before_it : length (compared twice (tokens_of (codes "1-0")) []).markers_left ≡ 1 = refl in
     tt

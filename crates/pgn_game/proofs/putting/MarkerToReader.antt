@@ -16,14 +16,14 @@ game_lines mode ps items marker = text_of_lines (lines_of (tokens_out mode (star
 abbrev ending : List ℕ → List ℕ → List ℕ
 ending line marker = text_at line (Put marker) ++ text_at (line_at line (Put marker)) EndGame
 
-abbrev line_of : Mode → List Pair → List Item → List ℕ
-line_of mode ps items = last_line (lines_of (tokens_out mode (start_of ps) items))
+abbrev last_line_of : Mode → List Pair → List Item → List ℕ
+last_line_of mode ps items = last_line (lines_of (tokens_out mode (start_of ps) items))
 
 gain_of : (p : Profile) (result : List ℕ) (part : Part) (marker : List ℕ)
     → IsTrue (may_have_movetext part.stage) → (part.stage ≡ AfterTags → part.items ≡ [])
     → All IsToken (tokens_out p.mode (start_of part.pairs) part.items) → IsToken marker
     → gain_to (counting p result) part (whole (game_of part marker))
-    ≡ section_due part.stage p.mode result part.pairs ++ ending (line_of p.mode part.pairs part.items) marker
+    ≡ section_due part.stage p.mode result part.pairs ++ ending (last_line_of p.mode part.pairs part.items) marker
 gain_of p result part marker at fresh each token =
     let lines = text_of_lines (lines_of (tokens_out p.mode (start_of part.pairs) part.items ++ marker ∷ [])) in
     let ts = tokens_out p.mode (start_of part.pairs) part.items in
@@ -34,7 +34,7 @@ gain_of p result part marker at fresh each token =
     (game_ends ts marker each token
     ∙ append_assoc (text_of_lines (full_lines (lines_of ts))) (text_at (last_line (lines_of ts)) (Put marker))
     (text_at (line_at (last_line (lines_of ts)) (Put marker)) EndGame))
-    ∙ drop-append_seam (full_text p.mode (start_of part.pairs) part.items) (ending (line_of p.mode part.pairs part.items) marker))
+    ∙ drop-append_seam (full_text p.mode (start_of part.pairs) part.items) (ending (last_line_of p.mode part.pairs part.items) marker))
 
 -- what is due for a marker, of a reader that holds the part
 due_is : (old : ReaderState) (part : Part) (marker : List ℕ) → old.writing.is_silent ≡ false

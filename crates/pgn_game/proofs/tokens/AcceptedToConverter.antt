@@ -1,7 +1,7 @@
 -- One token that the lexer gave, and what the reader answered to it.
 use Rattle.pgn_lexer.specs.PartialToken.{refusal as refusal_token}
 use Rattle.pgn_lexer.specs.Scanned.{token}
-use Rattle.pgn_game.proofs.Words.{Writing, Reason, Lexical, WriteFault, Profile, Game, Part, ◌≡◌, ℕ, ◌+◌, ◌<◌, ◌≤◌, ◌⊎◌, Bool, List, [], ◌∷◌, ◌++◌, length, take, drop, Option, None, Some, Result, Ok, Err, refl, sym, ap, subst, ◌∙◌, append_assoc, append-nil, length-append, le_refl, arith, IsTrue, map, sum, take-append-drop, map-append, list_any-append, or_cases, Appends-nil, Appends, Token, EndsAt, tokens_of, Standing, coming, StandsAfter, Follows, AfterScan, first, still, More, Finished, refusal, marker_of, position_if_move, position_in, Next, going, whole, next, Progress, progress_with, progress_after, Read, read, gain, text_next, Gains, plies_of, has_move, ReaderState, Agrees, as_written, IsBehind, whole_plies, plies_next, Leads, Answers, AppendsFront, MostTried, Raises, Tries, TriesUnwritten, sum_by-append, sum_by-cons, LexFault, finished_game_of, Converter, game_in_reader, play_moves, has_played_move, HasRead, IsLastGame, refused_stop as refused, unwritten, AreNext, reported_position, FaultAtEnd, SameGames, OneGame, AfterStep, EndsWithin, GainsAs, Meets, NotTaken, Reaches, ReadsMore, due_as, part_after, outcome_at, fault_of, TakesToken, Device, Marker, rules, inl, inr, position_at_fault, due, torn, text_of_games as text_of, more, fault, MeetsMarker, TakesUnlessMarker, common_steps}
+use Rattle.pgn_game.proofs.Words.{Writing, Reason, Lexical, WriteFault, Profile, Game, Part, ◌≡◌, ℕ, ◌+◌, ◌<◌, ◌≤◌, ◌⊎◌, Bool, List, [], ◌∷◌, ◌++◌, length, take, drop, Option, None, Some, Result, Ok, Err, refl, sym, ap, subst, ◌∙◌, append_assoc, append-nil, length-append, le_refl, arith, IsTrue, map, sum, take-append-drop, map-append, list_any-append, or_cases, Appends-nil, Appends, Token, EndsAt, tokens_of, Standing, coming, StandsAfter, Follows, AfterScan, first, still, More, Finished, refusal, marker_of, position_if_move, position_in, Next, going, whole, next, Progress, progress_with, progress_after, Read, read, gain, text_next, Gains, plies_of, has_move, ReaderState, Agrees, as_written, IsBehind, plies_of_finished_games, plies_added, Leads, Answers, AppendsFront, MostTried, Raises, Tries, TriesUnwritten, sum_by-append, sum_by-cons, LexFault, finished_game_of, Converter, game_in_reader, play_moves, has_played_move, HasRead, IsLastGame, refused_stop as refused, unwritten, AreNext, reported_position, FaultAtEnd, SameGames, OneGame, AfterStep, EndsWithin, GainsAs, Meets, NotTaken, Reaches, ReadsMore, due_as, part_after, outcome_at, fault_of, TakesToken, Device, Marker, rules, inl, inr, position_at_fault, due, torn, text_of_games as text_of, more, fault, MeetsMarker, TakesUnlessMarker, common_steps}
 use Rattle.pgn_game.specs.state.ReaderState as reader_state
 use Rattle.pgn_game.proofs.tokens.PairsTriedForToken.{most_with, most_to_refused, part_probed, raises_none}
 use Rattle.pgn_game.proofs.tokens.OneMoreToken.{read-passes, read-refuses, due-passes}
@@ -20,13 +20,13 @@ pub follows_none : (b : Option ℕ) → Follows b []
 follows_none None = tt
 follows_none (Some x) = tt
 
--- what is written for a missing Result follows from the profile and what was told
+-- what is written for a missing Result follows from the profile and the announced marker
 pub written_same : (old new : ReaderState) → new.profile ≡ old.profile → new.writing ≡ old.writing → as_written new ≡ as_written old
 written_same old new profile writing = rw (profile, writing) refl
 
 -- what a token leads to, with the games before; one that finishes no game counts no move
 leads_more : (nx : Next) (games : List Game) (r : ReaderState) → Leads nx More r
-    → ((progress_with games nx).games ≡ games) × Agrees r (progress_with games nx).part × (plies_next nx ≡ 0)
+    → ((progress_with games nx).games ≡ games) × Agrees r (progress_with games nx).part × (plies_added nx ≡ 0)
 leads_more (going part) games r h = (refl, h, refl)
 leads_more (whole g) games r h = absurd h
 
@@ -38,7 +38,7 @@ text_more w p (whole g) games r h = absurd h
 
 leads_finished : (nx : Next) (games : List Game) (r : ReaderState) → Leads nx Finished r
     → (g : Game) × ((progress_with games nx).games ≡ games ++ g ∷ [])
-    × Agrees r (progress_with games nx).part × IsBehind r g × (plies_next nx ≡ plies_of g)
+    × Agrees r (progress_with games nx).part × IsBehind r g × (plies_added nx ≡ plies_of g)
 leads_finished (going part) games r h = absurd h
 leads_finished (whole g) games r h = (g, refl, h.agrees, h, refl)
 
@@ -100,13 +100,13 @@ module _ (p : Profile) (old : Converter) (given : List Token) (t : Token) (l : S
   same_games h leads = rw (reads h) ((leads_more (next b.part t.kind) b.games new leads).0)
 
   pub has_read_more : refusal old.reading.profile b.part t.kind ≡ None → Leads (next b.part t.kind) More new
-      → whole_plies new ≡ whole_plies old.reading + plies_next (next b.part t.kind)
+      → plies_of_finished_games new ≡ plies_of_finished_games old.reading + plies_added (next b.part t.kind)
       → Raises (Tries old.reading.writing.is_silent old.reading.profile b.part t.kind) old.reading.most_probes new.most_probes
       → HasRead p (now_at l new old.games finished) (given ++ t ∷ [])
   has_read_more h leads plies tries =
       let more = leads_more (next b.part t.kind) b.games new leads in
       let same = same_games h leads in
-      let total : whole_plies new ≡ whole_plies old.reading = omega (arith, plies, more.2) in
+      let total : plies_of_finished_games new ≡ plies_of_finished_games old.reading = omega (arith, plies, more.2) in
       let agrees : Agrees new (read p (given ++ t ∷ [])).progress.part = rw (reads h) more.1 in
       record {
         profile = profile ∙ has_read.profile;
@@ -126,7 +126,7 @@ module _ (p : Profile) (old : Converter) (given : List Token) (t : Token) (l : S
   one_game h leads = grind (arith, common_steps, leads_finished, reads, finished_behind)
 
   pub has_read_game : refusal old.reading.profile b.part t.kind ≡ None → Leads (next b.part t.kind) Finished new
-      → whole_plies new ≡ whole_plies old.reading + plies_next (next b.part t.kind)
+      → plies_of_finished_games new ≡ plies_of_finished_games old.reading + plies_added (next b.part t.kind)
       → Raises (Tries old.reading.writing.is_silent old.reading.profile b.part t.kind) old.reading.most_probes new.most_probes
       → HasRead p (record {
         lexer = l;

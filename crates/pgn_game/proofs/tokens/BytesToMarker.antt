@@ -1,7 +1,7 @@
 -- The bytes of a source, read up to a marker.
 use Rattle.std.specs.Io.KnownBytes.{Keeps}
 use Rattle.pgn_game.proofs.Words.{Token, ReadFault, Fault, Profile, ◌≡◌, ℕ, ◌^◌, ◌≤◌, List, [], ◌∷◌, ◌++◌, length, drop, take, Option, None, refl, sym, ap, subst, ◌∙◌, inl, inr, append-nil, append_assoc, take-append-drop, Consumes, Consumes-nil, Consumes-trans, decided, IsDecided, StandsAfter, first, still, Games, games_of, Converter, HasRead, Reaches, ReadsMore, as_written, MoreSoFar, StandsWithin, StopsIn, at_token, too_long, arith, IsAtEnd, FailsIn, ReadsPiece, ReadsToMarker, MeetsNext, ReadsAllOf, StopsBefore, UsesAll, common_steps}
-use Rattle.pgn_game.specs.declared.marker.Mark.{Mark}
+use Rattle.pgn_game.specs.declared.marker.PlacedMarker.{PlacedMarker}
 use Rattle.pgn_game.specs.state.GamesSteps as games_steps
 use Rattle.pgn_game.proofs.tokens.AcceptedToConverter.{follows_none}
 use Rattle.pgn_game.proofs.tokens.StepsInPiece.{decided_at_end}
@@ -45,7 +45,7 @@ module _ (p : Profile) (u : List ℕ) (given : List Token) (left_old left : Opti
   reaches = record { lexer = so.stands.lexer; has_read = so.reads.has_read }
 
   module _ (d : Option (List ℕ)) (new : Converter) (written : as_written new.reading ≡ as_written now.converter.reading) where
-    pub marker_read : (used : ℕ) (m : Mark) → ReadsToMarker p so.stands.used so.tokens now.unused used m new c d
+    pub marker_read : (used : ℕ) (m : PlacedMarker) → ReadsToMarker p so.stands.used so.tokens now.unused used m new c d
         → MeetsNext p u given left_old left m (games_of new (drop used now.unused)) a d
     marker_read used m reads =
         record {

@@ -1,7 +1,7 @@
 -- Behind the last piece: up to a marker, to the game that it ends, and to the end.
 use Rattle.pgn_game.proofs.Words.{Token, Kind, Between, Fault, Profile, Part, Game, ◌≡◌, ℕ, ◌+◌, ◌<◌, Bool, true, false, IsTrue, List, [], ◌∷◌, ◌++◌, length, Option, None, Some, Ok, Err, refl, sym, ap, subst, ◌∙◌, arith, append-nil, append_assoc, length-append, Appends-nil, ◌↔◌, Device, tokens_of, Standing, coming, HasLeft, refusal, is_end, next, progress_with, Progress, read, due, written_so_far as written, Gains, ReaderState, as_written, Converter, HasRead, IsLastGame as IsLast, game_in_reader, game_in_reader_if, Finishes, FinishesToFault, SameGames, ReadsMore, EndsGame, StaysBetween, FaultAtEnd, AtEndSoFar, AfterStepAtEnd, part_after, Stands, false≢true, le_refl, CountsGame, LeftSoFar, ReadsToLeftMarker, ReadsToEnd, FailsAtEnd, IsSound, common_steps}
-use Rattle.pgn_game.specs.declared.marker.Mark.{Mark}
-use Rattle.pgn_game.specs.declared.converter.StepEnd.TheVariants.{Token as Other, Marker as AtMarker}
+use Rattle.pgn_game.specs.declared.marker.PlacedMarker.{PlacedMarker}
+use Rattle.pgn_game.specs.declared.converter.StepEnd.TheVariants.{NoMarker, Marker as AtMarker}
 use Rattle.pgn_game.proofs.tokens.AcceptedToConverter.{read_as}
 use Rattle.pgn_game.proofs.tokens.OneMoreToken.{read-passes, gains_none, gains_more, stops_more, games_still, counts_still, position_still}
 use Rattle.pgn_game.proofs.tokens.NoneBeforeFault.{none_before_fault}
@@ -30,11 +30,11 @@ module _ (p : Profile) (u : List ℕ) (given : List Token) (old now new : Conver
   still_there : StaysBetween now new → StaysBetween old new
   still_there stays between = grind (arith, common_steps)
 
-  pub left_more : AfterStepAtEnd p u so.tokens now new (Ok (Some Other)) c d → LeftSoFar p u given old new a d
+  pub left_more : AfterStepAtEnd p u so.tokens now new (Ok (Some NoMarker)) c d → LeftSoFar p u given old new a d
   left_more (t, left, reads, stays) =
       record { tokens = so.tokens ++ t ∷ []; left = left; reads = further _ reads; stays = still_there stays }
 
-  pub left_marker : (m : Mark) → AfterStepAtEnd p u so.tokens now new (Ok (Some (AtMarker m))) c d → ReadsToLeftMarker p u given m new a d
+  pub left_marker : (m : PlacedMarker) → AfterStepAtEnd p u so.tokens now new (Ok (Some (AtMarker m))) c d → ReadsToLeftMarker p u given m new a d
   left_marker m (t, left, meets) =
       record {
         tokens = so.tokens;
@@ -100,7 +100,7 @@ module _ (p : Profile) (u : List ℕ) (given : List Token) (now : Converter) (fi
   same_length ts same = subst (λ gs. IsTrue finished_game ↔ (length (read p given).progress.games < length {A = Game} gs)) (sym same) so.game
 
   -- a marker ends a game
-  pub ended_game : ShowsDue p c → (m : Mark) (mid new : Converter) (sink : Device) → ReadsToLeftMarker p u so.tokens m mid c sink.before
+  pub ended_game : ShowsDue p c → (m : PlacedMarker) (mid new : Converter) (sink : Device) → ReadsToLeftMarker p u so.tokens m mid c sink.before
       → EndsGame mid.reading m new.reading (Ok tt) sink → CountsGame mid new (Ok tt) sink → AtEndSoFar p u given new true a sink.after
   ended_game known m mid new sink leaves ends counts =
       let meets = leaves.meets in
@@ -183,7 +183,7 @@ module _ (p : Profile) (u : List ℕ) (given : List Token) (now : Converter) (fi
       (fault_not_taken p so.tokens h.tokens h.token h.rest f new.reading c d shows h.fails)) same
 
   -- a marker was not taken
-  pub failed_game : (f : Fault) → ShowsStop p c f.reason → (l : Standing) (m : Mark) (mid new : Converter) (sink : Device) → HasLeft l u given
+  pub failed_game : (f : Fault) → ShowsStop p c f.reason → (l : Standing) (m : PlacedMarker) (mid new : Converter) (sink : Device) → HasLeft l u given
       → (read p given).fault ≡ None → ReadsToLeftMarker p u so.tokens m mid c sink.before
       → EndsGame mid.reading m new.reading (Err f) sink → CountsGame mid new (Err f) sink → mid.games ≡ now.games
       → FinishesToFault p u given new f a sink.after

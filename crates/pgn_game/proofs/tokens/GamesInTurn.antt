@@ -1,6 +1,6 @@
 -- Games read in turn from a source.
 use Rattle.pgn_game.proofs.Words.{bytes_seen, WriteFault, Token, Fault, Profile, Game, no_part, ◌≡◌, ℕ, ◌^◌, ◌≤◌, Bool, true, false, List, [], ◌∷◌, ◌++◌, length, Option, None, Some, Result, Ok, Err, refl, sym, ap, subst, ◌∙◌, inl, inr, append-nil, length-append, arith, Consumes-nil, tokens_of, decided, coming, first, Gains, Games, games_of, HasReadAll, HaveRead, within, at_end, NextGame, NoGame, NextStops, AfterNext, IsTrue, is_ok, text_of_games as text_of, whole, next, Progress, read, read_from, written_so_far as written, Converter, AfterFinish, Finishes, FinishesToFault, rules, refusal, going, progress_with, finished_game_of, HasRead, no_progress, Device, FinishedGame, IsKnown, Stands, MoreSoFar, StandsWithin, EndsGame, ReadsNoGame, MeetsNext, ReadsAllOf, StopsBefore, UsesAll, CountsGame, common_steps}
-use Rattle.pgn_game.specs.declared.marker.Mark.{Mark}
+use Rattle.pgn_game.specs.declared.marker.PlacedMarker.{PlacedMarker}
 use Rattle.pgn_game.specs.calls.GamesCalls as games_calls
 use Rattle.pgn_game.specs.state.GamesSteps as games_steps
 use Rattle.pgn_game.proofs.tokens.OneMoreToken.{read-passes, read-refuses, stops_from, torn-none, gains_none, gains_more, stops_more, games_still}
@@ -65,7 +65,7 @@ module _ (p : Profile) (silent : Bool) (known : silent ≡ false → IsKnown p) 
   a = bytes_seen silent bytes
 
   -- The marker is taken, or not.
-  module _ (m : Mark) (mid : Games) (sink : Device) (met : MeetsNext p u given left_old left m mid a sink.before) (new : Converter) where
+  module _ (m : PlacedMarker) (mid : Games) (sink : Device) (met : MeetsNext p u given left_old left m mid a sink.before) (new : Converter) where
     pub game_read : new.reading.writing.is_silent ≡ silent → EndsGame mid.converter.reading m new.reading (Ok tt) sink
         → CountsGame mid.converter new (Ok tt) sink → NextGame p u given left_old left (games_of new mid.unused) a sink.after
     game_read same ends counts =

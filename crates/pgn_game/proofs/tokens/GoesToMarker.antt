@@ -1,5 +1,5 @@
 -- How far reading gets up to a marker, and what it keeps.
-use Rattle.pgn_game.specs.declared.marker.Mark.{Mark}
+use Rattle.pgn_game.specs.declared.marker.PlacedMarker.{PlacedMarker}
 use Rattle.pgn_game.specs.declared.converter.StepEnd.TheVariants.{Marker as AtMarker}
 use Rattle.pgn_game.specs.declared.converter.FedUpTo.TheVariants.{All, Marker as ToMarker}
 use Rattle.pgn_game.proofs.Words.{Fault, Converter, Device, InputTooLong, waiting, as_written, ◌≡◌, ℕ, ◌+◌, ◌*◌, ◌^◌, ◌<◌, ◌≤◌, Bool, false, List, [], length, take, Option, None, Some, Result, Ok, Err, sym, ◌∙◌, arith, length-take, none-some, take-nil, StepEnd, FedUpTo, GoesToMarker, IsGoing, KeepsRest, StepGoes, fault_of, common_steps}
@@ -34,7 +34,7 @@ module _ {old new : Converter} {piece : List ℕ} {used : ℕ} {sink : Device} w
   pub goes_all : {end : Option StepEnd} → StepGoes old piece new used (Ok end) sink → used ≡ length piece → GoesToMarker old piece new (Ok All) sink
   goes_all goes all = grind (arith, common_steps, keeps_as)
 
-  pub goes_marker : {m : Mark} → StepGoes old piece new used (Ok (Some (AtMarker m))) sink → waiting new.lexer < 2 * used + waiting old.lexer
+  pub goes_marker : {m : PlacedMarker} → StepGoes old piece new used (Ok (Some (AtMarker m))) sink → waiting new.lexer < 2 * used + waiting old.lexer
       → 0 < length piece → GoesToMarker old piece new (Ok (ToMarker used m)) sink
   goes_marker goes sooner some = grind (arith, common_steps, none_in, keeps_as)
 

@@ -1,19 +1,19 @@
 -- The tokens up to a marker, and the game that it ends; or the token that was not taken.
 use Rattle.pgn_game.proofs.Words.{Token, Fault, Profile, Missing, counts_as, takes_the_marker, Game, ◌≡◌, ℕ, ◌+◌, Bool, false, List, [], ◌∷◌, ◌++◌, Option, None, Some, Result, Ok, Err, refl, sym, ap, subst, ◌∙◌, Device, Appends, append-nil, append_assoc, Standing, Finished, IsAccepted, Reason, WriteFault, IsTrue, true, ◌⊎◌, inl, inr, bytes_seen, due, with_missing, counting, ReaderState, IsKnown, as_written, known_text, Gains, finished_game_of, Converter, game_in_reader, HasRead, TakesToken, FaultAtEnd, OneGame, SameGames, ReadsMore, Meets, NotTaken, EndsGame, due_as, ended_by, part_after, known_result, arith, common_steps}
-use Rattle.pgn_game.specs.declared.marker.Mark.{Mark as CodeMark}
+use Rattle.pgn_game.specs.declared.marker.PlacedMarker.{PlacedMarker as CodePlacedMarker}
 use Rattle.pgn_game.proofs.tokens.OneMoreToken.{due_grows, gains_more, stops_more, games_still, counts_still, position_still}
 use Rattle.pgn_game.proofs.tokens.AcceptedToConverter.{at_fault, at_refusal, gains_token, has_read_game, one_game, written_same}
 
 -- where a missing Result counts as a text, that is written
-known_is : (missing : Missing) (told : Option (List ℕ)) → missing ≡ counts_as (known_result missing) → counts_as (known_text missing told) ≡ missing
-known_is (counts_as text) told known = refl
-known_is takes_the_marker told known = absurd (cc)
+known_is : (missing : Missing) (announced : Option (List ℕ)) → missing ≡ counts_as (known_result missing) → counts_as (known_text missing announced) ≡ missing
+known_is (counts_as text) announced known = refl
+known_is takes_the_marker announced known = absurd (cc)
 
 pub written_known : (p : Profile) (r : ReaderState) → IsKnown p → r.profile ≡ p → as_written r ≡ p
 written_known p r known is = grind (arith, common_steps, known_is)
 
 -- the reader that has met a marker, and the one that has failed at a token, write as before it
-pub written_at_marker : {p : Profile} {given tokens : List Token} {t : Token} {m : CodeMark} {c : Converter} {a b : Option (List ℕ)}
+pub written_at_marker : {p : Profile} {given tokens : List Token} {t : Token} {m : CodePlacedMarker} {c : Converter} {a b : Option (List ℕ)}
     (meets : Meets p given tokens t m c a b) → as_written meets.reader ≡ as_written c.reading
 written_at_marker {c} meets = written_same c.reading meets.reader (sym meets.enters.profile) (sym meets.enters.writing)
 
@@ -30,7 +30,7 @@ module _ (p : Profile) (given mid : List Token) (now : Converter) (a b : Option 
       → as_written new.reading ≡ as_written now.reading → ReadsMore p given tokens new a c
   reads_more tokens new c second same = grind (arith, common_steps, append_assoc)
 
-  pub meets_more : (tokens : List Token) (t : Token) (m : CodeMark) (new : Converter) (c : Option (List ℕ)) → Meets p mid tokens t m new b c
+  pub meets_more : (tokens : List Token) (t : Token) (m : CodePlacedMarker) (new : Converter) (c : Option (List ℕ)) → Meets p mid tokens t m new b c
       → as_written new.reading ≡ as_written now.reading → Meets p given tokens t m new a c
   meets_more tokens t m new c meets same =
       record {
@@ -121,7 +121,7 @@ module _ (p : Profile) (given tokens : List Token) where
           at_refusal p h.now tokens t h.now.lexer new false h.reads.has_read h.profile h.probes h.writing us unseen.1 h.stopped
 
 -- The marker was met by the converter c, and is taken, or not.
-module _ (p : Profile) (given tokens : List Token) (t : Token) (m : CodeMark) (c : Converter) (a : Option (List ℕ)) (sink : Device)
+module _ (p : Profile) (given tokens : List Token) (t : Token) (m : CodePlacedMarker) (c : Converter) (a : Option (List ℕ)) (sink : Device)
     (meets : Meets p given tokens t m c a sink.before) (new : ReaderState) where
   abbrev before : Converter
   before = record c { reading = meets.reader }

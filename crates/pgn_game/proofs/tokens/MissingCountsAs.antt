@@ -1,5 +1,5 @@
 -- A converter that has read no token, where a missing Result counts as another marker from now on.
-use Rattle.pgn_game.proofs.Words.{Agrees, HoldsText, Stage, Between, StillStands, silenced, writing_nothing, Fault, Profile, ◌≡◌, Bool, true, false, [], ℕ, Option, refl, Standing, Marker, marker_text, counting, HasRead, takes_the_marker, with_missing, no_part, taking_marker, ReadsByMarker, reading_by_marker, arith, common_steps}
+use Rattle.pgn_game.proofs.Words.{Agrees, HoldsText, Stage, Between, StillStands, silenced, writing_nothing, Fault, Profile, ◌≡◌, Bool, true, false, [], ℕ, Option, refl, Standing, Marker, marker_text, counting, HasRead, takes_the_marker, with_missing, no_part, taking_announced_marker, ReadsByMarker, reading_by_marker, arith, common_steps}
 use Rattle.pgn_game.proofs.Words.{ReaderState, Converter, CountsMissingAs, IsSound, counting_missing_as, game_in_reader_if, MostTried, none, rules}
 use Rattle.pgn_game.proofs.twice.MarkerCounts.{agrees_under}
 
@@ -44,10 +44,10 @@ pub sound_silently : (l : Standing) (r : ReaderState) (games : ℕ) (has_finishe
 sound_silently l r games has_finished_game is_finished fault sound = search rules
 
 -- or where it takes the marker
-pub reads_taking : (p : Profile) (c : Converter) → HasRead p c [] → HasRead (with_missing p takes_the_marker) (taking_marker c) []
+pub reads_taking : (p : Profile) (c : Converter) → HasRead p c [] → HasRead (with_missing p takes_the_marker) (taking_announced_marker c) []
 reads_taking p c h = grind (arith, common_steps, takes_the_marker, agrees_under, none_tried)
 
 -- or where it takes the marker, and nothing is written
 pub stands_by_marker : (c : Converter) → ReadsByMarker c (reading_by_marker c)
 stands_by_marker c p u b stands =
-    record { known = λ writes. absurd (cc); lexer = stands.lexer; has_read = reads_silently _ (taking_marker c) (reads_taking p c stands.has_read) }
+    record { known = λ writes. absurd (cc); lexer = stands.lexer; has_read = reads_silently _ (taking_announced_marker c) (reads_taking p c stands.has_read) }

@@ -1,5 +1,5 @@
 -- A piece that was read up to a marker, and the game that the marker ends, or the fault there.
-use Rattle.pgn_game.specs.declared.marker.Mark.{Mark}
+use Rattle.pgn_game.specs.declared.marker.PlacedMarker.{PlacedMarker}
 use Rattle.pgn_game.proofs.Words.{Bool, false, IsTrue, bytes_seen, WriteFault, Fault, Profile, Token, Device, still, ReaderState, Converter, Stands, Reaches, IsKnown, EndsGame, FedAll, FedGame, FedToFault, StopsIn, at_token, too_long, AreNext, within_limit, FaultAtEnd, FinishedGame, ◌≡◌, ℕ, List, [], ◌∷◌, ◌++◌, Option, None, Some, Ok, Err, refl, sym, ap, ◌∙◌, CountsGame, ReadsPiece, ReadsToMarker, FailsIn}
 use Rattle.pgn_game.proofs.tokens.MarkerToGame.{shows_due, shows_stop, gains_known, fault_not_taken, has_read_marker, game_by_marker, gains_marker, fault_of_marker}
 use Rattle.pgn_game.proofs.tokens.AcceptedToConverter.{read_as}
@@ -69,7 +69,7 @@ module _ (p : Profile) (silent : Bool) (known : silent ≡ false → IsKnown p) 
           }
 
   -- a marker ends in it, which was met by the converter c
-  module _ (piece : List ℕ) (used : ℕ) (m : Mark) (c : Converter) (sink : Device)
+  module _ (piece : List ℕ) (used : ℕ) (m : PlacedMarker) (c : Converter) (sink : Device)
       (reads : ReadsToMarker p u given piece used m c a sink.before) (new : Converter) where
     pub fed_game : new.reading.writing.is_silent ≡ silent → EndsGame c.reading m new.reading (Ok tt) sink → CountsGame c new (Ok tt) sink
         → FedGame p u given piece used new a sink.after

@@ -1,12 +1,12 @@
 -- Runs over a piece in turn, and the step that they are.
-use Rattle.pgn_game.specs.declared.converter.StepEnd.TheVariants.{Token as Other, Marker as AtMarker}
+use Rattle.pgn_game.specs.declared.converter.StepEnd.TheVariants.{NoMarker, Marker as AtMarker}
 use Rattle.pgn_game.proofs.Words.{seen, Fault, Converter, CountsFault, Device, Standing, waiting, ◌≡◌, ℕ, ◌+◌, ◌*◌, ◌<◌, ◌≤◌, ◌^◌, ◌⊎◌, inl, inr, zero, suc, Bool, false, List, length, drop, Option, None, Some, Result, Ok, Err, refl, subst, ◌∙◌, arith, length-drop, first, StepEnd, IsBeforePiece, IsBeforeToken, KeepsRest, StepAdvances, StepGoes, Steps, TakesSteps, fault_of, common_steps}
 use Rattle.pgn_game.proofs.tokens.StepsInPiece.{after_steps, reads_on_none, stands_here}
 
 -- A run may use no byte, and then nothing waits that did not before. It never asks for more bytes.
 abbrev pub RunAdvances : Standing → Standing → ℕ → Result (Option StepEnd) Fault → Type 0
 RunAdvances old new used (Ok None) = ⊥
-RunAdvances old new used (Ok (Some Other)) =
+RunAdvances old new used (Ok (Some NoMarker)) =
     (waiting new ≤ 2 * used + waiting old) × (0 < used → waiting new < 2 * used + waiting old)
 RunAdvances old new used (Ok (Some (AtMarker m))) = waiting new < 2 * used + waiting old
 RunAdvances old new used (Err f) = Unit {0}
@@ -37,23 +37,23 @@ counts_then (Err f) a c e x y z same counted = rw same at counted
 
 -- tokens that are no markers, and what is read behind them
 pub goes_then : {old mid new : Converter} (piece : List ℕ) (end used : ℕ) (outcome : Result (Option StepEnd) Fault) (a c e : Option (List ℕ)) (x y z : ℕ)
-    → end < length piece → StepGoes old piece mid end (Ok (Some Other)) (between a c x y) → StepGoes mid (drop end piece) new used outcome (between c e y z)
+    → end < length piece → StepGoes old piece mid end (Ok (Some NoMarker)) (between a c x y) → StepGoes mid (drop end piece) new used outcome (between c e y z)
     → StepGoes old piece new (end + used) outcome (between a e x z)
 goes_then piece end used outcome a c e x y z here one two = grind (arith, common_steps, length-drop, keeps_then, counts_then)
 
 -- behind them there is still room for the rest of the piece
 module _ {old now : Converter} {piece : List ℕ} {at : ℕ} {sink : Device} where
-  pub room_behind : old.lexer.count + length piece ≤ 2 ^ 62 → StepGoes old piece now at (Ok (Some Other)) sink
+  pub room_behind : old.lexer.count + length piece ≤ 2 ^ 62 → StepGoes old piece now at (Ok (Some NoMarker)) sink
       → now.lexer.count + length (drop at piece) ≤ 2 ^ 62
   room_behind short goes = omega (arith, goes.count, goes.within, short, length-drop at piece)
 
   -- and a step can be taken, if a byte is left
-  pub before_rest : old.lexer.count + length piece ≤ 2 ^ 62 → StepGoes old piece now at (Ok (Some Other)) sink → at < length piece
+  pub before_rest : old.lexer.count + length piece ≤ 2 ^ 62 → StepGoes old piece now at (Ok (Some NoMarker)) sink → at < length piece
       → IsBeforePiece now (drop at piece)
   before_rest short goes here = grind (arith, common_steps, length-drop, room_behind)
 
 -- no byte is used
-pub runs_none : (old : Converter) (piece : List ℕ) (a : Option (List ℕ)) (x : ℕ) → IsBeforeToken old → Runs old piece old 0 (Ok (Some Other)) (between a a x x)
+pub runs_none : (old : Converter) (piece : List ℕ) (a : Option (List ℕ)) (x : ℕ) → IsBeforeToken old → Runs old piece old 0 (Ok (Some NoMarker)) (between a a x x)
 runs_none old piece a x before =
     record {
       after = λ p u given reaches. reads_on_none p old u given piece a reaches;
@@ -71,15 +71,15 @@ none_or_some : (n : ℕ) → (n ≡ 0) ⊎ (0 < n)
 none_or_some zero = inl refl
 none_or_some (suc n) = inr (omega arith)
 
-advances_then : (old mid new : Standing) (end used : ℕ) (outcome : Result (Option StepEnd) Fault) → RunAdvances old mid end (Ok (Some Other))
+advances_then : (old mid new : Standing) (end used : ℕ) (outcome : Result (Option StepEnd) Fault) → RunAdvances old mid end (Ok (Some NoMarker))
     → RunAdvances mid new used outcome → RunAdvances old new (end + used) outcome
 advances_then old mid new end used (Ok None) one two = two
-advances_then old mid new end used (Ok (Some Other)) one two = grind (arith, common_steps, none_or_some)
+advances_then old mid new end used (Ok (Some NoMarker)) one two = grind (arith, common_steps, none_or_some)
 advances_then old mid new end used (Ok (Some (AtMarker m))) one two = omega (arith, one.0, two)
 advances_then old mid new end used (Err f) one two = tt
 
 pub runs_then : (old mid new : Converter) (piece : List ℕ) (end used : ℕ) (outcome : Result (Option StepEnd) Fault) (a c e : Option (List ℕ)) (x y z : ℕ)
-    → end < length piece → Runs old piece mid end (Ok (Some Other)) (between a c x y) → Runs mid (drop end piece) new used outcome (between c e y z)
+    → end < length piece → Runs old piece mid end (Ok (Some NoMarker)) (between a c x y) → Runs mid (drop end piece) new used outcome (between c e y z)
     → Runs old piece new (end + used) outcome (between a e x z)
 runs_then old mid new piece end used outcome a c e x y z here one two =
     record {
@@ -99,14 +99,14 @@ pub steps_run : {old new : Converter} {piece : List ℕ} {used : ℕ} {sink : De
 steps_run {old} {new} {piece} {used} outcome some runs = grind (arith, common_steps)
 
 advances_on : (old mid new : Standing) (piece : List ℕ) (end used : ℕ) (outcome : Result (Option StepEnd) Fault) → end < length piece
-    → RunAdvances old mid end (Ok (Some Other)) → StepAdvances mid (drop end piece) new used outcome → StepAdvances old piece new (end + used) outcome
+    → RunAdvances old mid end (Ok (Some NoMarker)) → StepAdvances mid (drop end piece) new used outcome → StepAdvances old piece new (end + used) outcome
 advances_on old mid new piece end used (Ok None) here one two = omega (arith, two, length-drop end piece, here)
 advances_on old mid new piece end used (Ok (Some met)) here one two = omega (arith, one.0, two)
 advances_on old mid new piece end used (Err f) here one two = tt
 
 -- a run, and a step behind it
 pub steps_behind : (old mid new : Converter) (piece : List ℕ) (end used : ℕ) (outcome : Result (Option StepEnd) Fault) (a c e : Option (List ℕ)) (x y z : ℕ)
-    → end < length piece → Runs old piece mid end (Ok (Some Other)) (between a c x y) → Steps mid (drop end piece) new used outcome (between c e y z)
+    → end < length piece → Runs old piece mid end (Ok (Some NoMarker)) (between a c x y) → Steps mid (drop end piece) new used outcome (between c e y z)
     → Steps old piece new (end + used) outcome (between a e x z)
 steps_behind old mid new piece end used outcome a c e x y z here one two =
     record {
@@ -120,16 +120,16 @@ steps_behind old mid new piece end used outcome a c e x y z here one two =
 
 -- the same where no byte was passed before the step
 pub steps_at_once : (old mid new : Converter) (piece : List ℕ) (end used : ℕ) (outcome : Result (Option StepEnd) Fault) (a c e : Option (List ℕ)) (x y z : ℕ)
-    → end ≡ 0 → 0 < length piece → Runs old piece mid end (Ok (Some Other)) (between a c x y) → Steps mid piece new used outcome (between c e y z)
+    → end ≡ 0 → 0 < length piece → Runs old piece mid end (Ok (Some NoMarker)) (between a c x y) → Steps mid piece new used outcome (between c e y z)
     → Steps old piece new used outcome (between a e x z)
 steps_at_once old mid new piece end used outcome a c e x y z none some one two =
-    let start = subst (λ (n : ℕ). Runs old piece mid n (Ok (Some Other)) (between a c x y)) none one in
+    let start = subst (λ (n : ℕ). Runs old piece mid n (Ok (Some NoMarker)) (between a c x y)) none one in
     let all : 0 + used ≡ used = omega arith in
     subst (λ (n : ℕ). Steps old piece new n outcome (between a e x z)) all (steps_behind old mid new piece 0 used outcome a c e x y z some start two)
 
 -- a step that took a token that is no marker, as a run
-pub runs_step : {old new : Converter} {piece : List ℕ} {used : ℕ} {sink : Device} → Steps old piece new used (Ok (Some Other)) sink
-    → Runs old piece new used (Ok (Some Other)) sink
+pub runs_step : {old new : Converter} {piece : List ℕ} {used : ℕ} {sink : Device} → Steps old piece new used (Ok (Some NoMarker)) sink
+    → Runs old piece new used (Ok (Some NoMarker)) sink
 runs_step steps =
     record { after = steps.after; advances = (omega (arith, steps.advances), λ some. steps.advances); goes = steps.goes }
 

@@ -1,7 +1,7 @@
 -- Steps in turn in a piece.
 use Rattle.std.proofs.Common.{length-take-le, take_all}
-use Rattle.pgn_game.specs.declared.marker.Mark.{Mark}
-use Rattle.pgn_game.specs.declared.converter.StepEnd.TheVariants.{Token as Other, Marker as AtMarker}
+use Rattle.pgn_game.specs.declared.marker.PlacedMarker.{PlacedMarker}
+use Rattle.pgn_game.specs.declared.converter.StepEnd.TheVariants.{NoMarker, Marker as AtMarker}
 use Rattle.pgn_game.proofs.Words.{InputTooLong, Fault, Profile, take-append-drop, take-take, drop-take, drop-drop, Token, decided, Follows, IsDecided, first, still, Standing, StandsAfter, ReaderState, as_written, Converter, Stands, Reaches, StopsIn, within_limit, too_long, ◌≡◌, ℕ, ◌+◌, ◌-◌, ◌<◌, ◌≤◌, ◌^◌, zero, suc, List, [], ◌∷◌, ◌++◌, length, take, drop, Option, None, Some, refl, sym, ap, subst, ◌∙◌, append_assoc, append-nil, length-append, length-drop, length-take, le_refl, drop_of_length-le, inl, inr, arith, Result, Ok, Err, take-add, AfterStep, next_at, SoFar, EndsAt, StepEnd, AfterSteps, StepsOn, ReadsPiece, ReadsToMarker, FailsIn, common_steps}
 use Rattle.pgn_game.proofs.tokens.MarkerToGame.{reads_none, reads_more, meets_more, not_taken_more}
 use Rattle.pgn_game.proofs.tokens.AcceptedToConverter.{follows_own, next_in_piece, read_as, still_none}
@@ -91,7 +91,7 @@ module _ (p : Profile) (u : List ℕ) (b : Option ℕ) (given : List Token) (pie
       }
 
   -- a marker ends in the rest
-  pub marker_on : (used : ℕ) (m : Mark) → ReadsToMarker p (u ++ take at piece) so.tokens (drop at piece) used m new c d
+  pub marker_on : (used : ℕ) (m : PlacedMarker) → ReadsToMarker p (u ++ take at piece) so.tokens (drop at piece) used m new c d
       → ReadsToMarker p u given piece (at + used) m new a d
   marker_on used m to =
       let place : length (u ++ take at piece) + used ≡ length u + (at + used) =
@@ -139,7 +139,7 @@ module _ (p : Profile) (u : List ℕ) (given : List Token) (piece : List ℕ) (a
       → AfterSteps p u given piece new (at + used) outcome a d
   unfolding so_far_on
   after_steps (Ok None) after = grind (arith, common_steps, length-drop, all_on)
-  after_steps (Ok (Some Other)) after =
+  after_steps (Ok (Some NoMarker)) after =
       record {
         so = so_far_on p u (first piece) given piece at now a c d on.so within new written used after;
         decided = elim after.decided [
@@ -155,7 +155,7 @@ module _ (p : Profile) (u : List ℕ) (given : List Token) (piece : List ℕ) (a
 
 -- one token of it
 pub reads_one : {p : Profile} {u : List ℕ} {given : List Token} {piece : List ℕ} {new : Converter} {used : ℕ} {a c : Option (List ℕ)}
-    → 0 < length piece → AfterStep p u given piece new used (Ok (Some Other)) a c → StepsOn p u given piece new used a c
+    → 0 < length piece → AfterStep p u given piece new used (Ok (Some NoMarker)) a c → StepsOn p u given piece new used a c
 reads_one {u = u} {given = given} {piece = piece} {new = new} {used = used} some (t, ends, reads) =
     record {
       so = record {
@@ -183,7 +183,7 @@ after_token p u given piece some new used (Ok None) a c short (all, stands, is_d
     reads = reads;
   },
 )
-after_token p u given piece some new used (Ok (Some Other)) a c short after = reads_one some after
+after_token p u given piece some new used (Ok (Some NoMarker)) a c short after = reads_one some after
 after_token p u given piece some new used (Ok (Some (AtMarker m))) a c short (t, ends, meets) =
     record {
       tokens = given;
@@ -242,7 +242,7 @@ module _ (p : Profile) (u : List ℕ) (b : Option ℕ) (given : List Token) (pie
   front_whole place = all_within (u ++ take n piece) (omega (arith, place, length-append u (take n piece), length-take n piece))
 
   -- a marker ends in it
-  pub front_marker : (new : Converter) (used : ℕ) (m : Mark) → used ≤ n → length u + n ≡ 2 ^ 62
+  pub front_marker : (new : Converter) (used : ℕ) (m : PlacedMarker) → used ≤ n → length u + n ≡ 2 ^ 62
       → ReadsToMarker p u given (take n piece) used m new a c → ReadsToMarker p u given piece used m new a c
   front_marker new used m within place reads =
       let same : take used (take n piece) ≡ take used piece = take-take used n piece within in

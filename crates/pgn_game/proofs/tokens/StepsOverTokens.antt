@@ -1,6 +1,6 @@
 -- What a step does over one call of the lexer, and over what is passed before a token.
 use Rattle.pgn_lexer.specs.Scanned.{token}
-use Rattle.pgn_game.specs.declared.converter.StepEnd.TheVariants.{Token as Other}
+use Rattle.pgn_game.specs.declared.converter.StepEnd.TheVariants.{NoMarker}
 use Rattle.pgn_game.proofs.Words.{LexFault, Lexical, Fault, Bool, IsTrue, false, ◌≡◌, ℕ, ◌+◌, ◌-◌, ◌<◌, ◌≤◌, ◌^◌, List, length, drop, length-drop, first, Option, None, Some, Result, Ok, Err, refl, subst, arith, Marker, Token, InMovetext, Reason, ReaderState, Converter, Device, IsSound, Standing, Keeps, fault, more, Scans, Passes, ReadsBehind, Steps, fault_of, outcome_at, TakesUnlessMarker, common_steps}
 use Rattle.pgn_game.proofs.tokens.AcceptedToConverter.{follows_own, now_at, took, took_fault, took_none}
 use Rattle.pgn_game.proofs.tokens.PastNumbers.{passes_count, passes_few, passes_sooner, reads_past}
@@ -102,7 +102,7 @@ module _ (lexer : Standing) (reading : ReaderState) (games : ℕ) (piece : List 
 
   module _ {skips : Bool} (at : IsTrue skips → reading.stage ≡ InMovetext) where
     pub runs_past : {l : Standing} {used : ℕ} → Passes skips lexer piece l used → used ≤ length piece → (o : Option (List ℕ)) (failures : ℕ)
-        → Runs here piece (now_at l reading games false) used (Ok (Some Other)) (between o o failures failures)
+        → Runs here piece (now_at l reading games false) used (Ok (Some NoMarker)) (between o o failures failures)
     runs_past passes within o failures =
         record {
           after = λ p u given reaches. reads_past p here u given piece o reaches at passes;

@@ -1,6 +1,6 @@
 -- Conversions of whole inputs.
 use Rattle.std.specs.Io.KnownBytes.{Keeps}
-use Rattle.pgn_game.proofs.Words.{Token, InputTooLong, Fault, Profile, ◌≡◌, ℕ, false, ◌^◌, ◌≤◌, List, [], ◌++◌, length, Option, None, Some, Result, Ok, Err, IfSome, OnOk, sym, ap, subst, ◌∙◌, append-nil, map, sum, Consumes-nil, Consumes-trans, tokens_of, decided, plies_of, whole_plies, Gains, IsConverted, IsTotalled, MostProbes, ReadsNoMore, FailsOn, Fails, AfterEnd, AfterConversion, AfterSlice, verdict_in, Games, games_of, HaveRead, NextGame, NoGame, NextStops, ReadSoFar, ReaderState, Bool, Appends, Consumes, Totals, Read, read, due, refused as is_refused, totals, verdict, verdict_of, Converter, HasRead, Stands, Stops, refused_stop as refused, unwritten, StopsIn, at_token, too_long, FedFault, FedWhole, ReadsUpTo, Finishes, rules, no_progress, inl, refl, within, first, writing_nothing, IsAtEnd, IfSome_then, AreShown, IsRefused, arith, common_steps}
+use Rattle.pgn_game.proofs.Words.{Token, InputTooLong, Fault, Profile, ◌≡◌, ℕ, false, ◌^◌, ◌≤◌, List, [], ◌++◌, length, Option, None, Some, Result, Ok, Err, IfSome, OnOk, sym, ap, subst, ◌∙◌, append-nil, map, sum, Consumes-nil, Consumes-trans, tokens_of, decided, plies_of, plies_of_finished_games, Gains, IsConverted, IsTotalled, MostProbes, ReadsNoMore, FailsOn, Fails, AfterEnd, AfterConversion, AfterSlice, verdict_in, Games, games_of, HaveRead, NextGame, NoGame, NextStops, ReadSoFar, ReaderState, Bool, Appends, Consumes, Totals, Read, read, due, refused as is_refused, totals, verdict, verdict_of, Converter, HasRead, Stands, Stops, refused_stop as refused, unwritten, StopsIn, at_token, too_long, FedFault, FedWhole, ReadsUpTo, Finishes, rules, no_progress, inl, refl, within, first, writing_nothing, IsAtEnd, IfSome_then, AreShown, IsRefused, arith, common_steps}
 use Rattle.pgn_game.specs.calls.GamesCalls as games_calls
 use Rattle.pgn_game.specs.calls.Conversion as conversion
 use Rattle.pgn_game.proofs.tokens.OneMoreToken.{torn-none, gains_none, gains_more, stops_more, stops_from}
@@ -18,13 +18,13 @@ verdict_refused r e = rw e
 
 -- the counts of a converter that has read the whole text are those of the text
 module _ {p : Profile} where
-  pub totalled : {s : List ℕ} {c : Converter} (t : Totals) → HasRead p c (tokens_of s) → t.games ≡ c.games → t.plies ≡ whole_plies c.reading
+  pub totalled : {s : List ℕ} {c : Converter} (t : Totals) → HasRead p c (tokens_of s) → t.games ≡ c.games → t.plies ≡ plies_of_finished_games c.reading
       → t.most_probes ≡ c.reading.most_probes → t.most_probes ≤ 1040
       → (verdict p s ≡ verdict_in t) × MostProbes c.reading.writing.is_silent p s t.most_probes
   totalled t has games plies probes bound = search (rules, in_games, verdict_passes)
 
   pub ended : {u : List ℕ} {given : List Token} {new : Converter} {finished_game : _} (t : Totals) {a c : Option (List ℕ)}
-      → Finishes p u given new finished_game a c → t.games ≡ new.games → t.plies ≡ whole_plies new.reading
+      → Finishes p u given new finished_game a c → t.games ≡ new.games → t.plies ≡ plies_of_finished_games new.reading
       → t.most_probes ≡ new.reading.most_probes → t.most_probes ≤ 1040 → AfterEnd new.reading.writing.is_silent p u given (Ok t) a c
   ended t done games plies probes bound = grind (arith, common_steps, totalled)
 
@@ -106,7 +106,7 @@ module _ (p : Profile) (left_old left left_new : Option (List ℕ)) (now : Games
   games_more game = search (rules, all, gains_more)
 
   pub games_end : {new : Games} (t : Totals) → NoGame p so.bytes so.tokens left left_new new c d
-      → t.games ≡ new.converter.games → t.plies ≡ whole_plies new.converter.reading
+      → t.games ≡ new.converter.games → t.plies ≡ plies_of_finished_games new.converter.reading
       → t.most_probes ≡ new.converter.reading.most_probes → t.most_probes ≤ 1040
       → AfterConversion new.converter.reading.writing.is_silent p left_old left_new (Ok t) a d
   games_end {new} t end games plies probes bound =

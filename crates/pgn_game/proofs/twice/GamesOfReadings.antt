@@ -1,8 +1,8 @@
 -- One game of each reading: from the tokens up to its marker to the marker that is taken, or to the
 -- token at which reading stops.
 use Rattle.pgn_lexer.specs.Tokens as tokens
-use Rattle.pgn_game.specs.declared.marker.Mark.{Mark as CodeMark}
-use Rattle.pgn_game.proofs.Words.{Kind, Token, Reason, Changed, WriteFault, Fault, Profile, takes_the_marker, Game, Part, no_part, ◌≡◌, ℕ, ◌+◌, ◌^◌, ◌<◌, ◌≤◌, ◌||◌, ◌&&◌, ◌==◌, not, is_some, bytes_eq, Bool, true, false, List, [], ◌∷◌, ◌++◌, length, take, drop, Option, None, Some, Ok, Err, IfSome, refl, sym, ap, subst, ◌∙◌, append_assoc, append-nil, drop-length, arith, and_parts, not-false, bytes_eq-Decides, Appends-nil, Appends-trans, Appends, Device, TokensRise, tokens_of, coming, Stage, Between, InMovetext, HoldsText, Marker, counting, refusal, is_end, marker_of, torn, gain, text_next, Next, going, whole, next, read, progress_with, IsLastGame, game_in_reader, ReaderState, telling, as_written, known_text, IsStopped, Converter, marker_text, game_of, Mark, is_other, is_changed, HasMarked, HasMatched, Reading, model_mark, changed_reason, OneGame, ReadsMore, EndsGame, due_as, part_after, text_of_games as text_of, append_cancel_left, IfSome_then, game_text, AllRead, ComesNext, EndComes, FirstFails, GameRead, GameWritten, HasCome, HasGiven, MarkerComes, ReadingStops, SecondFails, StandsBetween, StandsIn, at_read, as_changed, announcing, AreShown, writing_nothing, common_steps}
+use Rattle.pgn_game.specs.declared.marker.PlacedMarker.{PlacedMarker as CodePlacedMarker}
+use Rattle.pgn_game.proofs.Words.{Kind, Token, Reason, Changed, WriteFault, Fault, Profile, takes_the_marker, Game, Part, no_part, ◌≡◌, ℕ, ◌+◌, ◌^◌, ◌<◌, ◌≤◌, ◌||◌, ◌&&◌, ◌==◌, not, is_some, bytes_eq, Bool, true, false, List, [], ◌∷◌, ◌++◌, length, take, drop, Option, None, Some, Ok, Err, IfSome, refl, sym, ap, subst, ◌∙◌, append_assoc, append-nil, drop-length, arith, and_parts, not-false, bytes_eq-Decides, Appends-nil, Appends-trans, Appends, Device, TokensRise, tokens_of, coming, Stage, Between, InMovetext, HoldsText, Marker, counting, refusal, is_end, marker_of, torn, gain, text_next, Next, going, whole, next, read, progress_with, IsLastGame, game_in_reader, ReaderState, with_announced, as_written, known_text, IsStopped, Converter, marker_text, game_of, PlacedMarker, is_other, is_changed, HasMarkers, HasMatched, Reading, model_marker, changed_reason, OneGame, ReadsMore, EndsGame, due_as, part_after, text_of_games as text_of, append_cancel_left, IfSome_then, game_text, AllRead, ComesNext, EndComes, FirstFails, GameRead, GameWritten, HasCome, HasGiven, MarkerComes, ReadingStops, SecondFails, StandsBetween, StandsIn, at_read, as_changed, announcing, AreShown, writing_nothing, common_steps}
 use Rattle.pgn_game.specs.state.ReaderState as reader_state
 use Rattle.pgn_game.specs.state.Readings.{at_token}
 use Rattle.pgn_game.specs.state.Readings as readings
@@ -15,7 +15,7 @@ use Rattle.pgn_game.proofs.tokens.NextGrows.{next_is}
 use Rattle.pgn_game.proofs.tokens.OneMoreToken.{read-passes, torn-none}
 use Rattle.pgn_game.proofs.tokens.StepsAtEnd.{end_at, is_the_end}
 use Rattle.pgn_game.proofs.twice.MarkerCounts.{changes, marker_finishes, no_marker_goes, refusals_are_inside, same_game_text}
-use Rattle.pgn_game.proofs.twice.MarksInTurn.{marked_game, marked_more, marked_on, matched_next, matched_on, no_end_before}
+use Rattle.pgn_game.proofs.twice.MarkersInTurn.{marked_game, marked_more, marked_on, matched_next, matched_on, no_end_before}
 
 -- The end adds nothing, and is no marker.
 end_part : (s : Stage) (ps : List _) (name : List ℕ) (items : List _) → s ≡ Between
@@ -42,9 +42,9 @@ come_cut left_old left_now r ts h = by_end r.has_ended h.stands
 -- ---- the first reading
 
 module _ (q : Profile) (left_old left_new : Option (List ℕ)) (given : List Token) (so : (read q given).fault ≡ None) where
-  -- more tokens bring no mark
+  -- more tokens bring no marker
   still_marked : (ts : List Token) (now : Converter) (a c : Option (List ℕ)) → ReadsMore q given ts now a c
-      → (ms : List Mark) → HasMarked q given ms → HasMarked q ts ms
+      → (ms : List PlacedMarker) → HasMarkers q given ms → HasMarkers q ts ms
   still_marked ts now a c reads ms h = grind (arith, common_steps, marked_on, read)
 
   pub all_read : (new : Reading) (a c : Option (List ℕ)) → EndComes q left_old given new a c → AllRead q left_old given new
@@ -105,7 +105,7 @@ module _ (left_old left_now : Option (List ℕ)) (r : Reading) where
   come_still s ts lexer unused ended h = grind (arith, common_steps)
 
 -- The marker that one of the readings has met is taken.
-module _ (q : Profile) (left_old left_new : Option (List ℕ)) (given : List Token) (m : CodeMark) (mid new : Reading) (a : Option (List ℕ)) (sink : Device)
+module _ (q : Profile) (left_old left_new : Option (List ℕ)) (given : List Token) (m : CodePlacedMarker) (mid new : Reading) (a : Option (List ℕ)) (sink : Device)
     (takes_it : q.missing_result ≡ takes_the_marker) (so : (read q given).fault ≡ None)
     (h : MarkerComes q left_old left_new given m mid a sink.before) where
   abbrev ts : List Token
@@ -129,7 +129,7 @@ module _ (q : Profile) (left_old left_new : Option (List ℕ)) (given : List Tok
   pub comes : ComesNext left_old h.tokens h.token
   comes = h.come.shown
 
-  pub met_marked : (ms : List Mark) → HasMarked q given ms → HasMarked q h.tokens ms
+  pub met_marked : (ms : List PlacedMarker) → HasMarkers q given ms → HasMarkers q h.tokens ms
   met_marked = still_marked q left_old left_new given so ts (record mid.converter { reading = reader }) a sink.before h.meets.reads
 
   module _ (ends : EndsGame mid.converter.reading m new.converter.reading (Ok tt) sink) where
@@ -176,7 +176,7 @@ module _ (q : Profile) (left_old left_new : Option (List ℕ)) (given : List Tok
             tokens = more;
             stands = stands_behind;
             marked = λ ms marked.
-                subst (λ n. HasMarked q more (ms ++ record { text = marker_text m.marker; at = n } ∷ [])) h.meets.place
+                subst (λ n. HasMarkers q more (ms ++ record { text = marker_text m.marker; at = n } ∷ [])) h.meets.place
                 (marked_game q ts t ms (game_of part (marker_text m.marker)) passes free leads (met_marked ms marked));
           }
 
@@ -193,54 +193,54 @@ module _ (q : Profile) (left_old left_new : Option (List ℕ)) (given : List Tok
             ((takes q given ts t m mid.converter a sink h.meets new.converter.reading (Err f) ends).accepts part h.meets.reads.has_read.agrees);
       }
 
--- ---- the second reading, which was told the mark of the game
+-- ---- the second reading, to which the marker of the game was announced
 
 -- what it writes by
-told_written : (q : Profile) (r : ReaderState) (marker : List ℕ) → q.missing_result ≡ takes_the_marker → r.profile ≡ q → r.writing.told ≡ Some marker
+announced_written : (q : Profile) (r : ReaderState) (marker : List ℕ) → q.missing_result ≡ takes_the_marker → r.profile ≡ q → r.writing.announced ≡ Some marker
     → as_written r ≡ counting q marker
-told_written q r marker takes_it profile told = grind (arith, common_steps, takes_the_marker)
+announced_written q r marker takes_it profile announced = grind (arith, common_steps, takes_the_marker)
 
--- a marker that is told changes nothing else
-text_told : (marker : List ℕ) (r : ReaderState) (here : Part) (stage : Stage) → HoldsText stage r here → HoldsText stage (telling marker r) here
-text_told marker r here InMovetext h = h
-text_told marker r here _ h = h
+-- an announced marker changes nothing else
+text_announced : (marker : List ℕ) (r : ReaderState) (here : Part) (stage : Stage) → HoldsText stage r here → HoldsText stage (with_announced marker r) here
+text_announced marker r here InMovetext h = h
+text_announced marker r here _ h = h
 
 module _ (q : Profile) (left_old left : Option (List ℕ)) (r : Reading) where
-  pub told_reading : (given : List Token) (m : Marker) (d : Converter) → d ≡ announcing m r.converter → HasGiven q left_old left r given
+  pub announced_reading : (given : List Token) (m : Marker) (d : Converter) → d ≡ announcing m r.converter → HasGiven q left_old left r given
       → HasGiven q left_old left (record { converter = d; unused = r.unused; has_ended = r.has_ended }) given
-  told_reading given m d is h =
-      grind (arith, common_steps, takes, come_still, passes, text_told)
+  announced_reading given m d is h =
+      grind (arith, common_steps, takes, come_still, passes, text_announced)
 
   -- nothing is written from now on
   pub silent_reading : (d : Converter) → d ≡ writing_nothing r.converter → HasGiven q left_old left r []
       → HasGiven q left_old left (record { converter = d; unused = r.unused; has_ended = r.has_ended }) []
   silent_reading d is h = grind (arith, common_steps, takes, come_still, reads_silently)
 
-pub told_by : (q : Profile) (c d : Converter) (m : Marker) → d ≡ announcing m c → q.missing_result ≡ takes_the_marker → c.reading.profile ≡ q
+pub announced_by : (q : Profile) (c d : Converter) (m : Marker) → d ≡ announcing m c → q.missing_result ≡ takes_the_marker → c.reading.profile ≡ q
     → as_written d.reading ≡ counting q (marker_text m)
-told_by q c d m is takes_it profile = grind (arith, common_steps, told_written)
+announced_by q c d m is takes_it profile = grind (arith, common_steps, announced_written)
 
--- a token that shows a difference, by the marks
-module _ (q : Profile) (m : Mark) (part : Part) (t : Token) where
+-- a token that shows a difference, by the markers
+module _ (q : Profile) (m : PlacedMarker) (part : Part) (t : Token) where
   differs_if : (b : Bool) → refusal q part t.kind ≡ None → is_other m (next part t.kind) t ≡ b → is_changed q m part t ≡ b
   differs_if b free is = ap (λ (o : Option Reason). is_some o || is_other m (next part t.kind) t) free ∙ is
 
   differs_refused : (reason : Reason) → refusal q part t.kind ≡ Some reason → is_changed q m part t ≡ true
   differs_refused reason some = ap (λ (o : Option Reason). is_some o || is_other m (next part t.kind) t) some
 
-  -- a marker that differs from the mark, whether it is rejected or not
+  -- another marker, or one at another place, whether it is rejected or not
   differs_at_marker : (marker : List ℕ) → marker_of t.kind ≡ Some marker → not (bytes_eq marker m.text && (t.at == m.at)) ≡ true
       → is_changed q m part t ≡ true
   differs_at_marker marker is other =
       grind (arith, common_steps, differs_refused, free, differs_if, marker_finishes)
 
-module _ (q : Profile) (left_old left_new : Option (List ℕ)) (given : List Token) (told : CodeMark) (rise : TokensRise)
+module _ (q : Profile) (left_old left_new : Option (List ℕ)) (given : List Token) (announced : CodePlacedMarker) (rise : TokensRise)
     (takes_it : q.missing_result ≡ takes_the_marker) (so : (read q given).fault ≡ None) (between : part_after q given ≡ no_part) where
-  abbrev mark : Mark
-  mark = model_mark told
+  abbrev expected : PlacedMarker
+  expected = model_marker announced
 
   abbrev w : Profile
-  w = counting q (marker_text told.marker)
+  w = counting q (marker_text announced.marker)
 
   -- what is written of the game behind these tokens
   written_of : (ts : List Token) (now : Converter) (a c : Option (List ℕ)) → as_written now.reading ≡ w → ReadsMore q given ts now a c
@@ -251,13 +251,13 @@ module _ (q : Profile) (left_old left_new : Option (List ℕ)) (given : List Tok
   -- tokens behind which another comes show no difference
   still_matched : (ts : List Token) (now : Converter) (a c : Option (List ℕ)) (reads : ReadsMore q given ts now a c)
       → (s : List ℕ) (t : Token) (rest : List Token) → tokens_of s ≡ ts ++ t ∷ rest
-      → (ms : List Mark) → HasMatched q ms given (mark ∷ []) → HasMatched q ms ts (mark ∷ [])
+      → (ms : List PlacedMarker) → HasMatched q ms given (expected ∷ []) → HasMatched q ms ts (expected ∷ [])
   still_matched ts now a c reads s t rest cut ms h = grind (arith, common_steps, matched_on, read, no_end_before)
 
   -- it stops behind these tokens
   fails_behind : (ts : List Token) (now : Converter) (f : Fault) (a c d : Option (List ℕ)) → as_written now.reading ≡ w → ReadsMore q given ts now a c
       → (s : List ℕ) (t : Token) (rest : List Token) → tokens_of s ≡ ts ++ t ∷ rest
-      → readings.WhySecond q left_old left_new ts told c d f → SecondFails q left_old left_new given told f a d
+      → readings.WhySecond q left_old left_new ts announced c d f → SecondFails q left_old left_new given announced f a d
   fails_behind ts now f a c d by reads s t rest cut why =
       record {
         tokens = ts;
@@ -273,32 +273,32 @@ module _ (q : Profile) (left_old left_new : Option (List ℕ)) (given : List Tok
   why_token : (ts : List Token) (t : Token) (f : Fault) (old new : ReaderState) (c d : Option (List ℕ)) → old.profile ≡ q → as_written old ≡ w
       → f.at ≡ t.at → ComesNext left_old ts t
       → ((n : ℕ) → refusal q (part_after q ts) t.kind ≡ None → n < length (gain w (part_after q ts) t.kind)
-      → f.reason ≡ WriteFault → is_other mark (next (part_after q ts) t.kind) t ≡ false)
-      → IsStopped old (part_after q ts) t.kind new c d f.reason → readings.WhySecond q left_old left_new ts told c d (as_changed f)
+      → f.reason ≡ WriteFault → is_other expected (next (part_after q ts) t.kind) t ≡ false)
+      → IsStopped old (part_after q ts) t.kind new c d f.reason → readings.WhySecond q left_old left_new ts announced c d (as_changed f)
   why_token ts t f old new c d profile by place comes same stopped = by_stop f.reason refl stopped
     where
       part : Part
       part = part_after q ts
 
       by_stop : (r : Reason) → f.reason ≡ r → IsStopped old (part_after q ts) t.kind new c d r
-          → readings.WhySecond q left_old left_new ts told c d (as_changed f)
+          → readings.WhySecond q left_old left_new ts announced c d (as_changed f)
       by_stop r is (reader_state.refused reason some wrote tries here) =
           let row = subst (λ (p : Profile). refusal p (part_after q ts) t.kind ≡ Some reason) profile some in
           let changed : changed_reason f.reason ≡ Changed = ap changed_reason is ∙ changes reason (refusals_are_inside q (part_after q ts) t.kind reason row) in
-          subst (readings.WhySecond q left_old left_new ts told c d)
+          subst (readings.WhySecond q left_old left_new ts announced c d)
           (ap (λ n. record { at = n; reason = Changed }) (sym place) ∙ ap (λ (x : Reason). record { at = f.at; reason = x }) (sym changed))
-          (readings.differs t comes (differs_refused q mark (part_after q ts) t reason row) wrote)
+          (readings.differs t comes (differs_refused q expected (part_after q ts) t reason row) wrote)
       by_stop r is (reader_state.unwritten none (n, short, wrote) tries) =
           let row = subst (λ (p : Profile). refusal p (part_after q ts) t.kind ≡ None) profile none in
           let less = subst (λ (w : Profile). n < length (gain w (part_after q ts) t.kind)) by short in
-          subst (readings.WhySecond q left_old left_new ts told c d)
+          subst (readings.WhySecond q left_old left_new ts announced c d)
           (ap (λ n. record { at = n; reason = WriteFault }) (sym place) ∙ ap (λ (x : Reason). record { at = f.at; reason = x }) (sym (ap changed_reason is)))
-          (readings.unwritten t comes (differs_if q mark (part_after q ts) t false row (same n row less is))
+          (readings.unwritten t comes (differs_if q expected (part_after q ts) t false row (same n row less is))
           (n, less, subst (λ (w : Profile). Appends c d (take n (gain w (part_after q ts) t.kind))) by wrote))
 
   -- Reading stops before a marker.
   pub second_fails : (new : Reading) (f : Fault) (a d : Option (List ℕ)) → as_written new.converter.reading ≡ w
-      → ReadingStops q left_old left_new given f new a d → SecondFails q left_old left_new given told (as_changed f) a d
+      → ReadingStops q left_old left_new given f new a d → SecondFails q left_old left_new given announced (as_changed f) a d
   second_fails new f a d by (at_token h) =
       let n = h.fails in
       let by_now : as_written n.now.reading ≡ w = written_at_fault n ∙ by in
@@ -309,31 +309,31 @@ module _ (q : Profile) (left_old left_new : Option (List ℕ)) (given : List Tok
     where
       by_end : (e : Bool) → is_end h.token.kind ≡ e → (k : ℕ) → refusal q (part_after q h.tokens) h.token.kind ≡ None
           → k < length (gain w (part_after q h.tokens) h.token.kind) → marker_of h.token.kind ≡ None
-          → is_other mark (next (part_after q h.tokens) h.token.kind) h.token ≡ false
+          → is_other expected (next (part_after q h.tokens) h.token.kind) h.token ≡ false
       by_end true is k free short none =
           absurd (omega (arith, short, ap (length {A = ℕ}) (end_gains_nothing q w (part_after q h.tokens) h.token.kind is free)))
       by_end false is k free short none =
-          ap (λ (n : Next). is_other mark n h.token) (no_marker_goes (part_after q h.tokens) h.token.kind none).1 ∙ is
+          ap (λ (n : Next). is_other expected n h.token) (no_marker_goes (part_after q h.tokens) h.token.kind none).1 ∙ is
   second_fails new f a d by (at_read h) =
       fails_behind h.tokens h.now (as_changed f) a d d (ap as_written (sym h.same) ∙ by) h.reads h.text h.token h.rest h.cut
       (readings.unread f h.fails (Appends-nil d))
 
   -- It has ended before a marker.
   pub ends_before : (new : Reading) (a d : Option (List ℕ)) → as_written new.converter.reading ≡ w → EndComes q left_old given new a d
-      → SecondFails q left_old left_new given told (record { at = new.converter.lexer.count; reason = Changed }) a d
+      → SecondFails q left_old left_new given announced (record { at = new.converter.lexer.count; reason = Changed }) a d
   ends_before new a d by h =
       fails_behind h.tokens new.converter (record { at = new.converter.lexer.count; reason = Changed }) a d d by h.reads h.text h.token [] h.cut
-      (subst (λ n. readings.WhySecond q left_old left_new h.tokens told d d (record { at = n; reason = Changed })) h.place
+      (subst (λ n. readings.WhySecond q left_old left_new h.tokens announced d d (record { at = n; reason = Changed })) h.place
       (readings.differs h.token
       (IfSome_then left_old {P = λ s. (length s ≤ 2 ^ 62) × (tokens_of s ≡ h.tokens ++ h.token ∷ [])}
       {Q = λ s. AreShown s (h.tokens ++ h.token ∷ [])} h.whole
       (λ s whole. at_end whole.0 [] (whole.1 ∙ sym (append-nil (h.tokens ++ h.token ∷ [])))))
-      (differs_if q mark (part_after q h.tokens) h.token true h.passes
-      (ap (λ (n : Next). is_other mark n h.token) (end_leads q (part_after q h.tokens) h.token.kind h.is_end h.passes) ∙ h.is_end))
+      (differs_if q expected (part_after q h.tokens) h.token true h.passes
+      (ap (λ (n : Next). is_other expected n h.token) (end_leads q (part_after q h.tokens) h.token.kind h.is_end h.passes) ∙ h.is_end))
       (Appends-nil d)))
 
   -- The marker that it has met.
-  module _ (m : CodeMark) (mid new : Reading) (a : Option (List ℕ)) (sink : Device) (by : as_written mid.converter.reading ≡ w)
+  module _ (m : CodePlacedMarker) (mid new : Reading) (a : Option (List ℕ)) (sink : Device) (by : as_written mid.converter.reading ≡ w)
       (h : MarkerComes q left_old left_new given m mid a sink.before) where
     by_reader : as_written h.meets.reader ≡ w
     by_reader = written_at_marker h.meets ∙ by
@@ -344,31 +344,31 @@ module _ (q : Profile) (left_old left_new : Option (List ℕ)) (given : List Tok
         (cut.0, cut.1 ∙ append_assoc h.tokens (h.token ∷ []) cut.0)
 
     -- it is another one
-    pub marker_differs : not (bytes_eq (marker_text m.marker) (marker_text told.marker) && (m.at == told.at)) ≡ true
-        → SecondFails q left_old left_new given told (record { at = m.at; reason = Changed }) a sink.before
+    pub marker_differs : not (bytes_eq (marker_text m.marker) (marker_text announced.marker) && (m.at == announced.at)) ≡ true
+        → SecondFails q left_old left_new given announced (record { at = m.at; reason = Changed }) a sink.before
     marker_differs other =
         fails_behind h.tokens (record mid.converter { reading = h.meets.reader }) (record { at = m.at; reason = Changed }) a sink.before sink.before
         by_reader h.meets.reads h.come.bytes h.token text_before.0 text_before.1
-        (subst (λ n. readings.WhySecond q left_old left_new h.tokens told sink.before sink.before (record { at = n; reason = Changed })) h.meets.place
+        (subst (λ n. readings.WhySecond q left_old left_new h.tokens announced sink.before sink.before (record { at = n; reason = Changed })) h.meets.place
         (readings.differs h.token (comes q left_old left_new given m mid new a sink takes_it so h)
-        (differs_at_marker q mark (part_after q h.tokens) h.token (marker_text m.marker) h.meets.is
-        (subst (λ n. not (bytes_eq (marker_text m.marker) (marker_text told.marker) && (n == told.at)) ≡ true) (sym h.meets.place) other))
+        (differs_at_marker q expected (part_after q h.tokens) h.token (marker_text m.marker) h.meets.is
+        (subst (λ n. not (bytes_eq (marker_text m.marker) (marker_text announced.marker) && (n == announced.at)) ≡ true) (sym h.meets.place) other))
         (Appends-nil sink.before)))
 
-    module _ (same : not (bytes_eq (marker_text m.marker) (marker_text told.marker) && (m.at == told.at)) ≡ false) where
-      same_there : not (bytes_eq (marker_text m.marker) (marker_text told.marker) && (h.token.at == told.at)) ≡ false
-      same_there = subst (λ n. not (bytes_eq (marker_text m.marker) (marker_text told.marker) && (n == told.at)) ≡ false) (sym h.meets.place) same
+    module _ (same : not (bytes_eq (marker_text m.marker) (marker_text announced.marker) && (m.at == announced.at)) ≡ false) where
+      same_there : not (bytes_eq (marker_text m.marker) (marker_text announced.marker) && (h.token.at == announced.at)) ≡ false
+      same_there = subst (λ n. not (bytes_eq (marker_text m.marker) (marker_text announced.marker) && (n == announced.at)) ≡ false) (sym h.meets.place) same
 
       -- it is not taken
       pub marker_refused_second : (f : Fault) → EndsGame mid.converter.reading m new.converter.reading (Err f) sink
-          → SecondFails q left_old left_new given told (as_changed f) a sink.after
+          → SecondFails q left_old left_new given announced (as_changed f) a sink.after
       marker_refused_second f ends =
           let part : Part = part_after q h.tokens in
           fails_behind h.tokens (record mid.converter { reading = h.meets.reader }) (as_changed f) a sink.before sink.after
           by_reader h.meets.reads h.come.bytes h.token text_before.0 text_before.1
           (why_token h.tokens h.token f h.meets.reader new.converter.reading sink.before sink.after h.meets.reads.has_read.profile by_reader
           (ends.place ∙ sym h.meets.place) (comes q left_old left_new given m mid new a sink takes_it so h)
-          (λ n free short is. ap (λ (n : Next). is_other mark n h.token) (marker_finishes q part h.token.kind (marker_text m.marker) h.meets.is free)
+          (λ n free short is. ap (λ (n : Next). is_other expected n h.token) (marker_finishes q part h.token.kind (marker_text m.marker) h.meets.is free)
           ∙ same_there)
           ((takes q given h.tokens h.token m mid.converter a sink h.meets new.converter.reading (Err f) ends).accepts part
           h.meets.reads.has_read.agrees))
@@ -391,7 +391,7 @@ module _ (q : Profile) (left_old left_new : Option (List ℕ)) (given : List Tok
         text_is =
             grind (arith, common_steps, bytes_eq-Decides, and_parts, not-false, goes_to, same_game_text)
 
-        pub game_written : GameWritten q left_old left_new given told new a sink.after
+        pub game_written : GameWritten q left_old left_new given announced new a sink.after
         game_written =
             record {
               tokens = h.tokens ++ h.token ∷ [];
@@ -399,9 +399,9 @@ module _ (q : Profile) (left_old left_new : Option (List ℕ)) (given : List Tok
               game = g;
               one_game = one_more q left_old left_new given m mid new a sink takes_it so h ends;
               matched = λ ms matched.
-                  matched_next q ms mark h.tokens h.token (whole g) h.meets.reads.has_read.passes
-                  (differs_if q mark (part_after q h.tokens) h.token false row
-                  (ap (λ (n : Next). is_other mark n h.token) goes_to ∙ same_there)) goes_to
+                  matched_next q ms expected h.tokens h.token (whole g) h.meets.reads.has_read.passes
+                  (differs_if q expected (part_after q h.tokens) h.token false row
+                  (ap (λ (n : Next). is_other expected n h.token) goes_to ∙ same_there)) goes_to
                   (still_matched h.tokens (record mid.converter { reading = h.meets.reader }) a sink.before h.meets.reads h.come.bytes h.token
                   text_before.0 text_before.1 ms matched);
               written = subst (Appends a sink.after)

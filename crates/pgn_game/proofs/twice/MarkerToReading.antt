@@ -1,8 +1,8 @@
 -- What one of two readings has read up to a marker: in the bytes of its source, and where that has
 -- ended.
 use Rattle.pgn_lexer.specs.declared.partial_token.Mode.{Mode}
-use Rattle.pgn_game.specs.declared.marker.Mark.{Mark as CodeMark}
-use Rattle.pgn_game.proofs.Words.{Token, within_limit, InputTooLong, Fault, Profile, ◌≡◌, ℕ, ◌^◌, ◌≤◌, arith, false, true, List, [], ◌∷◌, ◌++◌, length, Option, None, Some, Result, Ok, Err, IfSome, IsStill, CountsFault, refl, sym, ap, subst, ◌∙◌, append_assoc, append-nil, Consumes-trans, Consumes, Stands, inl, takes_the_marker, with_missing, Device, tokens_of, decided, Standing, coming, HasLeft, first, Converter, ReadsMore, as_written, StandsWithin, Reading, games_of, AreShown, AfterEndToMarker, EndsToMarker, taking_marker, AfterToMarker, CountsReading, StopsBefore, UsesAll, AfterMarker, HasGiven, ReadingStops, ReadFails, at_read, StandsIn, common_steps}
+use Rattle.pgn_game.specs.declared.marker.PlacedMarker.{PlacedMarker as CodePlacedMarker}
+use Rattle.pgn_game.proofs.Words.{Token, within_limit, InputTooLong, Fault, Profile, ◌≡◌, ℕ, ◌^◌, ◌≤◌, arith, false, true, List, [], ◌∷◌, ◌++◌, length, Option, None, Some, Result, Ok, Err, IfSome, IsStill, CountsFault, refl, sym, ap, subst, ◌∙◌, append_assoc, append-nil, Consumes-trans, Consumes, Stands, inl, takes_the_marker, with_missing, Device, tokens_of, decided, Standing, coming, HasLeft, first, Converter, ReadsMore, as_written, StandsWithin, Reading, games_of, AreShown, AfterEndToMarker, EndsToMarker, taking_announced_marker, AfterToMarker, CountsReading, StopsBefore, UsesAll, AfterMarker, HasGiven, ReadingStops, ReadFails, at_read, StandsIn, common_steps}
 use Rattle.pgn_game.specs.calls.ConverterCalls.{at_end}
 use Rattle.pgn_game.specs.state.GamesSteps as games_steps
 use Rattle.pgn_game.specs.state.Readings.{at_token}
@@ -30,7 +30,7 @@ all_shown_none None = tt
 all_shown_none (Some s) = shown_none s
 
 -- before the first byte
-pub given_none : (p : Profile) (c d : Converter) (unused : List ℕ) (left : Option (List ℕ)) → Stands p c [] None [] → d ≡ taking_marker c → unused ≡ []
+pub given_none : (p : Profile) (c d : Converter) (unused : List ℕ) (left : Option (List ℕ)) → Stands p c [] None [] → d ≡ taking_announced_marker c → unused ≡ []
     → HasGiven (with_missing p takes_the_marker) left left (record { converter = d; unused = unused; has_ended = false }) []
 given_none p c d unused left stands is empty = grind (arith, common_steps, none_next, all_shown_none, reads_taking)
 
@@ -91,7 +91,7 @@ module _ (q : Profile) (left_old left left_new : Option (List ℕ)) (given : Lis
       })
 
   -- a marker was met, or reading stops
-  pub met_in_source : (c : Converter) (unused : List ℕ) (m : CodeMark) (before after : Option (List ℕ))
+  pub met_in_source : (c : Converter) (unused : List ℕ) (m : CodePlacedMarker) (before after : Option (List ℕ))
       → AfterToMarker q u given left left_new (games_of c unused) (Ok (Some m)) before after
       → AfterMarker q left_old left_new given (record { converter = c; unused = unused; has_ended = false }) (Ok (Some m)) before after
   met_in_source c unused m before after h =
@@ -124,7 +124,7 @@ module _ (q : Profile) (left_old left_new : Option (List ℕ)) (given mid : List
   of_whole : (P : List ℕ → Type 0) → P u → IfSome left_old P
   of_whole P h = grind (arith, common_steps)
 
-  pub met_at_end : (r : Result (Option CodeMark) Fault) → new.lexer.count ≡ now.lexer.count → AfterEndToMarker q u mid now new r b c
+  pub met_at_end : (r : Result (Option CodePlacedMarker) Fault) → new.lexer.count ≡ now.lexer.count → AfterEndToMarker q u mid now new r b c
       → AfterMarker q left_old left_new given reading r a c
   met_at_end (Ok (Some m)) stays h =
       record {
@@ -166,7 +166,7 @@ module _ (q : Profile) (left_old left_new : Option (List ℕ)) (given mid : List
 -- The source has just ended.
 module _ (q : Profile) (left_old left left_new : Option (List ℕ)) (given : List Token) (u : List ℕ) (consumed : Consumes left_old left u)
     (now : Converter) (unused : List ℕ) (a b : Option (List ℕ)) (uses : UsesAll q u given left left_new (games_of now unused) a b) where
-  pub all_used : (new : Converter) (c : Option (List ℕ)) (sink : Device) (r : Result (Option CodeMark) Fault) → sink.before ≡ b → sink.after ≡ c
+  pub all_used : (new : Converter) (c : Option (List ℕ)) (sink : Device) (r : Result (Option CodePlacedMarker) Fault) → sink.before ≡ b → sink.after ≡ c
       → EndsToMarker now new r sink → now.lexer.count ≤ 2 ^ 62
       → AfterMarker q left_old left_new given (record { converter = new; unused = unused; has_ended = true }) r a c
   all_used new c sink r from to ends few =

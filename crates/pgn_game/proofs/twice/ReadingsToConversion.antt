@@ -1,16 +1,16 @@
 -- From what the calls of each game return, in both readings, to the conversion.
-use Rattle.pgn_game.proofs.Words.{Token, Reason, Changed, ReadFault, Fault, Profile, takes_the_marker, Game, no_part, ◌≡◌, ℕ, ◌+◌, ◌^◌, ◌<◌, ◌≤◌, max, Bool, true, false, List, [], ◌∷◌, ◌++◌, length, take, Option, None, Some, Ok, IfSome, refl, sym, ap, subst, ◌∙◌, append_assoc, append-nil, length-append, arith, IsTrue, map, sum, take-append-add, Appends-nil, Appends-trans, and_parts, not-false, bytes_eq-Decides, Appends, Device, FailsOnce, tokens_of, decided, coming, plies_of, text_next, gain, refusal, whole_plies, play_moves, verdict_in, MostTried, Mark, marks_from, is_other, is_changed, marks_after, Comparison, compared_from, compared, with_mark, torn_before, written_by, earlier_fault, BothSoFar, HasMarked, Reading, changed_reason, model_mark, part_after, IfSome_then, Totals, game_text, torn, Next, going, whole, next, Progress, progress_with, progress_after, Read, read, totals, verdict_of, Decides, IsTokenPrefix, AreConverted, AreRefused, AreTotalled, HasTaken, MatchesAllMarks, FirstStops, SecondStops, WriteStops, TwoReadingsFail, TwoReadingsConvert, AllRead, ComesNext, FirstFails, GameRead, GameWritten, HasCome, HasGiven, ReadFails, SecondFails, StandsIn, WhyFirst, WhySecond, as_changed, AreShown, common_steps}
-use Rattle.pgn_game.specs.declared.marker.Mark.{Mark as CodeMark}
+use Rattle.pgn_game.proofs.Words.{Token, Reason, Changed, ReadFault, Fault, Profile, takes_the_marker, Game, no_part, ◌≡◌, ℕ, ◌+◌, ◌^◌, ◌<◌, ◌≤◌, max, Bool, true, false, List, [], ◌∷◌, ◌++◌, length, take, Option, None, Some, Ok, IfSome, refl, sym, ap, subst, ◌∙◌, append_assoc, append-nil, length-append, arith, IsTrue, map, sum, take-append-add, Appends-nil, Appends-trans, and_parts, not-false, bytes_eq-Decides, Appends, Device, FailsOnce, tokens_of, decided, coming, plies_of, text_next, gain, refusal, plies_of_finished_games, play_moves, verdict_in, MostTried, PlacedMarker, markers_from, is_other, is_changed, markers_after, Comparison, compared_from, compared, with_marker, torn_before, written_by, earlier_fault, BothSoFar, HasMarkers, Reading, changed_reason, model_marker, part_after, IfSome_then, Totals, game_text, torn, Next, going, whole, next, Progress, progress_with, progress_after, Read, read, totals, verdict_of, Decides, IsTokenPrefix, AreConverted, AreRefused, AreTotalled, HasTaken, MatchesAllMarkers, FirstStops, SecondStops, WriteStops, TwoReadingsFail, TwoReadingsConvert, AllRead, ComesNext, FirstFails, GameRead, GameWritten, HasCome, HasGiven, ReadFails, SecondFails, StandsIn, WhyFirst, WhySecond, as_changed, AreShown, common_steps}
+use Rattle.pgn_game.specs.declared.marker.PlacedMarker.{PlacedMarker as CodePlacedMarker}
 use Rattle.pgn_game.specs.export.Text.{text_of}
 use Rattle.pgn_game.specs.games.Progress.{refused as is_refused}
 use Rattle.pgn_game.specs.state.Readings as readings
-use Rattle.pgn_game.proofs.EqualReadings.{after_marks, marks_test, after_change, change_test, no_mark}
+use Rattle.pgn_game.proofs.EqualReadings.{after_markers, markers_test, after_change, change_test, no_marker_ahead}
 use Rattle.pgn_game.proofs.tokens.NextGrows.{next_is}
 use Rattle.pgn_game.proofs.tokens.OneMoreToken.{read-refuses, text_of-snoc}
 use Rattle.pgn_game.proofs.tokens.AcceptedToConverter.{in_games}
 use Rattle.pgn_game.proofs.tokens.BytesWithinLimit.{decides_by, shown_begins}
 use Rattle.pgn_game.proofs.twice.GamesOfReadings.{begins}
-use Rattle.pgn_game.proofs.twice.MarksInTurn.{matched_mark, not_changed, both_read}
+use Rattle.pgn_game.proofs.twice.MarkersInTurn.{matched_marker, not_changed, both_read}
 
 -- what follows for both texts, if both are known
 both_known : (o n : Option (List ℕ)) (A B : List ℕ → Type 0) (P : List ℕ → List ℕ → Type 0)
@@ -34,7 +34,7 @@ pub both_none : (q : Profile) (first second : Option (List ℕ)) (a b : Reading)
     → HasGiven q first first a [] → HasGiven q second second b [] → BothSoFar q first first second second a b o o
 both_none q first second a b o first_given second_given =
     record {
-      marks = [];
+      markers = [];
       first_tokens = [];
       first_stands = record { has_given = first_given; between = refl };
       marked = λ ts. refl;
@@ -44,40 +44,40 @@ both_none q first second a b o first_given second_given =
       written = Appends-nil o;
     }
 
--- Of a game that ends with the mark, the text under that mark is its text.
-under_mark : (q : Profile) (g : Game) (m : Mark) → q.missing_result ≡ takes_the_marker
-    → g.marker ≡ m.text → game_text q g ≡ game_text (with_mark q m) g
-under_mark q g m takes same = grind (arith, common_steps)
+-- Of a game that ends with the marker, the text under that marker is its text.
+under_marker : (q : Profile) (g : Game) (m : PlacedMarker) → q.missing_result ≡ takes_the_marker
+    → g.marker ≡ m.text → game_text q g ≡ game_text (with_marker q m) g
+under_marker q g m takes same = grind (arith, common_steps)
 
 -- between games nothing is written of one
-torn-between : (q : Profile) (ms : List Mark) → torn_before q ms no_part ≡ []
+torn-between : (q : Profile) (ms : List PlacedMarker) → torn_before q ms no_part ≡ []
 torn-between q [] = refl
 torn-between q (m ∷ ms) = refl
 
 -- what is written when a token is taken that shows no difference
-written_at_token : (q : Profile) (m : Mark) (ms : List Mark) (games : List Game) (t : Token) (n : Next)
+written_at_token : (q : Profile) (m : PlacedMarker) (ms : List PlacedMarker) (games : List Game) (t : Token) (n : Next)
     → q.missing_result ≡ takes_the_marker → is_other m n t ≡ false
-    → written_by q (record { progress = progress_with games n; marks_left = marks_after n m ms; fault = None })
-    ≡ text_of q games ++ text_next (with_mark q m) n
+    → written_by q (record { progress = progress_with games n; markers_left = markers_after n m ms; fault = None })
+    ≡ text_of q games ++ text_next (with_marker q m) n
 written_at_token q m ms games t (going to) takes same = refl
 written_at_token q m ms games t (whole g) takes same =
-    grind (arith, common_steps, bytes_eq-Decides, and_parts, not-false, torn-between, append-nil, text_of-snoc, under_mark)
+    grind (arith, common_steps, bytes_eq-Decides, and_parts, not-false, torn-between, append-nil, text_of-snoc, under_marker)
 
 pub both_more : (q : Profile) (first_old first_now second_old second_now : Option (List ℕ)) (a b : Reading)
     (before mid : Option (List ℕ)) (so : BothSoFar q first_old first_now second_old second_now a b before mid)
-    (m : CodeMark) (new_a new_b : Reading) (first_new second_new after : Option (List ℕ))
+    (m : CodePlacedMarker) (new_a new_b : Reading) (first_new second_new after : Option (List ℕ))
     → GameRead q first_old first_new so.first_tokens m new_a
     → GameWritten q second_old second_new so.second_tokens m new_b mid after
     → BothSoFar q first_old first_new second_old second_new new_a new_b before after
 both_more q first_old first_now second_old second_now a b before mid so m new_a new_b first_new second_new after reads writes =
     record {
-      marks = so.marks ++ model_mark m ∷ [];
+      markers = so.markers ++ model_marker m ∷ [];
       first_tokens = reads.tokens;
       first_stands = reads.stands;
-      marked = reads.marked so.marks so.marked;
+      marked = reads.marked so.markers so.marked;
       second_tokens = writes.tokens;
       second_stands = writes.stands;
-      matched = writes.matched (so.marks ++ model_mark m ∷ []) (matched_mark q so.marks (model_mark m) so.second_tokens so.matched);
+      matched = writes.matched (so.markers ++ model_marker m ∷ []) (matched_marker q so.markers (model_marker m) so.second_tokens so.matched);
       written = subst (Appends before after)
           (sym (ap (text_of q) writes.one_game ∙ text_of-snoc q (read q so.second_tokens).progress.games writes.game))
           (Appends-trans before mid after _ _ so.written writes.written);
@@ -85,28 +85,28 @@ both_more q first_old first_now second_old second_now a b before mid so m new_a 
 
 module _ (q : Profile) (first second sink : Device) (first_now : Option (List ℕ)) (a b : Reading)
     (so : BothSoFar q first.before first_now second.before second.after a b sink.before sink.after) where
-  abbrev at_mark : Comparison
-  at_mark = record { progress = (read q so.second_tokens).progress; marks_left = []; fault = None }
+  abbrev at_marker : Comparison
+  at_marker = record { progress = (read q so.second_tokens).progress; markers_left = []; fault = None }
 
-  -- where `first` has no mark more, `second` is read no further
-  last_mark : (xs us ts vs ws : List Token) → xs ≡ ts ++ vs → us ≡ so.second_tokens ++ ws
-      → HasMarked q ts so.marks → marks_from q (read q ts).progress vs ≡ [] → compared q xs us ≡ at_mark
-  last_mark xs us ts vs ws first second marked none =
-      cc (first, second, both_read q ts so.second_tokens vs ws so.marks [] marked so.matched, none, no_mark q (read q so.second_tokens).progress ws)
+  -- where `first` has no marker more, `second` is read no further
+  last_marker : (xs us ts vs ws : List Token) → xs ≡ ts ++ vs → us ≡ so.second_tokens ++ ws
+      → HasMarkers q ts so.markers → markers_from q (read q ts).progress vs ≡ [] → compared q xs us ≡ at_marker
+  last_marker xs us ts vs ws first second marked none =
+      cc (first, second, both_read q ts so.second_tokens vs ws so.markers [] marked so.matched, none, no_marker_ahead q (read q so.second_tokens).progress ws)
 
-  written : HasTaken sink (written_by q at_mark)
+  written : HasTaken sink (written_by q at_marker)
   written = subst (HasTaken sink) (sym (append-nil (text_of q (read q so.second_tokens).progress.games))) so.written
 
   second_begins : IfSome second.before (Begins so.second_tokens)
   second_begins = begins second.before second.after b so.second_tokens so.second_stands.has_given.come
 
-  converted : (s r : List ℕ) (o : Option Fault) → compared q (tokens_of s) (tokens_of r) ≡ at_mark → (read q (tokens_of s)).fault ≡ o
+  converted : (s r : List ℕ) (o : Option Fault) → compared q (tokens_of s) (tokens_of r) ≡ at_marker → (read q (tokens_of s)).fault ≡ o
       → AreConverted q s r (verdict_of (record { progress = (read q so.second_tokens).progress; fault = o })) sink
   converted s r o is fault = grind (arith, common_steps)
 
   pub both_end : (new_a : Reading) (t : Totals) → AllRead q first.before so.first_tokens new_a
       → new_a.converter.reading.writing.is_silent ≡ true → b.converter.reading.writing.is_silent ≡ false
-      → t.games ≡ b.converter.games → t.plies ≡ whole_plies b.converter.reading
+      → t.games ≡ b.converter.games → t.plies ≡ plies_of_finished_games b.converter.reading
       → t.most_probes ≡ max new_a.converter.reading.most_probes b.converter.reading.most_probes
       → new_a.converter.reading.most_probes ≤ 1040 → b.converter.reading.most_probes ≤ 1040 → TwoReadingsConvert q first second sink (Ok t)
   both_end new_a t reads silent writes games plies probes first_bound second_bound =
@@ -121,14 +121,14 @@ module _ (q : Profile) (first second sink : Device) (first_now : Option (List �
       (λ s r whole second_shown.
       let x = whole.1 in
       let y = shown_begins r so.second_tokens second_shown in
-      let is = last_mark (tokens_of s) (tokens_of r) tokens [] y.0 (x ∙ sym (append-nil tokens)) y.1
-      (reads.marked so.marks so.marked) refl in
+      let is = last_marker (tokens_of s) (tokens_of r) tokens [] y.0 (x ∙ sym (append-nil tokens)) y.1
+      (reads.marked so.markers so.marked) refl in
       record {
         short = whole.0;
         us = so.second_tokens;
         second_shown = second_shown;
-        no_mark_left = ap (λ (f : Comparison). f.marks_left) (last_mark (tokens_of s) so.second_tokens tokens [] []
-            (x ∙ sym (append-nil tokens)) (sym (append-nil so.second_tokens)) (reads.marked so.marks so.marked) refl);
+        no_marker_left = ap (λ (f : Comparison). f.markers_left) (last_marker (tokens_of s) so.second_tokens tokens [] []
+            (x ∙ sym (append-nil tokens)) (sym (append-nil so.second_tokens)) (reads.marked so.markers so.marked) refl);
         converted = subst (λ v. AreConverted q s r v sink) same
             (converted s r None is (ap (λ (ts : List Token). (read q ts).fault) x ∙ reads.has_read.passes));
         probes = record {
@@ -155,38 +155,38 @@ module _ (q : Profile) (first second sink : Device) (first_now : Option (List �
 
   -- `first` gives no token more
   ends_first : (tokens : List Token) (u : List ℕ) → (read q tokens).fault ≡ None
-      → HasMarked q tokens so.marks → tokens ≡ decided u → FirstStops q u second sink
+      → HasMarkers q tokens so.markers → tokens ≡ decided u → FirstStops q u second sink
   ends_first tokens u passes marked is_decided =
       record {
         passes = subst (λ (ts : List Token). (read q ts).fault ≡ None) is_decided passes;
-        matched = IfSome_then second.before {P = Begins so.second_tokens} {Q = λ r. MatchesAllMarks q (decided u) (tokens_of r) sink} second_begins
+        matched = IfSome_then second.before {P = Begins so.second_tokens} {Q = λ r. MatchesAllMarkers q (decided u) (tokens_of r) sink} second_begins
             (λ r y.
-            let is = last_mark (decided u) (tokens_of r) tokens [] y.0 (sym is_decided ∙ sym (append-nil tokens)) y.1 marked refl in
+            let is = last_marker (decided u) (tokens_of r) tokens [] y.0 (sym is_decided ∙ sym (append-nil tokens)) y.1 marked refl in
             record {
               fault = ap (λ (f : Comparison). f.fault) is;
-              no_mark_left = ap (λ (f : Comparison). f.marks_left) is;
+              no_marker_left = ap (λ (f : Comparison). f.markers_left) is;
               appended = subst (λ (f : Comparison). HasTaken sink (written_by q f)) (sym is) written;
             });
       }
 
-  first_unread : {f : Fault} (tokens : List Token) → (read q tokens).fault ≡ None → HasMarked q tokens so.marks
+  first_unread : {f : Fault} (tokens : List Token) → (read q tokens).fault ≡ None → HasMarkers q tokens so.markers
       → (f.reason ≡ ReadFault → FailsOnce first) → ReadFails first.before first.after tokens f → TwoReadingsFail q first second sink f
   first_unread tokens passes marked counts (ReadFails.unread u consumed short is_decided) =
       TwoReadingsFail.first_unread u consumed short (counts refl) (ends_first tokens u passes marked is_decided)
   first_unread tokens passes marked counts (ReadFails.too_long u rest consumed place some is_decided) =
       TwoReadingsFail.first_too_long u rest consumed place some (ends_first tokens u passes marked is_decided)
 
-  first_at : (tokens : List Token) (t : Token) (reason : Reason) → (read q tokens).fault ≡ None → HasMarked q tokens so.marks
+  first_at : (tokens : List Token) (t : Token) (reason : Reason) → (read q tokens).fault ≡ None → HasMarkers q tokens so.markers
       → ComesNext first.before tokens t → refusal q (part_after q tokens) t.kind ≡ Some reason
       → TwoReadingsFail q first second sink (record { at = t.at; reason = reason })
   first_at tokens t reason passes marked comes rejected =
       let f : Fault = record { at = t.at; reason = reason } in
       let c : Progress = (read q tokens).progress in
-      let none : (ts : List Token) → marks_from q c (t ∷ ts) ≡ [] = λ ts. marks_test q c t ts ∙ ap (after_marks q c t ts) rejected in
+      let none : (ts : List Token) → markers_from q c (t ∷ ts) ≡ [] = λ ts. markers_test q c t ts ∙ ap (after_markers q c t ts) rejected in
       let fault : (ts : List Token) → (read q (tokens ++ t ∷ ts)).fault ≡ Some f =
       λ ts. ap (λ (r : Read). r.fault) (read-refuses q tokens t ts reason passes rejected) in
-      let at_it : compared q (tokens ++ t ∷ []) so.second_tokens ≡ at_mark =
-      last_mark (tokens ++ t ∷ []) so.second_tokens tokens (t ∷ []) [] refl (sym (append-nil so.second_tokens)) marked (none []) in
+      let at_it : compared q (tokens ++ t ∷ []) so.second_tokens ≡ at_marker =
+      last_marker (tokens ++ t ∷ []) so.second_tokens tokens (t ∷ []) [] refl (sym (append-nil so.second_tokens)) marked (none []) in
       TwoReadingsFail.refused f
       (both_known first.before second.before (λ s. AreShown s (tokens ++ t ∷ []))
       (λ r. AreShown r so.second_tokens) (λ s r. AreRefused q s r f × AreConverted q s r (is_refused f) sink)
@@ -202,7 +202,7 @@ module _ (q : Profile) (first second sink : Device) (first_now : Option (List �
           second_shown = second_shown;
           fault = ap (λ (z : Comparison). earlier_fault z.fault (read q (tokens ++ t ∷ [])).fault) at_it ∙ fault [];
         },
-        converted s r (Some f) (last_mark (tokens_of s) (tokens_of r) tokens (t ∷ x.0) y.0 cut y.1 marked (none x.0))
+        converted s r (Some f) (last_marker (tokens_of s) (tokens_of r) tokens (t ∷ x.0) y.0 cut y.1 marked (none x.0))
             (ap (λ (ts : List Token). (read q ts).fault) cut ∙ fault x.0),
       )))
 
@@ -212,18 +212,18 @@ module _ (q : Profile) (first second sink : Device) (first_now : Option (List �
     where
       by_why : (g : Fault) → (g.reason ≡ ReadFault → FailsOnce first) → WhyFirst q first.before first.after r.tokens g
           → TwoReadingsFail q first second sink g
-      by_why g counts (readings.refused t reason comes rejected) = first_at r.tokens t reason r.passes (r.marked so.marks so.marked) comes rejected
-      by_why g counts (readings.unread h fails) = first_unread r.tokens r.passes (r.marked so.marks so.marked) counts fails
+      by_why g counts (readings.refused t reason comes rejected) = first_at r.tokens t reason r.passes (r.marked so.markers so.marked) comes rejected
+      by_why g counts (readings.unread h fails) = first_unread r.tokens r.passes (r.marked so.markers so.marked) counts fails
 
 module _ (q : Profile) (first second sink : Device) (first_now second_now mid : Option (List ℕ)) (a b : Reading)
-    (so : BothSoFar q first.before first_now second.before second_now a b sink.before mid) (m : CodeMark) (new_a : Reading) (f : Fault)
+    (so : BothSoFar q first.before first_now second.before second_now a b sink.before mid) (m : CodePlacedMarker) (new_a : Reading) (f : Fault)
     (reads : GameRead q first.before first.after so.first_tokens m new_a)
     (writes : SecondFails q second.before second.after so.second_tokens m f mid sink.after) where
-  abbrev mark : Mark
-  mark = model_mark m
+  abbrev marker : PlacedMarker
+  marker = model_marker m
 
   abbrev under : Profile
-  under = with_mark q mark
+  under = with_marker q marker
 
   abbrev tokens : List Token
   tokens = writes.tokens
@@ -234,20 +234,20 @@ module _ (q : Profile) (first second sink : Device) (first_now second_now mid : 
   abbrev first_tokens : List Token
   first_tokens = reads.tokens
 
-  -- the marks behind this one
-  abbrev behind : List Token → List Mark
-  behind vs = marks_from q (read q first_tokens).progress vs
+  -- the markers behind this one
+  abbrev behind : List Token → List PlacedMarker
+  behind vs = markers_from q (read q first_tokens).progress vs
 
   first_decides : Decides first.before first.after first_tokens
   first_decides = decides new_a first_tokens first reads.stands.has_given.come
 
   goes : (xs us vs ws : List Token) → xs ≡ first_tokens ++ vs → us ≡ tokens ++ ws
-      → compared q xs us ≡ compared_from q (mark ∷ behind vs) c ws
+      → compared q xs us ≡ compared_from q (marker ∷ behind vs) c ws
   goes xs us vs ws is also =
       ap (λ (l : List Token). compared q l us) is ∙ ap (compared q (first_tokens ++ vs)) also
-      ∙ both_read q first_tokens tokens vs ws (so.marks ++ mark ∷ []) (mark ∷ [])
-      (reads.marked so.marks so.marked)
-      (writes.matched (so.marks ++ mark ∷ []) (matched_mark q so.marks mark so.second_tokens so.matched))
+      ∙ both_read q first_tokens tokens vs ws (so.markers ++ marker ∷ []) (marker ∷ [])
+      (reads.marked so.markers so.marked)
+      (writes.matched (so.markers ++ marker ∷ []) (matched_marker q so.markers marker so.second_tokens so.matched))
 
   -- what is written of this game stands behind the games
   all_written : (text : List ℕ) → Appends writes.mid sink.after text → HasTaken sink (text_of q c.games ++ (torn under c.part ++ text))
@@ -264,7 +264,7 @@ module _ (q : Profile) (first second sink : Device) (first_now second_now mid : 
         tokens = first_tokens;
         decided_by = first_decides;
         fault = ap (λ (f : Comparison). f.fault) is;
-        next_mark = (mark, [], ap (λ (f : Comparison). f.marks_left) is);
+        next_marker = (marker, [], ap (λ (f : Comparison). f.markers_left) is);
         appended = subst (λ (f : Comparison). HasTaken sink (written_by q f)) (sym is) (torn_written wrote);
       }
 
@@ -277,22 +277,22 @@ module _ (q : Profile) (first second sink : Device) (first_now second_now mid : 
       TwoReadingsFail.second_too_long u rest consumed place some (ends_second u is_decided wrote)
 
   -- a write failed at a token
-  stops_at : (t : Token) → is_changed q mark c.part t ≡ false → (n : ℕ) → n < length (gain under c.part t.kind)
+  stops_at : (t : Token) → is_changed q marker c.part t ≡ false → (n : ℕ) → n < length (gain under c.part t.kind)
       → Appends writes.mid sink.after (take n (gain under c.part t.kind))
       → (r : List ℕ) → AreShown r (tokens ++ t ∷ []) → WriteStops q first r t.at sink
   stops_at t same n short wrote r shown =
       let games : List ℕ = text_of q c.games in
       let before_it : List ℕ = torn under c.part in
       let more : List ℕ = gain under c.part t.kind in
-      let marks : List Mark = marks_after (next c.part t.kind) mark [] in
+      let markers : List PlacedMarker = markers_after (next c.part t.kind) marker [] in
       let none : first_tokens ≡ first_tokens ++ [] = sym (append-nil first_tokens) in
-      let at_front : compared q first_tokens tokens ≡ record { progress = c; marks_left = mark ∷ []; fault = None } =
+      let at_front : compared q first_tokens tokens ≡ record { progress = c; markers_left = marker ∷ []; fault = None } =
       goes first_tokens tokens [] [] none (sym (append-nil tokens)) in
-      let at_token : compared q first_tokens (tokens ++ t ∷ []) ≡ record { progress = progress_after c t; marks_left = marks; fault = None } =
-      goes first_tokens (tokens ++ t ∷ []) [] (t ∷ []) none refl ∙ change_test q mark [] c t [] ∙ ap (after_change q mark [] c t []) same in
+      let at_token : compared q first_tokens (tokens ++ t ∷ []) ≡ record { progress = progress_after c t; markers_left = markers; fault = None } =
+      goes first_tokens (tokens ++ t ∷ []) [] (t ∷ []) none refl ∙ change_test q marker [] c t [] ∙ ap (after_change q marker [] c t []) same in
       let text : written_by q (compared q first_tokens (tokens ++ t ∷ [])) ≡ (games ++ before_it) ++ more =
       ap (written_by q) at_token
-      ∙ written_at_token q mark [] c.games t (next c.part t.kind) so.second_stands.has_given.takes (not_changed q mark c.part t same).1
+      ∙ written_at_token q marker [] c.games t (next c.part t.kind) so.second_stands.has_given.takes (not_changed q marker c.part t same).1
       ∙ ap (λ (l : List ℕ). games ++ l) (next_is under c.part t.kind) ∙ sym (append_assoc games before_it more) in
       let front : games ++ (before_it ++ take n more) ≡ take (length (games ++ before_it) + n) ((games ++ before_it) ++ more) =
       sym (append_assoc games before_it (take n more)) ∙ sym (take-append-add (games ++ before_it) more n) in
@@ -312,14 +312,14 @@ module _ (q : Profile) (first second sink : Device) (first_now second_now mid : 
             (sym text) (subst (HasTaken sink) front (all_written _ wrote));
       }
 
-  second_differs : (t : Token) → ComesNext second.before tokens t → is_changed q mark c.part t ≡ true → Appends writes.mid sink.after []
+  second_differs : (t : Token) → ComesNext second.before tokens t → is_changed q marker c.part t ≡ true → Appends writes.mid sink.after []
       → TwoReadingsFail q first second sink (record { at = t.at; reason = Changed })
   second_differs t comes changed wrote =
       let f : Fault = record { at = t.at; reason = Changed } in
       let is : (xs us vs ws : List Token) → xs ≡ first_tokens ++ vs → us ≡ tokens ++ t ∷ ws
-      → compared q xs us ≡ record { progress = c; marks_left = mark ∷ behind vs; fault = Some f } =
-      λ xs us vs ws first_cut second_cut. goes xs us vs (t ∷ ws) first_cut second_cut ∙ change_test q mark (behind vs) c t ws
-      ∙ ap (after_change q mark (behind vs) c t ws) changed in
+      → compared q xs us ≡ record { progress = c; markers_left = marker ∷ behind vs; fault = Some f } =
+      λ xs us vs ws first_cut second_cut. goes xs us vs (t ∷ ws) first_cut second_cut ∙ change_test q marker (behind vs) c t ws
+      ∙ ap (after_change q marker (behind vs) c t ws) changed in
       TwoReadingsFail.refused f
       (both_known first.before second.before (λ s. AreShown s first_tokens) (λ r. AreShown r (tokens ++ t ∷ []))
       (λ s r. AreRefused q s r f × AreConverted q s r (is_refused f) sink) reads.stands.has_given.come.shown comes

@@ -1,9 +1,9 @@
 -- **Definition**: what a conversion does whose input is read twice, from two sources.
 -- Letters: p is the profile, s the text of `first`, r the text of `second`, v a verdict, t are the
--- totals, f is a fault, m a mark, ms are marks. u are the bytes that a source has given so far, ts
--- are tokens of `first`, and us tokens of `second`. n is the most pairs of an origin and a target
--- that were tried for one move. `first`, `second` and `sink` are the devices, before the call and
--- after it.
+-- totals, f is a fault, m a placed marker, ms are placed markers. u are the bytes that a source has
+-- given so far, ts are tokens of `first`, and us tokens of `second`. n is the most pairs of an
+-- origin and a target that were tried for one move. `first`, `second` and `sink` are the devices,
+-- before the call and after it.
 use Rattle.std.specs.Prelude.{◌≡◌, ℕ, ◌^◌, ◌<◌, ◌≤◌, ◌⊎◌, max, true, false, IsTrue, List, [], ◌∷◌, ◌++◌, length, take, None, Some, Result, Ok, Err, IfSome}
 use Rattle.std.specs.Io.KnownBytes.{Appends, Consumes}
 use Rattle.pgn_layout.specs.Device.{Device, FailsOnce, IsStill}
@@ -19,7 +19,7 @@ use Rattle.pgn_game.specs.games.Progress.{read, Verdict, refused as is_refused}
 use Rattle.pgn_game.specs.calls.Conversion.{Decides, verdict_in}
 use Rattle.pgn_game.specs.calls.ConverterCalls.{AreShown, play_moves}
 use Rattle.pgn_game.specs.calls.MostTried.{MostTried}
-use Rattle.pgn_game.specs.calls.Checked.{Mark, compared, written_by, earlier_fault, checked_verdict, checked_output}
+use Rattle.pgn_game.specs.calls.Checked.{PlacedMarker, compared, written_by, earlier_fault, checked_verdict, checked_output}
 
 -- the sink has taken this text in the call, and no more
 abbrev pub HasTaken : Device → List ℕ → Type 0
@@ -61,41 +61,41 @@ pub record AreRefused (p : Profile) (s r : List ℕ) (f : Fault) : Type 0 where
   pub fault : earlier_fault (compared p ts us).fault (read p ts).fault ≡ Some f
 
 -- Both texts are converted, with the totals t. The text of `first` has at most 2^62 bytes. In the
--- text of `second` the bytes before place 2^62 show the tokens us, which match all marks of
+-- text of `second` the bytes before place 2^62 show the tokens us, which match all markers of
 -- `first`.
 pub record AreTotalled (p : Profile) (s r : List ℕ) (t : Totals) (sink : Device) : Type 0 where
   pub short : length s ≤ 2 ^ 62
   pub us : List Token
   pub second_shown : AreShown r us
-  pub no_mark_left : (compared p (tokens_of s) us).marks_left ≡ []
+  pub no_marker_left : (compared p (tokens_of s) us).markers_left ≡ []
   pub converted : AreConverted p s r (verdict_in t) sink
   pub probes : ProbesBoth p s r t.most_probes
 
--- The tokens us of `second` match all marks of the tokens ts of `first`, without a difference. The
--- games up to the last mark are written.
-pub record MatchesAllMarks (p : Profile) (ts us : List Token) (sink : Device) : Type 0 where
+-- The tokens us of `second` match all markers of the tokens ts of `first`, without a difference.
+-- The games up to the last marker are written.
+pub record MatchesAllMarkers (p : Profile) (ts us : List Token) (sink : Device) : Type 0 where
   pub fault : (compared p ts us).fault ≡ None
-  pub no_mark_left : (compared p ts us).marks_left ≡ []
+  pub no_marker_left : (compared p ts us).markers_left ≡ []
   pub appended : HasTaken sink (written_by p (compared p ts us))
 
 -- `first` is read no further than the bytes u, and no token that they decide is rejected. The text
--- of `second` matches all marks of these tokens, and its games up to the last mark are written.
+-- of `second` matches all markers of these tokens, and its games up to the last marker are written.
 pub record FirstStops (p : Profile) (u : List ℕ) (second sink : Device) : Type 0 where
   pub passes : (read p (decided u)).fault ≡ None
-  pub matched : IfSome second.before (λ r. MatchesAllMarks p (decided u) (tokens_of r) sink)
+  pub matched : IfSome second.before (λ r. MatchesAllMarkers p (decided u) (tokens_of r) sink)
 
 -- `second` is read no further than the bytes u. The tokens that they decide show no difference from
--- the marks of `tokens`, which the bytes that `first` has given decide. One of these marks is still
--- to come. What is due for the tokens of `second` is written.
+-- the markers of `tokens`, which the bytes that `first` has given decide. One of these markers is
+-- still to come. What is due for the tokens of `second` is written.
 pub record SecondStops (p : Profile) (first : Device) (u : List ℕ) (sink : Device) : Type 0 where
   pub tokens : List Token
   pub decided_by : Decides first.before first.after tokens
   pub fault : (compared p tokens (decided u)).fault ≡ None
-  pub next_mark : (m : Mark) × (ms : List Mark) × ((compared p tokens (decided u)).marks_left ≡ m ∷ ms)
+  pub next_marker : (m : PlacedMarker) × (ms : List PlacedMarker) × ((compared p tokens (decided u)).markers_left ≡ m ∷ ms)
   pub appended : HasTaken sink (written_by p (compared p tokens (decided u)))
 
 -- A write failed at `token` of `second`, which is at the place `at`. The bytes of `second` before
--- place 2^62 show the tokens up to it. These show no difference from the marks of `tokens`, which
+-- place 2^62 show the tokens up to it. These show no difference from the markers of `tokens`, which
 -- the bytes that `first` has given decide. Of what is due for them a prefix of `count` bytes is
 -- written: not all, but at least what is due for those before `token`.
 pub record WriteStops (p : Profile) (first : Device) (r : List ℕ) (at : ℕ) (sink : Device) : Type 0 where
@@ -116,7 +116,7 @@ pub record WriteStops (p : Profile) (first : Device) (r : List ℕ) (at : ℕ) (
 --   Their bytes before place 2^62 show it.
 -- - `first_unread`, `second_unread`: a read of this source failed, after the bytes u.
 -- - `first_too_long`: `first` has given a byte at place 2^62.
--- - `second_too_long`: `second` has given one. That is a difference, since the mark to come is
+-- - `second_too_long`: `second` has given one. That is a difference, since the marker to come is
 --   before this place in `first`.
 -- - `unwritten`: a write failed.
 pub data TwoReadingsFail (p : Profile) (first second sink : Device) : Fault → Type 0 where

@@ -35,7 +35,7 @@ use Rattle.pgn_game.specs.calls.MostTried.{MostTried, Raises, TriesUnwritten}
 use Rattle.pgn_game.specs.export.Due.{Gains}
 use Rattle.pgn_game.specs.games.Levels.{plies_of, last_position}
 use Rattle.pgn_game.specs.export.Text.{has_move}
-use Rattle.pgn_game.specs.state.ReaderState.{ReaderState, Agrees, IsKnown, silenced, whole_plies}
+use Rattle.pgn_game.specs.state.ReaderState.{ReaderState, Agrees, IsKnown, silenced, plies_of_finished_games}
 
 -- what can be asked of the game just finished: its pairs, the number of its moves outside
 -- variations, the position after these, and its marker
@@ -136,7 +136,7 @@ pub record HasRead (p : Profile) (c : Converter) (given : List Token) : Type 0 w
   pub passes : (read p given).fault ≡ None
   pub agrees : Agrees c.reading (read p given).progress.part
   pub games : c.games ≡ length (read p given).progress.games
-  pub plies : whole_plies c.reading ≡ sum (map plies_of (read p given).progress.games)
+  pub plies : plies_of_finished_games c.reading ≡ sum (map plies_of (read p given).progress.games)
   pub probed : IsTrue (has_played_move (read p given).progress) → 0 < c.reading.most_probes
   pub tried : MostTried c.reading.writing.is_silent p given c.reading.most_probes
   pub just_finished : IsLast c.just_finished (read p given).progress.games

@@ -59,16 +59,16 @@ behind_ply x line = record { plies = x ∷ line.plies; fault = line.fault }
 
 -- The plies that the words name in turn: the first in this position, each other in the position
 -- after the one before. The first word that names no move ends the line.
-abbrev pub line_of : Notation → Parts → List Word → Line
-line_of notation p [] = no_plies None
-line_of notation p (w ∷ ws) = elim (named_in notation p w.text) [
-  | Ok played ↦ behind_ply (record { at = w.at; played = played; san = text_of_move p played.mv }) (line_of notation played.next ws)
+abbrev pub line_of_words : Notation → Parts → List Word → Line
+line_of_words notation p [] = no_plies None
+line_of_words notation p (w ∷ ws) = elim (named_in notation p w.text) [
+  | Ok played ↦ behind_ply (record { at = w.at; played = played; san = text_of_move p played.mv }) (line_of_words notation played.next ws)
   | Err reason ↦ no_plies (Some (record { at = w.at; reason = reason }))
 ]
 
 -- the line of play of a text, from a position on
 abbrev pub line_of_text : Notation → Parts → List ℕ → Line
-line_of_text notation p text = line_of notation p (move_texts 0 text)
+line_of_text notation p text = line_of_words notation p (move_texts 0 text)
 
 -- ---- the calls
 
@@ -79,7 +79,7 @@ pub record Ahead : Type 0 where
   pub words : List Word
 
 abbrev pub line_ahead : Ahead → Line
-line_ahead a = line_of a.notation a.position a.words
+line_ahead a = line_of_words a.notation a.position a.words
 
 -- a ply as it is returned
 abbrev pub ply_of : CodePly → Ply

@@ -2,7 +2,7 @@
 -- is read up to a marker.
 -- Letters: p is the profile, u the bytes used so far, b the byte known to be next, if one is.
 -- `given` are the tokens given before a call, `tokens` those read when it ends. t is the token that
--- comes then, m the mark of a marker, f a fault, g a game. `sink` is the sink before the call and
+-- comes then, m a placed marker, f a fault, g a game. `sink` is the sink before the call and
 -- after it, `before` and `after` are the bytes that it has taken, if it reports them.
 use Rattle.std.specs.Prelude.{◌≡◌, ℕ, ◌+◌, ◌*◌, ◌<◌, ◌≤◌, ◌^◌, ◌↔◌, ◌⊎◌, Bool, true, false, IsTrue, List, [], ◌∷◌, ◌++◌, length, take, drop, Option, None, Some, Result, Ok, Err, MatchResult, IfOk, IfSome, OnOk}
 use Rattle.std.specs.Io.KnownBytes.{Appends}
@@ -14,12 +14,12 @@ use Rattle.pgn_lexer.specs.Standing.{Standing, waiting}
 use Rattle.pgn_lexer.specs.Stands.{StandsAfter, HasLeft, Follows, IsDecided, first, still}
 use Rattle.pgn_game.specs.declared.stage.Stage.TheVariants.{Between}
 use Rattle.pgn_game.specs.declared.marker.Marker.{Marker}
-use Rattle.pgn_game.specs.declared.marker.Mark.{Mark}
+use Rattle.pgn_game.specs.declared.marker.PlacedMarker.{PlacedMarker}
 use Rattle.pgn_game.specs.declared.reason.Fault.{Fault}
 use Rattle.pgn_game.specs.declared.reason.Reason.{Reason}
 use Rattle.pgn_game.specs.declared.reason.Reason.TheVariants.{WriteFault}
 use Rattle.pgn_game.specs.declared.converter.StepEnd.{StepEnd}
-use Rattle.pgn_game.specs.declared.converter.StepEnd.TheVariants.{Token as Other, Marker as AtMarker}
+use Rattle.pgn_game.specs.declared.converter.StepEnd.TheVariants.{NoMarker, Marker as AtMarker}
 use Rattle.pgn_game.specs.declared.converter.FedUpTo.{FedUpTo}
 use Rattle.pgn_game.specs.declared.converter.FedUpTo.TheVariants.{All, Marker as ToMarker}
 use Rattle.pgn_game.specs.games.Markers.{marker_text}
@@ -29,7 +29,7 @@ use Rattle.pgn_game.specs.games.FaultTable.{is_end, marker_of, refusal}
 use Rattle.pgn_game.specs.export.Text.{text_of, torn}
 use Rattle.pgn_game.specs.games.Progress.{read}
 use Rattle.pgn_game.specs.export.Due.{Gains}
-use Rattle.pgn_game.specs.state.ReaderState.{Accepted, Finished, ReaderState, IsStopped, as_written, telling}
+use Rattle.pgn_game.specs.state.ReaderState.{Accepted, Finished, ReaderState, IsStopped, as_written, with_announced}
 use Rattle.pgn_game.specs.state.TokenInMovetext.{may_have_movetext}
 use Rattle.pgn_game.specs.state.PutResult.{EntersMovetext, TakesEntry}
 use Rattle.pgn_game.specs.calls.ConverterCalls.{Converter, CountsFault, KeepsFault, FinishedGame, game_in_reader, IsLast, HasRead, Stands, Stops, StopsIn, AreNext, within_limit, games_before, position_at_stop, reported_position, ProbesAtStop}
@@ -73,7 +73,7 @@ pub record ReadsMore (p : Profile) (given tokens : List Token) (now : Converter)
   pub gains : GainsAs (as_written now.reading) p given tokens before after
 
 -- Behind them comes a marker, which was met and not taken yet.
-pub record Meets (p : Profile) (given tokens : List Token) (t : Token) (m : Mark) (new : Converter) (before after : Option (List ℕ)) : Type 0 where
+pub record Meets (p : Profile) (given tokens : List Token) (t : Token) (m : PlacedMarker) (new : Converter) (before after : Option (List ℕ)) : Type 0 where
   pub reader : ReaderState
   pub reads : ReadsMore p given tokens (record new { reading = reader }) before after
   pub is : marker_of t.kind ≡ Some (marker_text m.marker)
@@ -123,7 +123,7 @@ pub record IsReady (c : Converter) : Type 0 where
 
 -- what an answer of the reader, to a token at this place, is for the converter
 abbrev pub outcome_at : ℕ → Result (Option Marker) Reason → Result (Option StepEnd) Fault
-outcome_at at (Ok None) = Ok (Some Other)
+outcome_at at (Ok None) = Ok (Some NoMarker)
 outcome_at at (Ok (Some marker)) = Ok (Some (AtMarker (record { marker = marker; at = at })))
 outcome_at at (Err reason) = Err (record { at = at; reason = reason })
 
@@ -153,7 +153,7 @@ abbrev pub AfterStep : Profile → List ℕ → List Token → List ℕ → Conv
     → Result (Option StepEnd) Fault → Option (List ℕ) → Option (List ℕ) → Type 0
 AfterStep p u given piece new used (Ok None) before after =
     (used ≡ length piece) × StandsAfter new.lexer (u ++ piece) None given × (given ≡ decided (u ++ piece)) × ReadsMore p given given new before after
-AfterStep p u given piece new used (Ok (Some Other)) before after =
+AfterStep p u given piece new used (Ok (Some NoMarker)) before after =
     (t : Token) × EndsWithin u given piece used t new.lexer × ReadsMore p given (given ++ t ∷ []) new before after
 AfterStep p u given piece new used (Ok (Some (AtMarker m))) before after =
     (t : Token) × EndsWithin u given piece used t new.lexer × Meets p given given t m new before after
@@ -195,7 +195,7 @@ pub record KeepsRest {A : Type 0} (old new : Converter) (is_finished : Bool) (re
 -- What a step after the last piece results in.
 abbrev pub AfterStepAtEnd : Profile → List ℕ → List Token → Converter → Converter
     → Result (Option StepEnd) Fault → Option (List ℕ) → Option (List ℕ) → Type 0
-AfterStepAtEnd p u given old new (Ok (Some Other)) before after =
+AfterStepAtEnd p u given old new (Ok (Some NoMarker)) before after =
     (t : Token) × HasLeft new.lexer u (given ++ t ∷ []) × ReadsMore p given (given ++ t ∷ []) new before after × StaysBetween old new
 AfterStepAtEnd p u given old new (Ok (Some (AtMarker m))) before after =
     (t : Token) × HasLeft new.lexer u (given ++ t ∷ []) × Meets p given given t m new before after
@@ -280,7 +280,7 @@ pub record ReadsPiece (p : Profile) (u : List ℕ) (b : Option ℕ) (given : Lis
 
 -- The used bytes end with a marker. A byte at place 2^62 is never looked at: those before it decide
 -- the marker.
-pub record ReadsToMarker (p : Profile) (u : List ℕ) (given : List Token) (piece : List ℕ) (used : ℕ) (m : Mark) (new : Converter) (before after : Option (List ℕ)) : Type 0 where
+pub record ReadsToMarker (p : Profile) (u : List ℕ) (given : List Token) (piece : List ℕ) (used : ℕ) (m : PlacedMarker) (new : Converter) (before after : Option (List ℕ)) : Type 0 where
   pub tokens : List Token
   pub token : Token
   pub ends : EndsWithin u tokens piece used token new.lexer
@@ -362,7 +362,7 @@ abbrev pub AfterSteps : Profile → List ℕ → List Token → List ℕ → Con
     → Result (Option StepEnd) Fault → Option (List ℕ) → Option (List ℕ) → Type 0
 AfterSteps p u given piece new used (Ok None) before after =
     (used ≡ length piece) × ReadsPiece p u (first piece) given piece new before after
-AfterSteps p u given piece new used (Ok (Some Other)) before after = StepsOn p u given piece new used before after
+AfterSteps p u given piece new used (Ok (Some NoMarker)) before after = StepsOn p u given piece new used before after
 AfterSteps p u given piece new used (Ok (Some (AtMarker m))) before after =
     ReadsToMarker p u given piece used m new before after
 AfterSteps p u given piece new used (Err f) before after =
@@ -386,8 +386,8 @@ abbrev pub ended_by : Result Unit Fault → Result Accepted Reason
 ended_by (Ok done) = Ok Finished
 ended_by (Err f) = Err f.reason
 
--- The marker at this mark is taken, or not.
-pub record EndsGame (old : ReaderState) (m : Mark) (new : ReaderState) (result : Result Unit Fault) (sink : Device) : Type 0 where
+-- The marker m is taken, or not.
+pub record EndsGame (old : ReaderState) (m : PlacedMarker) (new : ReaderState) (result : Result Unit Fault) (sink : Device) : Type 0 where
   pub takes : (k : Kind) → marker_of k ≡ Some (marker_text m.marker) → TakesEntry old k new (ended_by result) sink
   pub place : MatchResult result (λ done. Unit {0}) (λ f. f.at ≡ m.at)
 
@@ -415,12 +415,12 @@ pub record CountsGame (old new : Converter) (result : Result Unit Fault) (sink :
 -- ---- up to a marker, behind the last piece
 
 -- whether the call has read the end of the input
-abbrev pub is_end_of_input : Result (Option Mark) Fault → Bool
+abbrev pub is_end_of_input : Result (Option PlacedMarker) Fault → Bool
 is_end_of_input (Ok None) = true
 is_end_of_input _ = false
 
 -- a marker was waiting
-abbrev pub AdvancesAtEnd : Standing → Standing → Option Mark → Type 0
+abbrev pub AdvancesAtEnd : Standing → Standing → Option PlacedMarker → Type 0
 AdvancesAtEnd old new None = Unit {0}
 AdvancesAtEnd old new (Some m) = waiting new < waiting old
 
@@ -431,26 +431,26 @@ pub record ReadsToEnd (p : Profile) (u : List ℕ) (given : List Token) (new : C
   pub ends : ReadsEnd p u given tokens token new before after
 
 -- A marker is left, and more tokens may be behind it.
-pub record ReadsToLeftMarker (p : Profile) (u : List ℕ) (given : List Token) (m : Mark) (new : Converter) (before after : Option (List ℕ)) : Type 0 where
+pub record ReadsToLeftMarker (p : Profile) (u : List ℕ) (given : List Token) (m : PlacedMarker) (new : Converter) (before after : Option (List ℕ)) : Type 0 where
   pub tokens : List Token
   pub token : Token
   pub left : HasLeft new.lexer u (tokens ++ token ∷ [])
   pub meets : Meets p given tokens token m new before after
 
 abbrev pub AfterEndToMarker : Profile → List ℕ → List Token → Converter → Converter
-    → Result (Option Mark) Fault → Option (List ℕ) → Option (List ℕ) → Type 0
+    → Result (Option PlacedMarker) Fault → Option (List ℕ) → Option (List ℕ) → Type 0
 AfterEndToMarker p u given old new (Ok None) before after = ReadsToEnd p u given new before after × StaysBetween old new
 AfterEndToMarker p u given old new (Ok (Some m)) before after = ReadsToLeftMarker p u given m new before after
 AfterEndToMarker p u given old new (Err f) before after = FailsAtEnd p u given f new.reading before after
 
 -- What `finish_to_marker` reads, where u is the whole text.
-abbrev pub ReadsLeft : Converter → Converter → Result (Option Mark) Fault → Device → Type 0
+abbrev pub ReadsLeft : Converter → Converter → Result (Option PlacedMarker) Fault → Device → Type 0
 ReadsLeft old new result sink =
     (p : Profile) (u : List ℕ) (given : List Token) → HasLeft old.lexer u given → HasRead p old given
     → AfterEndToMarker p u given old new result sink.before sink.after
 
 -- What `finish_to_marker` does to a converter.
-pub record EndsToMarker (old new : Converter) (result : Result (Option Mark) Fault) (sink : Device) : Type 0 where
+pub record EndsToMarker (old new : Converter) (result : Result (Option PlacedMarker) Fault) (sink : Device) : Type 0 where
   pub ends : ReadsLeft old new result sink
   pub count : new.lexer.count ≡ old.lexer.count
   pub advances : IfOk result (λ marker. AdvancesAtEnd old.lexer new.lexer marker)
@@ -522,10 +522,10 @@ pub record FaultAtEnd (p : Profile) (given tokens : List Token) (f : Fault) (rea
 -- ---- an input that is read twice
 
 -- the same converter, but a missing Result takes the marker from now on
-abbrev pub taking_marker : Converter → Converter
-taking_marker c =
+abbrev pub taking_announced_marker : Converter → Converter
+taking_announced_marker c =
     record c { reading = record c.reading { profile = with_missing c.reading.profile takes_the_marker } }
 
 -- the same converter, but the next game's marker is announced
 abbrev pub announcing : Marker → Converter → Converter
-announcing marker c = record c { reading = telling (marker_text marker) c.reading }
+announcing marker c = record c { reading = with_announced (marker_text marker) c.reading }

@@ -11,7 +11,7 @@ use Rattle.pgn_lexer.specs.Stands.{StandsAfter, HasLeft, IsDecided, first}
 use Rattle.pgn_game.specs.declared.reason.Reason.TheVariants.{ReadFault, InputTooLong}
 use Rattle.pgn_game.specs.declared.reason.Fault.{Fault}
 use Rattle.pgn_game.specs.declared.source.ReadFailed.{ReadFailed}
-use Rattle.pgn_game.specs.declared.marker.Mark.{Mark}
+use Rattle.pgn_game.specs.declared.marker.PlacedMarker.{PlacedMarker}
 use Rattle.pgn_game.specs.declared.converter.FedUpTo.TheVariants.{All, Marker as ToMarker}
 use Rattle.pgn_game.specs.games.Profile.{Profile}
 use Rattle.pgn_game.specs.calls.ConverterCalls.{Converter, AreNext, CountsFault, KeepsFault, within_limit, HasRead}
@@ -34,13 +34,13 @@ MoreResult left_old left_new old new unused (Ok false) = (new ≡ old) × (unuse
 MoreResult left_old left_new old new unused (Err f) = (f ≡ record { at = old.lexer.count; reason = ReadFault }) × (new ≡ record old { just_finished = None; fault = Some f }) × Keeps left_old left_new
 
 -- The bytes not used yet are fed: up to a marker, all of them, or up to a fault.
-abbrev pub RestResult : Games → Games → Result (Option Mark) Fault → Device → Type 0
+abbrev pub RestResult : Games → Games → Result (Option PlacedMarker) Fault → Device → Type 0
 RestResult old new (Ok (Some m)) sink = (used : ℕ) × (new.unused ≡ drop used old.unused) × FeedsToMarker old.converter old.unused new.converter (Ok (ToMarker used m)) sink
 RestResult old new (Ok None) sink = (new.unused ≡ []) × FeedsToMarker old.converter old.unused new.converter (Ok All) sink
 RestResult old new (Err f) sink = FeedsToMarker old.converter old.unused new.converter (Err f) sink
 
 -- What `feed_rest` does to a converter and a buffer.
-pub record FeedsRest (old new : Games) (result : Result (Option Mark) Fault) (sink : Device) : Type 0 where
+pub record FeedsRest (old new : Games) (result : Result (Option PlacedMarker) Fault) (sink : Device) : Type 0 where
   pub feeds : RestResult old new result sink
   pub used : result ≡ Ok None → new.converter.lexer.count ≡ old.converter.lexer.count + length old.unused
   pub ready : IfOk result (λ marker. IfSome marker (λ m. IsReady new.converter))
@@ -66,7 +66,7 @@ pub record MoreSoFar (p : Profile) (u : List ℕ) (given : List Token) (left_old
   pub reads : ReadsMore p given tokens now.converter before after
 
 -- A marker was met: it is `token`, after the tokens read. The bytes before place 2^62 decide it.
-pub record MeetsNext (p : Profile) (u : List ℕ) (given : List Token) (left_old left_new : Option (List ℕ)) (m : Mark) (new : Games) (before after : Option (List ℕ)) : Type 0 where
+pub record MeetsNext (p : Profile) (u : List ℕ) (given : List Token) (left_old left_new : Option (List ℕ)) (m : PlacedMarker) (new : Games) (before after : Option (List ℕ)) : Type 0 where
   pub more : List ℕ
   pub consumed : Consumes left_old left_new more
   pub tokens : List Token
@@ -103,13 +103,13 @@ pub data StopsBefore (p : Profile) (u : List ℕ) (given : List Token) (left_old
       → StopsBefore p u given left_old left_new new before after (record { at = 2 ^ 62; reason = InputTooLong })
 
 -- What `next_marker` results in: a marker was met, the source has ended, or reading stopped.
-abbrev pub AfterToMarker : Profile → List ℕ → List Token → Option (List ℕ) → Option (List ℕ) → Games → Result (Option Mark) Fault → Option (List ℕ) → Option (List ℕ) → Type 0
+abbrev pub AfterToMarker : Profile → List ℕ → List Token → Option (List ℕ) → Option (List ℕ) → Games → Result (Option PlacedMarker) Fault → Option (List ℕ) → Option (List ℕ) → Type 0
 AfterToMarker p u given left_old left_new new (Ok (Some m)) before after = MeetsNext p u given left_old left_new m new before after
 AfterToMarker p u given left_old left_new new (Ok None) before after = UsesAll p u given left_old left_new new before after
 AfterToMarker p u given left_old left_new new (Err f) before after = StopsBefore p u given left_old left_new new.converter before after f
 
 -- What `next_marker` does to a converter and a buffer that have read any bytes of the source.
-abbrev pub ReadsNextMarker : Games → Games → Result (Option Mark) Fault → Device → Device → Type 0
+abbrev pub ReadsNextMarker : Games → Games → Result (Option PlacedMarker) Fault → Device → Device → Type 0
 ReadsNextMarker old new result source sink =
     (p : Profile) (u : List ℕ) (given : List Token) → StandsWithin u old given → HasRead p old.converter given
     → AfterToMarker p u given source.before source.after new result sink.before sink.after
@@ -127,7 +127,7 @@ CountsReading (Ok x) source sink = IsStill source × IsStill sink
 CountsReading (Err f) source sink = CountsDevices f.reason source.failures source.failures_after sink.failures sink.failures_after
 
 -- How `next_marker` leaves the rest of the converter, and what it counts.
-pub record GoesToNextMarker (old new : Converter) (result : Result (Option Mark) Fault) (source sink : Device) : Type 0 where
+pub record GoesToNextMarker (old new : Converter) (result : Result (Option PlacedMarker) Fault) (source sink : Device) : Type 0 where
   pub ready : IfOk result (λ marker. IfSome marker (λ m. IsReady new))
   pub short : OnOk result (new.lexer.count ≤ 2 ^ 62)
   pub keeps : KeepsRest old new false result

@@ -3,8 +3,12 @@
 -- before the call and after it. `old` and `new` are the reader before a call and after it.
 use Rattle.std.specs.Prelude.{◌≡◌, ℕ, ◌+◌, ◌≤◌, ◌<◌, max, IsTrue, List, [], length, drop, Option, None, Some, Result, Ok, Err, IfOk, OnOk}
 use Rattle.std.specs.Io.KnownBytes.{Appends}
+use Rattle.std.specs.Option.{ok_or}
 use Rattle.chess_rules.specs.declared.position.Move.{Move}
-use Rattle.chess_rules.specs.Legal.{is_legal}
+use Rattle.chess_rules.specs.declared.position.Parts.{Parts}
+use Rattle.chess_rules.specs.Legal.{is_legal, legal}
+use Rattle.chess_text.specs.declared.resolution.Played.{Played}
+use Rattle.chess_text.specs.MoveOfForm.{with_next}
 use Rattle.pgn_layout.specs.Device.{AppendsFront, Counts, Device, IsStill, Writes}
 use Rattle.pgn_lexer.specs.Tokens.{Kind}
 use Rattle.pgn_game.specs.declared.marker.Marker.{Marker}
@@ -12,7 +16,7 @@ use Rattle.pgn_game.specs.declared.mode.Mode.{Mode}
 use Rattle.pgn_game.specs.declared.stage.Stage.{Stage}
 use Rattle.pgn_game.specs.declared.stage.Stage.TheVariants.{Between, AfterTags, InMovetext}
 use Rattle.pgn_game.specs.declared.reason.Reason.{Reason}
-use Rattle.pgn_game.specs.declared.reason.Reason.TheVariants.{WriteFault}
+use Rattle.pgn_game.specs.declared.reason.Reason.TheVariants.{IllegalMove, WriteFault}
 use Rattle.pgn_game.specs.games.Markers.{marker_text}
 use Rattle.pgn_game.specs.games.FaultTable.{marker_of}
 use Rattle.pgn_game.specs.games.Profile.{Profile}
@@ -25,9 +29,9 @@ use Rattle.pgn_game.specs.calls.Tried.{Costs}
 use Rattle.pgn_game.specs.calls.MostTried.{CostsToFind}
 use Rattle.pgn_game.specs.games.Progress.{Next, going}
 use Rattle.pgn_game.specs.export.Due.{text_next}
-use Rattle.pgn_game.specs.calls.FoundMove.{found_in, with_position}
+use Rattle.pgn_game.specs.calls.FoundMove.{found_in}
 use Rattle.pgn_game.specs.state.Movetext.{movetext_from}
-use Rattle.pgn_game.specs.state.ReaderState.{Accepted, More, Finished, ReaderState, Agrees, Answers, as_written, FinishesAtMarker, Leads, Stays, CountsWrites, known_of, plies_next, whole_plies}
+use Rattle.pgn_game.specs.state.ReaderState.{Accepted, More, Finished, ReaderState, Agrees, Answers, as_written, FinishesAtMarker, Leads, Stays, CountsWrites, known_of, plies_added, plies_of_finished_games}
 use Rattle.pgn_game.specs.state.TokenInMovetext.{IsEntry, IsOpen, may_have_movetext, with_items}
 
 -- A game begins.
@@ -57,7 +61,7 @@ gain_to p part to = drop (length (torn p part)) (text_next p to)
 pub record Goes (old : ReaderState) (part : Part) (to : Next) (new : ReaderState) (accepted : Accepted)
     (d : Device) : Type 0 where
   pub leads : Leads to accepted new
-  pub plies : whole_plies new ≡ whole_plies old + plies_next to
+  pub plies : plies_of_finished_games new ≡ plies_of_finished_games old + plies_added to
   pub appended : Appends d.before d.after (gain_to (as_written old) part to)
 
 -- the same, or a write failed, and a prefix of it was appended and not all
@@ -188,6 +192,20 @@ TakesUnlessMarker old k new (Err reason) d =
     TakesToken old k new (Err reason) d × (reason ≡ WriteFault → marker_of k ≡ None)
 
 -- Moves.
+
+-- the result of a search that makes no position, with the position after the move
+abbrev pub with_position : Parts → Result Move Reason → Result Played Reason
+with_position p (Ok m) = ok_or (with_next m (legal p m)) IllegalMove
+with_position p (Err reason) = Err reason
+
+-- r is the move that a text names in the position p, or why it names none. n pairs were tried to
+-- find it.
+pub record NamesMove (p : Parts) (text : List ℕ) (r : Result Move Reason) (n : ℕ) : Type 0 where
+  pub found : with_position p r ≡ found_in p (move_of p text)
+  pub legal : IfOk r (λ m. IsTrue (is_legal p m))
+  pub tried : Costs p text n
+  pub few : n ≤ 8
+  pub some : OnOk r (0 < n)
 
 -- the reader with so many as the most pairs tried, unless there were more before
 abbrev pub counting_probes : ReaderState → ℕ → ReaderState

@@ -25,10 +25,10 @@ use Rattle.pgn_game.specs.games.Progress.{Next, going, whole, next}
 use Rattle.pgn_game.specs.export.Due.{gain}
 use Rattle.pgn_game.specs.calls.MostTried.{Raises, Tries, TriesUnwritten}
 
--- How a reader writes. `told` is the marker that `tell` gave for a missing Result, if it gave one.
--- If `is_silent`, nothing is written.
+-- How a reader writes. `announced` is the marker that was announced for a missing Result, if one
+-- was. If `is_silent`, nothing is written.
 pub record Writing : Type 0 where
-  pub told : Option (List ℕ)
+  pub announced : Option (List ℕ)
   pub is_silent : Bool
 
 -- The profile, how the reader writes, the stage of the game, its pairs, its movetext, the number of
@@ -49,9 +49,9 @@ pub record ReaderState : Type 0 where
 abbrev pub mode_written : ReaderState → Option Mode
 mode_written reading = mode_unless reading.writing.is_silent reading.profile.mode
 
--- the reader with a marker that was told
-abbrev pub telling : List ℕ → ReaderState → ReaderState
-telling marker reading = record reading { writing = record reading.writing { told = Some marker } }
+-- the reader to which this marker was announced
+abbrev pub with_announced : List ℕ → ReaderState → ReaderState
+with_announced marker reading = record reading { writing = record reading.writing { announced = Some marker } }
 
 -- the reader that writes nothing from now on
 abbrev pub silenced : ReaderState → ReaderState
@@ -115,18 +115,18 @@ pub record IsBehind (reading : ReaderState) (g : Game) : Type 0 where
 
 -- the number of moves outside variations of the finished games; between games the reader still
 -- holds that of the last one
-abbrev pub plies_behind : Stage → ℕ → ℕ → ℕ
-plies_behind Between earlier plies = earlier + plies
-plies_behind _ earlier plies = earlier
+abbrev pub plies_at_stage : Stage → ℕ → ℕ → ℕ
+plies_at_stage Between earlier plies = earlier + plies
+plies_at_stage _ earlier plies = earlier
 
 -- the same, of a reader
-abbrev pub whole_plies : ReaderState → ℕ
-whole_plies reading = plies_behind reading.stage reading.earlier_plies reading.text.plies
+abbrev pub plies_of_finished_games : ReaderState → ℕ
+plies_of_finished_games reading = plies_at_stage reading.stage reading.earlier_plies reading.text.plies
 
 -- how many moves a token adds to them: those of the game that it finishes
-abbrev pub plies_next : Next → ℕ
-plies_next (going part) = 0
-plies_next (whole g) = plies_of g
+abbrev pub plies_added : Next → ℕ
+plies_added (going part) = 0
+plies_added (whole g) = plies_of g
 
 -- What a token does that is not rejected: the game goes on, or the token finished it.
 pub data Accepted : Type 0 where
@@ -142,15 +142,15 @@ Leads (whole g) More new = ⊥
 Leads (whole g) Finished new = IsBehind new g
 
 -- The value by which a reader writes a missing Result: the text that it counts as. If it takes the
--- marker, it is the marker that `tell` gave, or empty if none was given.
+-- marker, it is the announced marker, or empty if none was announced.
 abbrev pub known_text : Missing → Option (List ℕ) → List ℕ
-known_text (counts_as text) told = text
+known_text (counts_as text) announced = text
 known_text takes_the_marker None = []
 known_text takes_the_marker (Some marker) = marker
 
 -- the same, of a reader
 abbrev pub known_of : ReaderState → List ℕ
-known_of reading = known_text reading.profile.missing_result reading.writing.told
+known_of reading = known_text reading.profile.missing_result reading.writing.announced
 
 -- the profile by which a reader writes: a missing Result counts as that value
 abbrev pub as_written : ReaderState → Profile
@@ -165,7 +165,7 @@ IsKnown p = p.missing_result ≡ counts_as (known_result p.missing_result)
 pub record IsAccepted (old : ReaderState) (part : Part) (k : Kind) (new : ReaderState) (accepted : Accepted) (before after : Option (List ℕ)) : Type 0 where
   pub free : refusal old.profile part k ≡ None
   pub leads : Leads (next part k) accepted new
-  pub plies : whole_plies new ≡ whole_plies old + plies_next (next part k)
+  pub plies : plies_of_finished_games new ≡ plies_of_finished_games old + plies_added (next part k)
   pub appended : Appends before after (gain (as_written old) part k)
   pub tried : Raises (Tries old.writing.is_silent old.profile part k) old.most_probes new.most_probes
 

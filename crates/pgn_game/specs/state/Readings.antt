@@ -1,11 +1,11 @@
 -- **Bookkeeping**: one of the two readings of an input that is read twice, and what its calls do.
 -- Letters: q is a profile, in which a missing Result takes the marker. r is a reading, s a text, u
--- are bytes, t is a token, ts are tokens, m is a mark, ms and ns are marks, f is a fault. `given`
--- are the tokens read before a call, and `tokens` those read when it ends. `left_old` are the bytes
--- that the source had before the first call, and `left_now` those that it has left now.
--- `left_before` and `left_after` (or `left_new`) are those that it has left before and after a
--- call. `old` and `new` are the reading then, and `before` and `after` the bytes that the sink has
--- taken.
+-- are bytes, t is a token, ts are tokens, m is a placed marker, ms and ns are placed markers, f is
+-- a fault. `given` are the tokens read before a call, and `tokens` those read when it ends.
+-- `left_old` are the bytes that the source had before the first call, and `left_now` those that it
+-- has left now. `left_before` and `left_after` (or `left_new`) are those that it has left before
+-- and after a call. `old` and `new` are the reading then, and `before` and `after` the bytes that
+-- the sink has taken.
 use Rattle.std.specs.Prelude.{◌≡◌, ℕ, ◌+◌, ◌^◌, ◌<◌, ◌≤◌, Bool, true, false, List, [], ◌∷◌, ◌++◌, length, Option, None, Some, Result, Ok, Err, IfOk, IfSome}
 use Rattle.std.specs.Io.KnownBytes.{Appends, Consumes}
 use Rattle.pgn_layout.specs.Device.{AppendsFront, Device}
@@ -13,7 +13,7 @@ use Rattle.pgn_lexer.specs.Tokens.{Token}
 use Rattle.pgn_lexer.specs.TokensOf.{tokens_of}
 use Rattle.pgn_lexer.specs.Decided.{decided}
 use Rattle.pgn_lexer.specs.Stands.{HasLeft}
-use Rattle.pgn_game.specs.declared.marker.Mark.{Mark as CodeMark}
+use Rattle.pgn_game.specs.declared.marker.PlacedMarker.{PlacedMarker as CodePlacedMarker}
 use Rattle.pgn_game.specs.declared.reason.Reason.{Reason}
 use Rattle.pgn_game.specs.declared.reason.Reason.TheVariants.{ReadFault, WriteFault, InputTooLong, Changed}
 use Rattle.pgn_game.specs.declared.reason.Fault.{Fault}
@@ -29,7 +29,7 @@ use Rattle.pgn_game.specs.state.ConverterSteps.{NotTaken, IsGoing, IsReady, Meet
 use Rattle.pgn_game.specs.calls.GamesCalls.{games_of}
 use Rattle.pgn_game.specs.state.ReaderState.{as_written}
 use Rattle.pgn_game.specs.state.GamesSteps.{CountsReading, StandsWithin}
-use Rattle.pgn_game.specs.calls.Checked.{Mark, marks, marks_from, is_changed, compared_from, with_mark}
+use Rattle.pgn_game.specs.calls.Checked.{PlacedMarker, markers, markers_from, is_changed, compared_from, with_marker}
 
 -- a reading: its converter, the bytes that were read and are not used yet, and whether the source
 -- has ended
@@ -38,9 +38,9 @@ pub record Reading : Type 0 where
   pub unused : List ℕ
   pub has_ended : Bool
 
--- a mark of the code as one of `Checked`: the text of the marker, and its place
-abbrev pub model_mark : CodeMark → Mark
-model_mark m = record { text = marker_text m.marker; at = m.at }
+-- a placed marker of the code as one of `Checked`: its text and its place
+abbrev pub model_marker : CodePlacedMarker → PlacedMarker
+model_marker m = record { text = marker_text m.marker; at = m.at }
 
 -- The source has given the bytes u, and the lexer the tokens `given`.
 -- - If the source has not ended (`false`), the lexer has used u but for the unused bytes. The bytes
@@ -101,8 +101,8 @@ pub data ReadFails (left_old left_new : Option (List ℕ)) (given : List Token) 
 
 -- ---- up to a marker
 
--- A marker was met: it is `token`, after the tokens read, and its mark is m. It was not taken yet.
-pub record MarkerComes (q : Profile) (left_old left_new : Option (List ℕ)) (given : List Token) (m : CodeMark) (new : Reading) (before after : Option (List ℕ)) : Type 0 where
+-- The marker m was met: it is `token`, after the tokens read. It was not taken yet.
+pub record MarkerComes (q : Profile) (left_old left_new : Option (List ℕ)) (given : List Token) (m : CodePlacedMarker) (new : Reading) (before after : Option (List ℕ)) : Type 0 where
   pub tokens : List Token
   pub token : Token
   pub come : HasCome left_old left_new new (tokens ++ token ∷ [])
@@ -152,15 +152,16 @@ pub data ReadingStops (q : Profile) (left_old left_new : Option (List ℕ)) (giv
   at_token : TokenFails q left_old given f new before after → ReadingStops q left_old left_new given f new before after
   at_read : SourceFails q left_old left_new given f new before after → ReadingStops q left_old left_new given f new before after
 
--- What `next_marker` results in: a marker was met, the end of the text was read, or reading
+-- What `read_to_marker` results in: a marker was met, the end of the text was read, or reading
 -- stopped.
-abbrev pub AfterMarker : Profile → Option (List ℕ) → Option (List ℕ) → List Token → Reading → Result (Option CodeMark) Fault → Option (List ℕ) → Option (List ℕ) → Type 0
+abbrev pub AfterMarker : Profile → Option (List ℕ) → Option (List ℕ) → List Token → Reading → Result (Option CodePlacedMarker) Fault → Option (List ℕ) → Option (List ℕ) → Type 0
 AfterMarker q left_old left_new given new (Ok (Some m)) before after = MarkerComes q left_old left_new given m new before after
 AfterMarker q left_old left_new given new (Ok None) before after = EndComes q left_old given new before after
 AfterMarker q left_old left_new given new (Err f) before after = ReadingStops q left_old left_new given f new before after
 
--- What `next_marker` does to a reading that has read any tokens, what it keeps, and what it counts.
-pub record ReadsUpToMarker (old new : Reading) (result : Result (Option CodeMark) Fault) (source sink : Device) : Type 0 where
+-- What `read_to_marker` does to a reading that has read any tokens, what it keeps, and what it
+-- counts.
+pub record ReadsUpToMarker (old new : Reading) (result : Result (Option CodePlacedMarker) Fault) (source sink : Device) : Type 0 where
   pub reads : (q : Profile) (left_old : Option (List ℕ)) (given : List Token)
       → HasGiven q left_old source.before old given → AfterMarker q left_old source.after given new result sink.before sink.after
   pub ready : IfOk result (λ marker. IfSome marker (λ m. IsReady new.converter))
@@ -176,30 +177,30 @@ pub record StandsBetween (q : Profile) (left_old left_now : Option (List ℕ)) (
   pub has_given : HasGiven q left_old left_now now given
   pub between : part_after q given ≡ no_part
 
--- The marks of the tokens `given` are ms, whatever tokens ts come after them.
-abbrev pub HasMarked : Profile → List Token → List Mark → Type 0
-HasMarked q given ms = (ts : List Token) → marks q (given ++ ts) ≡ ms ++ marks_from q (read q given).progress ts
+-- The markers of the tokens `given` are ms, whatever tokens ts come after them.
+abbrev pub HasMarkers : Profile → List Token → List PlacedMarker → Type 0
+HasMarkers q given ms = (ts : List Token) → markers q (given ++ ts) ≡ ms ++ markers_from q (read q given).progress ts
 
--- The tokens `given` of the second reading are compared with the marks ms of the first. They show
--- no difference, and of these marks `left` are still to come. This holds whatever marks ns and
+-- The tokens `given` of the second reading are compared with the markers ms of the first. They show
+-- no difference, and of these markers `left` are still to come. This holds whatever markers ns and
 -- tokens ts come after them.
-abbrev pub HasMatched : Profile → List Mark → List Token → List Mark → Type 0
+abbrev pub HasMatched : Profile → List PlacedMarker → List Token → List PlacedMarker → Type 0
 HasMatched q ms given left =
-    (ns : List Mark) (ts : List Token) → compared_from q (ms ++ ns) no_progress (given ++ ts) ≡ compared_from q (left ++ ns) (read q given).progress ts
+    (ns : List PlacedMarker) (ts : List Token) → compared_from q (ms ++ ns) no_progress (given ++ ts) ≡ compared_from q (left ++ ns) (read q given).progress ts
 
--- The first reading has read one game more, and its mark is m.
-pub record GameRead (q : Profile) (left_old left_new : Option (List ℕ)) (given : List Token) (m : CodeMark) (new : Reading) : Type 0 where
+-- The first reading has read one game more, and its marker is m.
+pub record GameRead (q : Profile) (left_old left_new : Option (List ℕ)) (given : List Token) (m : CodePlacedMarker) (new : Reading) : Type 0 where
   pub tokens : List Token
   pub stands : StandsBetween q left_old left_new tokens new
-  pub marked : (ms : List Mark) → HasMarked q given ms → HasMarked q tokens (ms ++ model_mark m ∷ [])
+  pub marked : (ms : List PlacedMarker) → HasMarkers q given ms → HasMarkers q tokens (ms ++ model_marker m ∷ [])
 
--- The first reading has read the whole text, which has at most 2^62 bytes. There is no mark more
+-- The first reading has read the whole text, which has at most 2^62 bytes. There is no marker more
 -- than before.
 pub record AllRead (q : Profile) (left_old : Option (List ℕ)) (given : List Token) (new : Reading) : Type 0 where
   pub tokens : List Token
   pub whole : IfSome left_old (λ s. (length s ≤ 2 ^ 62) × (tokens_of s ≡ tokens))
   pub has_read : HasRead q new.converter tokens
-  pub marked : (ms : List Mark) → HasMarked q given ms → HasMarked q tokens ms
+  pub marked : (ms : List PlacedMarker) → HasMarkers q given ms → HasMarkers q tokens ms
 
 -- Why the first reading stops after `tokens`: the next token is rejected, or reading ends with no
 -- token at fault.
@@ -209,90 +210,90 @@ pub data WhyFirst (q : Profile) (left_old left_new : Option (List ℕ)) (tokens 
   unread : (f : Fault) → ReadFails left_old left_new tokens f → WhyFirst q left_old left_new tokens f
 
 -- The first reading stops with the fault f, after `tokens`. None of them is rejected, and there is
--- no mark more than before.
+-- no marker more than before.
 pub record FirstFails (q : Profile) (left_old left_new : Option (List ℕ)) (given : List Token) (f : Fault) : Type 0 where
   pub tokens : List Token
   pub passes : (read q tokens).fault ≡ None
-  pub marked : (ms : List Mark) → HasMarked q given ms → HasMarked q tokens ms
+  pub marked : (ms : List PlacedMarker) → HasMarkers q given ms → HasMarkers q tokens ms
   pub why : WhyFirst q left_old left_new tokens f
 
 -- What `read_game` results in: a game was read, the whole text was read, or reading stopped.
-abbrev pub AfterRead : Profile → Option (List ℕ) → Option (List ℕ) → List Token → Reading → Result (Option CodeMark) Fault → Type 0
+abbrev pub AfterRead : Profile → Option (List ℕ) → Option (List ℕ) → List Token → Reading → Result (Option CodePlacedMarker) Fault → Type 0
 AfterRead q left_old left_new given new (Ok (Some m)) = GameRead q left_old left_new given m new
 AfterRead q left_old left_new given new (Ok None) = AllRead q left_old given new
 AfterRead q left_old left_new given new (Err f) = FirstFails q left_old left_new given f
 
 -- What `read_game` does to the first reading, if no game is begun.
-abbrev pub ReadsGame : Option (List ℕ) → Option (List ℕ) → Reading → Reading → Result (Option CodeMark) Fault → Type 0
+abbrev pub ReadsGame : Option (List ℕ) → Option (List ℕ) → Reading → Reading → Result (Option CodePlacedMarker) Fault → Type 0
 ReadsGame left_before left_after old new result =
     (q : Profile) (left_old : Option (List ℕ)) (given : List Token)
     → StandsBetween q left_old left_before given old → AfterRead q left_old left_after given new result
 
 -- After a game the reading can go on, and one game more is counted. Nothing is claimed after any
 -- other result.
-abbrev pub GoesOnAfterGame : Reading → Reading → Result (Option CodeMark) Fault → Type 0
+abbrev pub GoesOnAfterGame : Reading → Reading → Result (Option CodePlacedMarker) Fault → Type 0
 GoesOnAfterGame old new (Ok (Some m)) = IsGoing new.converter × (new.converter.games ≡ old.converter.games + 1) × (old.converter.games < 2 ^ 64)
 GoesOnAfterGame old new _ = Unit {0}
 
--- The second reading has read one game more, and its mark is m: if m was the only mark to come
+-- The second reading has read one game more, and its marker is m: if m was the only marker to come
 -- before, none is to come now. The export text of the game was written.
-pub record GameWritten (q : Profile) (left_old left_new : Option (List ℕ)) (given : List Token) (m : CodeMark) (new : Reading) (before after : Option (List ℕ)) : Type 0 where
+pub record GameWritten (q : Profile) (left_old left_new : Option (List ℕ)) (given : List Token) (m : CodePlacedMarker) (new : Reading) (before after : Option (List ℕ)) : Type 0 where
   pub tokens : List Token
   pub stands : StandsBetween q left_old left_new tokens new
   pub game : Game
   pub one_game : OneGame q given tokens game
-  pub matched : (ms : List Mark) → HasMatched q ms given (model_mark m ∷ []) → HasMatched q ms tokens []
+  pub matched : (ms : List PlacedMarker) → HasMatched q ms given (model_marker m ∷ []) → HasMatched q ms tokens []
   pub written : Appends before after (game_text q game)
 
--- Why the second reading stops after `tokens`, if m is the mark of its game. `before` are here the
--- bytes that the sink had taken when all that is due for these tokens was written.
+-- Why the second reading stops after `tokens`, if m is the marker of its game. `before` are here
+-- the bytes that the sink had taken when all that is due for these tokens was written.
 -- - `differs`: the next token shows a difference.
 -- - `unwritten`: the next token shows none, but its text could not be written. A prefix of it was
 --   written, and not all.
 -- - `unread`: reading ends with no token at fault. A byte at place 2^62 is a difference here.
-pub data WhySecond (q : Profile) (left_old left_new : Option (List ℕ)) (tokens : List Token) (m : CodeMark) (before after : Option (List ℕ)) : Fault → Type 0 where
-  differs : (t : Token) → ComesNext left_old tokens t → is_changed q (model_mark m) (part_after q tokens) t ≡ true → Appends before after []
+pub data WhySecond (q : Profile) (left_old left_new : Option (List ℕ)) (tokens : List Token) (m : CodePlacedMarker) (before after : Option (List ℕ)) : Fault → Type 0 where
+  differs : (t : Token) → ComesNext left_old tokens t → is_changed q (model_marker m) (part_after q tokens) t ≡ true → Appends before after []
       → WhySecond q left_old left_new tokens m before after (record { at = t.at; reason = Changed })
-  unwritten : (t : Token) → ComesNext left_old tokens t → is_changed q (model_mark m) (part_after q tokens) t ≡ false
-      → AppendsFront before after (gain (with_mark q (model_mark m)) (part_after q tokens) t.kind)
+  unwritten : (t : Token) → ComesNext left_old tokens t → is_changed q (model_marker m) (part_after q tokens) t ≡ false
+      → AppendsFront before after (gain (with_marker q (model_marker m)) (part_after q tokens) t.kind)
       → WhySecond q left_old left_new tokens m before after (record { at = t.at; reason = WriteFault })
   unread : (f : Fault) → ReadFails left_old left_new tokens f → Appends before after []
       → WhySecond q left_old left_new tokens m before after (as_changed f)
 
 -- The second reading stops with the fault f, after `tokens`. None of them is rejected, finishes a
--- game or shows a difference from the mark m. What is due of the current game was written, where a
--- missing Result counts as the marker of m.
-pub record SecondFails (q : Profile) (left_old left_new : Option (List ℕ)) (given : List Token) (m : CodeMark) (f : Fault) (before after : Option (List ℕ)) : Type 0 where
+-- game or shows a difference from the marker m. What is due of the current game was written, where
+-- a missing Result counts as m.
+pub record SecondFails (q : Profile) (left_old left_new : Option (List ℕ)) (given : List Token) (m : CodePlacedMarker) (f : Fault) (before after : Option (List ℕ)) : Type 0 where
   pub tokens : List Token
   pub passes : (read q tokens).fault ≡ None
   pub no_game : SameGames q given tokens
-  pub matched : (ms : List Mark) → HasMatched q ms given (model_mark m ∷ []) → HasMatched q ms tokens (model_mark m ∷ [])
+  pub matched : (ms : List PlacedMarker) → HasMatched q ms given (model_marker m ∷ []) → HasMatched q ms tokens (model_marker m ∷ [])
   pub mid : Option (List ℕ)
-  pub wrote : Appends before mid (torn (with_mark q (model_mark m)) (part_after q tokens))
+  pub wrote : Appends before mid (torn (with_marker q (model_marker m)) (part_after q tokens))
   pub why : WhySecond q left_old left_new tokens m mid after f
 
 -- What `write_game` results in: the game was written, or reading stopped.
-abbrev pub AfterWrite : Profile → Option (List ℕ) → Option (List ℕ) → List Token → CodeMark → Reading → Result Unit Fault → Option (List ℕ) → Option (List ℕ) → Type 0
+abbrev pub AfterWrite : Profile → Option (List ℕ) → Option (List ℕ) → List Token → CodePlacedMarker → Reading → Result Unit Fault → Option (List ℕ) → Option (List ℕ) → Type 0
 AfterWrite q left_old left_new given m new (Ok done) before after = GameWritten q left_old left_new given m new before after
 AfterWrite q left_old left_new given m new (Err f) before after = SecondFails q left_old left_new given m f before after
 
 -- What `write_game` does to the second reading, if no game is begun. The game has to end with the
--- mark m.
-abbrev pub WritesGame : Option (List ℕ) → Option (List ℕ) → Reading → CodeMark → Reading → Result Unit Fault → Option (List ℕ) → Option (List ℕ) → Type 0
+-- marker m.
+abbrev pub WritesGame : Option (List ℕ) → Option (List ℕ) → Reading → CodePlacedMarker → Reading → Result Unit Fault → Option (List ℕ) → Option (List ℕ) → Type 0
 WritesGame left_before left_after old m new result before after =
     (q : Profile) (left_old : Option (List ℕ)) (given : List Token)
     → StandsBetween q left_old left_before given old → AfterWrite q left_old left_after given m new result before after
 
 -- ---- both readings, game by game
 
--- What both readings have read so far, between two games. `marks` are those of the first reading,
+-- What both readings have read so far, between two games. `markers` are those of the first reading,
 -- and the second has matched each of them. The games of the second are written.
 pub record BothSoFar (q : Profile) (first_old first_now second_old second_now : Option (List ℕ)) (first second : Reading) (before after : Option (List ℕ)) : Type 0 where
-  pub marks : List Mark
+  pub markers : List PlacedMarker
   pub first_tokens : List Token
   pub first_stands : StandsBetween q first_old first_now first_tokens first
-  pub marked : HasMarked q first_tokens marks
+  pub marked : HasMarkers q first_tokens markers
   pub second_tokens : List Token
   pub second_stands : StandsBetween q second_old second_now second_tokens second
-  pub matched : HasMatched q marks second_tokens []
+  pub matched : HasMatched q markers second_tokens []
   pub written : Appends before after (text_of q (read q second_tokens).progress.games)

@@ -20,7 +20,7 @@ module _ (p : Profile) (first second d : Device) (after : Option (List ℕ)) (fa
     tokens = ends.tokens;
     decided_by = ends.decided_by;
     fault = ends.fault;
-    next_mark = ends.next_mark;
+    next_marker = ends.next_marker;
     appended = taken_on _ ends.appended;
   }
 
@@ -55,7 +55,7 @@ module _ (p : Profile) (first second d : Device) (after : Option (List ℕ)) (fa
         short = known.short;
         us = known.us;
         second_shown = known.second_shown;
-        no_mark_left = known.no_mark_left;
+        no_marker_left = known.no_marker_left;
         converted = (known.converted.0, taken_on _ known.converted.1);
         probes = known.probes;
       }))

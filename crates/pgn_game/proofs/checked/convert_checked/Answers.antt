@@ -16,18 +16,18 @@ module _ (g : Over) (c : After-read_game g) where
   first = device g.Q.Source.left g.Q.Source.failures c.args.first.now c.read_game.new.source
 
   abbrev second : Device
-  second = device g.R.Source.left g.R.Source.failures c.args.second.now c.loop-mark.second
+  second = device g.R.Source.left g.R.Source.failures c.args.second.now c.loop-marker.second
 
   abbrev sink : Device
-  sink = device g.W.Sink.taken g.W.Sink.failures c.args.writer.now c.loop-mark.writer
+  sink = device g.W.Sink.taken g.W.Sink.failures c.args.writer.now c.loop-marker.writer
 
 -- The game is read from the second source too, and written. `here` are the devices in this call.
 module _ (g : Over) (c : After-write_game g) where
   abbrev second_here : Device
-  second_here = device g.R.Source.left g.R.Source.failures c.loop-mark.second c.write_game.new.source
+  second_here = device g.R.Source.left g.R.Source.failures c.loop-marker.second c.write_game.new.source
 
   abbrev sink_here : Device
-  sink_here = device g.W.Sink.taken g.W.Sink.failures c.loop-mark.writer c.write_game.new.out
+  sink_here = device g.W.Sink.taken g.W.Sink.failures c.loop-marker.writer c.write_game.new.out
 
   abbrev second_read : Device
   second_read = device g.R.Source.left g.R.Source.failures c.args.second.now c.write_game.new.source
@@ -35,16 +35,16 @@ module _ (g : Over) (c : After-write_game g) where
   abbrev written : Device
   written = device g.W.Sink.taken g.W.Sink.failures c.args.writer.now c.write_game.new.out
 
-  writes : WritesGame second_here.before second_here.after c.loop-mark.behind c.in-Some.mark c.write_game.new.self c.write_game.result
+  writes : WritesGame second_here.before second_here.after c.loop-marker.behind c.in-Some.marker c.write_game.new.self c.write_game.result
       sink_here.before sink_here.after
-  writes = unseen (λ d. WritesGame second_here.before second_here.after c.loop-mark.behind c.in-Some.mark c.write_game.new.self c.write_game.result d.before d.after)
-      _ sink_here c.loop-mark.invariant.second_writes c.write_game.ensures.writes
+  writes = unseen (λ d. WritesGame second_here.before second_here.after c.loop-marker.behind c.in-Some.marker c.write_game.new.self c.write_game.result d.before d.after)
+      _ sink_here c.loop-marker.invariant.second_writes c.write_game.ensures.writes
 
   counted : CountsReading c.write_game.result second_here sink_here
-  counted = unseen (CountsReading c.write_game.result second_here) _ sink_here c.loop-mark.invariant.second_writes c.write_game.ensures.counted
+  counted = unseen (CountsReading c.write_game.result second_here) _ sink_here c.loop-marker.invariant.second_writes c.write_game.ensures.counted
 
-pub loop-mark-init : goal.loop-mark-init
-loop-mark-init g c =
+pub loop-marker-init : goal.loop-marker-init
+loop-marker-init g c =
     record {
       first_going = c.write_nothing.ensures.going;
       second_going = c.new-behind.ensures.going;
@@ -57,54 +57,54 @@ loop-mark-init g c =
           (c.write_nothing.ensures.given _ _ _ (c.new-ahead.ensures.given _)) (c.new-behind.ensures.given _);
     }
 
-pub returns-in_err-mark-clause-converts : goal.returns-in_err-mark-clause-converts
-returns-in_err-mark-clause-converts g c =
-    let read = (goal.at.returns-in_err-mark-clause-converts g c).After-read_game in
-    let so = c.loop-mark.invariant in
-    let f = c.in_err-mark.field-0.0 in
+pub returns-in_err-marker-clause-converts : goal.returns-in_err-marker-clause-converts
+returns-in_err-marker-clause-converts g c =
+    let read = (goal.at.returns-in_err-marker-clause-converts g c).After-read_game in
+    let so = c.loop-marker.invariant in
+    let f = c.in_err-marker.field-0.0 in
     rw (error_returned _ c.from_residual.ensures.1)
-    (first_stops (q g read) (first g read) (second g read) (sink g read) _ c.loop-mark.ahead c.loop-mark.behind so.both f
-    (λ is. source_fails f.reason _ _ _ _ c.in_err-mark.ensures.counted is ∙ ap one_more so.first)
-    (c.in_err-mark.ensures.reads (q g read) _ so.both.first_tokens so.both.first_stands))
+    (first_stops (q g read) (first g read) (second g read) (sink g read) _ c.loop-marker.ahead c.loop-marker.behind so.both f
+    (λ is. source_fails f.reason _ _ _ _ c.in_err-marker.ensures.counted is ∙ ap one_more so.first)
+    (c.in_err-marker.ensures.reads (q g read) _ so.both.first_tokens so.both.first_stands))
 
-pub returns-in_err-mark-clause-counted : goal.returns-in_err-mark-clause-counted
-returns-in_err-mark-clause-counted g c =
-    let read = (goal.at.returns-in_err-mark-clause-counted g c).After-read_game in
-    let so = c.loop-mark.invariant in
+pub returns-in_err-marker-clause-counted : goal.returns-in_err-marker-clause-counted
+returns-in_err-marker-clause-counted g c =
+    let read = (goal.at.returns-in_err-marker-clause-counted g c).After-read_game in
+    let so = c.loop-marker.invariant in
     rw (error_returned _ c.from_residual.ensures.1)
-    (first_counts c.in_err-mark.field-0.0.reason (first g read) (second g read) (sink g read) _ so.first so.second so.sink c.in_err-mark.ensures.counted)
+    (first_counts c.in_err-marker.field-0.0.reason (first g read) (second g read) (sink g read) _ so.first so.second so.sink c.in_err-marker.ensures.counted)
 
 pub returns-clause-converts : goal.returns-clause-converts
 returns-clause-converts g c =
     let read = (goal.at.returns-clause-converts g c).After-read_game in
-    let so = c.loop-mark.invariant in
+    let so = c.loop-marker.invariant in
     let x = so.both in
-    let reads = rw c.in_default.is at c.in_ok-mark.ensures.reads in
-    both_end (q g read) (first g read) (second g read) (sink g read) _ c.loop-mark.ahead c.loop-mark.behind x c.read_game.new.self c.totals.result
-    (reads (q g read) _ x.first_tokens x.first_stands) (c.in_ok-mark.ensures.silent ∙ so.first_silent)
+    let reads = rw c.in_default.is at c.in_ok-marker.ensures.reads in
+    both_end (q g read) (first g read) (second g read) (sink g read) _ c.loop-marker.ahead c.loop-marker.behind x c.read_game.new.self c.totals.result
+    (reads (q g read) _ x.first_tokens x.first_stands) (c.in_ok-marker.ensures.silent ∙ so.first_silent)
     so.second_writes c.totals.ensures.games c.totals.ensures.plies
-    (c.totals.ensures.probes ∙ ap (λ n. max n c.loop-mark.behind.converter.reading.most_probes) c.most_probes.ensures.value)
+    (c.totals.ensures.probes ∙ ap (λ n. max n c.loop-marker.behind.converter.reading.most_probes) c.most_probes.ensures.value)
     (omega (arith, c.most_probes.ensures.value, c.most_probes.ensures.bound))
     (omega (arith, c.totals.ensures.probes, c.totals.ensures.bound))
 
-pub loop-mark-preserved : goal.loop-mark-preserved
-loop-mark-preserved g c =
-    let write = (goal.at.loop-mark-preserved g c).After-write_game in
-    let so = c.loop-mark.invariant in
+pub loop-marker-preserved : goal.loop-marker-preserved
+loop-marker-preserved g c =
+    let write = (goal.at.loop-marker-preserved g c).After-write_game in
+    let so = c.loop-marker.invariant in
     let x = so.both in
     let q = checked_profile g.row.T (g.row.L - 1) c.args.mode in
     let counts = rw c.in_ok-write_game.was at (counted g write) in
     record {
-      first_going = (rw c.in-Some.is at c.in_ok-mark.ensures.going).0;
+      first_going = (rw c.in-Some.is at c.in_ok-marker.ensures.going).0;
       second_going = c.in_ok-write_game.ensures.going;
-      first_silent = c.in_ok-mark.ensures.silent ∙ so.first_silent;
+      first_silent = c.in_ok-marker.ensures.silent ∙ so.first_silent;
       second_writes = c.in_ok-write_game.ensures.silent.silent ∙ so.second_writes;
-      first = c.in_ok-mark.ensures.counted.0 ∙ so.first;
+      first = c.in_ok-marker.ensures.counted.0 ∙ so.first;
       second = counts.0 ∙ so.second;
       sink = counts.1 ∙ so.sink;
       both =
-          both_more q _ _ _ _ c.loop-mark.ahead c.loop-mark.behind _ _ x c.in-Some.mark c.read_game.new.self c.write_game.new.self _ _ _
-          ((rw c.in-Some.is at c.in_ok-mark.ensures.reads) q _ x.first_tokens x.first_stands)
+          both_more q _ _ _ _ c.loop-marker.ahead c.loop-marker.behind _ _ x c.in-Some.marker c.read_game.new.self c.write_game.new.self _ _ _
+          ((rw c.in-Some.is at c.in_ok-marker.ensures.reads) q _ x.first_tokens x.first_stands)
           ((rw c.in_ok-write_game.was at (writes g write)) q _ x.second_tokens x.second_stands);
     }
 
@@ -113,12 +113,12 @@ returns-in_err-write_game-clause-converts g c =
     let here = goal.at.returns-in_err-write_game-clause-converts g c in
     let read = here.After-read_game in
     let write = here.After-write_game in
-    let so = c.loop-mark.invariant in
+    let so = c.loop-marker.invariant in
     let x = so.both in
     let f = c.in_err-write_game.field-0.0 in
     rw (error_returned _ c.from_residual-in_err-write_game.ensures.1)
-    (second_stops (q g read) (first g read) (second_read g write) (written g write) _ _ _ c.loop-mark.ahead c.loop-mark.behind x c.in-Some.mark c.read_game.new.self f
-    ((rw c.in-Some.is at c.in_ok-mark.ensures.reads) (q g read) _ x.first_tokens x.first_stands)
+    (second_stops (q g read) (first g read) (second_read g write) (written g write) _ _ _ c.loop-marker.ahead c.loop-marker.behind x c.in-Some.marker c.read_game.new.self f
+    ((rw c.in-Some.is at c.in_ok-marker.ensures.reads) (q g read) _ x.first_tokens x.first_stands)
     ((rw c.in_err-write_game.was at (writes g write)) (q g read) _ x.second_tokens x.second_stands)
     (λ is. source_fails f.reason _ _ _ _ c.in_err-write_game.ensures.counted is ∙ ap one_more so.second))
 
@@ -126,7 +126,7 @@ pub returns-in_err-write_game-clause-counted : goal.returns-in_err-write_game-cl
 returns-in_err-write_game-clause-counted g c =
     let here = goal.at.returns-in_err-write_game-clause-counted g c in
     let write = here.After-write_game in
-    let so = c.loop-mark.invariant in
+    let so = c.loop-marker.invariant in
     rw (error_returned _ c.from_residual-in_err-write_game.ensures.1)
     (second_counts c.in_err-write_game.field-0.0.reason (first g here.After-read_game) (second_read g write) (written g write) _ _
-    (c.in_ok-mark.ensures.counted.0 ∙ so.first) so.second so.sink (rw c.in_err-write_game.was at (counted g write)))
+    (c.in_ok-marker.ensures.counted.0 ∙ so.first) so.second so.sink (rw c.in_err-write_game.was at (counted g write)))

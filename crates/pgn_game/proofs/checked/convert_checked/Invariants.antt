@@ -1,8 +1,8 @@
 use Rattle.pgn_game.proofs.Words.{◌≡◌, ◌-◌, checked_profile, ◌^◌, BothSoFar, IsGoing, true, false}
 use Rattle.pgn_game.proofs.checked.convert_checked.Given as goal
 
-abbrev pub invariant-loop-mark : goal.invariant-loop-mark
-invariant-loop-mark g l =
+abbrev pub invariant-loop-marker : goal.invariant-loop-marker
+invariant-loop-marker g l =
     record {
       first_going : IsGoing l.ahead.converter;
       second_going : IsGoing l.behind.converter;
@@ -16,5 +16,5 @@ invariant-loop-mark g l =
           l.ahead l.behind (g.W.Sink.taken l.fn.writer) (g.W.Sink.taken l.writer);
     }
 
-abbrev pub decreases-loop-mark : goal.decreases-loop-mark
-decreases-loop-mark g l = 2 ^ 64 - l.ahead.converter.games
+abbrev pub decreases-loop-marker : goal.decreases-loop-marker
+decreases-loop-marker g l = 2 ^ 64 - l.ahead.converter.games

@@ -23,6 +23,6 @@ returns-then-is_finished-clause-goes g c =
       counted = λ none. (refl, refl);
     }
 
-pub read_game-requires : goal.read_game-requires
-read_game-requires g c =
+pub convert_game-requires : goal.convert_game-requires
+convert_game-requires g c =
     (search fits_alike, record { no_fault = sym c.fault.ensures ∙ c.in_default.is; not_finished = sym c.is_finished.ensures ∙ c.if-is_finished.false })

@@ -11,20 +11,20 @@ use Rattle.pgn_game.proofs.games.next_marker.Goals as goal
 
 -- All bytes that were not used yet were fed.
 module _ (g : Over) (c : In_default g) where
-  fed : FeedsRest (games_of c.loop-mark.converter c.loop-mark.buffer) (games_of c.feed_rest.new.converter c.feed_rest.new.buffer) (Ok None)
-      (sink_of c.args.converter.now.reading g.W.Sink.taken g.W.Sink.failures c.loop-mark.out c.feed_rest.new.out)
-  fed = rw c.in_default.is at (seen_alike (FeedsRest _ _ _) _ _ _ c.loop-mark.invariant.silent.silent c.in_ok-mark.ensures.feeds)
+  fed : FeedsRest (games_of c.loop-marker.converter c.loop-marker.buffer) (games_of c.feed_rest.new.converter c.feed_rest.new.buffer) (Ok None)
+      (sink_of c.args.converter.now.reading g.W.Sink.taken g.W.Sink.failures c.loop-marker.out c.feed_rest.new.out)
+  fed = rw c.in_default.is at (seen_alike (FeedsRest _ _ _) _ _ _ c.loop-marker.invariant.silent.silent c.in_ok-marker.ensures.feeds)
 
   all_fed : ReadsSoFar (games_of c.args.converter.now c.args.buffer.now) (games_of c.feed_rest.new.converter [])
-      (device g.R.Source.left g.R.Source.failures c.args.source.now c.loop-mark.source)
+      (device g.R.Source.left g.R.Source.failures c.args.source.now c.loop-marker.source)
       (sink_of c.args.converter.now.reading g.W.Sink.taken g.W.Sink.failures c.args.out.now c.feed_rest.new.out)
   all_fed p u given stands has_read =
-      let x = c.loop-mark.invariant.reads p u given stands has_read in
+      let x = c.loop-marker.invariant.reads p u given stands has_read in
       rest_read p u given _ _ _ _ _ x _ c.feed_rest.new.converter fed.keeps.written
-      (fed.feeds.1 p _ _ _ (reaches p u given _ _ _ _ _ x) (follows_own c.loop-mark.buffer))
+      (fed.feeds.1 p _ _ _ (reaches p u given _ _ _ _ _ x) (follows_own c.loop-marker.buffer))
 
-pub loop-mark-init : goal.loop-mark-init
-loop-mark-init g c =
+pub loop-marker-init : goal.loop-marker-init
+loop-marker-init g c =
     record {
       going = c.requires;
       games = refl;
@@ -36,33 +36,33 @@ loop-mark-init g c =
       reads = λ p u given stands has_read. none_yet p u given _ _ _ stands has_read;
     }
 
-pub returns-in_err-mark : goal.returns-in_err-mark
-returns-in_err-mark g c =
-    let so = c.loop-mark.invariant in
-    let fed = seen_alike (FeedsRest _ _ _) _ _ _ so.silent.silent c.in_err-mark.ensures.feeds in
+pub returns-in_err-marker : goal.returns-in_err-marker
+returns-in_err-marker g c =
+    let so = c.loop-marker.invariant in
+    let fed = seen_alike (FeedsRest _ _ _) _ _ _ so.silent.silent c.in_err-marker.ensures.feeds in
     record {
       reads = λ p u given stands has_read.
           let x = so.reads p u given stands has_read in
           rw (error_returned _ c.from_residual.ensures.1) (rest_stops p u given _ _ _ _ _ x _ c.feed_rest.new.converter fed.keeps.written _
-          (fed.feeds p _ _ _ (reaches p u given _ _ _ _ _ x) (follows_own c.loop-mark.buffer)));
+          (fed.feeds p _ _ _ (reaches p u given _ _ _ _ _ x) (follows_own c.loop-marker.buffer)));
       goes = rw (error_returned _ c.from_residual.ensures.1) (record {
         ready = tt;
         short = tt;
         keeps = keeps_behind so.games so.written so.probes fed.keeps refl;
-        counted = behind_still _ _ _ _ _ _ _ so.source so.sink (reader_reason c.in_err-mark.field-0.0.reason _ _ _ fed.counted);
+        counted = behind_still _ _ _ _ _ _ _ so.source so.sink (reader_reason c.in_err-marker.field-0.0.reason _ _ _ fed.counted);
       });
       silent = silence_then _ _ _ _ _ _ so.silent c.feed_rest.ensures.silent;
     }
 
 pub returns-in-Some : goal.returns-in-Some
 returns-in-Some g c =
-    let so = c.loop-mark.invariant in
-    let fed = rw c.in-Some.is at (seen_alike (FeedsRest _ _ _) _ _ _ so.silent.silent c.in_ok-mark.ensures.feeds) in
+    let so = c.loop-marker.invariant in
+    let fed = rw c.in-Some.is at (seen_alike (FeedsRest _ _ _) _ _ _ so.silent.silent c.in_ok-marker.ensures.feeds) in
     record {
       reads = λ p u given stands has_read.
           let x = so.reads p u given stands has_read in
-          rw fed.feeds.1 (marker_read p u given _ _ _ _ _ x _ c.feed_rest.new.converter fed.keeps.written fed.feeds.0 c.in-Some.mark
-          (fed.feeds.2 p _ _ _ (reaches p u given _ _ _ _ _ x) (follows_own c.loop-mark.buffer)));
+          rw fed.feeds.1 (marker_read p u given _ _ _ _ _ x _ c.feed_rest.new.converter fed.keeps.written fed.feeds.0 c.in-Some.marker
+          (fed.feeds.2 p _ _ _ (reaches p u given _ _ _ _ _ x) (follows_own c.loop-marker.buffer)));
       goes = record {
         ready = fed.ready;
         short = fed.short;
@@ -75,7 +75,7 @@ returns-in-Some g c =
 pub returns-in_err-read_more : goal.returns-in_err-read_more
 returns-in_err-read_more g c =
     let place = (goal.at.returns-in_err-read_more g c).In_default in
-    let so = c.loop-mark.invariant in
+    let so = c.loop-marker.invariant in
     let more = c.in_err-read_more.ensures.more in
     rw (error_returned _ c.from_residual-in_err-read_more.ensures.1, more.1) (record {
       reads = λ p u given stands has_read.
@@ -92,7 +92,7 @@ returns-in_err-read_more g c =
 pub returns-then-not-branch : goal.returns-then-not-branch
 returns-then-not-branch g c =
     let place = (goal.at.returns-then-not-branch g c).In_default in
-    let so = c.loop-mark.invariant in
+    let so = c.loop-marker.invariant in
     let more = rw c.if-not-branch.true at c.in_ok-read_more.ensures.more in
     rw more.0 (record {
       reads = λ p u given stands has_read.
@@ -106,10 +106,10 @@ returns-then-not-branch g c =
       silent = silence_then _ _ _ _ _ _ so.silent c.feed_rest.ensures.silent;
     })
 
-pub loop-mark-preserved : goal.loop-mark-preserved
-loop-mark-preserved g c =
-    let place = (goal.at.loop-mark-preserved g c).In_default in
-    let so = c.loop-mark.invariant in
+pub loop-marker-preserved : goal.loop-marker-preserved
+loop-marker-preserved g c =
+    let place = (goal.at.loop-marker-preserved g c).In_default in
+    let so = c.loop-marker.invariant in
     let keeps = (fed g place).keeps in
     let more = rw c.if-not-branch.false at c.in_ok-read_more.ensures.more in
     rw more.0 (record {

@@ -1,8 +1,8 @@
 use Rattle.pgn_game.proofs.Words.{◌≡◌, ◌+◌, ◌-◌, ◌^◌, ◌≤◌, length, device, sink_of, IsGoing, IsStill, KeepsSilence, games_of, as_written, ReadsSoFar}
 use Rattle.pgn_game.proofs.games.next_marker.Given as goal
 
-abbrev pub invariant-loop-mark : goal.invariant-loop-mark
-invariant-loop-mark g l =
+abbrev pub invariant-loop-marker : goal.invariant-loop-marker
+invariant-loop-marker g l =
     record {
       going : IsGoing l.converter;
       games : l.converter.games ≡ l.fn.converter.games;
@@ -16,5 +16,5 @@ invariant-loop-mark g l =
           (sink_of l.fn.converter.reading g.W.Sink.taken g.W.Sink.failures l.fn.out l.out);
     }
 
-abbrev pub decreases-loop-mark : goal.decreases-loop-mark
-decreases-loop-mark g l = (2 ^ 62 + 4096) - (l.converter.lexer.count + length l.buffer)
+abbrev pub decreases-loop-marker : goal.decreases-loop-marker
+decreases-loop-marker g l = (2 ^ 62 + 4096) - (l.converter.lexer.count + length l.buffer)

@@ -1,5 +1,5 @@
 use Rattle.pgn_game.proofs.ReaderFitsInMemory.{fits_reader}
 use Rattle.pgn_game.proofs.converter.Converter.announce_marker.Goals as goal
 
-pub tell-requires : goal.tell-requires
-tell-requires g c = search fits_reader
+pub announce_marker-requires : goal.announce_marker-requires
+announce_marker-requires g c = search fits_reader

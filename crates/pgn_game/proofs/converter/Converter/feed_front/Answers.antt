@@ -1,4 +1,4 @@
-use Rattle.pgn_game.specs.declared.converter.StepEnd.TheVariants.{Token as Other, Marker as AtMarker}
+use Rattle.pgn_game.specs.declared.converter.StepEnd.TheVariants.{NoMarker, Marker as AtMarker}
 use Rattle.pgn_game.proofs.Words.{KeepsSilence, ◌+◌, drop, sink_of, ◌≡◌, Ok, None, Some, arith, refl, ap, ◌∙◌, length, length-drop, take_rest, StepGoes, Steps}
 use Rattle.pgn_game.proofs.ReaderFitsInMemory.{fits_alike}
 use Rattle.pgn_game.proofs.putting.SilentReader.{seen_alike, silence_kept, silence_then}
@@ -7,7 +7,7 @@ use Rattle.pgn_game.proofs.tokens.RunsInPiece.{before_rest, goes_then}
 use Rattle.pgn_game.proofs.tokens.StepsAtEnd.{sound_at_none}
 use Rattle.pgn_game.proofs.tokens.StepsInPiece.{lets_go, so_far_none, reads_behind, stands_here, so_far_on, all_on, marker_on, fails_on}
 use Rattle.pgn_game.proofs.converter.Converter.feed_front.Goals as goal
-use Rattle.pgn_game.proofs.converter.Converter.feed_front.Goals.{After-step-step, In-Ok-Some-Token}
+use Rattle.pgn_game.proofs.converter.Converter.feed_front.Goals.{After-step-step, In-Ok-Some-NoMarker}
 
 pub loop-at-init : goal.loop-at-init
 loop-at-init g c =
@@ -37,11 +37,11 @@ module _ (g : _) (c : After-step-step g) where
   silent : KeepsSilence c.args.self.now.reading c.step-step.new.self.reading c.args.out.now c.step-step.new.out
   silent = silence_then _ _ _ _ _ _ c.loop-at.invariant.silent c.step-step.ensures.silent
 
-took : (g : _) (c : In-Ok-Some-Token g) → c.step-step.result.outcome ≡ Ok (Some Other)
+took : (g : _) (c : In-Ok-Some-NoMarker g) → c.step-step.result.outcome ≡ Ok (Some NoMarker)
 took g c =
-    let read : c.step-step.result.outcome ≡ Ok c.in-Ok-Some-Token.field-0 = c.in-Ok-Some-Token.is in
-    let some : c.in-Ok-Some-Token.field-0 ≡ Some c.in-Ok-Some-Token.field-0-0 = rw read at c.in-Ok-Some-Token.field-0-is in
-    read ∙ ap Ok (some ∙ ap Some (rw (read, some) at c.in-Ok-Some-Token.field-0-0-is))
+    let read : c.step-step.result.outcome ≡ Ok c.in-Ok-Some-NoMarker.field-0 = c.in-Ok-Some-NoMarker.is in
+    let some : c.in-Ok-Some-NoMarker.field-0 ≡ Some c.in-Ok-Some-NoMarker.field-0-0 = rw read at c.in-Ok-Some-NoMarker.field-0-is in
+    read ∙ ap Ok (some ∙ ap Some (rw (read, some) at c.in-Ok-Some-NoMarker.field-0-0-is))
 
 pub step-step-requires : goal.step-step-requires
 step-step-requires g c =
@@ -64,12 +64,12 @@ returns-in-Ok-None g c =
 
 pub loop-at-smaller : goal.loop-at-smaller
 loop-at-smaller g c =
-    let step = rw (took g (goal.at.loop-at-smaller g c).In-Ok-Some-Token) at (step g (goal.at.loop-at-smaller g c).After-step-step) in
+    let step = rw (took g (goal.at.loop-at-smaller g c).In-Ok-Some-NoMarker) at (step g (goal.at.loop-at-smaller g c).After-step-step) in
     omega (arith, step.advances, step.goes.within, length-drop c.loop-at.at c.args.piece.now, c.loop-at-test.true)
 
 pub loop-at-preserved : goal.loop-at-preserved
 loop-at-preserved g c =
-    let is = took g (goal.at.loop-at-preserved g c).In-Ok-Some-Token in
+    let is = took g (goal.at.loop-at-preserved g c).In-Ok-Some-NoMarker in
     let after = (goal.at.loop-at-preserved g c).After-step-step in
     let step = rw is at (step g after) in
     record {
@@ -86,7 +86,7 @@ pub returns-in-Ok-Some-Marker : goal.returns-in-Ok-Some-Marker
 returns-in-Ok-Some-Marker g c =
     let read : c.step-step.result.outcome ≡ Ok c.in-Ok-Some-Marker.field-0 = c.in-Ok-Some-Marker.is in
     let some : c.in-Ok-Some-Marker.field-0 ≡ Some c.in-Ok-Some-Marker.field-0-0 = rw read at c.in-Ok-Some-Marker.field-0-is in
-    let is : c.step-step.result.outcome ≡ Ok (Some (AtMarker c.in-Ok-Some-Marker.mark)) =
+    let is : c.step-step.result.outcome ≡ Ok (Some (AtMarker c.in-Ok-Some-Marker.marker)) =
     read ∙ ap Ok (some ∙ ap Some (rw (read, some) at c.in-Ok-Some-Marker.field-0-0-is)) in
     let after = (goal.at.returns-in-Ok-Some-Marker g c).After-step-step in
     let step = rw is at (step g after) in

@@ -7,8 +7,8 @@ use Rattle.pgn_game.proofs.tokens.MarkerToGame.{shows_due, shows_stop}
 use Rattle.pgn_game.proofs.converter.Converter.finish.Goals as goal
 use Rattle.pgn_game.proofs.converter.Converter.finish.Goals.{then-finished_game, else-finished_game}
 
-pub loop-mark-init : goal.loop-mark-init
-loop-mark-init g c =
+pub loop-marker-init : goal.loop-marker-init
+loop-marker-init g c =
     record {
       going = record { no_fault = rw (← c.self.view_is) c.in_default.is; not_finished = c.requires.not_finished };
       count = refl;
@@ -19,29 +19,29 @@ loop-mark-init g c =
     }
 
 pub finish_to_marker-requires : goal.finish_to_marker-requires
-finish_to_marker-requires g c = (search fits_alike, c.loop-mark.invariant.going)
+finish_to_marker-requires g c = (search fits_alike, c.loop-marker.invariant.going)
 
 pub end_game-requires : goal.end_game-requires
 end_game-requires g c =
-    (search fits_alike, rw c.in-Some-2.is at c.in_ok-mark.ensures.ends.ready)
+    (search fits_alike, rw c.in-Some-2.is at c.in_ok-marker.ensures.ends.ready)
 
-pub returns-in_err-mark-clause-ends : goal.returns-in_err-mark-clause-ends
-returns-in_err-mark-clause-ends g c =
+pub returns-in_err-marker-clause-ends : goal.returns-in_err-marker-clause-ends
+returns-in_err-marker-clause-ends g c =
     let e = err_from_is_err_and c.from_residual.result c.from_residual.ensures.1 in
-    let old = c.loop-mark.invariant in
-    let met = seen_alike (EndsToMarker _ _ _) _ _ _ old.silent.silent c.in_err-mark.ensures.ends in
+    let old = c.loop-marker.invariant in
+    let met = seen_alike (EndsToMarker _ _ _) _ _ _ old.silent.silent c.in_err-marker.ensures.ends in
     rw (e.1, e.2) (λ p u b given stands.
     let so = old.finishes p u b given stands in
-    failed_input p u given _ _ _ _ so _ (shows_stop p _ _ c.in_err-mark.field-0.0 stands.known (λ silent. none_fails {A = Unit} _ (Err c.in_err-mark.field-0.0)
-    (device g.W.Sink.taken g.W.Sink.failures c.loop-mark.out c.finish_to_marker.new.out) silent met.counted))
+    failed_input p u given _ _ _ _ so _ (shows_stop p _ _ c.in_err-marker.field-0.0 stands.known (λ silent. none_fails {A = Unit} _ (Err c.in_err-marker.field-0.0)
+    (device g.W.Sink.taken g.W.Sink.failures c.loop-marker.out c.finish_to_marker.new.out) silent met.counted))
     c.args.self.now.lexer c.finish_to_marker.new.self _
     (left_of p c.args.self.now u b given stands) stands.has_read.passes (met.ends p u _ so.left so.has_read) met.keeps.games)
 
 pub returns-in_err-end_game-in-Some-2-clause-ends : goal.returns-in_err-end_game-in-Some-2-clause-ends
 returns-in_err-end_game-in-Some-2-clause-ends g c =
     let e = err_from_is_err_and c.from_residual-in_err-end_game-in-Some-2.result c.from_residual-in_err-end_game-in-Some-2.ensures.1 in
-    let old = c.loop-mark.invariant in
-    let met = rw c.in-Some-2.is at (seen_alike (EndsToMarker _ _ _) _ _ _ old.silent.silent c.in_ok-mark.ensures.ends) in
+    let old = c.loop-marker.invariant in
+    let met = rw c.in-Some-2.is at (seen_alike (EndsToMarker _ _ _) _ _ _ old.silent.silent c.in_ok-marker.ensures.ends) in
     let quiet = silence_then _ _ _ _ _ _ old.silent c.finish_to_marker.ensures.silent in
     let ended = seen_alike (EndsGame _ _ _ _) _ _ _ quiet.silent c.in_err-end_game-in-Some-2.ensures.ends in
     let counts = seen_alike (CountsGame _ _ _) _ _ _ quiet.silent c.in_err-end_game-in-Some-2.ensures.counts in
@@ -49,13 +49,13 @@ returns-in_err-end_game-in-Some-2-clause-ends g c =
     let so = old.finishes p u b given stands in
     failed_game p u given _ _ _ _ so _ (shows_stop p _ _ c.in_err-end_game-in-Some-2.field-0.0 stands.known (λ silent. none_fails {A = Unit} _ (Err c.in_err-end_game-in-Some-2.field-0.0)
     (device g.W.Sink.taken g.W.Sink.failures c.finish_to_marker.new.out c.end_game.new.out) silent counts.counted))
-    c.args.self.now.lexer c.in-Some-2.mark c.finish_to_marker.new.self c.end_game.new.self _
+    c.args.self.now.lexer c.in-Some-2.marker c.finish_to_marker.new.self c.end_game.new.self _
     (left_of p c.args.self.now u b given stands) stands.has_read.passes (met.ends p u _ so.left so.has_read) ended counts met.keeps.games)
 
-pub loop-mark-preserved : goal.loop-mark-preserved
-loop-mark-preserved g c =
-    let old = c.loop-mark.invariant in
-    let met = rw c.in-Some-2.is at (seen_alike (EndsToMarker _ _ _) _ _ _ old.silent.silent c.in_ok-mark.ensures.ends) in
+pub loop-marker-preserved : goal.loop-marker-preserved
+loop-marker-preserved g c =
+    let old = c.loop-marker.invariant in
+    let met = rw c.in-Some-2.is at (seen_alike (EndsToMarker _ _ _) _ _ _ old.silent.silent c.in_ok-marker.ensures.ends) in
     let quiet = silence_then _ _ _ _ _ _ old.silent c.finish_to_marker.ensures.silent in
     let ended = seen_alike (EndsGame _ _ _ _) _ _ _ quiet.silent c.in_ok-end_game-in-Some-2.ensures.ends in
     let counts = seen_alike (CountsGame _ _ _) _ _ _ quiet.silent c.in_ok-end_game-in-Some-2.ensures.counts in
@@ -67,7 +67,7 @@ loop-mark-preserved g c =
       silent = silence_then _ _ _ _ _ _ quiet c.end_game.ensures.silent;
       finishes = λ p u b given stands.
           let so = old.finishes p u b given stands in
-          ended_game p u given _ _ _ _ so (shows_due p _ _ stands.known) c.in-Some-2.mark c.finish_to_marker.new.self c.end_game.new.self _
+          ended_game p u given _ _ _ _ so (shows_due p _ _ stands.known) c.in-Some-2.marker c.finish_to_marker.new.self c.end_game.new.self _
           (met.ends p u _ so.left so.has_read) ended counts;
     }
 
@@ -76,9 +76,9 @@ is_between-self-inside-requires g c = search fits_reader
 
 pub returns-in-None-clause-ends : goal.returns-in-None-clause-ends
 returns-in-None-clause-ends g c =
-    let old = c.loop-mark.invariant in
+    let old = c.loop-marker.invariant in
     let self = c.self-in-None in
-    let met = rw (c.in-None.is, ← self.view_is) at (seen_alike (EndsToMarker _ _ _) _ _ _ old.silent.silent c.in_ok-mark.ensures.ends) in
+    let met = rw (c.in-None.is, ← self.view_is) at (seen_alike (EndsToMarker _ _ _) _ _ _ old.silent.silent c.in_ok-marker.ensures.ends) in
     λ p u b given stands.
     let so = old.finishes p u b given stands in
     let to = met.ends p u _ so.left so.has_read in
@@ -96,4 +96,4 @@ invariant_of-self g c =
       | then-finished_game w ↦ w.is_between-self-inside.ensures.0 (sym w.self-is ∙ is)
       | else-finished_game w ↦ absurd (false≢true (sym w.if-finished_game.false ∙ sym w.self-is ∙ is))
     ])
-    (rw (← self.view_is) at c.in_ok-mark.ensures.ends.keeps.fault)
+    (rw (← self.view_is) at c.in_ok-marker.ensures.ends.keeps.fault)

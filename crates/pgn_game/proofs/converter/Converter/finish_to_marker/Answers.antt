@@ -7,8 +7,8 @@ use Rattle.pgn_game.proofs.tokens.StepsAtEnd.{sound_at_none}
 use Rattle.pgn_game.proofs.tokens.FinishesGames.{left_none, left_more, left_marker, left_end, left_fault}
 use Rattle.pgn_game.proofs.converter.Converter.finish_to_marker.Goals as goal
 
-pub loop-mark-init : goal.loop-mark-init
-loop-mark-init g c =
+pub loop-marker-init : goal.loop-marker-init
+loop-marker-init g c =
     rw (← c.self.view_is) (record {
       keeps = keeps_at_start refl (rw (← c.self.view_is) at c.requires);
       count = refl;
@@ -21,7 +21,7 @@ loop-mark-init g c =
 pub returns-in_err-step_at_end-clause-ends : goal.returns-in_err-step_at_end-clause-ends
 returns-in_err-step_at_end-clause-ends g c =
     let e = err_from_is_err_and c.from_residual.result c.from_residual.ensures.1 in
-    let old = c.loop-mark.invariant in
+    let old = c.loop-marker.invariant in
     let step = seen_alike (StepsAtEnd _ _ _) _ _ _ old.silent.silent c.in_err-step_at_end.ensures.steps in
     rw (e.1, e.2) (record {
       ends = λ p u given left has_read.
@@ -36,19 +36,19 @@ returns-in_err-step_at_end-clause-ends g c =
 
 pub step_at_end-requires : goal.step_at_end-requires
 step_at_end-requires g c =
-    let now = c.loop-mark.invariant.keeps in
+    let now = c.loop-marker.invariant.keeps in
     (search fits_alike, record { no_fault = now.fault; not_finished = now.finished; none_just_finished = now.none_just_finished })
 
-pub loop-mark-smaller : goal.loop-mark-smaller
-loop-mark-smaller g c = rw (c.in-Some-Token.is ∙ ap Some c.in-Some-Token.field-0-is) at c.in_ok-step_at_end.ensures.steps.advances
+pub loop-marker-smaller : goal.loop-marker-smaller
+loop-marker-smaller g c = rw (c.in-Some-NoMarker.is ∙ ap Some c.in-Some-NoMarker.field-0-is) at c.in_ok-step_at_end.ensures.steps.advances
 
 pub invariant_of-self : goal.invariant_of-self
 invariant_of-self g c = sound_at_none _ _ _ _ _ _ c.self.invariant
 
-pub loop-mark-preserved : goal.loop-mark-preserved
-loop-mark-preserved g c =
-    let old = c.loop-mark.invariant in
-    let step = rw (c.in-Some-Token.is ∙ ap Some c.in-Some-Token.field-0-is) at
+pub loop-marker-preserved : goal.loop-marker-preserved
+loop-marker-preserved g c =
+    let old = c.loop-marker.invariant in
+    let step = rw (c.in-Some-NoMarker.is ∙ ap Some c.in-Some-NoMarker.field-0-is) at
     (seen_alike (StepsAtEnd _ _ _) _ _ _ old.silent.silent c.in_ok-step_at_end.ensures.steps) in
     record {
       keeps = keeps_then old.keeps (keeps_as step.keeps refl);
@@ -63,7 +63,7 @@ loop-mark-preserved g c =
 
 pub returns-in-Some-Marker-clause-ends : goal.returns-in-Some-Marker-clause-ends
 returns-in-Some-Marker-clause-ends g c =
-    let old = c.loop-mark.invariant in
+    let old = c.loop-marker.invariant in
     let step = rw (c.in-Some-Marker.is ∙ ap Some c.in-Some-Marker.field-0-is) at
     (seen_alike (StepsAtEnd _ _ _) _ _ _ old.silent.silent c.in_ok-step_at_end.ensures.steps) in
     record {
@@ -79,7 +79,7 @@ returns-in-Some-Marker-clause-ends g c =
 
 pub returns-in-None-clause-ends : goal.returns-in-None-clause-ends
 returns-in-None-clause-ends g c =
-    let old = c.loop-mark.invariant in
+    let old = c.loop-marker.invariant in
     let step = rw c.in-None.is at (seen_alike (StepsAtEnd _ _ _) _ _ _ old.silent.silent c.in_ok-step_at_end.ensures.steps) in
     record {
       ends = λ p u given left has_read.

@@ -1,4 +1,4 @@
-use Rattle.pgn_game.specs.declared.converter.StepEnd.TheVariants.{Token as Other}
+use Rattle.pgn_game.specs.declared.converter.StepEnd.TheVariants.{NoMarker}
 use Rattle.pgn_game.proofs.Words.{IsSound, false, sink_of, kind_of, ◌≡◌, ◌∙◌, arith, ap, None, Ok, Some, take_rest, device, drop, may_have_movetext, refl, Steps, outcome_at, MeetsEntry, TakesUnlessMarker}
 use Rattle.pgn_game.proofs.ReaderFitsInMemory.{fits_alike, fits_reader}
 use Rattle.pgn_game.proofs.putting.SilentReader.{seen_alike, silence_kept, silence_then}
@@ -99,7 +99,7 @@ returns-in_default-met-clause-steps g c =
     (steps_behind _ _ _ _ _ _ _ _ _ _ _ _ _ c.loop-used-test.true here.runs (steps g (goal.at.returns-in_default-met-clause-steps g c).After-accept_entry-met))
 
 -- What the loop has taken when it ends. Behind its last token it may have passed numbers.
-ran : (g : _) (c : Left-loop-used g) → Runs c.args.self.now c.args.piece.now c.loop-used-test.self c.loop-used-test.used (Ok (Some Other))
+ran : (g : _) (c : Left-loop-used g) → Runs c.args.self.now c.args.piece.now c.loop-used-test.self c.loop-used-test.used (Ok (Some NoMarker))
     (sink_of c.args.self.now.reading g.W.Sink.taken g.W.Sink.failures c.args.out.now c.loop-used.out)
 ran g c =
     let here = c.loop-used.invariant in
@@ -114,7 +114,7 @@ ran g c =
 
 pub returns-then-used-piece-clause-steps : goal.returns-then-used-piece-clause-steps
 returns-then-used-piece-clause-steps g c =
-    steps_run (Ok (Some Other)) (omega (arith, c.requires.piece.some, c.if-used-piece.true))
+    steps_run (Ok (Some NoMarker)) (omega (arith, c.requires.piece.some, c.if-used-piece.true))
     (ran g (goal.at.returns-then-used-piece-clause-steps g c).Left-loop-used)
 
 pub step_on-step-requires : goal.step_on-step-requires

@@ -1,5 +1,5 @@
 use Rattle.pgn_game.proofs.Words.{◌≡◌, ◌-◌, false, None, Some, Ok, length, sink_of, KeepsSilence, InMovetext, IsSound}
-use Rattle.pgn_game.specs.declared.converter.StepEnd.TheVariants.{Token as Other}
+use Rattle.pgn_game.specs.declared.converter.StepEnd.TheVariants.{NoMarker}
 use Rattle.pgn_game.proofs.tokens.RunsInPiece.{Runs}
 use Rattle.pgn_game.proofs.tokens.AcceptedToConverter.{now_at}
 use Rattle.pgn_game.proofs.converter.Converter.run_movetext.Given as goal
@@ -12,7 +12,7 @@ invariant-loop-used g l = record {
   fault : l.self-inside.fault ≡ None;
   stage : l.self-inside.reader.stage ≡ InMovetext;
   sound : IsSound l.self-inside.lexer l.self-inside.reader l.self-inside.games false false None;
-  runs : Runs l.fn.self l.piece (now_at l.self-inside.lexer l.self-inside.reader l.self-inside.games false) l.used (Ok (Some Other))
+  runs : Runs l.fn.self l.piece (now_at l.self-inside.lexer l.self-inside.reader l.self-inside.games false) l.used (Ok (Some NoMarker))
       (sink_of l.fn.self.reading g.W.Sink.taken g.W.Sink.failures l.fn.out l.out);
   silent : KeepsSilence l.fn.self.reading l.self-inside.reader l.fn.out l.out;
 }

@@ -1,4 +1,4 @@
-use Rattle.pgn_game.specs.declared.converter.StepEnd.TheVariants.{Token as Other}
+use Rattle.pgn_game.specs.declared.converter.StepEnd.TheVariants.{NoMarker}
 use Rattle.pgn_game.proofs.Words.{IsSound, List, Option, ℕ, refl, None, false, ◌<◌, take_rest, IsTrue, Ok, Some, false≢true, length, arith}
 use Rattle.pgn_game.proofs.ReaderFitsInMemory.{fits_alike, fits_reader}
 use Rattle.pgn_game.proofs.tokens.AcceptedToConverter.{now_at}
@@ -15,7 +15,7 @@ not_in_movetext skipped = absurd (false≢true skipped)
 -- Behind white space no token lies whole in the piece.
 module _ (g : _) (c : In_default g) where
   passed : (o : Option (List ℕ)) (failures : ℕ) → Runs (now_at c.self.inside.lexer c.self.inside.reader c.self.inside.games false) c.args.piece.now
-      (now_at c.whole_token-used.new.self c.self.inside.reader c.self.inside.games false) c.whole_token-used.result.0 (Ok (Some Other)) (between o o failures failures)
+      (now_at c.whole_token-used.new.self c.self.inside.reader c.self.inside.games false) c.whole_token-used.result.0 (Ok (Some NoMarker)) (between o o failures failures)
   passed o failures =
       let old = fields_before c.self.view_is c.self.invariant c.requires.before in
       runs_past _ _ _ _ old.sound (short_before c.self.view_is c.requires) not_in_movetext
@@ -62,7 +62,7 @@ returns-then-used-piece-clause-steps g c =
     let old = fields_before c.self.view_is c.self.invariant c.requires.before in
     let some : 0 < c.whole_token-used.result.0 = omega (arith, c.requires.some, c.if-used-piece.true) in
     rw (old.flag, old.none, old.not_over)
-    (steps_of _ _ _ _ old.same (steps_run (Ok (Some Other)) some (passed g (goal.at.returns-then-used-piece-clause-steps g c).In_default _ _)))
+    (steps_of _ _ _ _ old.same (steps_run (Ok (Some NoMarker)) some (passed g (goal.at.returns-then-used-piece-clause-steps g c).In_default _ _)))
 
 pub invariant_of-self-else-used-eq0 : goal.invariant_of-self-else-used-eq0
 invariant_of-self-else-used-eq0 g c = still_sound g (goal.at.invariant_of-self-else-used-eq0 g c).In_default

@@ -1,55 +1,55 @@
--- One token more, of either reading: the marks of the first, and the tokens of the second up to a
--- mark.
-use Rattle.pgn_game.proofs.Words.{Token, Reason, Profile, Game, Part, ◌≡◌, ℕ, Bool, false, ◌||◌, is_some, List, [], ◌∷◌, ◌++◌, length, Option, None, Some, refl, sym, ap, subst, ◌∙◌, append_assoc, append-nil, tokens_of, RisesTo, TokensRise, refusal, is_end, Next, going, whole, next, Progress, progress_with, no_progress, progress_after, Read, read, read_from, Mark, mark_at, marks, marks_from, is_other, is_changed, marks_after, compared_from, compared, HasMarked, HasMatched, SameGames, part_after, arith, common_steps}
-use Rattle.pgn_game.proofs.EqualReadings.{after_marks, marks_test, after_change, change_test}
+-- One token more, of either reading: the markers of the first, and the tokens of the second up to a
+-- marker.
+use Rattle.pgn_game.proofs.Words.{Token, Reason, Profile, Game, Part, ◌≡◌, ℕ, Bool, false, ◌||◌, is_some, List, [], ◌∷◌, ◌++◌, length, Option, None, Some, refl, sym, ap, subst, ◌∙◌, append_assoc, append-nil, tokens_of, RisesTo, TokensRise, refusal, is_end, Next, going, whole, next, Progress, progress_with, no_progress, progress_after, Read, read, read_from, PlacedMarker, marker_at, markers, markers_from, is_other, is_changed, markers_after, compared_from, compared, HasMarkers, HasMatched, SameGames, part_after, arith, common_steps}
+use Rattle.pgn_game.proofs.EqualReadings.{after_markers, markers_test, after_change, change_test}
 use Rattle.pgn_game.proofs.reading.RunsToEnd.{not_end}
 use Rattle.pgn_game.proofs.tokens.NoneBeforeFault.{reads_behind}
 use Rattle.pgn_game.proofs.tokens.OneMoreToken.{first_passes, goes_on, read-passes}
 use Rattle.pgn_game.proofs.twice.CountingToTaking.{game_stays}
 
-module _ (q : Profile) (given : List Token) (t : Token) (ms : List Mark) where
-  marked_token : (read q given).fault ≡ None → refusal q (part_after q given) t.kind ≡ None → HasMarked q given ms → HasMarked q (given ++ t ∷ [])
-      (ms ++ mark_at t.at (next (part_after q given) t.kind))
+module _ (q : Profile) (given : List Token) (t : Token) (ms : List PlacedMarker) where
+  marked_token : (read q given).fault ≡ None → refusal q (part_after q given) t.kind ≡ None → HasMarkers q given ms → HasMarkers q (given ++ t ∷ [])
+      (ms ++ marker_at t.at (next (part_after q given) t.kind))
   marked_token passes free so ts =
-      grind (arith, common_steps, append_assoc, marks_test, read-passes)
+      grind (arith, common_steps, append_assoc, markers_test, read-passes)
 
   pub marked_more : (to : Part) → (read q given).fault ≡ None → refusal q (part_after q given) t.kind ≡ None
-      → next (part_after q given) t.kind ≡ going to → HasMarked q given ms → HasMarked q (given ++ t ∷ []) ms
+      → next (part_after q given) t.kind ≡ going to → HasMarkers q given ms → HasMarkers q (given ++ t ∷ []) ms
   marked_more to passes free leads so = grind (arith, common_steps, append-nil, marked_token)
 
   pub marked_game : (g : Game) → (read q given).fault ≡ None → refusal q (part_after q given) t.kind ≡ None
-      → next (part_after q given) t.kind ≡ whole g → HasMarked q given ms → HasMarked q (given ++ t ∷ [])
+      → next (part_after q given) t.kind ≡ whole g → HasMarkers q given ms → HasMarkers q (given ++ t ∷ [])
       (ms ++ record { text = g.marker; at = t.at } ∷ [])
   marked_game g passes free leads so = grind (arith, common_steps, marked_token)
 
-pub matched_mark : (q : Profile) (ms : List Mark) (m : Mark) (us : List Token)
+pub matched_marker : (q : Profile) (ms : List PlacedMarker) (m : PlacedMarker) (us : List Token)
     → HasMatched q ms us [] → HasMatched q (ms ++ m ∷ []) us (m ∷ [])
-matched_mark q ms m us so ns ts =
-    ap (λ (l : List Mark). compared_from q l no_progress (us ++ ts)) (append_assoc ms (m ∷ []) ns) ∙ so (m ∷ ns) ts
+matched_marker q ms m us so ns ts =
+    ap (λ (l : List PlacedMarker). compared_from q l no_progress (us ++ ts)) (append_assoc ms (m ∷ []) ns) ∙ so (m ∷ ns) ts
 
 -- a token that shows no difference is not rejected
 pub either_false : (o : Option Reason) (other : Bool) → (is_some o || other) ≡ false → (o ≡ None) × (other ≡ false)
 either_false None other same = (refl, same)
 either_false (Some reason) other same = absurd (cc)
 
-pub not_changed : (q : Profile) (m : Mark) (part : Part) (t : Token) → is_changed q m part t ≡ false
+pub not_changed : (q : Profile) (m : PlacedMarker) (part : Part) (t : Token) → is_changed q m part t ≡ false
     → (refusal q part t.kind ≡ None) × (is_other m (next part t.kind) t ≡ false)
 not_changed q m part t same = either_false (refusal q part t.kind) (is_other m (next part t.kind) t) same
 
-marks_behind : (n : Next) (m : Mark) (ns : List Mark) → marks_after n m ns ≡ marks_after n m [] ++ ns
-marks_behind (going to) m ns = refl
-marks_behind (whole g) m ns = refl
+markers_behind : (n : Next) (m : PlacedMarker) (ns : List PlacedMarker) → markers_after n m ns ≡ markers_after n m [] ++ ns
+markers_behind (going to) m ns = refl
+markers_behind (whole g) m ns = refl
 
-module _ (q : Profile) (ms : List Mark) (m : Mark) (us : List Token) (t : Token) where
+module _ (q : Profile) (ms : List PlacedMarker) (m : PlacedMarker) (us : List Token) (t : Token) where
   matched_token : (read q us).fault ≡ None → is_changed q m (part_after q us) t ≡ false → HasMatched q ms us (m ∷ [])
-      → HasMatched q ms (us ++ t ∷ []) (marks_after (next (part_after q us) t.kind) m [])
+      → HasMatched q ms (us ++ t ∷ []) (markers_after (next (part_after q us) t.kind) m [])
   matched_token passes same so ns ts =
-      grind (arith, common_steps, append_assoc, change_test, marks_behind, read-passes, not_changed)
+      grind (arith, common_steps, append_assoc, change_test, markers_behind, read-passes, not_changed)
 
   pub matched_next : (n : Next) → (read q us).fault ≡ None → is_changed q m (part_after q us) t ≡ false → next (part_after q us) t.kind ≡ n
-      → HasMatched q ms us (m ∷ []) → HasMatched q ms (us ++ t ∷ []) (marks_after n m [])
+      → HasMatched q ms us (m ∷ []) → HasMatched q ms (us ++ t ∷ []) (markers_after n m [])
   matched_next n passes same leads so =
-      subst (λ (n : Next). HasMatched q ms (us ++ t ∷ []) (marks_after n m [])) leads (matched_token passes same so)
+      subst (λ (n : Next). HasMatched q ms (us ++ t ∷ []) (markers_after n m [])) leads (matched_token passes same so)
 
 -- Tokens that finish no game.
 
@@ -99,17 +99,17 @@ module _ (q : Profile) (b : Progress) (t : Token) (ts : List Token) (passes : (r
   pub then_passes : (read_from q (progress_after b t) ts).fault ≡ None
   then_passes = ap (λ (r : Read). r.fault) (sym here) ∙ passes
 
-quiet_marks : (q : Profile) (b : Progress) (more ts : List Token) → (read_from q b more).fault ≡ None
+quiet_markers : (q : Profile) (b : Progress) (more ts : List Token) → (read_from q b more).fault ≡ None
     → length (read_from q b more).progress.games ≡ length b.games
-    → marks_from q b (more ++ ts) ≡ marks_from q (read_from q b more).progress ts
-quiet_marks q b [] ts passes same = refl
-quiet_marks q b (t ∷ us) ts passes same =
-    marks_test q b t (us ++ ts) ∙ ap (after_marks q b t (us ++ ts)) (free q b t us passes same)
-    ∙ ap (λ (n : Next). mark_at t.at n ++ marks_from q (progress_after b t) (us ++ ts)) (leads q b t us passes same).1
-    ∙ quiet_marks q (progress_after b t) us ts (then_passes q b t us passes same) (then_same q b t us passes same)
-    ∙ ap (λ (r : Read). marks_from q r.progress ts) (sym (here q b t us passes same))
+    → markers_from q b (more ++ ts) ≡ markers_from q (read_from q b more).progress ts
+quiet_markers q b [] ts passes same = refl
+quiet_markers q b (t ∷ us) ts passes same =
+    markers_test q b t (us ++ ts) ∙ ap (after_markers q b t (us ++ ts)) (free q b t us passes same)
+    ∙ ap (λ (n : Next). marker_at t.at n ++ markers_from q (progress_after b t) (us ++ ts)) (leads q b t us passes same).1
+    ∙ quiet_markers q (progress_after b t) us ts (then_passes q b t us passes same) (then_same q b t us passes same)
+    ∙ ap (λ (r : Read). markers_from q r.progress ts) (sym (here q b t us passes same))
 
-quiet_compared : (q : Profile) (m : Mark) (ns : List Mark) (b : Progress) (more ts : List Token) → HasNoEnd more
+quiet_compared : (q : Profile) (m : PlacedMarker) (ns : List PlacedMarker) (b : Progress) (more ts : List Token) → HasNoEnd more
     → (read_from q b more).fault ≡ None → length (read_from q b more).progress.games ≡ length b.games
     → compared_from q (m ∷ ns) b (more ++ ts) ≡ compared_from q (m ∷ ns) (read_from q b more).progress ts
 quiet_compared q m ns b [] ts no_end passes same = refl
@@ -119,11 +119,11 @@ quiet_compared q m ns b (t ∷ us) ts no_end passes same =
     ∙ ap (λ (o : Option Reason). after_change q m ns b t (us ++ ts) (is_some o || is_other m (next b.part t.kind) t)) (free q b t us passes same)
     ∙ ap (λ (n : Next). after_change q m ns b t (us ++ ts) (is_other m n t)) to.1
     ∙ ap (after_change q m ns b t (us ++ ts)) no_end.0
-    ∙ ap (λ (n : Next). compared_from q (marks_after n m ns) (progress_after b t) (us ++ ts)) to.1
+    ∙ ap (λ (n : Next). compared_from q (markers_after n m ns) (progress_after b t) (us ++ ts)) to.1
     ∙ quiet_compared q m ns (progress_after b t) us ts no_end.1 (then_passes q b t us passes same) (then_same q b t us passes same)
     ∙ ap (λ (r : Read). compared_from q (m ∷ ns) r.progress ts) (sym (here q b t us passes same))
 
--- They bring no mark more, and show no difference.
+-- They bring no marker more, and show no difference.
 module _ (q : Profile) (given more : List Token) (before : (read q given).fault ≡ None)
     (passes : (read q (given ++ more)).fault ≡ None) (same : SameGames q given (given ++ more)) where
   behind : read q (given ++ more) ≡ read_from q (read q given).progress more
@@ -135,15 +135,15 @@ module _ (q : Profile) (given more : List Token) (before : (read q given).fault 
   more_same : length (read_from q (read q given).progress more).progress.games ≡ length (read q given).progress.games
   more_same = ap (λ (r : Read). length r.progress.games) (sym behind) ∙ ap (length {A = Game}) same
 
-  pub marked_on : (ms : List Mark) → HasMarked q given ms → HasMarked q (given ++ more) ms
-  marked_on ms so ts = grind (arith, common_steps, marks, append_assoc, quiet_marks, read, more_passes, more_same, marks_from, behind)
+  pub marked_on : (ms : List PlacedMarker) → HasMarkers q given ms → HasMarkers q (given ++ more) ms
+  marked_on ms so ts = grind (arith, common_steps, markers, append_assoc, quiet_markers, read, more_passes, more_same, markers_from, behind)
 
-  pub matched_on : HasNoEnd more → (ms : List Mark) (m : Mark) → HasMatched q ms given (m ∷ []) → HasMatched q ms (given ++ more) (m ∷ [])
+  pub matched_on : HasNoEnd more → (ms : List PlacedMarker) (m : PlacedMarker) → HasMatched q ms given (m ∷ []) → HasMatched q ms (given ++ more) (m ∷ [])
   matched_on no_end ms m so ns ts =
       grind (arith, common_steps, compared_from, no_progress, append_assoc, quiet_compared, read, more_passes, more_same, behind)
 
 -- both readings, whatever comes behind them
-pub both_read : (q : Profile) (ts us vs ws : List Token) (ms left : List Mark) → HasMarked q ts ms → HasMatched q ms us left
-    → compared q (ts ++ vs) (us ++ ws) ≡ compared_from q (left ++ marks_from q (read q ts).progress vs) (read q us).progress ws
+pub both_read : (q : Profile) (ts us vs ws : List Token) (ms left : List PlacedMarker) → HasMarkers q ts ms → HasMatched q ms us left
+    → compared q (ts ++ vs) (us ++ ws) ≡ compared_from q (left ++ markers_from q (read q ts).progress vs) (read q us).progress ws
 both_read q ts us vs ws ms left marked so =
-    ap (λ (l : List Mark). compared_from q l no_progress (us ++ ws)) (marked vs) ∙ so (marks_from q (read q ts).progress vs) ws
+    ap (λ (l : List PlacedMarker). compared_from q l no_progress (us ++ ws)) (marked vs) ∙ so (markers_from q (read q ts).progress vs) ws

@@ -4,7 +4,7 @@ use Rattle.pgn_game.proofs.putting.SilentReader.{seen_alike, silence_then}
 use Rattle.pgn_game.proofs.tokens.MarkerToGame.{reads_none}
 use Rattle.pgn_game.proofs.twice.MarkerToReading.{all_used, behind_source, counts_behind, counts_then, met_at_end, met_in_source, stops_in_source, within_source}
 use Rattle.pgn_game.proofs.reader.ErrorReturned.{error_returned}
-use Rattle.pgn_game.proofs.checked.Reading.next_marker.Goals as goal
+use Rattle.pgn_game.proofs.checked.Reading.read_to_marker.Goals as goal
 
 pub next_marker-requires : goal.next_marker-requires
 next_marker-requires g c = (search reading_fits_converter, rw (← c.self.view_is) at c.requires.going)
@@ -14,7 +14,7 @@ finish_to_marker-requires g c = (search reading_fits_converter, rw (← c.self.v
 
 pub finish_to_marker-requires-2 : goal.finish_to_marker-requires-2
 finish_to_marker-requires-2 g c =
-    (search reading_fits_converter, record { no_fault = c.in_ok-mark.ensures.goes.keeps.fault; not_finished = c.next_marker.ensures.goes.keeps.finished })
+    (search reading_fits_converter, record { no_fault = c.in_ok-marker.ensures.goes.keeps.fault; not_finished = c.next_marker.ensures.goes.keeps.finished })
 
 pub returns-then-self : goal.returns-then-self
 returns-then-self g c =
@@ -39,20 +39,20 @@ returns-then-self g c =
       silent = c.finish_to_marker.ensures.silent;
     })
 
-pub returns-in_err-mark : goal.returns-in_err-mark
-returns-in_err-mark g c =
+pub returns-in_err-marker : goal.returns-in_err-marker
+returns-in_err-marker g c =
     let read = c.next_marker.ensures in
     rw (← c.self.view_is, error_returned _ c.from_residual.ensures.1)
     (record {
       reads = record {
         reads = λ q left_old given h.
             stops_in_source q left_old _ _ given h.come.bytes h.come.consumed _ _ _ _
-            (c.in_err-mark.ensures.reads q h.come.bytes given (within_source q left_old _ _ given h c.if-self.false) h.has_read);
+            (c.in_err-marker.ensures.reads q h.come.bytes given (within_source q left_old _ _ given h c.if-self.false) h.has_read);
         ready = tt;
         games = read.goes.keeps.games;
         written = read.goes.keeps.written;
         probes = read.goes.keeps.probes;
-        counted = c.in_err-mark.ensures.goes.counted;
+        counted = c.in_err-marker.ensures.goes.counted;
       };
       silent = read.silent;
     })
@@ -64,15 +64,15 @@ returns-in-Some g c =
     (record {
       reads = record {
         reads = λ q left_old given h.
-            let reads = rw c.in-Some.is at c.in_ok-mark.ensures.reads in
+            let reads = rw c.in-Some.is at c.in_ok-marker.ensures.reads in
             rw c.if-self.false
-            (met_in_source q left_old _ _ given h.come.bytes h.come.consumed c.next_marker.new.converter c.next_marker.new.buffer c.in-Some.mark _ _
+            (met_in_source q left_old _ _ given h.come.bytes h.come.consumed c.next_marker.new.converter c.next_marker.new.buffer c.in-Some.marker _ _
             (reads q h.come.bytes given (within_source q left_old _ _ given h c.if-self.false) h.has_read));
-        ready = rw c.in-Some.is at c.in_ok-mark.ensures.goes.ready;
+        ready = rw c.in-Some.is at c.in_ok-marker.ensures.goes.ready;
         games = read.goes.keeps.games;
         written = read.goes.keeps.written;
         probes = read.goes.keeps.probes;
-        counted = c.in_ok-mark.ensures.goes.counted;
+        counted = c.in_ok-marker.ensures.goes.counted;
       };
       silent = read.silent;
     })
@@ -87,12 +87,12 @@ returns g c =
     (record {
       reads = record {
         reads = λ q left_old given h.
-            let reads = rw c.in_default.is at c.in_ok-mark.ensures.reads in
+            let reads = rw c.in_default.is at c.in_ok-marker.ensures.reads in
             all_used q left_old _ _ given h.come.bytes h.come.consumed c.next_marker.new.converter c.next_marker.new.buffer _ _
             (reads q h.come.bytes given (within_source q left_old _ _ given h c.if-self.false) h.has_read)
             c.finish_to_marker-2.new.self _ (sink_of r g.W.Sink.taken g.W.Sink.failures c.next_marker.new.out c.finish_to_marker-2.new.out)
             c.finish_to_marker-2.result refl refl
-            ends c.in_ok-mark.ensures.goes.short;
+            ends c.in_ok-marker.ensures.goes.short;
         ready = ends.ready;
         games = ends.keeps.games ∙ read.goes.keeps.games;
         written = ends.keeps.written ∙ read.goes.keeps.written;
@@ -101,7 +101,7 @@ returns g c =
             (sink_of r g.W.Sink.taken g.W.Sink.failures c.args.out.now c.next_marker.new.out)
             (sink_of r g.W.Sink.taken g.W.Sink.failures c.next_marker.new.out c.finish_to_marker-2.new.out)
             (sink_of r g.W.Sink.taken g.W.Sink.failures c.args.out.now c.finish_to_marker-2.new.out)
-            c.in_ok-mark.ensures.goes.counted.0 c.in_ok-mark.ensures.goes.counted.1 refl refl refl
+            c.in_ok-marker.ensures.goes.counted.0 c.in_ok-marker.ensures.goes.counted.1 refl refl refl
             ends.counted;
       };
       silent = silence_then _ _ _ _ _ _ read.silent c.finish_to_marker-2.ensures.silent;

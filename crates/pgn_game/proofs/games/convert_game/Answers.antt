@@ -4,7 +4,7 @@ use Rattle.pgn_game.proofs.tokens.GamesInTurn.{begins, game_read, marker_stops, 
 use Rattle.pgn_game.proofs.putting.SilentReader.{none_fails, seen_alike, silence_then}
 use Rattle.pgn_game.proofs.twice.FailuresOfSteps.{behind_still, no_write_seen, reader_reason}
 use Rattle.pgn_game.proofs.reader.ErrorReturned.{error_returned}
-use Rattle.pgn_game.proofs.games.read_game.Goals as goal
+use Rattle.pgn_game.proofs.games.convert_game.Goals as goal
 
 -- the rest of a source counts no failure
 counts_result : (r : Result Bool Fault) (source sink last : Device) → source.failures_after ≡ source.failures
@@ -16,19 +16,19 @@ counts_result (Err f) source sink last still before after h =
 pub next_marker-requires : goal.next_marker-requires
 next_marker-requires g c = (search fits_alike, c.requires)
 
-pub returns-in_err-mark-clause-goes : goal.returns-in_err-mark-clause-goes
-returns-in_err-mark-clause-goes g c =
+pub returns-in_err-marker-clause-goes : goal.returns-in_err-marker-clause-goes
+returns-in_err-marker-clause-goes g c =
     rw (error_returned _ c.from_residual.ensures.1) (record {
       reads = λ p u given have.
           let begun = begins p u given _ _ have c.requires.not_finished in
           stops_before p _ begun.0 u given _ _ _ c.next_marker.new.converter _ _
-          (λ silent. no_write_seen {A = Unit} (Err c.in_err-mark.field-0.0)
+          (λ silent. no_write_seen {A = Unit} (Err c.in_err-marker.field-0.0)
           (device g.R.Source.left g.R.Source.failures c.args.source.now c.next_marker.new.source)
-          (device g.W.Sink.taken g.W.Sink.failures c.args.out.now c.next_marker.new.out) _ silent c.in_err-mark.ensures.goes.counted)
-          (c.in_err-mark.ensures.reads p u given begun.1 begun.2);
+          (device g.W.Sink.taken g.W.Sink.failures c.args.out.now c.next_marker.new.out) _ silent c.in_err-marker.ensures.goes.counted)
+          (c.in_err-marker.ensures.reads p u given begun.1 begun.2);
       fewer = λ same. absurd (cc);
-      fault = c.in_err-mark.ensures.goes.keeps.fault;
-      counted = λ free. c.in_err-mark.ensures.goes.counted;
+      fault = c.in_err-marker.ensures.goes.keeps.fault;
+      counted = λ free. c.in_err-marker.ensures.goes.counted;
     })
 
 pub returns-in_err-end_game-in-Some : goal.returns-in_err-end_game-in-Some
@@ -37,13 +37,13 @@ returns-in_err-end_game-in-Some g c =
     let sink = device g.W.Sink.taken g.W.Sink.failures c.next_marker.new.out c.end_game.new.out in
     let f = c.in_err-end_game-in-Some.field-0.0 in
     let counted = seen_alike (CountsFault {A = Unit} (Err f)) _ _ sink same c.in_err-end_game-in-Some.ensures.counts.counted in
-    let goes = c.in_ok-mark.ensures.goes.counted in
+    let goes = c.in_ok-marker.ensures.goes.counted in
     record {
       goes = rw (error_returned _ c.from_residual-in_err-end_game-in-Some.ensures.1) (record {
         reads = λ p u given have.
             let begun = begins p u given _ _ have c.requires.not_finished in
-            marker_stops p _ begun.0 u given _ _ _ c.in-Some.mark _ (seen _ sink)
-            (rw c.in-Some.is at (c.in_ok-mark.ensures.reads p u given begun.1 begun.2)) c.end_game.new.self f
+            marker_stops p _ begun.0 u given _ _ _ c.in-Some.marker _ (seen _ sink)
+            (rw c.in-Some.is at (c.in_ok-marker.ensures.reads p u given begun.1 begun.2)) c.end_game.new.self f
             (λ silent. none_fails {A = Unit} _ (Err f) sink silent counted)
             (seen_alike (EndsGame _ _ _ _) _ _ sink same c.in_err-end_game-in-Some.ensures.ends);
         fewer = λ same. absurd (cc);
@@ -63,13 +63,13 @@ returns-in_ok-end_game-in-Some g c =
       goes = record {
         reads = λ p u given have.
             let begun = begins p u given _ _ have c.requires.not_finished in
-            game_read p _ begun.0 u given _ _ _ c.in-Some.mark _ (seen _ sink)
-            (rw c.in-Some.is at (c.in_ok-mark.ensures.reads p u given begun.1 begun.2)) c.end_game.new.self
+            game_read p _ begun.0 u given _ _ _ c.in-Some.marker _ (seen _ sink)
+            (rw c.in-Some.is at (c.in_ok-marker.ensures.reads p u given begun.1 begun.2)) c.end_game.new.self
             (c.end_game.ensures.silent.silent ∙ same) (seen_alike (EndsGame _ _ _ _) _ _ sink same ended.ends) counts;
         fewer = λ same.
             rw (counts.not_finished, c.requires.not_finished) (omega (arith, counts.few, counts.games, c.next_marker.ensures.goes.keeps.games));
         fault = counts.fault;
-        counted = λ free. (c.in_ok-mark.ensures.goes.counted.0, counts.counted ∙ c.in_ok-mark.ensures.goes.counted.1);
+        counted = λ free. (c.in_ok-marker.ensures.goes.counted.0, counts.counted ∙ c.in_ok-marker.ensures.goes.counted.1);
       };
       silent = silence_then _ _ _ _ _ _ c.next_marker.ensures.silent c.end_game.ensures.silent;
     }
@@ -82,21 +82,21 @@ returns-in-None g c =
       goes = record {
         reads = λ p u given have.
             let begun = begins p u given _ _ have c.requires.not_finished in
-            let uses = rw c.in-None.is at (c.in_ok-mark.ensures.reads p u given begun.1 begun.2) in
+            let uses = rw c.in-None.is at (c.in_ok-marker.ensures.reads p u given begun.1 begun.2) in
             finished p _ begun.0 u given _ _ _ _ _ same uses c.finish.new.self _ c.finish.result
             (seen_alike (λ (d : Device). Ends c.next_marker.new.converter c.finish.new.self c.finish.result d) _ _ sink same c.finish.ensures.ends
             p _ _ _ (stands_at_end p _ begun.0 u given _ _ _ _ _ same uses))
-            c.finish.ensures.finished c.in_ok-mark.ensures.goes.short;
+            c.finish.ensures.finished c.in_ok-marker.ensures.goes.short;
         fewer = λ same. rw (c.finish.ensures.finished, same, c.requires.not_finished) (omega arith);
         fault = c.finish.ensures.fault;
-        counted = λ free. counts_result c.finish.result _ _ _ c.in_ok-mark.ensures.goes.counted.0 c.in_ok-mark.ensures.goes.counted.1 refl
-            (seen_alike (CountsFault c.finish.result) _ _ sink same (c.finish.ensures.counted c.in_ok-mark.ensures.goes.keeps.fault));
+        counted = λ free. counts_result c.finish.result _ _ _ c.in_ok-marker.ensures.goes.counted.0 c.in_ok-marker.ensures.goes.counted.1 refl
+            (seen_alike (CountsFault c.finish.result) _ _ sink same (c.finish.ensures.counted c.in_ok-marker.ensures.goes.keeps.fault));
       };
       silent = silence_then _ _ _ _ _ _ c.next_marker.ensures.silent c.finish.ensures.silent;
     }
 
 pub end_game-requires : goal.end_game-requires
-end_game-requires g c = (search fits_alike, rw c.in-Some.is at c.in_ok-mark.ensures.goes.ready)
+end_game-requires g c = (search fits_alike, rw c.in-Some.is at c.in_ok-marker.ensures.goes.ready)
 
 pub finish-requires : goal.finish-requires
 finish-requires g c = (search fits_alike, c.next_marker.ensures.goes.keeps.finished)
