@@ -1,6 +1,6 @@
 //! What Rust's users expect of the types. **Not proved**: written for Cargo.
 
-use crate::{write_fen, FenFault, Played, SanFault, UciFault};
+use crate::{write_fen, FenFault, FenWriter, Played, SanFault, UciFault};
 use chess_rules::{try_pair, Position, Probes};
 use std::error::Error;
 use std::fmt::{self, Debug, Display, Formatter};
@@ -37,6 +37,18 @@ impl Display for UciFault {
 }
 
 impl Error for UciFault {}
+
+impl Debug for FenWriter {
+    fn fmt(&self, out: &mut Formatter<'_>) -> fmt::Result {
+        out.debug_struct("FenWriter").finish_non_exhaustive()
+    }
+}
+
+impl Default for FenWriter {
+    fn default() -> FenWriter {
+        FenWriter::new()
+    }
+}
 
 impl Debug for Played {
     fn fmt(&self, out: &mut Formatter<'_>) -> fmt::Result {

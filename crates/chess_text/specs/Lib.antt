@@ -11,3 +11,4 @@ pub mod San
 pub mod Laws
 pub mod WrittenMove
 pub mod Uci
+pub mod WrittenRank

@@ -1,9 +1,10 @@
 //! Positions as text: Forsyth-Edwards notation. (PGN 16.1)
 
-ghost use Rattle.std.specs.Prelude.{◌≡◌, ◌≤◌, ◌+◌, ◌++◌, ◌∷◌, [], Some, length, decimal};
+ghost use Rattle.std.specs.Prelude.{◌≡◌, ◌≤◌, ◌+◌, ◌++◌, ◌∷◌, Some, length, decimal};
 ghost use Rattle.std.specs.List.{before_first, after_first, position_or_len};
 ghost use Rattle.chess_text.specs.Fen.{is_space, field, rest, read, if_position, parts_or_fault, fen_text};
 ghost use Rattle.chess_text.specs.Field.{side_of, rights_of, target_of, number_of};
+ghost use Rattle.chess_text.specs.Placement.{placement_text};
 
 use crate::field::{
     push_target, read_number, read_rights, read_side, read_target, rights_text, side_letter,
@@ -142,18 +143,27 @@ pub fn write_fen(position: &Position) -> ArrayVec<u8, 93>
     ensures short { length result.items ≤ 93 }
 {
     let mut text = ArrayVec::new();
-    push_all_but_full(&mut text, position);
-    push_field(&mut text, Buffer::new().format(position.full()).as_bytes());
+    push_board(&mut text, position);
+    push_other_fields(&mut text, position);
     text
 }
 
-// Adds all fields but the last to an empty text.
+// Adds the other fields to the text of the board.
+pub(crate) fn push_other_fields(text: &mut ArrayVec<u8, 93>, position: &Position)
+    requires { text.old.items ≡ placement_text position.now.board }
+    ensures text { text.new.items ≡ fen_text position.now }
+    ensures short { length text.new.items ≤ 93 }
+{
+    push_all_but_full(text, position);
+    push_field(text, Buffer::new().format(position.full()).as_bytes());
+}
+
+// Adds all fields but the last to the text of the board.
 fn push_all_but_full(text: &mut ArrayVec<u8, 93>, position: &Position)
-    requires { text.old.items ≡ [] }
+    requires { text.old.items ≡ placement_text position.now.board }
     ensures text { text.new.items ++ 32 ∷ decimal position.now.full ≡ fen_text position.now }
     ensures short { length text.new.items ≤ 87 }
 {
-    push_board(text, position);
     text.push(b' ');
     text.push(side_letter(position.side()));
     push_field(text, rights_text(position.rights()).as_slice());

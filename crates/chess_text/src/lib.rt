@@ -4,6 +4,7 @@
 #![tactic(auto)]
 
 mod fen;
+mod fen_writer;
 mod field;
 mod form;
 mod form_origins;
@@ -18,6 +19,7 @@ mod tests;
 mod uci;
 
 pub use fen::{FenFault, read_fen, write_fen};
+pub use fen_writer::FenWriter;
 pub use form::{Form, read_form};
 pub use form_origins::{OriginKind, origins_of_form};
 pub use resolution::{Played, SanFault, resolve, resolve_move};

@@ -5,7 +5,7 @@ ghost use Rattle.std.specs.List.{before_first, position_or_len};
 ghost use Rattle.chess_text.specs.Fen.{is_space};
 ghost use Rattle.chess_text.specs.Letter as spec;
 ghost use Rattle.chess_text.specs.Placement.{placement_of, placement_text, rank_text, row};
-ghost use Rattle.chess_rules.specs.RankNumbers.{number_of_piece};
+ghost use Rattle.chess_rules.specs.RankNumbers.{number_of_piece, rank_numbers};
 ghost use Rattle.chess_rules.specs.declared.piece.Piece.{Piece};
 
 use crate::item::item_of;
@@ -58,15 +58,19 @@ pub(crate) fn push_board(text: &mut ArrayVec<u8, 93>, position: &Position)
 {
     // It is written over zeros, of which those behind it go at the end.
     let _ = text.try_extend_from_slice(&[0; 72]);
-    let mut end = write_rank(text.as_mut_slice(), 0, position, 7);
+    let numbers = position.rank_numbers(7);
+    let mut end = write_rank(text.as_mut_slice(), 0, numbers, position, 7);
     for below in 0..7 {
         text.as_mut_slice()[end] = b'/';
-        end = write_rank(text.as_mut_slice(), end + 1, position, 6 - below);
+        let rank = 6 - below;
+        let numbers = position.rank_numbers(rank);
+        end = write_rank(text.as_mut_slice(), end + 1, numbers, position, rank);
     }
     text.truncate(end);
 }
 
-// Writes the canonical text of a rank, from this place on. Returns where it ends.
+// Writes the canonical text of the rank that has these numbers, from this place on. Returns where
+// it ends.
 //
 // No branch depends on what is on the squares, since it would mostly be mispredicted. Each square
 // writes a byte. That of an empty one is the digit of the run so far, and stands where the digit of
@@ -74,16 +78,22 @@ pub(crate) fn push_board(text: &mut ArrayVec<u8, 93>, position: &Position)
 //
 // It is inlined, so that the compiler unrolls its loop, and reads the board once for all ranks.
 #[inline(always)]
-fn write_rank(text: &mut [u8], start: usize, position: &Position, rank: u8) -> usize
-    requires long { length text.old ≡ 72 }
+pub(crate) fn write_rank(
+    text: &mut [u8],
+    start: usize,
+    numbers: u64,
+    position: &Position,
+    rank: u8,
+) -> usize
+    requires numbers { numbers ≡ rank_numbers position.now.board rank }
     requires rank { rank < 8 }
-    requires room { start + 8 ≤ 72 }
+    requires room { start + 8 ≤ length text.old }
     ensures text { take result text.new
         ≡ take start text.old ++ rank_text 0 (row position.now.board rank) }
     ensures short { result ≤ start + 8 }
-    ensures long { length text.new ≡ 72 }
+    ensures long { length text.new ≡ length text.old }
 {
-    let mut numbers = position.rank_numbers(rank);
+    let mut numbers = numbers;
     let mut end = start;
     for _ in 0u8..8 {
         let number = (numbers % 256) as usize;

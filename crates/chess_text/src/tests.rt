@@ -1,6 +1,7 @@
 //! Outside values: the standard's own texts, positions that are in wide use for tests, and texts
 //! that are none.
 
+mod fen_writer;
 mod form_origins;
 mod resolution;
 mod san;

@@ -1,5 +1,5 @@
 -- The canonical text of a board, rank by rank.
-use Rattle.chess_text.proofs.Words.{◌≡◌, ℕ, zero, suc, ◌+◌, ◌-◌, ◌*◌, ◌<◌, ◌≤◌, List, [], ◌∷◌, ◌++◌, length, append_assoc, append-nil, ap, arith, length-append, Board, rank_text, row, placement_text, ◌==◌, false, drop, refl, None, Some, nat_tests, at, square, run_text}
+use Rattle.chess_text.proofs.Words.{◌≡◌, ℕ, zero, suc, ◌+◌, ◌-◌, ◌*◌, ◌<◌, ◌≤◌, List, [], ◌∷◌, ◌++◌, length, append_assoc, append-nil, ap, arith, length-append, Board, rank_text, row, placement_text, ◌==◌, false, drop, refl, None, Some, nat_tests, at, square, run_text, refill, take, take-append_seam, sym, ◌∙◌}
 
 -- the squares of a rank from a file on
 pub drop-row : (b : Board) (rank file : ℕ) → file < 8 → drop file (row b rank) ≡ at b (square file rank) ∷ drop (file + 1) (row b rank)
@@ -68,3 +68,7 @@ next_rank b text slash new i so_far h e f =
 pub last_rank_written : (b : Board) (text : List ℕ) (i : ℕ) → WrittenTo b text i → 7 ≤ i → text ≡ placement_text b
 last_rank_written b text i so_far h =
     let none : 7 - i ≡ 0 = omega arith in cc (ap (lower b) none, append-nil text)
+
+-- what is written over a whole text stands in its place
+pub refilled : (xs ws : List ℕ) → length ws ≡ length xs → refill (length xs) xs ws ≡ ws
+refilled xs ws same = ap (λ n. take n (ws ++ drop (length ws) xs)) (sym same) ∙ take-append_seam ws (drop (length ws) xs)

@@ -30,7 +30,7 @@ pub record RankWritten (whole : List ℕ) (most : ℕ) (text : List ℕ) (end wo
   pub next : word ≡ word_of_bytes (numbers run cells)
   pub short : run + length cells ≤ 8
   pub within : end + length cells ≤ most
-  pub long : length text ≡ 72
+  pub long : most ≤ length text
 
 some_run : (n : ℕ) → run_text (n + 1) ≡ (49 + n) ∷ []
 some_run n = let some : (n + 1 == 0) ≡ false = grind (arith, nat_tests) in rw some (let same : 48 + (n + 1) ≡ 49 + n = omega arith in ap (λ (k : ℕ). k ∷ []) same)
@@ -71,9 +71,9 @@ module _ (whole : List ℕ) (most : ℕ) (text : List ℕ) (end word : ℕ) (cel
       → end + more ≡ length w.before + 1
   end_of_run more byte w s = grind (arith, common_steps, run_first, zero)
 
-  empty_written : (more byte : ℕ) → most ≤ 72 → Step word more byte → RankWritten whole most text end word (None ∷ cells)
+  empty_written : (more byte : ℕ) → Step word more byte → RankWritten whole most text end word (None ∷ cells)
       → RankWritten whole most (set text (end + more - 1) byte) (end + more) (word / 256) cells
-  empty_written more byte fits s w =
+  empty_written more byte s w =
       let low : w.run < 8 = omega (arith, w.short) in
       let ends = end_of_run more byte w s in
       let there : end + more - 1 ≡ length w.before = omega (arith, ends) in
@@ -91,12 +91,12 @@ module _ (whole : List ℕ) (most : ℕ) (text : List ℕ) (end word : ℕ) (cel
         next = run_rest word w.run cells low w.next;
         short = omega (arith, w.short);
         within = omega (arith, w.within, s.few);
-        long = length-set text (end + more - 1) byte ∙ w.long;
+        long = omega (arith, w.long, length-set text (end + more - 1) byte);
       }
 
-  piece_written : (x : Piece) (more byte : ℕ) → most ≤ 72 → Step word more byte → RankWritten whole most text end word (Some x ∷ cells)
+  piece_written : (x : Piece) (more byte : ℕ) → Step word more byte → RankWritten whole most text end word (Some x ∷ cells)
       → RankWritten whole most (set text (end + more - 1) byte) (end + more) (word / 256) cells
-  piece_written x more byte fits s w =
+  piece_written x more byte s w =
       let first : word % 256 ≡ number_of_piece x = piece_first word x cells w.next in
       let one : more ≡ 1 = s.adds (omega (arith, first, piece_is_small x)) in
       let ends : end + more ≡ end + 1 = omega (arith, one) in
@@ -121,23 +121,46 @@ module _ (whole : List ℕ) (most : ℕ) (text : List ℕ) (end word : ℕ) (cel
         next = piece_rest word x cells w.next;
         short = omega (arith, w.short);
         within = omega (arith, w.within, s.few);
-        long = length-set text (end + more - 1) byte ∙ w.long;
+        long = omega (arith, w.long, length-set text (end + more - 1) byte);
       }
 
-  pub square_written : (x : Option Piece) (more byte : ℕ) → most ≤ 72 → Step word more byte → RankWritten whole most text end word (x ∷ cells)
+  pub square_written : (x : Option Piece) (more byte : ℕ) → Step word more byte → RankWritten whole most text end word (x ∷ cells)
       → RankWritten whole most (set text (end + more - 1) byte) (end + more) (word / 256) cells
-  square_written None more byte fits s w = empty_written more byte fits s w
-  square_written (Some x) more byte fits s w = piece_written x more byte fits s w
+  square_written None more byte s w = empty_written more byte s w
+  square_written (Some x) more byte s w = piece_written x more byte s w
 
   -- a byte is stored within the text
-  pub stored_within : (x : Option Piece) (more byte : ℕ) → most ≤ 72 → Step word more byte
-      → RankWritten whole most text end word (x ∷ cells) → (1 ≤ end + more) × (end + more ≤ 72)
-  stored_within None more byte fits s w = (omega (arith, end_of_run more byte w s), omega (arith, w.within, s.few))
-  stored_within (Some x) more byte fits s w =
-      (omega (arith, s.adds (omega (arith, piece_first word x cells w.next, piece_is_small x))), omega (arith, w.within, s.few))
+  pub stored_within : (x : Option Piece) (more byte : ℕ) → Step word more byte
+      → RankWritten whole most text end word (x ∷ cells) → (1 ≤ end + more) × (end + more ≤ length text)
+  stored_within None more byte s w = (omega (arith, end_of_run more byte w s), omega (arith, w.within, s.few))
+  stored_within (Some x) more byte s w =
+      (omega (arith, s.adds (omega (arith, piece_first word x cells w.next, piece_is_small x))), omega (arith, w.within, w.long, s.few))
 
 -- the squares that are left of a rank begin with that of this file
 pub next_square : {whole : List ℕ} {most : ℕ} {text : List ℕ} {end word : ℕ} (b : Board) (rank file : ℕ) → file < 8
     → RankWritten whole most text end word (drop file (row b rank))
     → RankWritten whole most text end word (at b (square file rank) ∷ drop (file + 1) (row b rank))
 next_square {whole} {most} {text} {end} {word} b rank file low w = subst (RankWritten whole most text end word) (drop-row b rank file low) w
+
+-- Ranks that have the same numbers have the same text.
+
+same_letter : (x y : Piece) → number_of_piece x ≡ number_of_piece y → piece_letter x ≡ piece_letter y
+same_letter x y e = sym (letter_there x) ∙ ap (λ n. get_or table n 0) e ∙ letter_there y
+
+pub same_text : (word n : ℕ) (cells others : Board) → length cells ≡ length others → n + length cells ≤ 8
+    → word ≡ word_of_bytes (numbers n cells) → word ≡ word_of_bytes (numbers n others) → rank_text n cells ≡ rank_text n others
+same_text word n [] [] e low h g = refl
+same_text word n (None ∷ cells) (None ∷ others) e low h g =
+    same_text (word / 256) (n + 1) cells others (omega (arith, e)) (omega (arith, low))
+    (run_rest word n cells (omega (arith, low)) h) (run_rest word n others (omega (arith, low)) g)
+same_text word n (Some x ∷ cells) (Some y ∷ others) e low h g =
+    cc (
+      same_letter x y (sym (piece_first word x cells h) ∙ piece_first word y others g),
+      same_text (word / 256) 0 cells others (omega (arith, e)) (omega (arith, low)) (piece_rest word x cells h) (piece_rest word y others g),
+    )
+same_text word n (None ∷ cells) (Some y ∷ others) e low h g =
+    absurd (omega (arith, run_first word n cells (omega (arith, low)) h, piece_first word y others g, piece_is_small y))
+same_text word n (Some x ∷ cells) (None ∷ others) e low h g =
+    absurd (omega (arith, run_first word n others (omega (arith, e, low)) g, piece_first word x cells h, piece_is_small x))
+same_text word n [] (y ∷ others) e low h g = absurd (omega (arith, e))
+same_text word n (x ∷ cells) [] e low h g = absurd (omega (arith, e))

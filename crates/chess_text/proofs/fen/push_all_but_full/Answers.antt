@@ -1,7 +1,8 @@
 use Rattle.std.proofs.lemmas.Grind.{common_steps}
 use Rattle.chess_text.proofs.Words.{◌≡◌, List, ℕ, [], ◌∷◌, ◌++◌, append_assoc, sym, ◌∙◌, ap, arith, decimal, side_text}
-use Rattle.chess_text.proofs.Words.{◌+◌, ◌≤◌, length, length-append, rights_text, target_text}
+use Rattle.chess_text.proofs.Words.{◌+◌, ◌≤◌, length, length-append, rights_text, target_text, Board, placement_text}
 use Rattle.chess_text.proofs.positions.FieldsOfText.{five_written, six_written, length-five, length-number, length-target_text}
+use Rattle.chess_text.proofs.positions.BoardToText.{length-placement_text}
 use Rattle.chess_text.proofs.fen.push_all_but_full.Goals as goal
 
 -- a field behind a space
@@ -14,8 +15,8 @@ returns c =
     let p = c.args.position.now in
     let behind = λ (t u : List ℕ). t ++ 32 ∷ u in
     let five =
-    five_written p c.push_board.new.text.items c.push-2.new.self.items c.push_field.new.text.items c.push_target.new.text.items _
-    c.push_board.ensures.text
+    five_written p c.args.text.now.items c.push-2.new.self.items c.push_field.new.text.items c.push_target.new.text.items _
+    c.requires
     (behind_space _ _ _ _ c.push.ensures.items
     (c.push-2.ensures.items ∙ ap (λ t. c.push.new.self.items ++ t) (sym c.side_letter.ensures ∙ ap side_text c.side.ensures)))
     (c.push_field.ensures ∙ ap (behind _) (c.as_slice.ensures.value ∙ c.rights_text.ensures ∙ ap rights_text c.rights.ensures))
@@ -27,11 +28,24 @@ returns c =
 with_four : (before after field : List ℕ) → length field ≤ 4 → after ≡ before ++ 32 ∷ field → length after ≤ length before + 5
 with_four before after field few e = omega (arith, ap length e, length-append before (32 ∷ field))
 
+short_board : (text : List ℕ) (b : Board) → text ≡ placement_text b → length text ≤ 71
+short_board text b e = omega (arith, ap length e, length-placement_text b)
+
+pub push-requires : goal.push-requires
+push-requires c = (omega arith, omega (arith, short_board _ c.args.position.now.board c.requires))
+
+pub push-requires-2 : goal.push-requires-2
+push-requires-2 c = (omega arith, omega (arith, short_board _ c.args.position.now.board c.requires))
+
+pub push_field-requires : goal.push_field-requires
+push_field-requires c = omega (arith, short_board _ c.args.position.now.board c.requires)
+
 pub push-requires-3 : goal.push-requires-3
-push-requires-3 c = (omega arith, omega (arith, with_four _ _ _ c.as_slice.ensures.fits c.push_field.ensures))
+push-requires-3 c = (omega arith, omega (arith, with_four _ _ _ c.as_slice.ensures.fits c.push_field.ensures, short_board _ c.args.position.now.board c.requires))
 
 pub push_target-requires : goal.push_target-requires
-push_target-requires c = omega (arith, with_four _ _ _ c.as_slice.ensures.fits c.push_field.ensures)
+push_target-requires c = omega (arith, with_four _ _ _ c.as_slice.ensures.fits c.push_field.ensures, short_board _ c.args.position.now.board c.requires)
 
 pub push_field-requires-2 : goal.push_field-requires-2
-push_field-requires-2 c = grind (arith, common_steps, with_four, length-append, target_text, length-target_text, length-number)
+push_field-requires-2 c =
+    let short = short_board _ c.args.position.now.board c.requires in grind (arith, common_steps, with_four, length-append, target_text, length-target_text, length-number)

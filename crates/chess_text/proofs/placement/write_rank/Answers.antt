@@ -1,4 +1,5 @@
-use Rattle.chess_text.proofs.Words.{arith, nat_tests}
+use Rattle.std.proofs.lemmas.List.{length-set}
+use Rattle.chess_text.proofs.Words.{arith, nat_tests, ◌∙◌}
 use Rattle.chess_text.proofs.positions.NumbersToText.{next_square, number_is_small, square_written, stored_within}
 use Rattle.chess_text.proofs.placement.write_rank.Goals as goal
 
@@ -10,7 +11,7 @@ pub overflow_sub-text : goal.overflow_sub-text
 overflow_sub-text c =
     omega (
       arith,
-      stored_within _ _ _ _ _ _ _ c.from-end.result c.byte_of_number.result c.requires.room (record {
+      stored_within _ _ _ _ _ _ _ c.from-end.result c.byte_of_number.result (record {
         few = grind (arith, nat_tests);
         adds = λ h. grind (arith, nat_tests);
         stays = λ h. grind (arith, nat_tests);
@@ -24,7 +25,7 @@ pub loop-preserved : goal.loop-preserved
 loop-preserved c =
     record {
       squares =
-          square_written _ _ _ _ _ _ _ c.from-end.result c.byte_of_number.result c.requires.room (record {
+          square_written _ _ _ _ _ _ _ c.from-end.result c.byte_of_number.result (record {
             few = grind (arith, nat_tests);
             adds = λ h. grind (arith, nat_tests);
             stays = λ h. grind (arith, nat_tests);
@@ -33,4 +34,5 @@ loop-preserved c =
           })
           (next_square c.args.position.now.board c.args.rank c.loop.counter c.loop-test.true c.loop.invariant.squares);
       within = omega arith;
+      long = length-set _ _ _ ∙ c.loop.invariant.long;
     }

@@ -1,4 +1,4 @@
-use Rattle.chess_text.proofs.Words.{◌++◌, ◌+◌, ◌≤◌, take, drop, rank_text, row}
+use Rattle.chess_text.proofs.Words.{◌++◌, ◌+◌, ◌≡◌, ◌≤◌, length, take, drop, rank_text, row}
 use Rattle.chess_text.proofs.positions.NumbersToText.{RankWritten}
 use Rattle.chess_text.proofs.placement.write_rank.Given as goal
 
@@ -9,4 +9,5 @@ invariant-loop l =
     record {
       squares : RankWritten (take l.fn.start l.fn.text ++ rank_text 0 rank) (l.fn.start + 8) l.text l.end l.numbers (drop l.counter rank);
       within : l.counter ≤ 8;
+      long : length l.text ≡ length l.fn.text;
     }

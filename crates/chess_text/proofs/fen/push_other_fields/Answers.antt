@@ -1,6 +1,6 @@
 use Rattle.chess_text.proofs.Words.{◌≡◌, ◌≤◌, List, ℕ, ◌∷◌, length, ◌∙◌, ap, arith, length-append, decimal}
 use Rattle.chess_text.proofs.positions.FieldsOfText.{length-number}
-use Rattle.chess_text.proofs.fen.write_fen.Goals as goal
+use Rattle.chess_text.proofs.fen.push_other_fields.Goals as goal
 
 -- the last field has five bytes at most
 short_number : (field : List ℕ) (n : ℕ) → field ≡ decimal n → n ≤ 99999 → length field ≤ 5
