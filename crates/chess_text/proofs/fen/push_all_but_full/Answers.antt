@@ -41,11 +41,14 @@ pub push_field-requires : goal.push_field-requires
 push_field-requires c = omega (arith, short_board _ c.args.position.now.board c.requires)
 
 pub push-requires-3 : goal.push-requires-3
-push-requires-3 c = (omega arith, omega (arith, with_four _ _ _ c.as_slice.ensures.fits c.push_field.ensures, short_board _ c.args.position.now.board c.requires))
+push-requires-3 c =
+    (omega arith, omega (arith, with_four _ _ _ c.as_slice.ensures.fits c.push_field.ensures, short_board _ c.args.position.now.board c.requires))
 
 pub push_target-requires : goal.push_target-requires
-push_target-requires c = omega (arith, with_four _ _ _ c.as_slice.ensures.fits c.push_field.ensures, short_board _ c.args.position.now.board c.requires)
+push_target-requires c =
+    omega (arith, with_four _ _ _ c.as_slice.ensures.fits c.push_field.ensures, short_board _ c.args.position.now.board c.requires)
 
 pub push_field-requires-2 : goal.push_field-requires-2
 push_field-requires-2 c =
-    let short = short_board _ c.args.position.now.board c.requires in grind (arith, common_steps, with_four, length-append, target_text, length-target_text, length-number)
+    let short = short_board _ c.args.position.now.board c.requires in
+    grind (arith, common_steps, with_four, length-append, target_text, length-target_text, length-number)

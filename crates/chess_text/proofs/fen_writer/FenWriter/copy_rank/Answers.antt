@@ -16,6 +16,7 @@ copied text bytes start k n h low =
 pub returns-clause-text : goal.returns-clause-text
 returns-clause-text c =
     let written = c.update.new.self in
-    ap (λ b. take (c.args.start + written.length) (put_mid c.args.start (c.args.start + 8 - c.args.start) c.args.text.now b)) c.copy_from_slice.ensures.after
+    ap (λ b. take (c.args.start + written.length) (put_mid c.args.start (c.args.start + 8 - c.args.start) c.args.text.now b))
+    c.copy_from_slice.ensures.after
     ∙ copied c.args.text.now written.bytes c.args.start _ written.length (omega arith) (omega arith)
     ∙ ap (λ t. take c.args.start c.args.text.now ++ t) c.update.ensures.text

@@ -9,8 +9,10 @@ returns-then-self-numbers c =
     let word = c.if-self-numbers.true ∙ c.rank_numbers-numbers.ensures in
     record {
       word = word;
-      text = kept.is_text.text
-          ∙ same_text c.args.self.now.numbers 0 kept.cells (row c.args.position.now.board c.args.rank) kept.eight (omega (arith, kept.eight)) kept.is_text.word word;
+      text =
+          kept.is_text.text
+          ∙ same_text c.args.self.now.numbers 0 kept.cells (row c.args.position.now.board c.args.rank) kept.eight
+          (omega (arith, kept.eight)) kept.is_text.word word;
       short = kept.is_text.short;
       long = kept.is_text.long;
     }
