@@ -1,6 +1,6 @@
 //! What Rust's users expect of the types. **Not proved**: written for Cargo.
 
-use crate::{Converter, Fault, Games, Inlet, LineOfPlay, Ply, ReadFailed, Reason};
+use crate::{Converter, Fault, Games, Inlet, LineOfPlay, MoveOfLine, Ply, ReadFailed, Reason};
 use std::error::Error;
 use std::fmt::{self, Debug, Display, Formatter};
 
@@ -70,6 +70,15 @@ impl Debug for LineOfPlay<'_> {
         out.debug_struct("LineOfPlay")
             .field("position", self.position())
             .finish_non_exhaustive()
+    }
+}
+
+impl Debug for MoveOfLine {
+    fn fmt(&self, out: &mut Formatter<'_>) -> fmt::Result {
+        out.debug_struct("MoveOfLine")
+            .field("at", &self.at)
+            .field("played", &self.played)
+            .finish()
     }
 }
 

@@ -115,7 +115,7 @@ pub use Rattle.pgn_lexer.specs.Spelling.{gives, stops, Found}
 pub use Rattle.chess_text.specs.Form.{form_of}
 pub use Rattle.chess_text.specs.San.{MarkPairs, disambiguation_pairs, san}
 pub use Rattle.pgn_game.specs.calls.CheckedConversion.{AreConverted, AreRefused, AreTotalled, CountsThree, FirstStops, HasTaken, MatchesAllMarkers, MostOfBoth, SecondStops, TwoReadingsConvert, TwoReadingsFail, WriteStops}
-pub use Rattle.pgn_game.specs.calls.LineOfPlay.{Ahead, NextPly, words_behind}
+pub use Rattle.pgn_game.specs.calls.LineOfPlay.{Ahead, NextMove, NextPly, words_behind}
 pub use Rattle.pgn_game.specs.declared.annotation.Annotation.TheVariants.{Close, CommentClose, CommentOpen, Open}
 pub use Rattle.pgn_game.specs.declared.converter.FedUpTo.{FedUpTo}
 pub use Rattle.pgn_game.specs.declared.converter.StepEnd.{StepEnd}

@@ -36,7 +36,7 @@ pub use conversion::{Totals, check, check_slice, convert, convert_slice};
 pub use converter::{Converter, Fed};
 pub use find::find_move;
 pub use games::Games;
-pub use line_of_play::{LineOfPlay, Ply};
+pub use line_of_play::{LineOfPlay, MoveOfLine, Ply};
 pub use marker::Marker;
 pub use mode::Mode;
 pub use notation::{Notation, read_move};

@@ -3,7 +3,7 @@ ghost use Rattle.std.specs.Prelude.{◌≡◌, ◌≤◌, Some, IfOk, IfSome, le
 ghost use Rattle.chess_rules.specs.Legal.{legal};
 ghost use Rattle.pgn_lexer.specs.Bytes.{is_space as is_white_space};
 ghost use Rattle.pgn_game.specs.calls.LineOfPlay as spec;
-ghost use Rattle.pgn_game.specs.calls.LineOfPlay.{NextPly, move_texts};
+ghost use Rattle.pgn_game.specs.calls.LineOfPlay.{NextMove, NextPly, move_texts};
 ghost use Rattle.pgn_game.specs.state.LineWords.{FindsFirst, SpaceEnds, WordBegins, WordEnds};
 ghost use Rattle.pgn_game.specs.state.LineWords.{moves_from, words_from};
 
@@ -25,11 +25,21 @@ pub struct Ply {
     pub san: ArrayVec<u8, 7>,
 }
 
+/// A move of a line of play: a ply without its SAN.
+#[derive(Drop)]
+pub struct MoveOfLine {
+    /// The place of its text: the byte offset, from 0.
+    pub at: usize,
+    /// The move, and the position after it.
+    pub played: Played,
+}
+
 /// A line of play: the plies that a text of moves names, from a position on.
 ///
 /// The text has moves in one notation, with white space between them. Move numbers and periods that
 /// stand alone, as `1.` and `12...`, are passed; any other word is to be a move. So there are no
-/// comments, variations, glyphs or markers. [`LineOfPlay::next`] gives one ply after another.
+/// comments, variations, glyphs or markers. [`LineOfPlay::next`] gives one ply after another, and
+/// [`LineOfPlay::next_move`] the same without its SAN, in less time.
 ///
 /// # Examples
 ///
@@ -97,6 +107,8 @@ impl<'a> LineOfPlay<'a> {
 
     /// Plays the next move of the text, and returns its ply. `None` if no move is left.
     ///
+    /// It is [`LineOfPlay::next_move`] and [`write_san`].
+    ///
     /// # Errors
     ///
     /// The first word that names no move, by the place of its first byte and the reason:
@@ -109,6 +121,49 @@ impl<'a> LineOfPlay<'a> {
         ensures position { IfOk result (λ found. IfSome found (λ ply.
             self.new.position ≡ ply.played.next)) }
     {
+        let position = *self.position();
+        match self.next_move() {
+            Err(fault) => Err(fault),
+            Ok(None) => Ok(None),
+            Ok(Some(found)) => {
+                let san = write_san(&position, &found.played, &mut Probes::new());
+                Ok(Some(Ply {
+                    at: found.at,
+                    played: found.played,
+                    san,
+                }))
+            }
+        }
+    }
+
+    /// Plays the next move of the text, and returns it without its SAN. `None` if no move is left.
+    ///
+    /// # Errors
+    ///
+    /// Those of [`LineOfPlay::next`].
+    ///
+    /// # Examples
+    ///
+    /// ```
+    /// use chess_rules::Position;
+    /// use chess_text::FenWriter;
+    /// use pgn_game::{LineOfPlay, Notation};
+    ///
+    /// let mut line = LineOfPlay::new(Position::initial(), b"1. e4 e5", Notation::San);
+    /// let mut fens = FenWriter::new();
+    /// let first = line.next_move().unwrap().unwrap();
+    /// let fen = b"rnbqkbnr/pppppppp/8/8/4P3/8/PPPP1PPP/RNBQKBNR b KQkq e3 0 1";
+    /// assert_eq!(fens.write(&first.played.next).as_slice(), fen);
+    /// assert_eq!(line.next_move().unwrap().unwrap().at, 6);
+    /// assert!(line.next_move().unwrap().is_none());
+    /// ```
+    pub fn next_move(&mut self) -> Result<Option<MoveOfLine>, Fault>
+        ensures next { NextMove self.old result self.new }
+        ensures legal { IfOk result (λ found. IfSome found (λ x.
+            legal self.old.position x.played.mv ≡ Some x.played.next)) }
+        ensures position { IfOk result (λ found. IfSome found (λ x.
+            self.new.position ≡ x.played.next)) }
+    {
         let Some(word) = next_move_text(self.text, self.at) else {
             return Ok(None);
         };
@@ -119,13 +174,11 @@ impl<'a> LineOfPlay<'a> {
                 reason,
             }),
             Ok(played) => {
-                let san = write_san(&self.position, &played, &mut Probes::new());
                 self.position = played.next;
                 self.at = word.end;
-                Ok(Some(Ply {
+                Ok(Some(MoveOfLine {
                     at: word.begin,
                     played,
-                    san,
                 }))
             }
         }

@@ -5,6 +5,7 @@ use Rattle.std.specs.List.{list_all}
 use Rattle.chess_rules.specs.declared.position.Parts.{Parts}
 use Rattle.chess_text.specs.declared.resolution.Played.{Played}
 use Rattle.pgn_lexer.specs.Bytes.{is_digit, is_space}
+use Rattle.pgn_game.specs.declared.line_of_play.MoveOfLine.{MoveOfLine}
 use Rattle.pgn_game.specs.declared.line_of_play.Ply.{Ply as CodePly}
 use Rattle.pgn_game.specs.declared.notation.Notation.{Notation}
 use Rattle.pgn_game.specs.declared.reason.Fault.{Fault}
@@ -85,6 +86,10 @@ line_ahead a = line_of_words a.notation a.position a.words
 abbrev pub ply_of : CodePly → Ply
 ply_of x = record { at = x.at; played = x.played; san = x.san.items }
 
+-- the ply of a move that is returned, in this position
+abbrev pub ply_of_move : Parts → MoveOfLine → Ply
+ply_of_move p x = record { at = x.at; played = x.played; san = text_of_move p x.played.mv }
+
 -- What the next ply leaves ahead: the rest of the line, with fewer words. If no ply is left, or a
 -- word names no move, nothing has changed.
 abbrev pub NextPly : Ahead → Result (Option CodePly) Fault → Ahead → Type 0
@@ -92,3 +97,10 @@ NextPly old (Ok (Some x)) new =
     (line_ahead old ≡ behind_ply (ply_of x) (line_ahead new)) × (length new.words < length old.words)
 NextPly old (Ok None) new = (line_ahead old ≡ no_plies None) × (new ≡ old)
 NextPly old (Err fault) new = (line_ahead old ≡ no_plies (Some fault)) × (new ≡ old)
+
+-- the same of its move
+abbrev pub NextMove : Ahead → Result (Option MoveOfLine) Fault → Ahead → Type 0
+NextMove old (Ok (Some x)) new =
+    (line_ahead old ≡ behind_ply (ply_of_move old.position x) (line_ahead new)) × (length new.words < length old.words)
+NextMove old (Ok None) new = (line_ahead old ≡ no_plies None) × (new ≡ old)
+NextMove old (Err fault) new = (line_ahead old ≡ no_plies (Some fault)) × (new ≡ old)

@@ -84,6 +84,37 @@ fn plays_lines(rt: HostRuntime) {
     }
 }
 
+/// The next move is that of this ply.
+fn plays_move(rt: &impl Abort, line: &mut LineOfPlay<'_>, expected: &PlyTexts) {
+    let (at, _, uci, fen) = *expected;
+    match line.next_move() {
+        Ok(Some(found)) => {
+            assert!(rt; found.at == at);
+            assert!(rt; write_uci(&found.played.mv).as_slice() == uci);
+            assert!(rt; write_fen(&found.played.next).as_slice() == fen);
+        }
+        _ => assert!(rt; false),
+    }
+    assert!(rt; write_fen(line.position()).as_slice() == fen);
+}
+
+/// The line has these moves, and no other.
+fn has_moves(rt: &impl Abort, text: &[u8], notation: Notation, plies: &[PlyTexts]) {
+    let mut line = LineOfPlay::new(Position::initial(), text, notation);
+    for ply in plies {
+        plays_move(rt, &mut line, ply);
+    }
+    assert!(rt; matches!(line.next_move(), Ok(None)));
+    ends(rt, &mut line);
+}
+
+#[test]
+fn plays_lines_without_san(rt: HostRuntime) {
+    for &(text, notation, plies) in LINES {
+        has_moves(&rt, text, notation, plies);
+    }
+}
+
 /// A text of moves from a FEN, with the number of plies before the word that names none, the place
 /// of this word and the reason.
 type Refused = (&'static [u8], &'static [u8], Notation, usize, u64, Reason);
@@ -155,6 +186,7 @@ const REFUSED: &[Refused] = &[
 
 /// The next ply is this fault, also if it is asked for once more.
 fn refuses(rt: &impl Abort, line: &mut LineOfPlay<'_>, fault: Fault) {
+    assert!(rt; line.next_move().err() == Some(fault));
     assert!(rt; line.next().err() == Some(fault));
     assert!(rt; line.next().err() == Some(fault));
 }
