@@ -1,8 +1,15 @@
 -- The lines of plies in a buffer, one after another.
-use Rattle.pgn_c.proofs.Words.{◌≡◌, ℕ, ◌+◌, ◌<◌, ◌≤◌, List, [], ◌∷◌, ◌++◌, length, take, drop, sym, ap, ap₂, ◌∙◌, arith, append-nil, append_assoc, length-append, drop-drop, drop_at, take_at, length-drop, IsFilled}
+use Rattle.pgn_c.proofs.Words.{◌≡◌, ℕ, ◌+◌, ◌<◌, ◌≤◌, List, [], ◌∷◌, ◌++◌, length, take, drop, sym, ap, ap₂, ◌∙◌, arith, append-nil, append_assoc, length-append, drop-drop, drop_at, take_at, length-drop, IsFilled, None}
 use Rattle.pgn_game.specs.calls.LineOfPlay.{Line, Ply, behind_ply}
-use Rattle.pgn_c.specs.LinesOfPlay.{ply_line, ply_lines}
+use Rattle.pgn_c.specs.LinesOfPlay.{WritesLine, line_result, ply_line, ply_lines}
+use Rattle.pgn_c.specs.declared.line_of_play.PgnPlies.{PgnPlies}
+use Rattle.pgn_c.specs.declared.line_of_play.PlyFields.TheVariants.{All, Fen}
 use Rattle.pgn_c.specs.declared.line_of_play.PlyFields.{PlyFields}
+
+-- the line of a ply ends with a line feed
+pub some_line : (fields : PlyFields) (x : Ply) → 0 < length (ply_line fields x)
+some_line All x = omega (arith, length-append {A = ℕ})
+some_line Fen x = omega (arith, length-append {A = ℕ})
 
 one_more_line : (fields : PlyFields) (xs : List Ply) (x : Ply) → ply_lines fields (xs ++ x ∷ []) ≡ ply_lines fields xs ++ ply_line fields x
 one_more_line fields [] x = append-nil (ply_line fields x)
@@ -62,4 +69,17 @@ module _ (fields : PlyFields) (line ahead : Line) (before now : List ℕ) (writt
           bytes = sym long;
           counted = omega (arith, so_far.counted, length-append so_far.put (x ∷ []));
           each = omega (arith, so_far.each, some);
+        }
+
+    -- the line of the next ply has no room
+    pub no_room : (text : List ℕ) (result : PgnPlies) → text ≡ ply_line fields x → length now < written + length text
+        → result ≡ line_result (x ∷ []) None written count → WritesLine fields line before now result
+    no_room text result is full same =
+        record {
+          put = so_far.put;
+          left = x ∷ rest.plies;
+          plies = so_far.plies ∙ ap (λ (l : Line). so_far.put ++ l.plies) next;
+          filled = so_far.filled;
+          full = omega (arith, full, same_length, so_far.bytes, ap length is);
+          is_result = same ∙ ap₂ (λ (n k : ℕ). line_result (x ∷ []) None n k) so_far.bytes so_far.counted;
         }

@@ -8,3 +8,4 @@ pub mod TagScan
 pub mod NextGame
 pub mod NextGameSteps
 pub mod NextSection
+pub mod NextLine

@@ -1,14 +1,15 @@
 //! A line of play, as C gets it.
 ghost use Rattle.std.specs.Prelude.{◌≡◌, ◌+◌, ◌<◌, ◌≤◌, [], ◌∷◌, ◌++◌, None, Some, drop, length, take};
-ghost use Rattle.pgn_game.specs.calls.LineOfPlay.{line_ahead, line_of_text, ply_of};
+ghost use Rattle.pgn_game.specs.calls.LineOfPlay.{Ply, line_ahead, line_of_text};
+ghost use Rattle.pgn_c.specs.NextLine.{PushesNext};
 ghost use Rattle.pgn_c.specs.LinesOfPlay as spec;
 ghost use Rattle.pgn_c.specs.LinesOfPlay.{WritesLine, line_result};
 
 use crate::pgn_result::{FAULT, FULL, NO_MODE, OK};
 use arrayvec::ArrayVec;
 use chess_rules::Position;
-use chess_text::{write_fen, write_uci};
-use pgn_game::{Fault, LineOfPlay, Notation, Ply, Reason};
+use chess_text::{FenWriter, write_uci};
+use pgn_game::{Fault, LineOfPlay, Notation, Reason};
 
 /// What the line of a ply has.
 #[derive(Clone, Copy)]
@@ -86,16 +87,17 @@ pub fn write_line(position: Position, text: &[u8], format: Format, buffer: &mut 
 fn write_plies(line: &mut LineOfPlay<'_>, fields: PlyFields, buffer: &mut [u8]) -> PgnPlies
     ensures { WritesLine fields (line_ahead line.old) buffer.old buffer.new result }
 {
+    let mut fens = FenWriter::new();
     let mut written = 0;
     let mut plies = 0;
     loop {
-        match line.next() {
+        let mut text = ArrayVec::new();
+        match push_next(&mut text, line, fields, &mut fens) {
             Ok(None) => return whole_line(written, plies),
             Err(fault) => return refused_line(fault, written, plies),
-            Ok(Some(ply)) => {
-                let text = ply_line(&ply, fields);
+            Ok(Some(at)) => {
                 if buffer.len() - written < text.len() {
-                    return full_line(&ply, written, plies);
+                    return full_line(at, written, plies);
                 }
                 put(text.as_slice(), buffer, written);
                 written += text.len();
@@ -114,21 +116,36 @@ fn put(text: &[u8], buffer: &mut [u8], at: usize)
     buffer[at..at + text.len()].copy_from_slice(text);
 }
 
-// The line of a ply, with these fields.
-fn ply_line(ply: &Ply, fields: PlyFields) -> ArrayVec<u8, 108>
-    ensures text { result.items ≡ spec.ply_line fields (ply_of ply.now) }
-    ensures some { 0 < length result.items }
+// Adds the line of the next ply to an empty text, and returns the place of the ply.
+fn push_next(
+    text: &mut ArrayVec<u8, 108>,
+    line: &mut LineOfPlay<'_>,
+    fields: PlyFields,
+    fens: &mut FenWriter,
+) -> Result<Option<usize>, Fault>
+    requires { text.old.items ≡ [] }
+    ensures { PushesNext fields line.old result line.new text.new.items }
 {
-    let mut line = ArrayVec::new();
-    let fen = write_fen(&ply.played.next);
-    if let PlyFields::Fen = fields {
-        push_field(&mut line, fen.as_slice(), b'\n');
-        return line;
+    match fields {
+        PlyFields::All => match line.next() {
+            Ok(None) => Ok(None),
+            Err(fault) => Err(fault),
+            Ok(Some(ply)) => {
+                push_field(text, ply.san.as_slice(), b'\t');
+                push_field(text, write_uci(&ply.played.mv).as_slice(), b'\t');
+                push_field(text, fens.write(&ply.played.next).as_slice(), b'\n');
+                Ok(Some(ply.at))
+            }
+        },
+        PlyFields::Fen => match line.next_move() {
+            Ok(None) => Ok(None),
+            Err(fault) => Err(fault),
+            Ok(Some(found)) => {
+                push_field(text, fens.write(&found.played.next).as_slice(), b'\n');
+                Ok(Some(found.at))
+            }
+        },
     }
-    push_field(&mut line, ply.san.as_slice(), b'\t');
-    push_field(&mut line, write_uci(&ply.played.mv).as_slice(), b'\t');
-    push_field(&mut line, fen.as_slice(), b'\n');
-    line
 }
 
 // Adds a field, and the byte behind it.
@@ -168,15 +185,15 @@ fn refused_line(fault: Fault, written: usize, plies: usize) -> PgnPlies
     }
 }
 
-// The result for a line of which this ply has no room.
-fn full_line(ply: &Ply, written: usize, plies: usize) -> PgnPlies
-    ensures { result ≡ line_result (ply_of ply.now ∷ []) None written plies }
+// The result for a line of which the ply at this place has no room.
+fn full_line(at: usize, written: usize, plies: usize) -> PgnPlies
+    ensures { (x : Ply) → x.at ≡ at → result ≡ line_result (x ∷ []) None written plies }
 {
     PgnPlies {
         status: FULL,
         fault: Reason::WriteFault.number() as u32,
         field: 0,
-        place: ply.at as u64,
+        place: at as u64,
         written,
         plies,
     }

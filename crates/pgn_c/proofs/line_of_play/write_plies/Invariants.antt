@@ -3,8 +3,8 @@ use Rattle.pgn_game.specs.calls.LineOfPlay.{line_ahead}
 use Rattle.pgn_c.proofs.PlyLines.{PutSoFar}
 use Rattle.pgn_c.proofs.line_of_play.write_plies.Given as goal
 
-abbrev pub invariant-loop-ply : goal.invariant-loop-ply
-invariant-loop-ply l = PutSoFar l.fn.fields (line_ahead l.fn.line) (line_ahead l.line) l.fn.buffer l.buffer l.written l.plies
+abbrev pub invariant-loop-at : goal.invariant-loop-at
+invariant-loop-at l = PutSoFar l.fn.fields (line_ahead l.fn.line) (line_ahead l.line) l.fn.buffer l.buffer l.written l.plies
 
-abbrev pub decreases-loop-ply : goal.decreases-loop-ply
-decreases-loop-ply l = length l.line.words
+abbrev pub decreases-loop-at : goal.decreases-loop-at
+decreases-loop-at l = length l.line.words
