@@ -209,7 +209,7 @@ impl Board {
 
     // Moves the content of one square to another.
     #[inline(always)]
-    pub(crate) fn carry(&mut self, from: Square, to: Square)
+    pub(crate) fn move_piece(&mut self, from: Square, to: Square)
         ensures { self.new ≡ spec.put (spec.put self.old from None) to (spec.at self.old from) }
     {
         *self = Board {

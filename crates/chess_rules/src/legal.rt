@@ -36,7 +36,7 @@ pub fn try_pair(position: &Position, mv: Move, probes: &mut Probes) -> Option<Po
     ensures count { probes.new ≡ probes.old + 1 }
 {
     probes.add_one();
-    if allows(position, &mv) {
+    if is_legal(position, &mv) {
         Some(position_after(position, &mv))
     } else {
         None
@@ -57,7 +57,7 @@ pub fn position_after(position: &Position, mv: &Move) -> Position
 // Whether the move is legal.
 #[tactic(auto, using(crate::proofs::moves::PlainStepAttacks::none_unless_step))]
 #[inline(never)]
-fn allows(position: &Position, mv: &Move) -> bool
+fn is_legal(position: &Position, mv: &Move) -> bool
     ensures { result ≡ spec.is_legal position.now mv.now }
 {
     let step_kind = kind_of_step(position, mv);

@@ -259,7 +259,7 @@ pub(crate) fn board_after(position: &Position, mv: &Move, step_kind: StepKind) -
 {
     let mut board = *position.board();
     match mv.promotion {
-        None => board.carry(mv.from, mv.to),
+        None => board.move_piece(mv.from, mv.to),
         Some(promotion) => {
             let colour = position.side();
             let kind = kind_of(promotion);
@@ -270,8 +270,8 @@ pub(crate) fn board_after(position: &Position, mv: &Move, step_kind: StepKind) -
     match step_kind {
         StepKind::Plain => {}
         StepKind::EnPassant => board.put(captured_pawn(mv), None),
-        StepKind::ShortCastling => board.carry(home(position, 7), home(position, 5)),
-        StepKind::LongCastling => board.carry(home(position, 0), home(position, 3)),
+        StepKind::ShortCastling => board.move_piece(home(position, 7), home(position, 5)),
+        StepKind::LongCastling => board.move_piece(home(position, 0), home(position, 3)),
     }
     board
 }

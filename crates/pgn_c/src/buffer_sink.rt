@@ -49,7 +49,7 @@ impl<'a> Room<'a> {
 }
 
 /// The buffer before the call that fills it: the loan, and its bytes.
-pub trait Before {
+pub trait BufferBefore {
     ghost use Rattle.std.specs.Prelude.{ℕ, List};
 
     ghost name: { ℕ };
@@ -57,7 +57,7 @@ pub trait Before {
     ghost bytes: { List ℕ };
 }
 
-impl Before for Brand {
+impl BufferBefore for Brand {
     ghost use Rattle.std.specs.Prelude.{[]};
 
     ghost name = { 0 };
@@ -67,7 +67,7 @@ impl Before for Brand {
 
 /// The sink that fills the buffer from its front. A write fails exactly where the buffer is full.
 #[derive(Drop)]
-pub struct BufferSink<'a, K: Before> {
+pub struct BufferSink<'a, K: BufferBefore> {
     pub room: Room<'a>,
     pub of: PhantomData<K>,
     ghost same: { room.buffer.ghost_name ≡ K.name },
@@ -77,7 +77,7 @@ pub struct BufferSink<'a, K: Before> {
     ghost full: { 0 < room.failures → room.written ≡ length room.buffer.now },
 }
 
-impl<'a, K: Before> Sink for BufferSink<'a, K> {
+impl<'a, K: BufferBefore> Sink for BufferSink<'a, K> {
     ghost taken = { λ s. Some (take s.room.written s.room.buffer.now) };
 
     ghost failures = { λ s. s.room.failures };

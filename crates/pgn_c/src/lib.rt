@@ -33,7 +33,7 @@ mod read_game;
 mod san;
 mod tag;
 
-use crate::buffer_sink::{Before, BufferSink, Room};
+use crate::buffer_sink::{BufferBefore, BufferSink, Room};
 pub use crate::explanation::PgnExplanation;
 use crate::explanation::{explain, no_explanation};
 pub use crate::fen::PgnText;
@@ -290,7 +290,11 @@ fn convert_into(text: &[u8], buffer: &mut [u8], mode: Mode) -> PgnResult
 }
 
 // Converts the text into the buffer, whose bytes `K` has.
-fn fill<'a, K: Before>(text: &[u8], buffer: &'a mut [u8], mode: Mode) -> (&'a mut [u8], PgnResult)
+fn fill<'a, K: BufferBefore>(
+    text: &[u8],
+    buffer: &'a mut [u8],
+    mode: Mode,
+) -> (&'a mut [u8], PgnResult)
     requires name { buffer.ghost_name ≡ K.name }
     requires bytes { buffer.old ≡ K.bytes }
     ensures same { result.0.ghost_name ≡ buffer.entry.ghost_name }

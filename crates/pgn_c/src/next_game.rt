@@ -10,7 +10,7 @@ ghost use Rattle.pgn_c.specs.NextGameSteps.{profile_if, silenced_if};
 ghost use Rattle.pgn_lexer.specs.TokensOf.{has_mark};
 ghost use Rattle.pgn_c.specs.NextGame as spec;
 
-use crate::buffer_sink::{Before, BufferSink, Room};
+use crate::buffer_sink::{BufferBefore, BufferSink, Room};
 use crate::game_result::{
     BAD_PLACE, MORE, NO_GAME, PgnGame, finished_game, marker_of_number, no_game, refused_game,
 };
@@ -130,7 +130,7 @@ fn convert_next(text: &[u8], from: usize, mode: Mode, missing: Marker, buffer: &
 
 // Converts the next game into the buffer, whose bytes `K` has.
 #[inline(always)]
-fn fill_next<'a, K: Before>(
+fn fill_next<'a, K: BufferBefore>(
     text: &[u8],
     from: usize,
     mode: Mode,

@@ -3,7 +3,7 @@ ghost use Rattle.std.specs.Prelude.{◌≡◌, ◌≢◌};
 ghost use Rattle.pgn_game.specs.calls.ConverterCalls.{finished_game_section};
 ghost use Rattle.pgn_c.specs.NextGame.{ReadGameIn, WritesSection, section_full};
 
-use crate::buffer_sink::{Before, BufferSink, Room};
+use crate::buffer_sink::{BufferBefore, BufferSink, Room};
 use crate::game_result::{BAD_PLACE, PgnGame, fault_game, no_game};
 use crate::next_game::{LAST_PLACE, converter_at, read_silently};
 use crate::pgn_result::{FULL, NO_MODE, OK};
@@ -50,7 +50,7 @@ fn put_tags(converter: &Converter<TAGS, LEVELS>, found: PgnGame, buffer: &mut [u
 }
 
 // Writes the tag section into the buffer, whose bytes `K` has.
-fn fill_tags<'a, K: Before>(
+fn fill_tags<'a, K: BufferBefore>(
     converter: &Converter<TAGS, LEVELS>,
     found: PgnGame,
     buffer: &'a mut [u8],

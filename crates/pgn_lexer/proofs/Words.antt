@@ -41,14 +41,14 @@ pub use Rattle.pgn_lexer.specs.declared.class.Class.TheVariants.{SymbolStart}
 pub use Rattle.pgn_lexer.specs.declared.class.CommentClass.{CommentClass}
 pub use Rattle.pgn_lexer.specs.declared.class.Single.{Single}
 pub use Rattle.pgn_lexer.specs.declared.class.StringClass.{StringClass}
-pub use Rattle.pgn_lexer.specs.declared.partial_token.Mode.{Mode}
-pub use Rattle.pgn_lexer.specs.declared.partial_token.Mode.TheVariants.{AfterBackslash, Brace, BraceWord, Failed, LineStart, LineWord, Outside, Start, Str, Symbol, Glyph}
-pub use Rattle.pgn_lexer.specs.declared.partial_token.Step.{Step}
-pub use Rattle.pgn_lexer.specs.declared.partial_token.Step.TheVariants.{Ends, EndsBefore, Fault, Used}
+pub use Rattle.pgn_lexer.specs.declared.partial_token.LexMode.{LexMode}
+pub use Rattle.pgn_lexer.specs.declared.partial_token.LexMode.TheVariants.{AfterBackslash, Brace, BraceWord, Failed, LineStart, LineWord, Outside, Start, Str, Symbol, Glyph}
+pub use Rattle.pgn_lexer.specs.declared.partial_token.ByteResult.{ByteResult}
+pub use Rattle.pgn_lexer.specs.declared.partial_token.ByteResult.TheVariants.{Ends, EndsBefore, Fault, Used}
 pub use Rattle.pgn_lexer.specs.declared.partial_token.TokenForm.{TokenForm}
 pub use Rattle.pgn_lexer.specs.declared.token.LexFault.{LexFault}
 pub use Rattle.pgn_lexer.specs.declared.token.LexReason.{LexReason}
 pub use Rattle.pgn_lexer.specs.declared.token.LexReason.TheVariants.{BadSuffix, BraceInLineComment, ControlByte, GlyphRange, LoneDollar, Reserved, StrayByte, StringTooLong, SymbolTooLong, UnclosedComment, UnclosedString, WordTooLong}
-pub use Rattle.pgn_lexer.specs.declared.partial_token.Reached.{Reached}
+pub use Rattle.pgn_lexer.specs.declared.partial_token.PieceResult.{PieceResult}
 pub use Rattle.std.proofs.lemmas.Grind.{common_steps}
 pub use Rattle.pgn_lexer.specs.declared.partial_token.SuffixRun.{SuffixRun}

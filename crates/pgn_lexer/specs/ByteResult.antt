@@ -10,14 +10,14 @@ use Rattle.pgn_lexer.specs.declared.class.CommentClass.{CommentClass}
 use Rattle.pgn_lexer.specs.declared.class.CommentClass.TheVariants as comment_classes
 use Rattle.pgn_lexer.specs.declared.class.StringClass.{StringClass}
 use Rattle.pgn_lexer.specs.declared.class.StringClass.TheVariants as string_classes
-use Rattle.pgn_lexer.specs.declared.partial_token.Mode.{Mode}
-use Rattle.pgn_lexer.specs.declared.partial_token.Mode.TheVariants.{Start, AfterEf, AfterEfBb, LineStart, Outside, EscapeLine, Symbol, Str, AfterBackslash, Dollar, Glyph, Suffix, Brace, BraceWord, Line, LineWord, Failed}
+use Rattle.pgn_lexer.specs.declared.partial_token.LexMode.{LexMode}
+use Rattle.pgn_lexer.specs.declared.partial_token.LexMode.TheVariants.{Start, AfterEf, AfterEfBb, LineStart, Outside, EscapeLine, Symbol, Str, AfterBackslash, Dollar, Glyph, Suffix, Brace, BraceWord, Line, LineWord, Failed}
 use Rattle.pgn_lexer.specs.declared.partial_token.SuffixRun.{SuffixRun}
 use Rattle.pgn_lexer.specs.declared.partial_token.SuffixRun.TheVariants as suffix_runs
 use Rattle.pgn_lexer.specs.declared.partial_token.TokenForm.TheVariants as token_forms
-use Rattle.pgn_lexer.specs.declared.partial_token.Step.{Step}
-use Rattle.pgn_lexer.specs.declared.partial_token.Step.TheVariants.{Used, Ends, EndsBefore, Fault}
-use Rattle.pgn_lexer.specs.declared.partial_token.Reached.{Reached}
+use Rattle.pgn_lexer.specs.declared.partial_token.ByteResult.{ByteResult}
+use Rattle.pgn_lexer.specs.declared.partial_token.ByteResult.TheVariants.{Used, Ends, EndsBefore, Fault}
+use Rattle.pgn_lexer.specs.declared.partial_token.PieceResult.{PieceResult}
 use Rattle.pgn_lexer.specs.Bytes.{is_line_end, is_digit, continues_symbol, is_suffix}
 use Rattle.pgn_lexer.specs.Spelling.{class, comment_class, string_class}
 use Rattle.pgn_lexer.specs.PartialToken.{PartialToken}
@@ -26,27 +26,27 @@ use Rattle.pgn_lexer.specs.RunResult.{reached_after}
 -- what is held then, and what the byte results in
 pub record AfterByte : Type 0 where
   pub held : PartialToken
-  pub step : Step
+  pub step : ByteResult
 
 -- a call left and returned just that
-pub record IsAfterByte (t : AfterByte) (new : PartialToken) (answer : Step) : Type 0 where
+pub record IsAfterByte (t : AfterByte) (new : PartialToken) (answer : ByteResult) : Type 0 where
   pub held : new ≡ t.held
   pub step : answer ≡ t.step
 
-pub record IsAfterEnd (t : AfterByte) (new : PartialToken) (answer : Reached) : Type 0 where
+pub record IsAfterEnd (t : AfterByte) (new : PartialToken) (answer : PieceResult) : Type 0 where
   pub held : new ≡ t.held
   pub reached : answer ≡ reached_after t.step
 
 -- the mode, the place and the text are set
-abbrev pub set_at : Mode → ℕ → List ℕ → Step → AfterByte
+abbrev pub set_at : LexMode → ℕ → List ℕ → ByteResult → AfterByte
 set_at mode place text step = record { held = record { mode = mode; at = place; text = text }; step = step }
 
 -- the mode alone changes
-abbrev pub into : PartialToken → Mode → Step → AfterByte
+abbrev pub into : PartialToken → LexMode → ByteResult → AfterByte
 into h mode step = set_at mode h.at h.text step
 
 -- one byte more of the token
-abbrev pub grown : PartialToken → Mode → ℕ → AfterByte
+abbrev pub grown : PartialToken → LexMode → ℕ → AfterByte
 grown h mode b = set_at mode h.at (h.text ++ b ∷ []) Used
 
 -- the lexer rejects the text at this place, for good
@@ -84,7 +84,7 @@ abbrev pub start : ℕ → PartialToken → ℕ → AfterByte
 start place h b = if b == 239 then into h AfterEf Used else begin_line place h b (class b)
 
 -- the mark goes on with one byte only, into this mode
-abbrev pub mark : ℕ → Mode → PartialToken → ℕ → AfterByte
+abbrev pub mark : ℕ → LexMode → PartialToken → ℕ → AfterByte
 mark wanted mode h b = if b == wanted then into h mode Used else fails h 0 StrayByte
 
 abbrev pub symbol : PartialToken → ℕ → AfterByte
@@ -129,7 +129,7 @@ string true place h b string_classes.Plain = if_room 254 StringTooLong h (grown 
 string true place h b _ = grown h Str b
 
 -- between the words of a comment, in the mode `between`; the mode in a word is `inside`
-abbrev pub between_words : Mode → Mode → ℕ → PartialToken → ℕ → CommentClass → AfterByte
+abbrev pub between_words : LexMode → LexMode → ℕ → PartialToken → ℕ → CommentClass → AfterByte
 between_words between inside place h b comment_classes.WordByte = set_at inside place (b ∷ []) Used
 between_words between inside place h b comment_classes.Control = fails h place ControlByte
 between_words between inside place h b _ = set_at between place h.text Used
@@ -144,11 +144,11 @@ line place h b comment_classes.CloseBrace = fails h place BraceInLineComment
 line place h b c = between_words Line LineWord place h b c
 
 -- in a word of either comment
-abbrev pub word : Mode → PartialToken → ℕ → CommentClass → AfterByte
+abbrev pub word : LexMode → PartialToken → ℕ → CommentClass → AfterByte
 word between h b comment_classes.WordByte = if_room 79 WordTooLong h (grown h h.mode b)
 word between h b _ = into h between (EndsBefore token_forms.Word)
 
-abbrev pub after_byte_in : Mode → ℕ → PartialToken → ℕ → AfterByte
+abbrev pub after_byte_in : LexMode → ℕ → PartialToken → ℕ → AfterByte
 after_byte_in Start place h b = start place h b
 after_byte_in AfterEf place h b = mark 187 AfterEfBb h b
 after_byte_in AfterEfBb place h b = mark 191 LineStart h b
@@ -173,7 +173,7 @@ after_byte place h b = after_byte_in h.mode place h b
 
 -- The end of the text ends a token as a line feed does, changes nothing between tokens, and rejects
 -- a comment in braces.
-abbrev pub after_end_in : Mode → ℕ → PartialToken → AfterByte
+abbrev pub after_end_in : LexMode → ℕ → PartialToken → AfterByte
 after_end_in Start place h = record { held = h; step = Used }
 after_end_in LineStart place h = record { held = h; step = Used }
 after_end_in Outside place h = record { held = h; step = Used }

@@ -5,8 +5,8 @@ use Rattle.std.specs.Prelude.{◌≡◌, ℕ, ◌+◌, ◌<◌, ◌≤◌, true,
 use Rattle.pgn_lexer.specs.declared.token.LexFault.{LexFault}
 use Rattle.pgn_lexer.specs.declared.token.LexReason.{LexReason}
 use Rattle.pgn_lexer.specs.declared.token.LexReason.TheVariants.{StrayByte}
-use Rattle.pgn_lexer.specs.declared.partial_token.Mode.{Mode}
-use Rattle.pgn_lexer.specs.declared.partial_token.Mode.TheVariants.{Start, AfterEf, AfterEfBb, LineStart, Outside, EscapeLine, Symbol, Str, AfterBackslash, Dollar, Glyph, Suffix, Brace, BraceWord, Line, LineWord, Failed}
+use Rattle.pgn_lexer.specs.declared.partial_token.LexMode.{LexMode}
+use Rattle.pgn_lexer.specs.declared.partial_token.LexMode.TheVariants.{Start, AfterEf, AfterEfBb, LineStart, Outside, EscapeLine, Symbol, Str, AfterBackslash, Dollar, Glyph, Suffix, Brace, BraceWord, Line, LineWord, Failed}
 use Rattle.pgn_lexer.specs.declared.partial_token.SuffixRun.{SuffixRun}
 use Rattle.pgn_lexer.specs.declared.partial_token.SuffixRun.TheVariants as suffix_runs
 use Rattle.pgn_lexer.specs.declared.partial_token.TokenForm.{TokenForm}
@@ -18,7 +18,7 @@ use Rattle.pgn_lexer.specs.TokensOf.{column, outside, in_escape_line, in_symbol,
 
 -- where the partial token began, and what was read of it
 pub record PartialToken : Type 0 where
-  pub mode : Mode
+  pub mode : LexMode
   pub at : ℕ
   pub text : List ℕ
 
@@ -54,7 +54,7 @@ spelling suffix_runs.Speculative = codes "!?"
 spelling suffix_runs.Questionable = codes "?!"
 
 -- the tokens that come, if the bytes from the place on are s
-abbrev pub tokens_to_come_in : Mode → ℕ → ℕ → List ℕ → List ℕ → List Token
+abbrev pub tokens_to_come_in : LexMode → ℕ → ℕ → List ℕ → List ℕ → List Token
 tokens_to_come_in Start place at text s = tokens_of s
 tokens_to_come_in AfterEf place at text s = tokens_of (239 ∷ s)
 tokens_to_come_in AfterEfBb place at text s = tokens_of (239 ∷ 187 ∷ s)
@@ -78,7 +78,7 @@ tokens_to_come place h s = tokens_to_come_in h.mode place h.at h.text s
 
 -- what the text and the number of a token so far have, and room for what must still go into the
 -- buffer
-abbrev pub HasMore : Mode → List ℕ → Type 0
+abbrev pub HasMore : LexMode → List ℕ → Type 0
 HasMore Symbol text = 0 < length text
 HasMore AfterBackslash text = length text < 255
 HasMore BraceWord text = (0 < length text) × (length text ≤ 79)
@@ -87,11 +87,11 @@ HasMore (Glyph n) text = n ≤ 255
 HasMore _ text = Unit {0}
 
 -- the text fits the buffer
-abbrev pub HasRoom : Mode → List ℕ → Type 0
+abbrev pub HasRoom : LexMode → List ℕ → Type 0
 HasRoom mode text = (length text ≤ 255) × HasMore mode text
 
 -- the partial token began before the place
-abbrev pub IsPlaced : Mode → ℕ → ℕ → List ℕ → Type 0
+abbrev pub IsPlaced : LexMode → ℕ → ℕ → List ℕ → Type 0
 IsPlaced Start place at text = place ≡ 0
 IsPlaced AfterEf place at text = place ≡ 1
 IsPlaced AfterEfBb place at text = place ≡ 2
@@ -111,12 +111,12 @@ pub record IsSound (place : ℕ) (h : PartialToken) : Type 0 where
   pub placed : IsPlaced h.mode place h.at h.text
 
 -- no rejection was met
-abbrev pub HasNotFailed : Mode → Type 0
+abbrev pub HasNotFailed : LexMode → Type 0
 HasNotFailed (Failed reason) = ⊥
 HasNotFailed _ = Unit {0}
 
 -- the reason of a rejection, in mode Failed; the place of the fault is that of the partial token
-abbrev pub reason_in_mode : Mode → LexReason
+abbrev pub reason_in_mode : LexMode → LexReason
 reason_in_mode (Failed reason) = reason
 reason_in_mode _ = StrayByte
 
@@ -124,7 +124,7 @@ abbrev pub fault_met : PartialToken → LexFault
 fault_met h = record { at = h.at; reason = reason_in_mode h.mode }
 
 -- how many tokens come with no byte more, but for the end
-abbrev pub pending_in : Mode → ℕ
+abbrev pub pending_in : LexMode → ℕ
 pending_in Symbol = 1
 pending_in (Glyph n) = 1
 pending_in (Suffix run) = 1

@@ -3,12 +3,12 @@
 -- Letters: s are any bytes that come after, t is a token, f a fault, h is what is held.
 use Rattle.std.specs.Prelude.{◌≡◌, true, false, ℕ, ◌+◌, ◌*◌, ◌<◌, ◌≤◌, ◌⊎◌, List, [], ◌∷◌, ◌++◌, length, take, drop, Some}
 use Rattle.pgn_lexer.specs.declared.token.LexFault.{LexFault}
-use Rattle.pgn_lexer.specs.declared.partial_token.Mode.{Mode}
-use Rattle.pgn_lexer.specs.declared.partial_token.Mode.TheVariants.{LineStart, Outside}
-use Rattle.pgn_lexer.specs.declared.partial_token.Step.{Step}
-use Rattle.pgn_lexer.specs.declared.partial_token.Step.TheVariants.{Used, Ends, EndsBefore, Fault}
-use Rattle.pgn_lexer.specs.declared.partial_token.Reached.{Reached}
-use Rattle.pgn_lexer.specs.declared.partial_token.Reached.TheVariants as reached
+use Rattle.pgn_lexer.specs.declared.partial_token.LexMode.{LexMode}
+use Rattle.pgn_lexer.specs.declared.partial_token.LexMode.TheVariants.{LineStart, Outside}
+use Rattle.pgn_lexer.specs.declared.partial_token.ByteResult.{ByteResult}
+use Rattle.pgn_lexer.specs.declared.partial_token.ByteResult.TheVariants.{Used, Ends, EndsBefore, Fault}
+use Rattle.pgn_lexer.specs.declared.partial_token.PieceResult.{PieceResult}
+use Rattle.pgn_lexer.specs.declared.partial_token.PieceResult.TheVariants as reached
 use Rattle.pgn_lexer.specs.Tokens.{Token, HasLength, EndsAt, is_run}
 use Rattle.pgn_lexer.specs.TokensOf.{Within, tokens_from}
 use Rattle.pgn_lexer.specs.PartialToken.{PartialToken, tokens_to_come, token_of, refusal, IsSound, HasNotFailed, pending, fault_met}
@@ -71,7 +71,7 @@ pub record RunsToFault (place : ℕ) (old : PartialToken) (piece : List ℕ) (f 
   pub some : HasNotFailed old.mode → 0 < length piece
   pub comes : (s : List ℕ) → tokens_to_come place old (take used piece ++ s) ≡ refusal f ∷ []
 
-abbrev pub RunGives : ℕ → PartialToken → List ℕ → PartialToken → ℕ → Reached → Type 0
+abbrev pub RunGives : ℕ → PartialToken → List ℕ → PartialToken → ℕ → PieceResult → Type 0
 RunGives place old piece new used reached.End = RunsOut place old piece new used
 RunGives place old piece new used (reached.Token form) = RunsToToken place old piece (token_of form new) new used
 RunGives place old piece new used reached.Fault = RunsToFault place old piece (fault_met new) new used
@@ -85,17 +85,17 @@ pub record Ran (place : ℕ) (old : PartialToken) (piece : List ℕ) (h : Partia
   pub comes : (s : List ℕ) → tokens_to_come place old (take i piece ++ s) ≡ tokens_to_come (place + i) h s
 
 -- between tokens, and in no comment
-abbrev pub IsOutside : Mode → Type 0
+abbrev pub IsOutside : LexMode → Type 0
 IsOutside LineStart = Unit {0}
 IsOutside Outside = Unit {0}
 IsOutside _ = ⊥
 
 -- how many bytes a run used that a step ended, and what it has reached then
-abbrev pub used_after : Step → ℕ → ℕ
+abbrev pub used_after : ByteResult → ℕ → ℕ
 used_after (EndsBefore form) used = used
 used_after _ used = used + 1
 
-abbrev pub reached_after : Step → Reached
+abbrev pub reached_after : ByteResult → PieceResult
 reached_after Used = reached.End
 reached_after (Ends form) = reached.Token form
 reached_after (EndsBefore form) = reached.Token form

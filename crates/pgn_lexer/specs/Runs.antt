@@ -3,8 +3,8 @@
 use Rattle.std.specs.Prelude.{◌≡◌, ℕ, ◌<◌, ◌≤◌, Bool, true, false, List, length, get_or}
 use Rattle.pgn_lexer.specs.declared.class.CommentClass.TheVariants.{WordByte}
 use Rattle.pgn_lexer.specs.declared.class.StringClass.TheVariants.{Plain, Quote}
-use Rattle.pgn_lexer.specs.declared.partial_token.Mode.{Mode}
-use Rattle.pgn_lexer.specs.declared.partial_token.Mode.TheVariants.{LineStart, Outside, Brace, Line}
+use Rattle.pgn_lexer.specs.declared.partial_token.LexMode.{LexMode}
+use Rattle.pgn_lexer.specs.declared.partial_token.LexMode.TheVariants.{LineStart, Outside, Brace, Line}
 use Rattle.pgn_lexer.specs.Bytes.{continues_symbol, is_digit, starts_symbol}
 use Rattle.pgn_lexer.specs.Spelling.{comment_class, string_class}
 use Rattle.pgn_lexer.specs.Tokens.{Kind, end}
@@ -40,7 +40,7 @@ pub record IsStringIn (piece : List ℕ) (n : ℕ) : Type 0 where
   pub ends : string_class (get_or piece n 0) ≡ Quote
 
 -- between tokens, or between the words of a comment
-abbrev pub IsBetween : Mode → Type 0
+abbrev pub IsBetween : LexMode → Type 0
 IsBetween LineStart = Unit {0}
 IsBetween Outside = Unit {0}
 IsBetween Brace = Unit {0}
@@ -48,18 +48,18 @@ IsBetween Line = Unit {0}
 IsBetween _ = ⊥
 
 -- between the words of a comment, to the end of its line or in braces
-abbrev pub comment_mode : Bool → Mode
+abbrev pub comment_mode : Bool → LexMode
 comment_mode true = Line
 comment_mode false = Brace
 
 -- a token of a piece, behind which the lexer is in the mode
-pub record IsInside (mode : Mode) (kind : Kind) : Type 0 where
+pub record IsInside (mode : LexMode) (kind : Kind) : Type 0 where
   pub between : IsBetween mode
   pub no_end : kind ≡ end → ⊥
 
 -- Wherever a lexer stands between tokens, the first n bytes of the piece are this token. It then is
 -- in the mode, where the place and the text that it stores say nothing.
-pub record IsWhole (piece : List ℕ) (n : ℕ) (mode : Mode) (kind : Kind) : Type 0 where
+pub record IsWhole (piece : List ℕ) (n : ℕ) (mode : LexMode) (kind : Kind) : Type 0 where
   pub some : 0 < n
   pub within : n ≤ length piece
   pub inside : IsInside mode kind

@@ -1,8 +1,8 @@
 -- **Definition**: the value that contracts see of a lexer, and the tokens that it still gives.
 use Rattle.std.specs.Prelude.{ℕ, List, Option, None, Some}
 use Rattle.pgn_lexer.specs.declared.token.LexFault.{LexFault}
-use Rattle.pgn_lexer.specs.declared.partial_token.Mode.{Mode}
-use Rattle.pgn_lexer.specs.declared.partial_token.Mode.TheVariants.{Failed}
+use Rattle.pgn_lexer.specs.declared.partial_token.LexMode.{LexMode}
+use Rattle.pgn_lexer.specs.declared.partial_token.LexMode.TheVariants.{Failed}
 use Rattle.pgn_lexer.specs.Tokens.{Token}
 use Rattle.pgn_lexer.specs.PartialToken.{PartialToken, tokens_to_come, pending}
 
@@ -19,7 +19,7 @@ coming l s = tokens_to_come l.count l.held s
 abbrev pub waiting : Standing → ℕ
 waiting l = pending l.held
 
-abbrev pub fault_in_mode : Mode → ℕ → Option LexFault
+abbrev pub fault_in_mode : LexMode → ℕ → Option LexFault
 fault_in_mode (Failed reason) at = Some (record { at = at; reason = reason })
 fault_in_mode _ at = None
 

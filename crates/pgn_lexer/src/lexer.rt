@@ -2,7 +2,7 @@
 ghost use Rattle.std.specs.Prelude.{◌≡◌, ◌+◌, ◌≤◌, ◌^◌, [], length, IfSome, None};
 ghost use Rattle.std.specs.Borrow.{sem};
 
-use crate::partial_token::{PartialToken, Reached};
+use crate::partial_token::{PartialToken, PieceResult};
 use crate::token::{Outcome, Scan, Token, TokenKind};
 use std::marker::Model;
 
@@ -199,15 +199,15 @@ impl Lexer {
         let (used, reached) = self.partial.run(piece, self.count);
         self.count += used as u64;
         match reached {
-            Reached::End => Scan {
+            PieceResult::End => Scan {
                 used,
                 outcome: Outcome::NeedMore,
             },
-            Reached::Token(form) => Scan {
+            PieceResult::Token(form) => Scan {
                 used,
                 outcome: Outcome::Token(self.partial.token(form)),
             },
-            Reached::Fault => Scan {
+            PieceResult::Fault => Scan {
                 used,
                 outcome: Outcome::Fault(self.partial.fault_met()),
             },
@@ -224,12 +224,12 @@ impl Lexer {
         ensures* after { sem 𝓛 (Leaves self.entry (λ new. Finishes self.old new (scanned result))) }
     {
         match self.partial.close(self.count) {
-            Reached::End => Outcome::Token(Token {
+            PieceResult::End => Outcome::Token(Token {
                 at: self.count,
                 kind: TokenKind::End,
             }),
-            Reached::Token(form) => Outcome::Token(self.partial.token(form)),
-            Reached::Fault => Outcome::Fault(self.partial.fault_met()),
+            PieceResult::Token(form) => Outcome::Token(self.partial.token(form)),
+            PieceResult::Fault => Outcome::Fault(self.partial.fault_met()),
         }
     }
 }

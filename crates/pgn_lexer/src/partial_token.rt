@@ -42,7 +42,7 @@ pub(crate) enum SuffixRun {
 
 /// What the next byte is inside of.
 #[derive(Clone, Copy)]
-pub(crate) enum Mode {
+pub(crate) enum LexMode {
     /// Before the first byte of the text.
     Start,
     /// After EF, and after EF BB, at the very start.
@@ -87,7 +87,7 @@ pub(crate) enum TokenForm {
 
 /// The result of one byte.
 #[derive(Clone, Copy)]
-pub(crate) enum Step {
+pub(crate) enum ByteResult {
     /// It was used, and no token ends.
     Used,
     /// It was used, and a token ends with it.
@@ -100,7 +100,7 @@ pub(crate) enum Step {
 
 /// What is reached in a piece, or after the last one.
 #[derive(Clone, Copy)]
-pub(crate) enum Reached {
+pub(crate) enum PieceResult {
     /// The end of the piece, or of the text; no token ends before it.
     End,
     /// The end of a token.
@@ -113,7 +113,7 @@ pub(crate) enum Reached {
 #[derive(Drop)]
 pub(crate) struct PartialToken {
     buffer: ArrayVec<u8, LONGEST_TEXT>,
-    mode: Mode,
+    mode: LexMode,
     at: u64,
 }
 
@@ -133,18 +133,18 @@ impl PartialToken {
     /// Returns the state outside all tokens, before the byte at this place.
     pub(crate) fn begin_at(place: u64, in_first_column: bool) -> PartialToken
         ensures { result ≡ record {
-          mode = if place == 0 then Mode.Start else if in_first_column then Mode.LineStart
-              else Mode.Outside;
+          mode = if place == 0 then LexMode.Start else if in_first_column then LexMode.LineStart
+              else LexMode.Outside;
           at = 0;
           text = [];
         } }
     {
         let mode = if place == 0 {
-            Mode::Start
+            LexMode::Start
         } else if in_first_column {
-            Mode::LineStart
+            LexMode::LineStart
         } else {
-            Mode::Outside
+            LexMode::Outside
         };
         PartialToken {
             buffer: ArrayVec::new(),
@@ -158,7 +158,7 @@ impl PartialToken {
         ensures { result ≡ fault_met self.now }
     {
         let reason = match self.mode {
-            Mode::Failed(reason) => reason,
+            LexMode::Failed(reason) => reason,
             _ => LexReason::StrayByte,
         };
         LexFault {
@@ -274,7 +274,7 @@ pub(crate) fn longer_suffix(run: SuffixRun, byte: u8) -> Option<SuffixRun>
         ((h : PartialToken) → byte_result.second_suffix h run byte
         ≡ byte_result.fails h h.at BadSuffix)
         (λ longer. (h : PartialToken) → byte_result.second_suffix h run byte
-        ≡ byte_result.into h (Mode.Suffix longer) Step.Used) }
+        ≡ byte_result.into h (LexMode.Suffix longer) ByteResult.Used) }
 {
     match (run, byte) {
         (SuffixRun::Good, b'!') => Some(SuffixRun::VeryGood),

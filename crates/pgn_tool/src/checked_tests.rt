@@ -4,7 +4,7 @@ ghost use Rattle.pgn_tool.specs.CheckedRun.{is_checked};
 
 use crate::checked::run_checked;
 use crate::devices::{
-    Page, Reader, Trouble, failing_memory, holds_at, is_cut_off, memory, says_unread, whole,
+    Page, TextReader, Trouble, failing_memory, holds_at, is_cut_off, memory, says_unread, whole,
 };
 use crate::standard::StandardOutput;
 use crate::stream_tests::{
@@ -47,7 +47,7 @@ fn task(alloc: Global, reduced: bool) -> Task
     Task::Checked { reduced, file }
 }
 
-fn run(reduced: bool, first: Reader, second: Reader, out: Page, err: Page) -> Ran {
+fn run(reduced: bool, first: TextReader, second: TextReader, out: Page, err: Page) -> Ran {
     let task = task(out.alloc, reduced);
     let mut out = StandardOutput::new(out.alloc, out);
     let mut err = Outlet::new(err);
@@ -57,7 +57,7 @@ fn run(reduced: bool, first: Reader, second: Reader, out: Page, err: Page) -> Ra
 }
 
 // The run over a writer alone, as a caller has it that makes no buffer.
-fn run_unbuffered(first: Reader, second: Reader, out: Page, err: Page) -> Ran {
+fn run_unbuffered(first: TextReader, second: TextReader, out: Page, err: Page) -> Ran {
     let task = task(out.alloc, false);
     let (mut out, mut err) = (Outlet::new(out), Outlet::new(err));
     let (mut first, mut second) = (Inlet::new(first), Inlet::new(second));
@@ -65,7 +65,7 @@ fn run_unbuffered(first: Reader, second: Reader, out: Page, err: Page) -> Ran {
     left_unbuffered(status, out, err)
 }
 
-fn run_by(writing: Writing, first: Reader, second: Reader, out: Page, err: Page) -> Ran {
+fn run_by(writing: Writing, first: TextReader, second: TextReader, out: Page, err: Page) -> Ran {
     match writing {
         Writing::Buffered => run(false, first, second, out, err),
         Writing::Unbuffered => run_unbuffered(first, second, out, err),
@@ -171,7 +171,7 @@ fn run_to(alloc: Global, out: Page) -> Ran {
 }
 
 /// A run to memory.
-fn run_in_memory(alloc: Global, reduced: bool, first: Reader, second: Reader) -> Ran {
+fn run_in_memory(alloc: Global, reduced: bool, first: TextReader, second: TextReader) -> Ran {
     run(reduced, first, second, memory(alloc), memory(alloc))
 }
 
@@ -203,7 +203,7 @@ fn writes_reduced_games(rt: HostRuntime) {
 
 #[test]
 fn writes_nothing_if_the_first_reading_fails(rt: HostRuntime) {
-    let first = Reader {
+    let first = TextReader {
         text: b"1. e4 *",
         calls: 0,
         fails_at: 5,
@@ -223,8 +223,8 @@ fn written(bytes: usize) -> &'static [u8] {
     }
 }
 
-fn failing(fails_at: usize, error: ErrorKind, most: usize) -> Reader {
-    Reader {
+fn failing(fails_at: usize, error: ErrorKind, most: usize) -> TextReader {
+    TextReader {
         text: TWO,
         calls: 0,
         fails_at,

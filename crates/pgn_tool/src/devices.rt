@@ -116,7 +116,7 @@ pub fn says_unread(page: &Page, byte: usize) -> bool {
 
 /// A reader of a text in pieces of so many bytes, which fails at one of its calls.
 #[derive(Clone, Copy)]
-pub struct Reader {
+pub struct TextReader {
     pub text: &'static [u8],
     pub calls: usize,
     pub fails_at: usize,
@@ -124,7 +124,7 @@ pub struct Reader {
     pub most: usize,
 }
 
-impl Read for Reader {
+impl Read for TextReader {
     fn read(&mut self, buffer: &mut [u8]) -> io::Result<usize> {
         let call = self.calls;
         self.calls = call.saturating_add(1);
@@ -140,8 +140,8 @@ impl Read for Reader {
 }
 
 /// A reader of which no call fails.
-pub fn whole(text: &'static [u8]) -> Reader {
-    Reader {
+pub fn whole(text: &'static [u8]) -> TextReader {
+    TextReader {
         text,
         calls: 0,
         fails_at: usize::MAX,

@@ -56,7 +56,7 @@ impl<'a, F: GameFiles> Turn<'a, F> {
 }
 
 /// What holds before the game: the borrow, the number of the game, and what was done with files.
-pub trait Before {
+pub trait GameBefore {
     ghost use Rattle.std.specs.Prelude.{ℕ, List, Option};
     ghost use Rattle.pgn_tool.specs.Files.{FileStep};
 
@@ -67,7 +67,7 @@ pub trait Before {
     ghost log: { Option (List FileStep) };
 }
 
-impl Before for Brand {
+impl GameBefore for Brand {
     ghost use Rattle.std.specs.Prelude.{None};
 
     ghost name = { 0 };
@@ -79,7 +79,7 @@ impl Before for Brand {
 
 /// The sink for one game, whose file is made at its first byte.
 #[derive(Drop)]
-pub struct GameSink<'a, K: Before, F: GameFiles> {
+pub struct GameSink<'a, K: GameBefore, F: GameFiles> {
     pub turn: Turn<'a, F>,
     pub of: PhantomData<K>,
     ghost same: { turn.files.ghost_name ≡ K.name },
@@ -88,7 +88,7 @@ pub struct GameSink<'a, K: Before, F: GameFiles> {
     ghost begun: { IsBegun F.Out.taken F.Out.failures K.log turn.file },
 }
 
-impl<'a, K: Before, F: GameFiles> Sink for GameSink<'a, K, F> {
+impl<'a, K: GameBefore, F: GameFiles> Sink for GameSink<'a, K, F> {
     ghost taken = { λ s. bytes_in F.Out.taken K.log s.turn.file };
 
     ghost failures = { λ s. failures_in F.Out.failures s.turn.file };

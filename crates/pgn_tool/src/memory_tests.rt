@@ -29,7 +29,7 @@ use std::test::Fail;
 
 /// What was done with a file that is written.
 #[derive(Drop)]
-pub enum Step {
+pub enum FileEvent {
     Entered(String),
     Made(String),
     Closed(Vec<u8>),
@@ -67,7 +67,7 @@ pub struct Memory<A> {
     alloc: Global,
     name: &'static str,
     text: &'static [u8],
-    steps: Vec<Step>,
+    steps: Vec<FileEvent>,
 }
 
 impl<A: Abort + Copy + Drop> Memory<A> {
@@ -83,7 +83,7 @@ impl<A: Abort + Copy + Drop> Memory<A> {
     }
 
     // Without memory for it the test ends.
-    fn note(&mut self, step: Step)
+    fn note(&mut self, step: FileEvent)
         ensures { self.new.steps.items ≡ self.old.steps.items ++ step ∷ [] }
     {
         let kept = self.steps.push(step);
@@ -101,7 +101,7 @@ impl<A: Abort + Copy + Drop> Memory<A> {
 
 impl<A: Abort + Copy + Drop> FileSystem for Memory<A> {
     ghost use Rattle.std.specs.Prelude.{◌≡◌, Some, Ok, map, bytes_eq, not, if◌then◌else◌, string_bytes};
-    ghost use Rattle.pgn_tool.specs.declared.memory_tests.Step.TheVariants.{Entered, Made, Closed};
+    ghost use Rattle.pgn_tool.specs.declared.memory_tests.FileEvent.TheVariants.{Entered, Made, Closed};
     ghost use Rattle.pgn_tool.specs.Machine.{holds, missing};
     ghost use Rattle.pgn_tool.specs.Files.{entered, closed};
     ghost use Rattle.pgn_tool.specs.FileSystem.{making, other};
@@ -132,12 +132,12 @@ impl<A: Abort + Copy + Drop> FileSystem for Memory<A> {
     }
 
     fn enter(&mut self, folder: String) {
-        self.note(Step::Entered(folder));
+        self.note(FileEvent::Entered(folder));
     }
 
     fn create(&mut self, name: &str) -> Result<Paper<A>, SystemFault> {
         let copy = self.copy_of(name);
-        self.note(Step::Made(copy));
+        self.note(FileEvent::Made(copy));
         Ok(Paper {
             rt: self.rt,
             text: Vec::new(self.alloc),
@@ -145,7 +145,7 @@ impl<A: Abort + Copy + Drop> FileSystem for Memory<A> {
     }
 
     fn close(&mut self, out: Paper<A>) {
-        self.note(Step::Closed(out.text));
+        self.note(FileEvent::Closed(out.text));
     }
 }
 
@@ -162,7 +162,7 @@ type Machine<S> = Devices<
 struct Ran {
     status: u8,
     out: Vec<u8>,
-    steps: Vec<Step>,
+    steps: Vec<FileEvent>,
     err: Vec<u8>,
 }
 
@@ -265,7 +265,7 @@ impl Ran {
 }
 
 /// Whether these files were made in this folder, each closed before the next.
-fn made(steps: &[Step], folder: &str, files: &[(&str, &[u8])]) -> bool {
+fn made(steps: &[FileEvent], folder: &str, files: &[(&str, &[u8])]) -> bool {
     let mut index = 1usize;
     for file in files {
         if !has_file(steps.get(index..).unwrap_or_default(), file) {
@@ -277,15 +277,15 @@ fn made(steps: &[Step], folder: &str, files: &[(&str, &[u8])]) -> bool {
 }
 
 /// Whether the first step is to enter this folder.
-fn has_entered(step: Option<&Step>, folder: &str) -> bool {
-    matches!(step, Some(Step::Entered(path)) if path.as_str() == folder)
+fn has_entered(step: Option<&FileEvent>, folder: &str) -> bool {
+    matches!(step, Some(FileEvent::Entered(path)) if path.as_str() == folder)
 }
 
 /// Whether the first steps are to make this file and to close it.
-fn has_file(steps: &[Step], file: &(&str, &[u8])) -> bool {
+fn has_file(steps: &[FileEvent], file: &(&str, &[u8])) -> bool {
     matches!(
         steps,
-        [Step::Made(name), Step::Closed(text), ..]
+        [FileEvent::Made(name), FileEvent::Closed(text), ..]
             if name.as_str() == file.0 && text.as_slice() == file.1
     )
 }

@@ -1,7 +1,7 @@
 //! Runs of the program on a machine in memory.
 ghost use Rattle.std.specs.Prelude.{◌≡◌};
 
-use crate::devices::{Page, Reader, holds_at, memory, whole};
+use crate::devices::{Page, TextReader, holds_at, memory, whole};
 use crate::files::{CreateFault, GameFiles};
 use crate::machine::{Devices, GameFolder, Input, Output, SystemFault};
 use crate::memory_tests::owned_words;
@@ -26,7 +26,7 @@ const SHORT: &[u8] = b"out of memory\n";
 /// Standard input, which has one game, and files by name. Some can be opened once only.
 #[derive(Drop)]
 struct Desk {
-    inlet: Inlet<Reader>,
+    inlet: Inlet<TextReader>,
     is_second: bool,
 }
 

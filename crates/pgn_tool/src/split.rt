@@ -7,7 +7,7 @@ ghost use Rattle.pgn_tool.specs.SplitGames.{SplitResult};
 ghost use Rattle.pgn_tool.specs.SplitFiles.{CountsSplit, GameSplit, RunsSplit, SplitFiles, settled};
 
 use crate::files::{CreateFault, GameFiles};
-use crate::game_sink::{Before, GameFile, GameSink, Turn};
+use crate::game_sink::{GameBefore, GameFile, GameSink, Turn};
 use crate::replies::out_of_memory;
 use crate::stream::{LEVELS, TAGS, refuse};
 use pgn_game::{Fault, Games, Mode, Sink, Source};
@@ -83,7 +83,7 @@ fn split_game<R: Source, F: GameFiles>(
 }
 
 // Writes the next game to a file of its own. Gives back the files that were borrowed for it.
-fn write_game<'a, K: Before, R: Source, F: GameFiles>(
+fn write_game<'a, K: GameBefore, R: Source, F: GameFiles>(
     games: &mut Splitter,
     source: &mut R,
     files: &'a mut F,

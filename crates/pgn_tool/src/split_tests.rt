@@ -1,5 +1,5 @@
 //! Splits into files in memory, with devices that fail.
-use crate::devices::{Page, Reader, Trouble, holds_at, is_cut_off, memory, says_unread, whole};
+use crate::devices::{Page, TextReader, Trouble, holds_at, is_cut_off, memory, says_unread, whole};
 use crate::files::{CreateFault, GameFiles};
 use crate::folder::file_name;
 use crate::split::split_to;
@@ -132,7 +132,7 @@ impl Ran {
     }
 }
 
-fn run(reader: Reader, shelf: &mut Shelf) -> Ran {
+fn run(reader: TextReader, shelf: &mut Shelf) -> Ran {
     let mut err = Outlet::new(memory(shelf.alloc));
     let status = split_to(&mut Inlet::new(reader), shelf, &mut err);
     Ran {
@@ -369,7 +369,7 @@ fn ends_at(ran: &Ran, made: &mut Shelf, fails_at: usize) -> bool {
 }
 
 fn reports_read(alloc: Global, error: ErrorKind, fails_at: usize) -> bool {
-    let failing = Reader {
+    let failing = TextReader {
         text: three(),
         calls: 0,
         fails_at,

@@ -3,7 +3,7 @@
 ghost use Rattle.std.specs.Prelude.{◌≡◌, ◌<◌, ◌≤◌, [], length, drop, OnOk, vec_len, vec_capacity};
 ghost use Rattle.std.specs.Io.KnownBytes.{Keeps, append_known};
 ghost use Rattle.pgn_layout.specs.Device.{Counts};
-ghost use Rattle.pgn_tool.specs.declared.standard.Reader.TheVariants.{Standard};
+ghost use Rattle.pgn_tool.specs.declared.standard.StandardOrFile.TheVariants.{Standard};
 
 use crate::file_system::FileSystem;
 use crate::machine::{Input, Output, SystemFault};
@@ -16,20 +16,20 @@ const OUTPUT_BUFFER: usize = 64 * 1024;
 
 /// What is read.
 #[derive(Drop)]
-pub enum Reader<R, F> {
+pub enum StandardOrFile<R, F> {
     Standard(R),
     Opened(F),
 }
 
-impl<R: Read, F: Read> Read for Reader<R, F> {
+impl<R: Read, F: Read> Read for StandardOrFile<R, F> {
     ghost use Rattle.pgn_tool.specs.Standard.{left_in};
 
     ghost remaining = { left_in R.remaining F.remaining };
 
     fn read(&mut self, buffer: &mut [u8]) -> io::Result<usize> {
         match self {
-            Reader::Standard(input) => input.read(buffer),
-            Reader::Opened(file) => file.read(buffer),
+            StandardOrFile::Standard(input) => input.read(buffer),
+            StandardOrFile::Opened(file) => file.read(buffer),
         }
     }
 }
@@ -38,7 +38,7 @@ impl<R: Read, F: Read> Read for Reader<R, F> {
 #[derive(Drop)]
 pub struct StandardInput<S: FileSystem, R> {
     pub system: S,
-    pub inlet: Inlet<Reader<R, S::File>>,
+    pub inlet: Inlet<StandardOrFile<R, S::File>>,
 }
 
 impl<S: FileSystem, R> StandardInput<S, R> {
@@ -49,7 +49,7 @@ impl<S: FileSystem, R> StandardInput<S, R> {
     {
         StandardInput {
             system,
-            inlet: Inlet::new(Reader::Standard(reader)),
+            inlet: Inlet::new(StandardOrFile::Standard(reader)),
         }
     }
 }
@@ -73,7 +73,7 @@ impl<S: FileSystem, R: Read + Drop> Input for StandardInput<S, R> {
 
     fn open(&mut self, name: &str) -> Result<(), SystemFault> {
         let file = self.system.open(name)?;
-        self.inlet = Inlet::new(Reader::Opened(file));
+        self.inlet = Inlet::new(StandardOrFile::Opened(file));
         Ok(())
     }
 }

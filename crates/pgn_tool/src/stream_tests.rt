@@ -3,7 +3,7 @@ ghost use Rattle.std.specs.Prelude.{◌≡◌, true};
 ghost use Rattle.pgn_tool.specs.TaskRun.{is_for_stream};
 
 use crate::devices::{
-    Page, Reader, Trouble, failing_memory, holds_at, is_cut_off, memory, says_unread, whole,
+    Page, TextReader, Trouble, failing_memory, holds_at, is_cut_off, memory, says_unread, whole,
 };
 use crate::machine::Output;
 use crate::standard::StandardOutput;
@@ -128,7 +128,7 @@ pub fn left_unbuffered(status: u8, out: Outlet<Page>, err: Outlet<Page>) -> Ran 
     }
 }
 
-fn run(job: Job, reader: Reader, out: Page, err: Page) -> Ran {
+fn run(job: Job, reader: TextReader, out: Page, err: Page) -> Ran {
     let mut out = StandardOutput::new(out.alloc, out);
     let mut err = Outlet::new(err);
     let status = run_stream(&job.task(), &mut Inlet::new(reader), &mut out, &mut err);
@@ -136,7 +136,7 @@ fn run(job: Job, reader: Reader, out: Page, err: Page) -> Ran {
 }
 
 // The run over a writer alone, as a caller has it that makes no buffer.
-fn run_unbuffered(job: Job, reader: Reader, out: Page, err: Page) -> Ran {
+fn run_unbuffered(job: Job, reader: TextReader, out: Page, err: Page) -> Ran {
     let (mut out, mut err) = (Outlet::new(out), Outlet::new(err));
     let status = run_stream(&job.task(), &mut Inlet::new(reader), &mut out, &mut err);
     left_unbuffered(status, out, err)
@@ -290,7 +290,7 @@ pub enum Writing {
     Unbuffered,
 }
 
-fn run_by(writing: Writing, job: Job, reader: Reader, out: Page, err: Page) -> Ran {
+fn run_by(writing: Writing, job: Job, reader: TextReader, out: Page, err: Page) -> Ran {
     match writing {
         Writing::Buffered => run(job, reader, out, err),
         Writing::Unbuffered => run_unbuffered(job, reader, out, err),
@@ -343,7 +343,7 @@ fn whole_games(bytes: usize) -> usize {
 // Whether a run reports that this read fails, of pieces of so many bytes. The last read finds the
 // end.
 fn reports_read(alloc: Global, job: Job, error: ErrorKind, most: usize, fails_at: usize) -> bool {
-    let failing = Reader {
+    let failing = TextReader {
         text: TWO,
         calls: 0,
         fails_at,

@@ -1,7 +1,7 @@
 -- The tokens that a lexer has left at the end of the input: they finish at most one game, and if
 -- they pass, they leave none begun.
-use Rattle.pgn_lexer.specs.declared.partial_token.Mode.{Mode}
-use Rattle.pgn_lexer.specs.declared.partial_token.Mode.TheVariants as modes
+use Rattle.pgn_lexer.specs.declared.partial_token.LexMode.{LexMode}
+use Rattle.pgn_lexer.specs.declared.partial_token.LexMode.TheVariants as modes
 use Rattle.pgn_lexer.specs.declared.partial_token.SuffixRun.{SuffixRun}
 use Rattle.pgn_lexer.specs.declared.partial_token.SuffixRun.TheVariants as suffix_runs
 use Rattle.pgn_lexer.specs.Tokens as tokens
@@ -106,7 +106,7 @@ abbrev pub token_at : ℕ → Kind → Token
 token_at at k = record { at = at; kind = k }
 
 -- nothing that finishes a game, or a NAG, or a symbol
-pub data IsLeft (mode : Mode) (place at : ℕ) (text : List ℕ) : List Token → Type 0 where
+pub data IsLeft (mode : LexMode) (place at : ℕ) (text : List ℕ) : List Token → Type 0 where
   none : (ts : List Token) → AreQuiet ts → HasLast ts → IsLeft mode place at text ts
   glyph : (n : ℕ) → IsLeft mode place at text (token_at at (tokens.glyph n) ∷ end_at place ∷ [])
   symbol : mode ≡ modes.Symbol → IsLeft mode place at text (token_at at (tokens.symbol (text ++ [])) ∷ end_at place ∷ [])
@@ -116,7 +116,7 @@ symbol_left : {place at : ℕ} {text : List ℕ} (fits : Bool) → IsLeft modes.
 symbol_left true = symbol refl
 symbol_left false = none _ (refused SymbolTooLong, tt) tt
 
-glyph_left : {mode : Mode} {place at : ℕ} (n : ℕ) {text : List ℕ} (fits : Bool)
+glyph_left : {mode : LexMode} {place at : ℕ} (n : ℕ) {text : List ℕ} (fits : Bool)
     → IsLeft mode place at text (onto at (if fits then gives (tokens.glyph n) else stops at GlyphRange) (end_at place ∷ []))
 glyph_left n true = glyph n
 glyph_left n false = none _ (refused GlyphRange, tt) tt
@@ -130,13 +130,13 @@ suffix_left suffix_runs.VeryPoor = glyph _
 suffix_left suffix_runs.Speculative = glyph _
 suffix_left suffix_runs.Questionable = glyph _
 
-word_left : {mode : Mode} {place at : ℕ} {text : List ℕ} (run : List ℕ) (fits : Bool) (t : Token) (ts : List Token)
+word_left : {mode : LexMode} {place at : ℕ} {text : List ℕ} (run : List ℕ) (fits : Bool) (t : Token) (ts : List Token)
     → AreQuiet (t ∷ ts) → HasLast (t ∷ ts)
     → IsLeft mode place at text (onto at (if fits then gives (tokens.word run) else stops at WordTooLong) (t ∷ ts))
 word_left run true t ts q has = none _ (word run, q) has
 word_left run false t ts q has = none _ (refused WordTooLong, tt) tt
 
-pub left_in : (mode : Mode) {place at : ℕ} {text : List ℕ} → IsLeft mode place at text (tokens_to_come_in mode place at text [])
+pub left_in : (mode : LexMode) {place at : ℕ} {text : List ℕ} → IsLeft mode place at text (tokens_to_come_in mode place at text [])
 left_in modes.Start = none _ (end, tt) tt
 left_in modes.AfterEf = none _ (refused _, tt) tt
 left_in modes.AfterEfBb = none _ (refused _, tt) tt
@@ -155,7 +155,7 @@ left_in modes.Line = none _ (close, (end, tt)) tt
 left_in modes.LineWord = word_left _ _ _ _ (close, (end, tt)) tt
 left_in (modes.Failed f) = none _ (refused _, tt) tt
 
-left_last : {mode : Mode} {place at : ℕ} {text : List ℕ} {ts : List Token} → IsLeft mode place at text ts → AreLast ts
+left_last : {mode : LexMode} {place at : ℕ} {text : List ℕ} {ts : List Token} → IsLeft mode place at text ts → AreLast ts
 left_last (none ts q has) = quiet ts q has
 left_last {place} (glyph n) = one _ place
 left_last {place} (symbol is) = one _ place

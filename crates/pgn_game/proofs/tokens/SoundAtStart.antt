@@ -1,10 +1,10 @@
 -- How many tokens come without another byte, and the counts before the first byte.
 use Rattle.pgn_game.proofs.Words.{◌≡◌, ◌≤◌, ◌^◌, false, None, arith, Standing, waiting, ReaderState, IsSound, pending_in}
 use Rattle.pgn_game.proofs.Words.{rules}
-use Rattle.pgn_lexer.specs.declared.partial_token.Mode.{Mode}
-use Rattle.pgn_lexer.specs.declared.partial_token.Mode.TheVariants.{LineWord, Symbol, Glyph, Suffix, BraceWord, Line}
+use Rattle.pgn_lexer.specs.declared.partial_token.LexMode.{LexMode}
+use Rattle.pgn_lexer.specs.declared.partial_token.LexMode.TheVariants.{LineWord, Symbol, Glyph, Suffix, BraceWord, Line}
 
-few_waiting_in : (m : Mode) → pending_in m ≤ 2
+few_waiting_in : (m : LexMode) → pending_in m ≤ 2
 few_waiting_in Symbol = omega arith
 few_waiting_in (Glyph n) = omega arith
 few_waiting_in (Suffix run) = omega arith

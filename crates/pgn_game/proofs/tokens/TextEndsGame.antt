@@ -1,5 +1,5 @@
 -- A game that the end of a text finishes: its marker is a symbol that ends with the text.
-use Rattle.pgn_lexer.specs.declared.partial_token.Mode.TheVariants as modes
+use Rattle.pgn_lexer.specs.declared.partial_token.LexMode.TheVariants as modes
 use Rattle.pgn_lexer.specs.Tokens as tokens
 use Rattle.pgn_game.proofs.MarkerTexts.{score_marker, marker_short}
 use Rattle.pgn_game.proofs.Words.{Token, Profile, Game, ◌≡◌, ℕ, ◌+◌, ◌<◌, ◌≤◌, Bool, true, false, List, [], ◌∷◌, ◌++◌, length, nat_le, None, refl, sym, ap, subst, ◌∙◌, inl, inr, drop, append-nil, append_assoc, length-append, arith, le-leb, EndsAt, Standing, coming, is_score, no_progress, Read, read, read_from, Converter, Stands, games_read, FinishesGame, if◌then◌else◌, drop_at, drop-append-le, drop-drop, length-drop, SymbolTooLong, gives, stops, onto, tokens_of, tokens_to_come_in, BeginsWithToken, RisesTo, SymbolsStandInText, TokensRise, GamesEndByMarker, LastGame, TextsEndBehindMarker, TextsEndBetweenGames, text_of_games as text_of, common_steps}

@@ -1,6 +1,6 @@
 -- What one of two readings has read up to a marker: in the bytes of its source, and where that has
 -- ended.
-use Rattle.pgn_lexer.specs.declared.partial_token.Mode.{Mode}
+use Rattle.pgn_lexer.specs.declared.partial_token.LexMode.{LexMode}
 use Rattle.pgn_game.specs.declared.marker.PlacedMarker.{PlacedMarker as CodePlacedMarker}
 use Rattle.pgn_game.proofs.Words.{Token, within_limit, InputTooLong, Fault, Profile, ◌≡◌, ℕ, ◌^◌, ◌≤◌, arith, false, true, List, [], ◌∷◌, ◌++◌, length, Option, None, Some, Result, Ok, Err, IfSome, IsStill, CountsFault, refl, sym, ap, subst, ◌∙◌, append_assoc, append-nil, Consumes-trans, Consumes, Stands, inl, takes_the_marker, with_missing, Device, tokens_of, decided, Standing, coming, HasLeft, first, Converter, ReadsMore, as_written, StandsWithin, Reading, games_of, AreShown, AfterEndToMarker, EndsToMarker, taking_announced_marker, AfterToMarker, CountsReading, StopsBefore, UsesAll, AfterMarker, HasGiven, ReadingStops, ReadFails, at_read, StandsIn, common_steps}
 use Rattle.pgn_game.specs.calls.ConverterCalls.{at_end}
@@ -15,7 +15,7 @@ use Rattle.pgn_game.proofs.tokens.WholeInput.{known_left, known_whole}
 use Rattle.pgn_game.proofs.twice.FailuresOfSteps.{behind_still, reader_reason}
 
 -- a lexer has a token left at the end
-some_left : {mode : Mode} {place at : ℕ} {text : List ℕ} (ts : List Token) → IsLeft mode place at text ts → (t : Token) × (us : List Token) × (ts ≡ t ∷ us)
+some_left : {mode : LexMode} {place at : ℕ} {text : List ℕ} (ts : List Token) → IsLeft mode place at text ts → (t : Token) × (us : List Token) × (ts ≡ t ∷ us)
 some_left _ (none [] quiet last) = absurd last
 some_left _ (none (t ∷ us) quiet last) = (t, us, refl)
 some_left _ (glyph n) = (_, _, refl)

@@ -1,5 +1,5 @@
 -- Each text brings a lexer to a place from which nothing is decided yet, or to a rejection.
-use Rattle.pgn_lexer.proofs.Words.{◌≡◌, ℕ, zero, suc, ◌+◌, ◌*◌, ◌<◌, ◌≤◌, Bool, List, [], ◌∷◌, ◌++◌, length, drop, refl, sym, ap, ◌∙◌, append-nil, append_assoc, arith, take-append-drop, take_while, Mode, Step, Used, Ends, EndsBefore, Fault, Token, tokens_of, PartialToken, tokens_to_come, token_of, refusal, IsSound, HasNotFailed, pending_in, pending, fault_met, after_byte, IsPrefix, DecidedIsPrefix, KnownIsPrefix}
+use Rattle.pgn_lexer.proofs.Words.{◌≡◌, ℕ, zero, suc, ◌+◌, ◌*◌, ◌<◌, ◌≤◌, Bool, List, [], ◌∷◌, ◌++◌, length, drop, refl, sym, ap, ◌∙◌, append-nil, append_assoc, arith, take-append-drop, take_while, LexMode, ByteResult, Used, Ends, EndsBefore, Fault, Token, tokens_of, PartialToken, tokens_to_come, token_of, refusal, IsSound, HasNotFailed, pending_in, pending, fault_met, after_byte, IsPrefix, DecidedIsPrefix, KnownIsPrefix}
 use Rattle.pgn_lexer.proofs.stepping.StepGives.{StepGives, front_of}
 use Rattle.pgn_lexer.proofs.stepping.ByteGives.{step_gives}
 use Rattle.pgn_lexer.proofs.deciding.GivenAreDecided.{common_of, decided_is, going_none}
@@ -12,7 +12,7 @@ record Settles (tokens : List ℕ → List Token) : Type 0 where
   none : common_of (later []) (later (49 ∷ [])) (later (33 ∷ []))
       (later (34 ∷ 34 ∷ [])) (later (191 ∷ [])) (later (187 ∷ 191 ∷ [])) ≡ []
 
-few : (m : Mode) → pending_in m ≤ 2
+few : (m : LexMode) → pending_in m ≤ 2
 few m = grind arith
 
 after_token : (tokens rest : List ℕ → List Token) (t : Token) → ((s : List ℕ) → tokens s ≡ t ∷ rest s) → Settles rest
@@ -34,7 +34,7 @@ settles (suc n) (b ∷ u) place h enough sound not_failed =
     (λ new fewer sound not_failed. settles n u _ new fewer sound not_failed)
     (λ new fewer sound not_failed. settles n (b ∷ u) place new fewer sound not_failed)
   where
-    by_step : (new : PartialToken) (step : Step) → StepGives (front_of place h b) new step
+    by_step : (new : PartialToken) (step : ByteResult) → StepGives (front_of place h b) new step
         → ((new : PartialToken) → 3 * length u + pending new ≤ n → IsSound (place + 1) new
         → HasNotFailed new.mode → Settles (λ s. tokens_to_come (place + 1) new (u ++ s)))
         → ((new : PartialToken) → 3 * length (b ∷ u) + pending new ≤ n → IsSound place new
@@ -49,7 +49,7 @@ settles (suc n) (b ∷ u) place h enough sound not_failed =
         record { given = refusal (fault_met new) ∷ []; later = λ s. []; comes = λ s. g.comes (u ++ s); none = refl }
 
 abbrev at_start : PartialToken
-at_start = record { mode = Mode.Start; at = 0; text = [] }
+at_start = record { mode = LexMode.Start; at = 0; text = [] }
 
 text_settles : (u : List ℕ) → Settles (λ s. tokens_of (u ++ s))
 text_settles u = settles (3 * length u) u 0 at_start (omega arith) omega arith tt

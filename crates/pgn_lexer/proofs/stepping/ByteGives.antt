@@ -1,5 +1,5 @@
 -- Each byte, and the end of the text, gives the tokens that come.
-use Rattle.pgn_lexer.proofs.Words.{◌≡◌, ℕ, ◌<◌, ◌≤◌, List, [], ◌∷◌, length, refl, arith, Some, LexFault, Mode, TokenForm, HasLength, end, PartialToken, IsSound, HasNotFailed, tokens_to_come, kind_in, token_of, refusal, pending, fault_met, fault_in_mode, after_byte, after_byte_in, after_end, after_end_in, AfterByte, IsAfterEnd, reached_after, common_steps, Reached}
+use Rattle.pgn_lexer.proofs.Words.{◌≡◌, ℕ, ◌<◌, ◌≤◌, List, [], ◌∷◌, length, refl, arith, Some, LexFault, LexMode, TokenForm, HasLength, end, PartialToken, IsSound, HasNotFailed, tokens_to_come, kind_in, token_of, refusal, pending, fault_met, fault_in_mode, after_byte, after_byte_in, after_end, after_end_in, AfterByte, IsAfterEnd, reached_after, common_steps, PieceResult}
 use Rattle.pgn_lexer.proofs.stepping.StepGives.{Gives, GivesIn, front_of, holds}
 use Rattle.pgn_lexer.proofs.stepping.RunOfBytes.{run_closes}
 use Rattle.pgn_lexer.proofs.stepping.ByteOutside.{begin_gives, begin_line_gives, start_gives, escape_line_gives}
@@ -8,14 +8,14 @@ use Rattle.pgn_lexer.proofs.stepping.ByteInString.{string_gives, escaped_gives}
 use Rattle.pgn_lexer.proofs.stepping.ByteInGlyph.{dollar_gives, glyph_gives, suffix_gives, spelled}
 use Rattle.pgn_lexer.proofs.stepping.ByteInComment.{brace_gives, brace_word_gives, line_gives, line_word_gives, word_fits}
 
-step_in : (m : Mode) (place at b : ℕ) (text : List ℕ) → length text ≤ 255 → IsSound place (holds m at text)
+step_in : (m : LexMode) (place at b : ℕ) (text : List ℕ) → length text ≤ 255 → IsSound place (holds m at text)
     → GivesIn m place at b text (λ h. after_byte_in m place h b)
-step_in Mode.Start place at b text fits sound = rw sound.placed (start_gives at b text fits _ refl)
-step_in Mode.LineStart place at b text fits sound = begin_line_gives _ place b (holds Mode.LineStart at text) _ _ fits
-step_in Mode.Outside place at b text fits sound = begin_gives _ place b (holds Mode.Outside at text) _ _ fits
-step_in Mode.EscapeLine place at b text fits sound = escape_line_gives place at b text fits _ refl
-step_in Mode.Brace place at b text fits sound = brace_gives _ place b (holds Mode.Brace at text) _ _ fits
-step_in Mode.Line place at b text fits sound = line_gives _ place b (holds Mode.Line at text) _ _ fits
+step_in LexMode.Start place at b text fits sound = rw sound.placed (start_gives at b text fits _ refl)
+step_in LexMode.LineStart place at b text fits sound = begin_line_gives _ place b (holds LexMode.LineStart at text) _ _ fits
+step_in LexMode.Outside place at b text fits sound = begin_gives _ place b (holds LexMode.Outside at text) _ _ fits
+step_in LexMode.EscapeLine place at b text fits sound = escape_line_gives place at b text fits _ refl
+step_in LexMode.Brace place at b text fits sound = brace_gives _ place b (holds LexMode.Brace at text) _ _ fits
+step_in LexMode.Line place at b text fits sound = line_gives _ place b (holds LexMode.Line at text) _ _ fits
 step_in m place at b text fits sound =
     grind (arith, front_of, symbol_gives, string_gives, escaped_gives, dollar_gives, glyph_gives, suffix_gives, brace_word_gives, line_word_gives)
 
@@ -43,15 +43,15 @@ pub record ClosesEnd (place : ℕ) (h new : PartialToken) : Type 0 where
   pub same : new ≡ h
   pub comes : tokens_to_come place h [] ≡ record { at = place; kind = end } ∷ []
 
-abbrev CloseGives : ℕ → PartialToken → PartialToken → Reached → Type 0
-CloseGives place h new Reached.End = ClosesEnd place h new
-CloseGives place h new (Reached.Token form) = ClosesToken place h form new
-CloseGives place h new Reached.Fault = ClosesFault place h new
+abbrev CloseGives : ℕ → PartialToken → PartialToken → PieceResult → Type 0
+CloseGives place h new PieceResult.End = ClosesEnd place h new
+CloseGives place h new (PieceResult.Token form) = ClosesToken place h form new
+CloseGives place h new PieceResult.Fault = ClosesFault place h new
 
 abbrev ClosedGives : ℕ → PartialToken → AfterByte → Type 0
 ClosedGives place h t = CloseGives place h t.held (reached_after t.step)
 
-close_in : (m : Mode) (place at : ℕ) (text : List ℕ) → length text ≤ 255 → IsSound place (holds m at text)
+close_in : (m : LexMode) (place at : ℕ) (text : List ℕ) → length text ≤ 255 → IsSound place (holds m at text)
     → ClosedGives place (holds m at text) (after_end_in m place (holds m at text))
 close_in m place at text h1 h2 = grind (arith, common_steps, run_closes, spelled, word_fits)
 
@@ -59,6 +59,6 @@ close_gives : (place : ℕ) (h : PartialToken) → IsSound place h → ClosedGiv
 unfolding after_end
 close_gives place h sound = close_in _ _ _ _ sound.room.0 sound
 
-pub closes_gives : (place : ℕ) (h new : PartialToken) (answer : Reached) → IsSound place h → IsAfterEnd (after_end place h) new answer
+pub closes_gives : (place : ℕ) (h new : PartialToken) (answer : PieceResult) → IsSound place h → IsAfterEnd (after_end place h) new answer
     → CloseGives place h new answer
 closes_gives place h new answer sound t = grind (arith, close_gives)

@@ -1,5 +1,5 @@
 -- A byte in a comment.
-use Rattle.pgn_lexer.proofs.Words.{◌≡◌, ℕ, ◌+◌, ◌<◌, ◌≤◌, Bool, true, false, List, [], ◌∷◌, length, refl, ap, ◌∙◌, arith, length-append, nat_lt, if◌then◌else◌, ltb-true, ltb-false, WordTooLong, CommentClass, continues_word, Token, word, comment_class, gives, stops, word_at, brace, line, begins_brace, begins_line, after_brace, after_line, onto, tokens_from, PartialToken, Mode, TokenForm, Step, common_steps}
+use Rattle.pgn_lexer.proofs.Words.{◌≡◌, ℕ, ◌+◌, ◌<◌, ◌≤◌, Bool, true, false, List, [], ◌∷◌, length, refl, ap, ◌∙◌, arith, length-append, nat_lt, if◌then◌else◌, ltb-true, ltb-false, WordTooLong, CommentClass, continues_word, Token, word, comment_class, gives, stops, word_at, brace, line, begins_brace, begins_line, after_brace, after_line, onto, tokens_from, PartialToken, LexMode, TokenForm, ByteResult, common_steps}
 use Rattle.pgn_lexer.specs.ByteResult as byte_result
 use Rattle.pgn_lexer.proofs.stepping.RunOfBytes.{run_grows, run_breaks, run_ends, run_closes}
 use Rattle.pgn_lexer.proofs.stepping.StepGives.{Gives, GivesIn, front_by}
@@ -43,7 +43,7 @@ module _ (c : CommentClass) (place b : ℕ) where
 
 module _ (place at b : ℕ) (text : List ℕ) (some : 0 < length text) (fits : length text ≤ 79) (began : place ≡ at + length text) where
   brace_letter : comment_class b ≡ CommentClass.WordByte → continues_word b ≡ true → (d : Bool) → nat_lt (length text) 79 ≡ d
-      → GivesIn Mode.BraceWord place at b text (λ h. if d then byte_result.grown h Mode.BraceWord b else byte_result.fails h h.at WordTooLong)
+      → GivesIn LexMode.BraceWord place at b text (λ h. if d then byte_result.grown h LexMode.BraceWord b else byte_result.fails h h.at WordTooLong)
   brace_letter e w true room =
       let short = ltb-true _ _ room in
       record {
@@ -54,7 +54,7 @@ module _ (place at b : ℕ) (text : List ℕ) (some : 0 < length text) (fits : l
   brace_letter e w false full = grind (arith, common_steps, ltb-false, run_breaks, word_long, length-append)
 
   line_letter : comment_class b ≡ CommentClass.WordByte → continues_word b ≡ true → (d : Bool) → nat_lt (length text) 79 ≡ d
-      → GivesIn Mode.LineWord place at b text (λ h. if d then byte_result.grown h Mode.LineWord b else byte_result.fails h h.at WordTooLong)
+      → GivesIn LexMode.LineWord place at b text (λ h. if d then byte_result.grown h LexMode.LineWord b else byte_result.fails h h.at WordTooLong)
   line_letter e w true room =
       let short = ltb-true _ _ room in
       record {
@@ -65,7 +65,7 @@ module _ (place at b : ℕ) (text : List ℕ) (some : 0 < length text) (fits : l
   line_letter e w false full = grind (arith, common_steps, ltb-false, run_breaks, word_long, length-append)
 
   brace_word_ends : is_word_class (comment_class b) ≡ false
-      → GivesIn Mode.BraceWord place at b text (λ h. byte_result.into h Mode.Brace (Step.EndsBefore TokenForm.Word))
+      → GivesIn LexMode.BraceWord place at b text (λ h. byte_result.into h LexMode.Brace (ByteResult.EndsBefore TokenForm.Word))
   brace_word_ends other =
       record {
         sound = omega arith;
@@ -84,7 +84,7 @@ module _ (place at b : ℕ) (text : List ℕ) (some : 0 < length text) (fits : l
       }
 
   line_word_ends : is_word_class (comment_class b) ≡ false
-      → GivesIn Mode.LineWord place at b text (λ h. byte_result.into h Mode.Line (Step.EndsBefore TokenForm.Word))
+      → GivesIn LexMode.LineWord place at b text (λ h. byte_result.into h LexMode.Line (ByteResult.EndsBefore TokenForm.Word))
   line_word_ends other =
       record {
         sound = omega arith;
@@ -103,9 +103,9 @@ module _ (place at b : ℕ) (text : List ℕ) (some : 0 < length text) (fits : l
       }
 
   pub brace_word_gives : (c : CommentClass) → comment_class b ≡ c
-      → GivesIn Mode.BraceWord place at b text (λ h. byte_result.word Mode.Brace h b c)
+      → GivesIn LexMode.BraceWord place at b text (λ h. byte_result.word LexMode.Brace h b c)
   brace_word_gives c h1 = grind (arith, brace_letter, brace_word_ends)
 
   pub line_word_gives : (c : CommentClass) → comment_class b ≡ c
-      → GivesIn Mode.LineWord place at b text (λ h. byte_result.word Mode.Line h b c)
+      → GivesIn LexMode.LineWord place at b text (λ h. byte_result.word LexMode.Line h b c)
   line_word_gives c h1 = grind (arith, line_letter, line_word_ends)

@@ -1,5 +1,5 @@
 -- A byte in a glyph or a suffix.
-use Rattle.pgn_lexer.proofs.Words.{◌≡◌, ℕ, ◌+◌, ◌-◌, ◌*◌, ◌<◌, ◌≤◌, Bool, true, false, List, [], ◌∷◌, ◌++◌, length, refl, ap, ◌∙◌, arith, take_while, nat_le, ◌==◌, if◌then◌else◌, leb-true, leb-false, LoneDollar, GlyphRange, BadSuffix, Used, EndsBefore, is_digit, is_suffix, glyph, gives, stops, number_from, numbered_at, glyph_at, suffix_at, in_glyph, in_suffix, outside, onto, tokens_from, spelling, into, fails, Mode, TokenForm, rules, SuffixRun}
+use Rattle.pgn_lexer.proofs.Words.{◌≡◌, ℕ, ◌+◌, ◌-◌, ◌*◌, ◌<◌, ◌≤◌, Bool, true, false, List, [], ◌∷◌, ◌++◌, length, refl, ap, ◌∙◌, arith, take_while, nat_le, ◌==◌, if◌then◌else◌, leb-true, leb-false, LoneDollar, GlyphRange, BadSuffix, Used, EndsBefore, is_digit, is_suffix, glyph, gives, stops, number_from, numbered_at, glyph_at, suffix_at, in_glyph, in_suffix, outside, onto, tokens_from, spelling, into, fails, LexMode, TokenForm, rules, SuffixRun}
 use Rattle.pgn_lexer.specs.ByteResult as byte_result
 use Rattle.pgn_lexer.proofs.stepping.RunOfBytes.{take_while-true, glyph_goes, glyph_ends, suffix_goes, suffix_ends, run_grows, run_breaks, run_ends}
 use Rattle.pgn_lexer.proofs.stepping.RunOfBytes.{run_closes}
@@ -20,8 +20,8 @@ digit_small b e = grind arith
 
 pub glyph_gives : (place at b n : ℕ) (text : List ℕ) → length text ≤ 255 → n ≤ 255 → at < place → (c : Bool) → is_digit b ≡ c
     → (d : Bool) → nat_le (10 * n + (b - 48)) 255 ≡ d
-    → GivesIn (Mode.Glyph n) place at b text (λ h. if c then (if d then into h (Mode.Glyph (10 * n + (b - 48))) Used else fails h h.at GlyphRange)
-    else into h Mode.Outside (EndsBefore (TokenForm.Glyph n)))
+    → GivesIn (LexMode.Glyph n) place at b text (λ h. if c then (if d then into h (LexMode.Glyph (10 * n + (b - 48))) Used else fails h h.at GlyphRange)
+    else into h LexMode.Outside (EndsBefore (TokenForm.Glyph n)))
 glyph_gives place at b n text fits small began true e true low =
     record {
       sound = record { room = (fits, leb-true _ _ low); placed = omega arith };
@@ -54,7 +54,7 @@ glyph_gives place at b n text fits small began false e d _ =
     }
 
 pub dollar_gives : (place at b : ℕ) (text : List ℕ) → length text ≤ 255 → at < place → (c : Bool) → is_digit b ≡ c
-    → GivesIn Mode.Dollar place at b text (λ h. if c then into h (Mode.Glyph (b - 48)) Used else fails h h.at LoneDollar)
+    → GivesIn LexMode.Dollar place at b text (λ h. if c then into h (LexMode.Glyph (b - 48)) Used else fails h h.at LoneDollar)
 dollar_gives place at b text fits began true e =
     let first : 10 * 0 + (b - 48) ≡ b - 48 = omega arith in
     record {
@@ -77,7 +77,7 @@ module _ (at b : ℕ) (run : List ℕ) (c : Bool) where
 module _ (place at b : ℕ) (text : List ℕ) (fits : length text ≤ 255) (began : at < place) where
   more : (run next : SuffixRun) → is_suffix b ≡ true
       → ((rest : List ℕ) → suffix_at at (spelling run ++ b ∷ rest) ≡ suffix_at at (spelling next ++ rest))
-      → GivesIn (Mode.Suffix run) place at b text (λ h. into h (Mode.Suffix next) Used)
+      → GivesIn (LexMode.Suffix run) place at b text (λ h. into h (LexMode.Suffix next) Used)
   more run next e second =
       record {
         sound = omega arith;
@@ -89,10 +89,10 @@ module _ (place at b : ℕ) (text : List ℕ) (fits : length text ≤ 255) (bega
       }
 
   too_many : (run : SuffixRun) → is_suffix b ≡ true → ((rest : List ℕ) → suffix_at at (spelling run ++ b ∷ rest) ≡ stops at BadSuffix)
-      → GivesIn (Mode.Suffix run) place at b text (λ h. fails h h.at BadSuffix)
+      → GivesIn (LexMode.Suffix run) place at b text (λ h. fails h h.at BadSuffix)
   too_many run e bad = search (rules, fails, run_breaks, suffix_at, is_suffix, spelling, tokens_from, in_suffix)
 
-  goes_on : (run : SuffixRun) → is_suffix b ≡ true → GivesIn (Mode.Suffix run) place at b text (λ h. byte_result.second_suffix h run b)
+  goes_on : (run : SuffixRun) → is_suffix b ≡ true → GivesIn (LexMode.Suffix run) place at b text (λ h. byte_result.second_suffix h run b)
   goes_on SuffixRun.Good e = more SuffixRun.Good _ e (λ rest. second_good at b rest _ refl)
   goes_on SuffixRun.Poor e = more SuffixRun.Poor _ e (λ rest. second_poor at b rest _ refl)
   goes_on run e = too_many run e (λ rest. refl)
@@ -103,8 +103,8 @@ module _ (place at b : ℕ) (text : List ℕ) (fits : length text ≤ 255) (bega
   pub small_suffix : (run : SuffixRun) → byte_result.glyph_of run ≤ 255
   small_suffix run = grind arith
 
-  pub suffix_gives : (run : SuffixRun) (c : Bool) → is_suffix b ≡ c → GivesIn (Mode.Suffix run) place at b text
-      (λ h. if c then byte_result.second_suffix h run b else into h Mode.Outside (EndsBefore (TokenForm.Glyph (byte_result.glyph_of run))))
+  pub suffix_gives : (run : SuffixRun) (c : Bool) → is_suffix b ≡ c → GivesIn (LexMode.Suffix run) place at b text
+      (λ h. if c then byte_result.second_suffix h run b else into h LexMode.Outside (EndsBefore (TokenForm.Glyph (byte_result.glyph_of run))))
   suffix_gives run true e = goes_on run e
   suffix_gives run false e =
       record {

@@ -1,5 +1,5 @@
 -- A byte in a string.
-use Rattle.pgn_lexer.proofs.Words.{◌≡◌, ℕ, ◌+◌, ◌<◌, ◌≤◌, Bool, true, false, List, [], ◌∷◌, ◌++◌, length, append-nil, append_assoc, arith, length-append, nat_lt, if◌then◌else◌, ControlByte, StringTooLong, UnclosedString, StringClass, Used, Token, string_class, Reading, closed, broken, datum, reading, string_at, quotes, onto, tokens_from, with_front, grown, fails, Mode}
+use Rattle.pgn_lexer.proofs.Words.{◌≡◌, ℕ, ◌+◌, ◌<◌, ◌≤◌, Bool, true, false, List, [], ◌∷◌, ◌++◌, length, append-nil, append_assoc, arith, length-append, nat_lt, if◌then◌else◌, ControlByte, StringTooLong, UnclosedString, StringClass, Used, Token, string_class, Reading, closed, broken, datum, reading, string_at, quotes, onto, tokens_from, with_front, grown, fails, LexMode}
 use Rattle.pgn_lexer.specs.ByteResult as byte_result
 use Rattle.pgn_lexer.proofs.stepping.StepGives.{GivesIn}
 
@@ -39,24 +39,24 @@ module _ (place at b : ℕ) (text : List ℕ) (fits : length text ≤ 255) (bega
   datum_comes s = grind (arith, with_front-datum, length-append)
 
   plain_plain : (d : Bool) → nat_lt (length text) 255 ≡ d → string_class b ≡ StringClass.Plain
-      → GivesIn Mode.Str place at b text (λ h. if d then grown h Mode.Str b else fails h h.at StringTooLong)
+      → GivesIn LexMode.Str place at b text (λ h. if d then grown h LexMode.Str b else fails h h.at StringTooLong)
   plain_plain d h1 h2 = grind (arith, length-append, datum_comes)
 
-  pub string_gives : (c : StringClass) → string_class b ≡ c → GivesIn Mode.Str place at b text (λ h. byte_result.string false place h b c)
+  pub string_gives : (c : StringClass) → string_class b ≡ c → GivesIn LexMode.Str place at b text (λ h. byte_result.string false place h b c)
   string_gives c h1 = grind (arith, append-nil, plain_plain)
 
 module _ (place at b : ℕ) (text : List ℕ) (short : length text < 255) (began : at < place) where
   -- a quote or a backslash is a datum
   taken_back : (c : StringClass) → ((s : List ℕ) → escaped_tokens place at text s (reading at place (length text) true (b ∷ s))
       ≡ escaped_tokens place at text s (datum b (reading at (place + 1) (length text + 1) false s)))
-      → GivesIn Mode.AfterBackslash place at b text (λ h. grown h Mode.Str b)
+      → GivesIn LexMode.AfterBackslash place at b text (λ h. grown h LexMode.Str b)
   taken_back c same = grind (arith, length-append, datum_comes)
 
   escaped_plain : (d : Bool) → nat_lt (length text) 254 ≡ d → string_class b ≡ StringClass.Plain
-      → GivesIn Mode.AfterBackslash place at b text (λ h. if d
-      then record { held = record { mode = Mode.Str; at = at; text = (text ++ 92 ∷ []) ++ b ∷ [] }; step = Used } else fails h h.at StringTooLong)
+      → GivesIn LexMode.AfterBackslash place at b text (λ h. if d
+      then record { held = record { mode = LexMode.Str; at = at; text = (text ++ 92 ∷ []) ++ b ∷ [] }; step = Used } else fails h h.at StringTooLong)
   escaped_plain d h1 h2 = grind (arith, length-append, with_front-datum)
 
   pub escaped_gives : (c : StringClass) → string_class b ≡ c
-      → GivesIn Mode.AfterBackslash place at b text (λ h. byte_result.string true place h b c)
+      → GivesIn LexMode.AfterBackslash place at b text (λ h. byte_result.string true place h b c)
   escaped_gives c h1 = grind (arith, taken_back, escaped_plain)

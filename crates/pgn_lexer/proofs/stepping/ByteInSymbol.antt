@@ -1,5 +1,5 @@
 -- A byte in a symbol.
-use Rattle.pgn_lexer.proofs.Words.{◌≡◌, ℕ, ◌+◌, ◌<◌, ◌≤◌, Bool, true, false, List, [], ◌∷◌, length, refl, arith, length-append, take_while, nat_lt, if◌then◌else◌, ltb-true, ltb-false, SymbolTooLong, continues_symbol, symbol, gives, stops, symbol_at, outside, into, grown, fails, EndsBefore, Mode, TokenForm, common_steps}
+use Rattle.pgn_lexer.proofs.Words.{◌≡◌, ℕ, ◌+◌, ◌<◌, ◌≤◌, Bool, true, false, List, [], ◌∷◌, length, refl, arith, length-append, take_while, nat_lt, if◌then◌else◌, ltb-true, ltb-false, SymbolTooLong, continues_symbol, symbol, gives, stops, symbol_at, outside, into, grown, fails, EndsBefore, LexMode, TokenForm, common_steps}
 use Rattle.pgn_lexer.proofs.stepping.RunOfBytes.{symbol_goes, symbol_ends, run_grows, run_breaks, run_ends, run_closes}
 use Rattle.pgn_lexer.proofs.stepping.StepGives.{GivesIn}
 
@@ -10,8 +10,8 @@ pub symbol_long : (at : ℕ) (run : List ℕ) → 255 < length run → symbol_at
 symbol_long at run long = grind arith
 
 pub symbol_gives : (place at b : ℕ) (text : List ℕ) → length text ≤ 255 → 0 < length text → place ≡ at + length text → (c : Bool)
-    → continues_symbol b ≡ c → (d : Bool) → nat_lt (length text) 255 ≡ d → GivesIn Mode.Symbol place at b text
-    (λ h. if c then (if d then grown h Mode.Symbol b else fails h h.at SymbolTooLong) else into h Mode.Outside (EndsBefore TokenForm.Symbol))
+    → continues_symbol b ≡ c → (d : Bool) → nat_lt (length text) 255 ≡ d → GivesIn LexMode.Symbol place at b text
+    (λ h. if c then (if d then grown h LexMode.Symbol b else fails h h.at SymbolTooLong) else into h LexMode.Outside (EndsBefore TokenForm.Symbol))
 symbol_gives place at b text fits some began true e true room =
     let short = ltb-true _ _ room in
     record {

@@ -1,5 +1,5 @@
 -- A byte outside strings and comments, also as the first of a text, and in an escape line.
-use Rattle.pgn_lexer.proofs.Words.{◌≡◌, ℕ, ◌≤◌, Bool, false, List, ◌∷◌, length, ◌==◌, if◌then◌else◌, eqb-true, Step, Used, is_line_end, Token, class, column, tokens_from, tokens_of, has_mark, PartialToken, into, begin_line, arith, Mode, ◌+◌, Class, begins_class, begins_first, after_class, after_first, onto, begin}
+use Rattle.pgn_lexer.proofs.Words.{◌≡◌, ℕ, ◌≤◌, Bool, false, List, ◌∷◌, length, ◌==◌, if◌then◌else◌, eqb-true, ByteResult, Used, is_line_end, Token, class, column, tokens_from, tokens_of, has_mark, PartialToken, into, begin_line, arith, LexMode, ◌+◌, Class, begins_class, begins_first, after_class, after_first, onto, begin}
 use Rattle.pgn_lexer.proofs.stepping.StepGives.{Front, StepGives, GivesIn, Gives, front_by}
 
 module _ (c : Class) (place b : ℕ) (h : PartialToken) (ended : List Token) (waits : ℕ) where
@@ -14,7 +14,7 @@ module _ (c : Class) (place b : ℕ) (h : PartialToken) (ended : List Token) (wa
       (begin_line place h b c)
   begin_line_gives h1 = grind arith
 
-same_front : (f : Front) (front : List ℕ → List Token) → ((s : List ℕ) → front s ≡ f.front s) → (new : PartialToken) (step : Step)
+same_front : (f : Front) (front : List ℕ → List Token) → ((s : List ℕ) → front s ≡ f.front s) → (new : PartialToken) (step : ByteResult)
     → StepGives f new step → StepGives (record f { front = front }) new step
 same_front f front h1 new step h2 = grind arith
 
@@ -25,9 +25,9 @@ pub other_first : (b : ℕ) (s : List ℕ) → (b == 239) ≡ false → has_mark
 other_first b s h1 = grind arith
 
 pub start_gives : (at b : ℕ) (text : List ℕ) → length text ≤ 255 → (c : Bool) → (b == 239) ≡ c
-    → GivesIn Mode.Start 0 at b text (λ h. if c then into h Mode.AfterEf Used else begin_line 0 h b (class b))
+    → GivesIn LexMode.Start 0 at b text (λ h. if c then into h LexMode.AfterEf Used else begin_line 0 h b (class b))
 start_gives at b text fits c e = grind (arith, begin_line_gives, eqb-true, other_first, same_front, unmarked)
 
 pub escape_line_gives : (place at b : ℕ) (text : List ℕ) → length text ≤ 255 → (c : Bool) → is_line_end b ≡ c
-    → GivesIn Mode.EscapeLine place at b text (λ h. if c then into h Mode.LineStart Used else into h Mode.EscapeLine Used)
+    → GivesIn LexMode.EscapeLine place at b text (λ h. if c then into h LexMode.LineStart Used else into h LexMode.EscapeLine Used)
 escape_line_gives place at b text h1 c h2 = grind arith

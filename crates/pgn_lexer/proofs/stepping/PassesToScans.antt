@@ -1,5 +1,5 @@
 -- White space that is passed, and what is read behind it, are read in one call.
-use Rattle.pgn_lexer.proofs.Words.{◌≡◌, Bool, true, false, ℕ, zero, suc, ◌+◌, ◌-◌, ◌<◌, ◌≤◌, inl, inr, List, [], ◌∷◌, ◌++◌, length, take, drop, refl, sym, ap, subst, ◌∙◌, append_assoc, arith, drop-cons, get_or, Option, None, LexFault, Token, tokens_of, decided, refusal, Scanned, more, fault, Standing, fault_in_mode, Mode, Follows, still, StandsAfter, EndsNoSooner, Scans, AfterScan, is_run, Passes, ReadsBehind, none, over_space, over_token, false≢true, rules, common_steps, waiting, coming, Advances, IsDecided, Reads, IsBetween, standing_at}
+use Rattle.pgn_lexer.proofs.Words.{◌≡◌, Bool, true, false, ℕ, zero, suc, ◌+◌, ◌-◌, ◌<◌, ◌≤◌, inl, inr, List, [], ◌∷◌, ◌++◌, length, take, drop, refl, sym, ap, subst, ◌∙◌, append_assoc, arith, drop-cons, get_or, Option, None, LexFault, Token, tokens_of, decided, refusal, Scanned, more, fault, Standing, fault_in_mode, LexMode, Follows, still, StandsAfter, EndsNoSooner, Scans, AfterScan, is_run, Passes, ReadsBehind, none, over_space, over_token, false≢true, rules, common_steps, waiting, coming, Advances, IsDecided, Reads, IsBetween, standing_at}
 use Rattle.pgn_lexer.specs.Scanned.{token}
 use Rattle.pgn_lexer.proofs.deciding.GivenAreDecided.{known_decides}
 use Rattle.pgn_lexer.proofs.stepping.WholeRuns.{same_between}
@@ -93,7 +93,7 @@ scans_behind {old} {piece} {new} {used} {t} r = rw r.all (passes_scans refl r.pa
 
 -- ---- another place and text are held, between tokens
 
-module _ (place : ℕ) (mode : Mode) (between : IsBetween mode) (a b : ℕ) (x y : List ℕ) where
+module _ (place : ℕ) (mode : LexMode) (between : IsBetween mode) (a b : ℕ) (x y : List ℕ) where
   abbrev this : Standing
   this = standing_at place (record { mode = mode; at = a; text = x })
 
@@ -106,7 +106,7 @@ module _ (place : ℕ) (mode : Mode) (between : IsBetween mode) (a b : ℕ) (x y
   stands_alike : {u : List ℕ} {c : Option ℕ} {given : List Token} → StandsAfter this u c given → StandsAfter that u c given
   stands_alike {given = given} stands = grind (arith, common_steps, same)
 
-  fault_none : (m : Mode) → IsBetween m → (at : ℕ) → fault_in_mode m at ≡ None
+  fault_none : (m : LexMode) → IsBetween m → (at : ℕ) → fault_in_mode m at ≡ None
   fault_none m h at = grind arith
 
   token_no_fault : {t : Token} {f : LexFault} → token t ≡ fault f → ⊥

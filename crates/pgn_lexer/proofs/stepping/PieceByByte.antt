@@ -1,11 +1,11 @@
 -- A run over a piece, byte by byte.
 use Rattle.pgn_lexer.specs.ByteResult.{brace, line, symbol, word}
-use Rattle.pgn_lexer.specs.declared.partial_token.Mode.TheVariants.{Dollar, Suffix}
-use Rattle.pgn_lexer.proofs.Words.{AfterBackslash, is_escaped, ◌≡◌, Bool, ℕ, suc, ◌+◌, ◌-◌, ◌*◌, ◌<◌, ◌≤◌, inl, inr, List, [], ◌∷◌, ◌++◌, length, get_or, take, drop, refl, sym, ap, ◌∙◌, add-one, arith, ◌⊎◌, true, false, Some, take_all, drop-cons, LexFault, Mode, LexReason, Class, CommentClass, StringClass, LineStart, Outside, Symbol, Str, BraceWord, Failed, continues_symbol, is_digit, is_suffix, class, comment_class, string_class, TokenForm, Step, Used, Ends, EndsBefore, Fault, PartialToken, tokens_to_come, token_of, IsSound, HasNotFailed, pending, fault_met, fault_in_mode, begin, begin_line, string, into, after_byte, IsAfterByte, IsOutside, Ran, RunsOut, StoodAt, RunGives, RunsToToken, RunsToFault, used_after, reached_after, common_steps, true≢false, AfterByte, glyph_of, second_suffix, comment_mode, SuffixRun, Glyph, LineWord}
+use Rattle.pgn_lexer.specs.declared.partial_token.LexMode.TheVariants.{Dollar, Suffix}
+use Rattle.pgn_lexer.proofs.Words.{AfterBackslash, is_escaped, ◌≡◌, Bool, ℕ, suc, ◌+◌, ◌-◌, ◌*◌, ◌<◌, ◌≤◌, inl, inr, List, [], ◌∷◌, ◌++◌, length, get_or, take, drop, refl, sym, ap, ◌∙◌, add-one, arith, ◌⊎◌, true, false, Some, take_all, drop-cons, LexFault, LexMode, LexReason, Class, CommentClass, StringClass, LineStart, Outside, Symbol, Str, BraceWord, Failed, continues_symbol, is_digit, is_suffix, class, comment_class, string_class, TokenForm, ByteResult, Used, Ends, EndsBefore, Fault, PartialToken, tokens_to_come, token_of, IsSound, HasNotFailed, pending, fault_met, fault_in_mode, begin, begin_line, string, into, after_byte, IsAfterByte, IsOutside, Ran, RunsOut, StoodAt, RunGives, RunsToToken, RunsToFault, used_after, reached_after, common_steps, true≢false, AfterByte, glyph_of, second_suffix, comment_mode, SuffixRun, Glyph, LineWord}
 use Rattle.pgn_lexer.proofs.stepping.StepGives.{StepGives, front_of}
 use Rattle.pgn_lexer.proofs.stepping.ByteGives.{step_gives}
 
-takes_gives : (place : ℕ) (h : PartialToken) (b : ℕ) (new : PartialToken) (answer : Step) → IsSound place h
+takes_gives : (place : ℕ) (h : PartialToken) (b : ℕ) (new : PartialToken) (answer : ByteResult) → IsSound place h
     → IsAfterByte (after_byte place h b) new answer → StepGives (front_of place h b) new answer
 takes_gives place h b new answer sound t = grind (arith, step_gives)
 
@@ -17,7 +17,7 @@ pub ran_out : (place : ℕ) (old : PartialToken) (piece : List ℕ) (new : Parti
     → Ran place old piece new used → RunsOut place old piece new used
 ran_out place old piece new used all r = grind (arith, common_steps, tokens_to_come, take_all)
 
-going_on : (m : Mode) (at : ℕ) (f : LexFault) → HasNotFailed m → fault_in_mode m at ≡ Some f → ⊥
+going_on : (m : LexMode) (at : ℕ) (f : LexFault) → HasNotFailed m → fault_in_mode m at ≡ Some f → ⊥
 going_on m at f h1 h2 = grind arith
 
 module _ (place : ℕ) (old : PartialToken) (piece : List ℕ) (h : PartialToken) (i b : ℕ)
@@ -110,11 +110,11 @@ module _ (place : ℕ) (old : PartialToken) (piece : List ℕ) (h : PartialToken
         comes = λ s. longer s ∙ g.comes s;
       }
 
-  pub ran_stops : (answer : Step) (new : PartialToken) → (answer ≡ Used → ⊥) → IsAfterByte (after_byte (place + i) h b) new answer
+  pub ran_stops : (answer : ByteResult) (new : PartialToken) → (answer ≡ Used → ⊥) → IsAfterByte (after_byte (place + i) h b) new answer
       → RunGives place old piece new (used_after answer i) (reached_after answer)
   ran_stops answer new h1 h2 = grind (arith, ran_ends, ran_ends_before, ran_fails)
 
-takes_symbol : (place b : ℕ) (h new : PartialToken) (answer : Step) → h.mode ≡ Symbol → IsAfterByte (symbol h b) new answer
+takes_symbol : (place b : ℕ) (h new : PartialToken) (answer : ByteResult) → h.mode ≡ Symbol → IsAfterByte (symbol h b) new answer
     → IsAfterByte (after_byte place h b) new answer
 unfolding after_byte
 takes_symbol place b h new answer e t = grind arith
@@ -128,13 +128,13 @@ module _ (place b : ℕ) (h new : PartialToken) where
       → IsAfterByte (after_byte place h b) new (EndsBefore TokenForm.Symbol)
   takes_symbol_end e ends is = takes_symbol _ b h new _ e (grind arith)
 
-pub takes_outside : (place b : ℕ) (h new : PartialToken) (answer : Step) (c : Class) → IsOutside h.mode → class b ≡ c
+pub takes_outside : (place b : ℕ) (h new : PartialToken) (answer : ByteResult) (c : Class) → IsOutside h.mode → class b ≡ c
     → begin_line place h b c ≡ begin place h b c → IsAfterByte (begin place h b c) new answer → IsAfterByte (after_byte place h b) new answer
 unfolding after_byte
 takes_outside place b h new answer c outside e same t = grind arith
 
 -- no rejection was met, in any other mode
-pub unless_failed : (m : Mode) → ((reason : LexReason) → m ≡ Failed reason → ⊥) → HasNotFailed m
+pub unless_failed : (m : LexMode) → ((reason : LexReason) → m ≡ Failed reason → ⊥) → HasNotFailed m
 unless_failed m h1 = grind arith
 
 taken_string : (place b : ℕ) (h : PartialToken) (c : StringClass) → h.mode ≡ Str → string_class b ≡ c
@@ -195,7 +195,7 @@ takes_suffix_end place b h new run e ends is = rw (e, ends) (record { held = is;
 -- ---- in a comment, to the end of its line or in braces
 
 -- in a word of it
-abbrev pub inside : Bool → Mode
+abbrev pub inside : Bool → LexMode
 inside true = LineWord
 inside false = BraceWord
 
@@ -203,7 +203,7 @@ abbrev between : Bool → ℕ → PartialToken → ℕ → CommentClass → Afte
 between true place h b c = line place h b c
 between false place h b c = brace place h b c
 
-takes_between : (l : Bool) (place b : ℕ) (h new : PartialToken) (answer : Step) → h.mode ≡ comment_mode l
+takes_between : (l : Bool) (place b : ℕ) (h new : PartialToken) (answer : ByteResult) → h.mode ≡ comment_mode l
     → IsAfterByte (between l place h b (comment_class b)) new answer → IsAfterByte (after_byte place h b) new answer
 unfolding after_byte
 takes_between l place b h new answer e t = grind arith
@@ -221,7 +221,7 @@ pub takes_word_start : (l : Bool) (place b : ℕ) (h new : PartialToken) → h.m
 takes_word_start true place b h new e is goes = takes_between true _ b h new _ e (rw is (record { held = goes; step = refl }))
 takes_word_start false place b h new e is goes = takes_between false _ b h new _ e (rw is (record { held = goes; step = refl }))
 
-pub takes_close : (l : Bool) (place b : ℕ) (h new : PartialToken) (m : Mode) → h.mode ≡ comment_mode l
+pub takes_close : (l : Bool) (place b : ℕ) (h new : PartialToken) (m : LexMode) → h.mode ≡ comment_mode l
     → ((comment_class b ≡ CommentClass.CloseBrace) × (l ≡ false) × (m ≡ Outside)) ⊎ ((comment_class b ≡ CommentClass.LineEnd) × (l ≡ true) × (m ≡ LineStart))
     → new ≡ record { mode = m; at = place; text = h.text } → IsAfterByte (after_byte place h b) new (Ends TokenForm.CommentClose)
 takes_close true place b h new m e (inl is) goes = absurd (true≢false is.1)
@@ -231,7 +231,7 @@ takes_close true place b h new m e (inr is) goes =
     takes_between true _ b h new _ e (rw is.0 (record { held = goes ∙ ap (λ k. record { mode = k; at = place; text = h.text }) is.2; step = refl }))
 takes_close false place b h new m e (inr is) goes = absurd (true≢false (sym is.1))
 
-takes_word : (l : Bool) (place b : ℕ) (h new : PartialToken) (answer : Step) → h.mode ≡ inside l
+takes_word : (l : Bool) (place b : ℕ) (h new : PartialToken) (answer : ByteResult) → h.mode ≡ inside l
     → IsAfterByte (word (comment_mode l) h b (comment_class b)) new answer → IsAfterByte (after_byte place h b) new answer
 unfolding after_byte
 takes_word true place b h new answer e t = grind arith
@@ -248,7 +248,7 @@ pub takes_word_on : (place b : ℕ) (h new : PartialToken) → (h.mode ≡ Brace
 takes_word_on place b h new (inl e) goes room grows = takes_word_byte false _ b h new e goes room grows
 takes_word_on place b h new (inr e) goes room grows = takes_word_byte true _ b h new e goes room grows
 
-word_ends : (m : Mode) (h : PartialToken) (b : ℕ) (c : CommentClass) → (c ≡ CommentClass.WordByte → ⊥)
+word_ends : (m : LexMode) (h : PartialToken) (b : ℕ) (c : CommentClass) → (c ≡ CommentClass.WordByte → ⊥)
     → word m h b c ≡ into h m (EndsBefore TokenForm.Word)
 word_ends m h b c h1 = grind arith
 

@@ -1,5 +1,5 @@
 -- A call carries how the lexer stands.
-use Rattle.pgn_lexer.proofs.Words.{◌≡◌, Bool, true, false, ℕ, ◌+◌, ◌<◌, ◌≤◌, inl, inr, List, [], ◌∷◌, ◌++◌, length, take, drop, refl, sym, ap, subst, ◌∙◌, append_assoc, arith, length-append, length-take-le, take-append-drop, Option, None, Some, take_while, ◌⊎◌, AllByRecursion, LexFault, Mode, Token, tokens_of, decided, known, TokenForm, PartialToken, tokens_to_come, token_of, kind_in, refusal, HasNotFailed, RunsOut, StoodAt, EndsWithByte, EndsBeforeByte, RunsToToken, RunsToFault, Scanned, more, fault, Standing, fault_in_mode, fault_of, Follows, first, still, StandsAfter, EndsNoSooner, Scans, AfterScan}
+use Rattle.pgn_lexer.proofs.Words.{◌≡◌, Bool, true, false, ℕ, ◌+◌, ◌<◌, ◌≤◌, inl, inr, List, [], ◌∷◌, ◌++◌, length, take, drop, refl, sym, ap, subst, ◌∙◌, append_assoc, arith, length-append, length-take-le, take-append-drop, Option, None, Some, take_while, ◌⊎◌, AllByRecursion, LexFault, LexMode, Token, tokens_of, decided, known, TokenForm, PartialToken, tokens_to_come, token_of, kind_in, refusal, HasNotFailed, RunsOut, StoodAt, EndsWithByte, EndsBeforeByte, RunsToToken, RunsToFault, Scanned, more, fault, Standing, fault_in_mode, fault_of, Follows, first, still, StandsAfter, EndsNoSooner, Scans, AfterScan}
 use Rattle.pgn_lexer.specs.Scanned.{token}
 use Rattle.pgn_lexer.proofs.deciding.GivenAreDecided.{common_of, decided_is, going_decides, known_decides}
 use Rattle.pgn_lexer.proofs.deciding.CommonTokens.{common_front}
@@ -27,14 +27,14 @@ follows_taken b piece s used h1 h2 h3 = grind arith
 cut : (used : ℕ) (piece s : List ℕ) → piece ++ s ≡ take used piece ++ (drop used piece ++ s)
 cut used piece s = ap (λ l. l ++ s) (sym (take-append-drop _ _)) ∙ append_assoc _ _ s
 
-no_fault_in_mode : (m : Mode) (at : ℕ) → HasNotFailed m → fault_in_mode m at ≡ None
+no_fault_in_mode : (m : LexMode) (at : ℕ) → HasNotFailed m → fault_in_mode m at ≡ None
 no_fault_in_mode m at h1 = grind arith
 
 pub not_failed_fault : (h : PartialToken) → HasNotFailed h.mode → fault_in_mode h.mode h.at ≡ None
 not_failed_fault h not_failed = no_fault_in_mode _ _ not_failed
 
-failed_or_not : (m : Mode) (at : ℕ) → HasNotFailed m ⊎ ((f : LexFault) × (fault_in_mode m at ≡ Some f))
-failed_or_not (Mode.Failed reason) at = inr (record { at = at; reason = reason }, refl)
+failed_or_not : (m : LexMode) (at : ℕ) → HasNotFailed m ⊎ ((f : LexFault) × (fault_in_mode m at ≡ Some f))
+failed_or_not (LexMode.Failed reason) at = inr (record { at = at; reason = reason }, refl)
 failed_or_not _ at = inl tt
 
 before_more : (m n : ℕ) (ts : List Token) → m ≤ n → AllByRecursion (λ t. t.at < m) ts → AllByRecursion (λ t. t.at < n) ts

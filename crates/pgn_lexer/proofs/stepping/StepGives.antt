@@ -1,5 +1,5 @@
 -- What a step must give, of the tokens that come.
-use Rattle.pgn_lexer.proofs.Words.{◌≡◌, ℕ, ◌+◌, ◌<◌, ◌≤◌, List, [], ◌∷◌, true, false, Some, TokenForm, Step, Used, Ends, EndsBefore, Fault, Token, HasLength, EndsAt, is_run, Within, tokens_from, PartialToken, tokens_to_come, kind_in, token_of, refusal, IsSound, HasNotFailed, Mode, pending, fault_met, fault_in_mode, AfterByte}
+use Rattle.pgn_lexer.proofs.Words.{◌≡◌, ℕ, ◌+◌, ◌<◌, ◌≤◌, List, [], ◌∷◌, true, false, Some, TokenForm, ByteResult, Used, Ends, EndsBefore, Fault, Token, HasLength, EndsAt, is_run, Within, tokens_from, PartialToken, tokens_to_come, kind_in, token_of, refusal, IsSound, HasNotFailed, LexMode, pending, fault_met, fault_in_mode, AfterByte}
 
 -- What comes from a byte b at the place: `front s` where s follows b, and `ended` where the text
 -- ends before b; `waits` tokens at most came with no byte more.
@@ -48,7 +48,7 @@ pub record Fails (f : Front) (new : PartialToken) : Type 0 where
   pub fails : fault_in_mode new.mode new.at ≡ Some (fault_met new)
   pub comes : (s : List ℕ) → f.front s ≡ refusal (fault_met new) ∷ []
 
-abbrev pub StepGives : Front → PartialToken → Step → Type 0
+abbrev pub StepGives : Front → PartialToken → ByteResult → Type 0
 StepGives f new Used = Uses f new
 StepGives f new (Ends form) = EndsIn f form new
 StepGives f new (EndsBefore form) = EndsAhead f form new
@@ -64,9 +64,9 @@ front_by place b ended waits front = record { place = place; byte = b; front = f
 abbrev pub front_of : ℕ → PartialToken → ℕ → Front
 front_of place h b = front_by place b (tokens_to_come place h []) (pending h) (λ s. tokens_to_come place h (b ∷ s))
 
-abbrev pub holds : Mode → ℕ → List ℕ → PartialToken
+abbrev pub holds : LexMode → ℕ → List ℕ → PartialToken
 holds mode at text = record { mode = mode; at = at; text = text }
 
 -- a result for what is held in a mode gives what comes
-abbrev pub GivesIn : Mode → (place at b : ℕ) → List ℕ → (PartialToken → AfterByte) → Type 0
+abbrev pub GivesIn : LexMode → (place at b : ℕ) → List ℕ → (PartialToken → AfterByte) → Type 0
 GivesIn mode place at b text result = Gives (front_of place (holds mode at text) b) (result (holds mode at text))

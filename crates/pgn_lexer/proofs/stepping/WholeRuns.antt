@@ -3,9 +3,9 @@ use Rattle.pgn_lexer.specs.declared.class.CommentClass.TheVariants as comment_cl
 use Rattle.pgn_lexer.specs.declared.class.Class.TheVariants as classes
 use Rattle.pgn_lexer.specs.declared.class.Single.TheVariants.{Period}
 use Rattle.pgn_lexer.specs.declared.partial_token.SuffixRun.TheVariants as suffix_runs
-use Rattle.pgn_lexer.specs.declared.partial_token.Mode.TheVariants as modes
+use Rattle.pgn_lexer.specs.declared.partial_token.LexMode.TheVariants as modes
 use Rattle.pgn_lexer.specs.Scanned.{token as token_scanned}
-use Rattle.pgn_lexer.proofs.Words.{◌≡◌, Bool, ℕ, zero, suc, ◌+◌, ◌-◌, ◌*◌, ◌<◌, ◌≤◌, ◌⊎◌, inl, inr, List, [], ◌∷◌, ◌++◌, length, get_or, take, drop, refl, sym, ap, subst, ◌∙◌, add-one, arith, true, false, take_all, length-take-le, Mode, Class, LineEnd, Space, SymbolStart, Alone, LineStart, Outside, Symbol, is_digit, is_suffix, is_space, class, comment_class, symbol, str, glyph, comment_close, word, Token, TokenForm, Step, Ends, Kind, PartialToken, tokens_to_come, token_of, IsSound, HasNotFailed, begin, begin_line, IsOutside, IsAfterByte, after_byte, Ran, RunsOut, RunsToToken, Standing, standing_at, Scans, IsSymbolIn, IsNumberIn, IsWordIn, rules, common_steps, take-suc, get_or-take, get_or-drop, length-drop, IsTrue, if◌then◌else◌, ◌==◌, list_all, glyph_of, into, second_suffix, SuffixRun, kind_in, tokens_to_come_in, pending_in, end, IsBetween, IsWhole, IsStringIn, comment_mode, Passes, ReadsBehind, is_passed, none, over_space, over_token}
+use Rattle.pgn_lexer.proofs.Words.{◌≡◌, Bool, ℕ, zero, suc, ◌+◌, ◌-◌, ◌*◌, ◌<◌, ◌≤◌, ◌⊎◌, inl, inr, List, [], ◌∷◌, ◌++◌, length, get_or, take, drop, refl, sym, ap, subst, ◌∙◌, add-one, arith, true, false, take_all, length-take-le, LexMode, Class, LineEnd, Space, SymbolStart, Alone, LineStart, Outside, Symbol, is_digit, is_suffix, is_space, class, comment_class, symbol, str, glyph, comment_close, word, Token, TokenForm, ByteResult, Ends, Kind, PartialToken, tokens_to_come, token_of, IsSound, HasNotFailed, begin, begin_line, IsOutside, IsAfterByte, after_byte, Ran, RunsOut, RunsToToken, Standing, standing_at, Scans, IsSymbolIn, IsNumberIn, IsWordIn, rules, common_steps, take-suc, get_or-take, get_or-drop, length-drop, IsTrue, if◌then◌else◌, ◌==◌, list_all, glyph_of, into, second_suffix, SuffixRun, kind_in, tokens_to_come_in, pending_in, end, IsBetween, IsWhole, IsStringIn, comment_mode, Passes, ReadsBehind, is_passed, none, over_space, over_token}
 use Rattle.pgn_lexer.proofs.bytes.ClassToTest.{ClassSays, class_says}
 use Rattle.pgn_lexer.proofs.stepping.PieceByByte.{ran_none, ran_uses, ran_ends, ran_ends_before, takes_outside, takes_symbol_byte, takes_symbol_end, takes_plain, takes_quote, takes_dollar, takes_digit, takes_glyph_end, takes_second, takes_suffix_end, takes_gap, takes_word_start, takes_close, takes_word_byte, takes_word_end, inside}
 use Rattle.pgn_lexer.proofs.stepping.StandsAfterCalls.{scans_nothing, scans_token}
@@ -13,22 +13,22 @@ use Rattle.pgn_lexer.proofs.stepping.StandsAfterCalls.{scans_nothing, scans_toke
 -- ---- between tokens, and between the words of a comment
 
 -- the stored place and text say nothing there
-pub same_between : (m : Mode) → IsBetween m → (place a b : ℕ) (x y s : List ℕ) → tokens_to_come_in m place a x s ≡ tokens_to_come_in m place b y s
+pub same_between : (m : LexMode) → IsBetween m → (place a b : ℕ) (x y s : List ℕ) → tokens_to_come_in m place a x s ≡ tokens_to_come_in m place b y s
 same_between m h place a b x y s = grind arith
 
-pub sound_between : (m : Mode) → IsBetween m → (place a : ℕ) (x : List ℕ) → length x ≤ 255 → IsSound place (record { mode = m; at = a; text = x })
+pub sound_between : (m : LexMode) → IsBetween m → (place a : ℕ) (x : List ℕ) → length x ≤ 255 → IsSound place (record { mode = m; at = a; text = x })
 sound_between m h place a x room = grind arith
 
-not_failed_between : (m : Mode) → IsBetween m → HasNotFailed m
+not_failed_between : (m : LexMode) → IsBetween m → HasNotFailed m
 not_failed_between m h = grind arith
 
-outside_between : (m : Mode) → IsOutside m → IsBetween m
+outside_between : (m : LexMode) → IsOutside m → IsBetween m
 outside_between m h = grind arith
 
 comment_between : (l : Bool) → IsBetween (comment_mode l)
 comment_between l = grind arith
 
-module _ (place : ℕ) (old : PartialToken) (piece : List ℕ) (used : ℕ) (m : Mode) (between : IsBetween m) (a b : ℕ) (x y : List ℕ)
+module _ (place : ℕ) (old : PartialToken) (piece : List ℕ) (used : ℕ) (m : LexMode) (between : IsBetween m) (a b : ℕ) (x y : List ℕ)
     (room : length y ≤ 255) where
   abbrev this : PartialToken
   this = record { mode = m; at = a; text = x }
@@ -50,21 +50,21 @@ module _ (place : ℕ) (old : PartialToken) (piece : List ℕ) (used : ℕ) (m :
 
 module _ (place : ℕ) (old : PartialToken) (piece : List ℕ) where
   -- what is held of a token that begins with the piece
-  abbrev holding : Mode → List ℕ → PartialToken
+  abbrev holding : LexMode → List ℕ → PartialToken
   holding mode text = record { mode = mode; at = place + 0; text = text }
 
   -- the first n bytes are a token, and its text is still held
-  abbrev RunsTo : Kind → Mode → List ℕ → ℕ → Type 0
+  abbrev RunsTo : Kind → LexMode → List ℕ → ℕ → Type 0
   RunsTo k mode text n = RunsToToken place old piece (record { at = place + 0; kind = k }) (holding mode text) n
 
   -- behind it, anything may be held
-  held_as : (k : Kind) (mode : Mode) (text : List ℕ) (n : ℕ) → IsBetween mode → RunsTo k mode text n → (b : ℕ) (y : List ℕ) → length y ≤ 255
+  held_as : (k : Kind) (mode : LexMode) (text : List ℕ) (n : ℕ) → IsBetween mode → RunsTo k mode text n → (b : ℕ) (y : List ℕ) → length y ≤ 255
       → RunsToToken place old piece (record { at = place; kind = k }) (record { mode = mode; at = b; text = y }) n
   held_as k mode text n between runs b y room = grind (arith, place, room, runs, text, token_alike)
 
   -- bytes that each go on with the token, behind its first one
-  ran_on : (mode : Mode) (text : ℕ → List ℕ) (n : ℕ) → 0 < n → n ≤ length piece → Ran place old piece (holding mode (text 1)) 1
-      → ((k : ℕ) → 0 < k → k < n → IsAfterByte (after_byte (place + k) (holding mode (text k)) (get_or piece k 0)) (holding mode (text (suc k))) Step.Used)
+  ran_on : (mode : LexMode) (text : ℕ → List ℕ) (n : ℕ) → 0 < n → n ≤ length piece → Ran place old piece (holding mode (text 1)) 1
+      → ((k : ℕ) → 0 < k → k < n → IsAfterByte (after_byte (place + k) (holding mode (text k)) (get_or piece k 0)) (holding mode (text (suc k))) ByteResult.Used)
       → Ran place old piece (holding mode (text n)) n
   ran_on mode text zero some within first more = absurd (omega arith)
   ran_on mode text (suc zero) some within first more = first
@@ -81,7 +81,7 @@ module _ (place : ℕ) (old : PartialToken) (piece : List ℕ) where
     -- a first byte that ends no token
     first_byte : (c : Class) (new : PartialToken) → 0 < length piece → class (get_or piece 0 0) ≡ c
         → begin_line (place + 0) old (get_or piece 0 0) c ≡ begin (place + 0) old (get_or piece 0 0) c
-        → begin (place + 0) old (get_or piece 0 0) c ≡ record { held = new; step = Step.Used } → Ran place old piece new 1
+        → begin (place + 0) old (get_or piece 0 0) c ≡ record { held = new; step = ByteResult.Used } → Ran place old piece new 1
     first_byte c new some is same begins =
         ran_uses place old piece old 0 (get_or piece 0 0) some refl at_start new
         (takes_outside _ _ _ _ _ c outside is same (rw begins (record { held = refl; step = refl })))
@@ -99,7 +99,7 @@ module _ (place : ℕ) (old : PartialToken) (piece : List ℕ) where
         ran_ends_before place old piece _ n (get_or piece n 0) within refl ran TokenForm.Symbol _ (takes_symbol_end _ _ _ _ refl is.ends refl)
 
     -- a token of one byte
-    single_runs : (c : Class) (m : Mode) (form : TokenForm) → 0 < length piece → class (get_or piece 0 0) ≡ c
+    single_runs : (c : Class) (m : LexMode) (form : TokenForm) → 0 < length piece → class (get_or piece 0 0) ≡ c
         → begin (place + 0) old (get_or piece 0 0) c ≡ record { held = holding m old.text; step = Ends form }
         → begin_line (place + 0) old (get_or piece 0 0) c ≡ begin (place + 0) old (get_or piece 0 0) c
         → RunsToToken place old piece (token_of form (holding m old.text)) (holding m old.text) 1
@@ -164,7 +164,7 @@ module _ (place : ℕ) (old : PartialToken) (piece : List ℕ) where
         takes_word_byte l _ _ _ _ refl (is.all k less) (omega (arith, long)) (rw (take-suc piece k 0 (omega arith)) refl)) in
         ran_ends_before place old piece _ n (get_or piece n 0) within refl ran TokenForm.Word _ (takes_word_end l _ _ _ _ refl is.ends refl)
 
-    close_runs : (m : Mode) → 0 < length piece
+    close_runs : (m : LexMode) → 0 < length piece
         → ((comment_class (get_or piece 0 0) ≡ comment_classes.CloseBrace) × (l ≡ false) × (m ≡ Outside)) ⊎ ((comment_class (get_or piece 0 0) ≡ comment_classes.LineEnd) × (l ≡ true) × (m ≡ LineStart))
         → RunsTo comment_close m old.text 1
     close_runs m some is = grind (arith, at_start_comment, place, ran_ends, some, takes_close)
@@ -180,7 +180,7 @@ no_end_form form text e = grind arith
 
 module _ (piece : List ℕ) where
   -- a token that the piece begins with, wherever it is read
-  whole_of : (n : ℕ) (mode : Mode) (k : Kind) (text : PartialToken → List ℕ) → 0 < n → n ≤ length piece → IsBetween mode → (k ≡ end → ⊥)
+  whole_of : (n : ℕ) (mode : LexMode) (k : Kind) (text : PartialToken → List ℕ) → 0 < n → n ≤ length piece → IsBetween mode → (k ≡ end → ⊥)
       → ((place : ℕ) (old : PartialToken) → IsSound place old → IsOutside old.mode → RunsTo place old piece k mode (text old) n) → IsWhole piece n mode k
   whole_of n mode k text some within between no_end runs =
       record {
@@ -203,7 +203,7 @@ module _ (piece : List ℕ) where
       whole_of (n + 1) _ _ (λ old. take (n - 1) (drop 1 piece)) (omega arith) (omega arith) tt (λ e. cc)
       (λ place old sound outside. string_runs place old piece sound outside n is quote)
 
-  pub whole_single : (c : Class) (m : Mode) (form : TokenForm) → 0 < length piece → class (get_or piece 0 0) ≡ c → IsBetween m
+  pub whole_single : (c : Class) (m : LexMode) (form : TokenForm) → 0 < length piece → class (get_or piece 0 0) ≡ c → IsBetween m
       → ((place : ℕ) (old : PartialToken) → begin place old (get_or piece 0 0) c ≡ record { held = record { mode = m; at = place; text = old.text }; step = Ends form })
       → ((place : ℕ) (old : PartialToken) → begin_line place old (get_or piece 0 0) c ≡ begin place old (get_or piece 0 0) c)
       → (k : Kind) → ((at : ℕ) (text : List ℕ) → token_of form (record { mode = m; at = at; text = text }) ≡ record { at = at; kind = k }) → IsWhole piece 1 m k
@@ -247,7 +247,7 @@ module _ (piece : List ℕ) where
 
   pub whole_suffix_of_two : 2 < length piece → class (get_or piece 0 0) ≡ classes.Suffix → is_suffix (get_or piece 1 0) ≡ true → is_suffix (get_or piece 2 0) ≡ false
       → (run : SuffixRun)
-      → ((h : PartialToken) → second_suffix h first_run (get_or piece 1 0) ≡ into h (modes.Suffix run) Step.Used)
+      → ((h : PartialToken) → second_suffix h first_run (get_or piece 1 0) ≡ into h (modes.Suffix run) ByteResult.Used)
       → IsWhole piece 2 Outside (glyph (glyph_of run))
   whole_suffix_of_two long is more ends run second =
       whole_of 2 _ _ (λ old. old.text) (omega arith) (omega arith) tt (λ e. cc)
@@ -283,14 +283,14 @@ gap_is_white : (l : Bool) (b : ℕ) → (comment_class b ≡ comment_classes.Spa
 gap_is_white l b is = grind (arith, white_in_comment)
 
 -- no token waits outside comments
-none_waits : (m : Mode) → IsOutside m → pending_in m ≡ 0
+none_waits : (m : LexMode) → IsOutside m → pending_in m ≡ 0
 none_waits m outside = grind arith
 
 pub passes_none : (skips : Bool) (place : ℕ) (h new : PartialToken) (piece : List ℕ) → new ≡ h → Passes skips (standing_at place h) piece (standing_at (place + 0) new) 0
 passes_none skips place h new piece same =
     subst (λ l. Passes skips (standing_at place h) piece l 0) (ap (λ k. standing_at k h) (omega arith) ∙ ap (standing_at (place + 0)) (sym same)) none
 
-abbrev pub into_mode : PartialToken → Mode → PartialToken
+abbrev pub into_mode : PartialToken → LexMode → PartialToken
 into_mode h mode = record { mode = mode; at = h.at; text = h.text }
 
 module _ (skips : Bool) (before : Standing) (place : ℕ) (h : PartialToken) (piece : List ℕ) (m : ℕ)
@@ -301,7 +301,7 @@ module _ (skips : Bool) (before : Standing) (place : ℕ) (h : PartialToken) (pi
   further : (n : ℕ) → (place + m) + n ≡ place + (m + n)
   further n = omega arith
 
-  behind : m < length piece → (n : ℕ) (t : Token) (mode : Mode) → 0 < n → RunsToToken (place + m) h rest t (into_mode h mode) n
+  behind : m < length piece → (n : ℕ) (t : Token) (mode : LexMode) → 0 < n → RunsToToken (place + m) h rest t (into_mode h mode) n
       → ReadsBehind skips before piece (standing_at (place + (m + n)) (into_mode h mode)) (m + n) t
   behind within n t mode more runs =
       record {
@@ -317,7 +317,7 @@ module _ (skips : Bool) (before : Standing) (place : ℕ) (h : PartialToken) (pi
       }
 
   -- a token outside comments
-  pub reads_whole : IsOutside h.mode → length h.text ≤ 255 → (n : ℕ) (mode : Mode) (k : Kind) → IsWhole rest n mode k
+  pub reads_whole : IsOutside h.mode → length h.text ≤ 255 → (n : ℕ) (mode : LexMode) (k : Kind) → IsWhole rest n mode k
       → ReadsBehind skips before piece (standing_at (place + (m + n)) (into_mode h mode)) (m + n) (record { at = place + m; kind = k })
   reads_whole outside room n mode k is =
       let some = is.some in
@@ -332,7 +332,7 @@ module _ (skips : Bool) (before : Standing) (place : ℕ) (h : PartialToken) (pi
     some : 0 < length rest
     some = omega (arith, length-drop m piece)
 
-    over : (n : ℕ) (t : Token) (mode : Mode) → 0 < n → RunsToToken (place + m) h rest t (into_mode h mode) n → IsTrue skips → IsTrue (is_passed t.kind)
+    over : (n : ℕ) (t : Token) (mode : LexMode) → 0 < n → RunsToToken (place + m) h rest t (into_mode h mode) n → IsTrue skips → IsTrue (is_passed t.kind)
         → Passes skips before piece (standing_at (place + (m + n)) (into_mode h mode)) (m + n)
     over n t mode more runs skipped passed =
         subst (λ k. Passes skips before piece (standing_at k (into_mode h mode)) (m + n)) (further n)
@@ -348,7 +348,7 @@ module _ (skips : Bool) (before : Standing) (place : ℕ) (h : PartialToken) (pi
     one_here : get_or one 0 0 ≡ get_or piece m 0
     one_here = get_or-take 1 rest 0 0 (omega arith) ∙ here
 
-    space : (mode : Mode) → pending_in mode ≤ pending_in h.mode → is_space (get_or piece m 0) ≡ true → RunsOut (place + m) h one (into_mode h mode) 1
+    space : (mode : LexMode) → pending_in mode ≤ pending_in h.mode → is_space (get_or piece m 0) ≡ true → RunsOut (place + m) h one (into_mode h mode) 1
         → Passes skips before piece (standing_at (place + (m + 1)) (into_mode h mode)) (m + 1)
     space mode waits is_white out =
         subst (λ k. Passes skips before piece (standing_at k (into_mode h mode)) (m + 1)) (further 1)
@@ -358,8 +358,8 @@ module _ (skips : Bool) (before : Standing) (place : ℕ) (h : PartialToken) (pi
       sound : IsSound (place + m) h
       sound = sound_outside (place + m) h outside room
 
-      passes_into : (c : Class) (mode : Mode) → class (get_or piece m 0) ≡ c → begin_line (place + m + 0) h (get_or one 0 0) c ≡ begin (place + m + 0) h (get_or one 0 0) c
-          → begin (place + m + 0) h (get_or one 0 0) c ≡ record { held = holding (place + m) h one mode h.text; step = Step.Used }
+      passes_into : (c : Class) (mode : LexMode) → class (get_or piece m 0) ≡ c → begin_line (place + m + 0) h (get_or one 0 0) c ≡ begin (place + m + 0) h (get_or one 0 0) c
+          → begin (place + m + 0) h (get_or one 0 0) c ≡ record { held = holding (place + m) h one mode h.text; step = ByteResult.Used }
           → IsOutside mode → is_space (get_or piece m 0) ≡ true → Passes skips before piece (standing_at (place + (m + 1)) (into_mode h mode)) (m + 1)
       passes_into c mode is same begins into is_white =
           search (rules, none_waits, space, out_alike, outside_between, one_long, first_byte, sound, class, one_here)
@@ -394,7 +394,7 @@ module _ (skips : Bool) (before : Standing) (place : ℕ) (h : PartialToken) (pi
           behind within n _ (comment_mode l) is.some
           (held_as (place + m) h rest _ (comment_mode l) _ n (comment_between l) (word_runs (place + m) h rest sound_there l in_comment n is) h.at h.text room)
 
-      pub reads_close : (mode : Mode)
+      pub reads_close : (mode : LexMode)
           → ((comment_class (get_or piece m 0) ≡ comment_classes.CloseBrace) × (l ≡ false) × (mode ≡ Outside)) ⊎ ((comment_class (get_or piece m 0) ≡ comment_classes.LineEnd) × (l ≡ true) × (mode ≡ LineStart))
           → IsBetween mode → ReadsBehind skips before piece (standing_at (place + (m + 1)) (into_mode h mode)) (m + 1) (record { at = place + m; kind = comment_close })
       reads_close mode is between =

@@ -6,7 +6,7 @@ ghost use Rattle.pgn_lexer.specs.RunResult.{used_after, reached_after};
 use crate::class::{
     CommentClass, StringClass, comment_class_of, continues_symbol, is_escaped, string_class_of,
 };
-use crate::partial_token::{LONGEST_WORD, Mode, PartialToken, Reached, Step};
+use crate::partial_token::{ByteResult, LONGEST_WORD, LexMode, PartialToken, PieceResult};
 
 impl PartialToken {
     ghost use Rattle.pgn_lexer.specs.PartialToken.{IsSound, PartialToken};
@@ -17,24 +17,24 @@ impl PartialToken {
     ///
     /// A text that goes on in all of the piece needs no call.
     #[inline(always)]
-    pub(crate) fn run(&mut self, piece: &[u8], place: u64) -> (usize, Reached)
+    pub(crate) fn run(&mut self, piece: &[u8], place: u64) -> (usize, PieceResult)
         requires room { place + length piece.now ≤ 2 ^ 62 }
         requires sound { IsSound place self.old }
         ensures { RunGives place self.old piece.now self.new result.0 result.1 }
     {
-        if let Mode::Failed(_) = self.mode {
-            return (0, Reached::Fault);
+        if let LexMode::Failed(_) = self.mode {
+            return (0, PieceResult::Fault);
         }
         let used = self.copy_text(piece, 0, place);
         if used == piece.len() {
-            return (used, Reached::End);
+            return (used, PieceResult::End);
         }
         self.run_on(piece, used, place)
     }
 
     /// Reads on after so many bytes of the piece.
     #[inline(never)]
-    fn run_on(&mut self, piece: &[u8], from: usize, place: u64) -> (usize, Reached)
+    fn run_on(&mut self, piece: &[u8], from: usize, place: u64) -> (usize, PieceResult)
         requires room { place + length piece.now ≤ 2 ^ 62 }
         requires within { from < length piece.now }
         ensures { (old : PartialToken) → Ran place old piece.now self.old from
@@ -43,11 +43,11 @@ impl PartialToken {
         let mut used = from;
         while used < piece.len() {
             match self.take(piece[used], place + used as u64) {
-                Step::Used => used = self.copy_text(piece, used + 1, place),
+                ByteResult::Used => used = self.copy_text(piece, used + 1, place),
                 step => return ended(step, used),
             }
         }
-        (used, Reached::End)
+        (used, PieceResult::End)
     }
 
     /// Copies the bytes with which the piece goes on after so many bytes, if they continue the text
@@ -64,9 +64,9 @@ impl PartialToken {
             → Ran place old piece.now self.new result }
     {
         match self.mode {
-            Mode::Symbol => self.copy_symbol(piece, from, place),
-            Mode::Str => self.copy_string(piece, from, place),
-            Mode::BraceWord | Mode::LineWord => self.copy_word(piece, from, place),
+            LexMode::Symbol => self.copy_symbol(piece, from, place),
+            LexMode::Str => self.copy_string(piece, from, place),
+            LexMode::BraceWord | LexMode::LineWord => self.copy_word(piece, from, place),
             _ => from,
         }
     }
@@ -75,7 +75,7 @@ impl PartialToken {
     #[inline(always)]
     fn copy_symbol(&mut self, piece: &[u8], from: usize, place: u64) -> usize
         requires within { from ≤ length piece.now }
-        requires symbol { self.old.mode ≡ Mode.Symbol }
+        requires symbol { self.old.mode ≡ LexMode.Symbol }
         ensures from { from ≤ result }
         ensures within { result ≤ length piece.now }
         ensures ran { (old : PartialToken) → Ran place old piece.now self.old from
@@ -98,7 +98,7 @@ impl PartialToken {
     #[inline(always)]
     fn copy_word(&mut self, piece: &[u8], from: usize, place: u64) -> usize
         requires within { from ≤ length piece.now }
-        requires word { (self.old.mode ≡ Mode.BraceWord) ⊎ (self.old.mode ≡ Mode.LineWord) }
+        requires word { (self.old.mode ≡ LexMode.BraceWord) ⊎ (self.old.mode ≡ LexMode.LineWord) }
         ensures from { from ≤ result }
         ensures within { result ≤ length piece.now }
         ensures ran { (old : PartialToken) → Ran place old piece.now self.old from
@@ -131,7 +131,7 @@ impl PartialToken {
         ensures ran { (old : PartialToken) → Ran place old piece.now self.old from
             → Ran place old piece.now self.new result }
     {
-        let Mode::Str = self.mode else { return from };
+        let LexMode::Str = self.mode else { return from };
         // As many bytes as have room for sure, even if none is a backslash.
         let end = from + (piece.len() - from).min(self.buffer.remaining_capacity());
         let mut used = from;
@@ -154,15 +154,15 @@ impl PartialToken {
 }
 
 /// The result of reading a piece, after so many bytes and the step that ended it.
-fn ended(step: Step, used: usize) -> (usize, Reached)
+fn ended(step: ByteResult, used: usize) -> (usize, PieceResult)
     requires { used < 2 ^ 63 }
     ensures used { result.0 ≡ used_after step used }
     ensures reached { result.1 ≡ reached_after step }
 {
     match step {
-        Step::Used => (used + 1, Reached::End),
-        Step::Ends(form) => (used + 1, Reached::Token(form)),
-        Step::EndsBefore(form) => (used, Reached::Token(form)),
-        Step::Fault => (used + 1, Reached::Fault),
+        ByteResult::Used => (used + 1, PieceResult::End),
+        ByteResult::Ends(form) => (used + 1, PieceResult::Token(form)),
+        ByteResult::EndsBefore(form) => (used, PieceResult::Token(form)),
+        ByteResult::Fault => (used + 1, PieceResult::Fault),
     }
 }

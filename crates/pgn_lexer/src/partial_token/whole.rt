@@ -15,7 +15,7 @@ use crate::class::{
     is_suffix, string_class_of,
 };
 use crate::partial_token::{
-    LARGEST_GLYPH, LONGEST_TEXT, LONGEST_WORD, Mode, PartialToken, first_suffix, glyph_of,
+    LARGEST_GLYPH, LONGEST_TEXT, LONGEST_WORD, LexMode, PartialToken, first_suffix, glyph_of,
     kind_of_single, longer_suffix,
 };
 use crate::token::{Token, TokenKind};
@@ -27,7 +27,7 @@ const LAST_PASSED: u8 = b'9';
 #[derive(Clone, Copy)]
 struct Whole<'a> {
     length: usize,
-    mode: Mode,
+    mode: LexMode,
     kind: TokenKind<'a>,
 }
 
@@ -58,9 +58,13 @@ impl PartialToken {
             (standing_at (place + result.0) self.new) result.0 result.1 }
     {
         match self.mode {
-            Mode::LineStart | Mode::Outside => self.whole_outside(piece, place, skips_numbers),
-            Mode::Brace => self.whole_in_comment(piece, place, false),
-            Mode::Line => self.whole_in_comment(piece, place, true),
+            LexMode::LineStart | LexMode::Outside => self.whole_outside(
+                piece,
+                place,
+                skips_numbers,
+            ),
+            LexMode::Brace => self.whole_in_comment(piece, place, false),
+            LexMode::Line => self.whole_in_comment(piece, place, true),
             _ => (0, None),
         }
     }
@@ -114,18 +118,18 @@ impl PartialToken {
                 break;
             }
             if byte == b' ' || (skips_numbers && byte == b'.') {
-                self.mode = Mode::Outside;
+                self.mode = LexMode::Outside;
                 used += 1;
             } else if skips_numbers && is_digit(byte) {
                 let Some(length) = number_length(&piece[used..]) else {
                     break;
                 };
-                self.mode = Mode::Outside;
+                self.mode = LexMode::Outside;
                 used += length;
             } else {
                 match class_of(byte) {
-                    Class::LineEnd => self.mode = Mode::LineStart,
-                    Class::Space => self.mode = Mode::Outside,
+                    Class::LineEnd => self.mode = LexMode::LineStart,
+                    Class::Space => self.mode = LexMode::Outside,
                     _ => break,
                 }
                 used += 1;
@@ -166,7 +170,7 @@ impl PartialToken {
                 }
                 CommentClass::LineEnd => {
                     if is_line {
-                        self.mode = Mode::LineStart;
+                        self.mode = LexMode::LineStart;
                         let kind = TokenKind::CommentClose;
                         return (used + 1, Some(Token { at, kind }));
                     }
@@ -176,7 +180,7 @@ impl PartialToken {
                     if is_line {
                         break;
                     }
-                    self.mode = Mode::Outside;
+                    self.mode = LexMode::Outside;
                     let kind = TokenKind::CommentClose;
                     return (used + 1, Some(Token { at, kind }));
                 }
@@ -203,7 +207,7 @@ fn whole_at(piece: &[u8]) -> Option<Whole<'_>>
             let kind = TokenKind::Symbol(&piece[..length]);
             Some(Whole {
                 length,
-                mode: Mode::Outside,
+                mode: LexMode::Outside,
                 kind,
             })
         }
@@ -212,7 +216,7 @@ fn whole_at(piece: &[u8]) -> Option<Whole<'_>>
             let kind = TokenKind::Str(&piece[1..end]);
             Some(Whole {
                 length: end + 1,
-                mode: Mode::Outside,
+                mode: LexMode::Outside,
                 kind,
             })
         }
@@ -221,7 +225,7 @@ fn whole_at(piece: &[u8]) -> Option<Whole<'_>>
             let kind = TokenKind::Glyph(number);
             Some(Whole {
                 length,
-                mode: Mode::Outside,
+                mode: LexMode::Outside,
                 kind,
             })
         }
@@ -230,7 +234,7 @@ fn whole_at(piece: &[u8]) -> Option<Whole<'_>>
             let kind = TokenKind::Glyph(number);
             Some(Whole {
                 length,
-                mode: Mode::Outside,
+                mode: LexMode::Outside,
                 kind,
             })
         }
@@ -238,7 +242,7 @@ fn whole_at(piece: &[u8]) -> Option<Whole<'_>>
             let kind = TokenKind::CommentOpen;
             Some(Whole {
                 length: 1,
-                mode: Mode::Brace,
+                mode: LexMode::Brace,
                 kind,
             })
         }
@@ -246,7 +250,7 @@ fn whole_at(piece: &[u8]) -> Option<Whole<'_>>
             let kind = TokenKind::CommentOpen;
             Some(Whole {
                 length: 1,
-                mode: Mode::Line,
+                mode: LexMode::Line,
                 kind,
             })
         }
@@ -254,7 +258,7 @@ fn whole_at(piece: &[u8]) -> Option<Whole<'_>>
             let kind = kind_of_single(single);
             Some(Whole {
                 length: 1,
-                mode: Mode::Outside,
+                mode: LexMode::Outside,
                 kind,
             })
         }
@@ -344,7 +348,7 @@ fn word_length(piece: &[u8]) -> Option<usize>
 fn glyph_in(piece: &[u8]) -> Option<(usize, u8)>
     requires some { 0 < length piece.now }
     requires first { spelling.class (get_or piece.now 0 0) ≡ classes.Dollar }
-    ensures { IfSome result (λ r. IsWhole piece.now r.0 Mode.Outside (glyph r.1)) }
+    ensures { IfSome result (λ r. IsWhole piece.now r.0 LexMode.Outside (glyph r.1)) }
 {
     if piece.len() < 2 || !is_digit(piece[1]) {
         return None;
@@ -371,7 +375,7 @@ fn glyph_in(piece: &[u8]) -> Option<(usize, u8)>
 fn suffix_in(piece: &[u8]) -> Option<(usize, u8)>
     requires some { 0 < length piece.now }
     requires first { spelling.class (get_or piece.now 0 0) ≡ classes.Suffix }
-    ensures { IfSome result (λ r. IsWhole piece.now r.0 Mode.Outside (glyph r.1)) }
+    ensures { IfSome result (λ r. IsWhole piece.now r.0 LexMode.Outside (glyph r.1)) }
 {
     if piece.len() < 2 {
         return None;

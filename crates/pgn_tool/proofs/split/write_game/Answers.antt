@@ -28,8 +28,8 @@ pub returns-clause-splits : goal.returns-clause-splits
 returns-clause-splits g c =
     let source = device g.R.Source.left g.R.Source.failures c.args.source.now c.next-answer.new.source in
     let out = c.next-answer.new.out in
-    let sink = begun_with g.F.Out.Sink.taken g.F.Out.Sink.failures g.K.Before.log c.new.result.file out.turn.file in
-    let same = not_made g.F.Out.Sink.taken g.F.Out.Sink.failures g.K.Before.log _ out.turn.file c.new.ensures.file in
+    let sink = begun_with g.F.Out.Sink.taken g.F.Out.Sink.failures g.K.GameBefore.log c.new.result.file out.turn.file in
+    let same = not_made g.F.Out.Sink.taken g.F.Out.Sink.failures g.K.GameBefore.log _ out.turn.file c.new.ensures.file in
     record {
       answer = c.next-answer.result;
       file = out.turn.file;

@@ -12,6 +12,6 @@ invariant_of-self-else-count-eq0 g c =
       within = omega (arith, sink.within, put.count, put.written, is_long);
       long = is_long ∙ sink.long;
       behind = ap (λ w. drop w c.put-count.new.self.buffer.now) put.written ∙ ap (drop _) put.now
-          ∙ drop_with _ _ _ _ _ sink.within put.count sink.behind ∙ ap (λ w. drop w g.K.Before.bytes) (sym put.written);
+          ∙ drop_with _ _ _ _ _ sink.within put.count sink.behind ∙ ap (λ w. drop w g.K.BufferBefore.bytes) (sym put.written);
       full = λ some. absurd (c.if-count-eq0.false (omega (arith, put.count, sink.full (subst (λ n. 0 < n) put.failures some))));
     }

@@ -1,4 +1,4 @@
-use Rattle.pgn_lexer.proofs.Words.{◌≡◌, ◌<◌, ◌==◌, ℕ, List, [], ◌∷◌, false, false≢true, arith, length, refl, sym, ◌∙◌, Alone, OpenBrace, Semicolon, TokenForm, Mode}
+use Rattle.pgn_lexer.proofs.Words.{◌≡◌, ◌<◌, ◌==◌, ℕ, List, [], ◌∷◌, false, false≢true, arith, length, refl, sym, ◌∙◌, Alone, OpenBrace, Semicolon, TokenForm, LexMode}
 use Rattle.pgn_lexer.proofs.stepping.WholeRuns.{whole_symbol, whole_string, whole_single}
 use Rattle.pgn_lexer.proofs.partial_token.whole.whole_at.Goals as goal
 
@@ -14,15 +14,15 @@ returns-in_ok-end-in-Quote c = whole_string _ _ c.in_ok-end-in-Quote.ensures (sy
 
 pub returns-in-OpenBrace : goal.returns-in-OpenBrace
 returns-in-OpenBrace c =
-    whole_single _ OpenBrace Mode.Brace TokenForm.CommentOpen (some _ c.if-is_empty.ensures) (sym c.class_of.ensures ∙ c.in-OpenBrace.is) tt
+    whole_single _ OpenBrace LexMode.Brace TokenForm.CommentOpen (some _ c.if-is_empty.ensures) (sym c.class_of.ensures ∙ c.in-OpenBrace.is) tt
     (λ _ _. refl) (λ _ _. refl) _ (λ _ _. refl)
 
 pub returns-in-Semicolon : goal.returns-in-Semicolon
 returns-in-Semicolon c =
-    whole_single _ Semicolon Mode.Line TokenForm.CommentOpen (some _ c.if-is_empty.ensures) (sym c.class_of.ensures ∙ c.in-Semicolon.is) tt
+    whole_single _ Semicolon LexMode.Line TokenForm.CommentOpen (some _ c.if-is_empty.ensures) (sym c.class_of.ensures ∙ c.in-Semicolon.is) tt
     (λ _ _. refl) (λ _ _. refl) _ (λ _ _. refl)
 
 pub returns-in-Alone : goal.returns-in-Alone
 returns-in-Alone c =
     rw c.kind_of_single-kind.ensures
-    (whole_single _ (Alone _) Mode.Outside (TokenForm.Single _) (some _ c.if-is_empty.ensures) (sym c.class_of.ensures ∙ c.in-Alone.is) tt (λ _ _. refl) (λ _ _. refl) _ (λ _ _. refl))
+    (whole_single _ (Alone _) LexMode.Outside (TokenForm.Single _) (some _ c.if-is_empty.ensures) (sym c.class_of.ensures ∙ c.in-Alone.is) tt (λ _ _. refl) (λ _ _. refl) _ (λ _ _. refl))
