@@ -43,7 +43,8 @@ same_place n = elim (eqb_tells n n) [ inl h ↦ h.0 | inr h ↦ absurd (h.1 refl
 same_marker : (g : Game) (t : Token) → is_other (record { text = g.marker; at = t.at }) (whole g) t ≡ false
 same_marker g t = grind (arith, bytes_eq-Decides, same_place)
 
-pub no_marker_ahead : (p : Profile) (b : Progress) (ts : List Token) → compared_from p [] b ts ≡ record { progress = b; markers_left = []; fault = None }
+pub no_marker_ahead : (p : Profile) (b : Progress) (ts : List Token)
+    → compared_from p [] b ts ≡ record { progress = b; markers_left = []; fault = None }
 no_marker_ahead p b [] = refl
 no_marker_ahead p b (t ∷ ts) = refl
 

@@ -17,11 +17,13 @@ by_change p m ms b t ts true rest = λ same none. absurd (cc)
 by_change p m ms b t ts false rest = rest
 
 -- a token that finishes no game leaves its marker
-between_next : (n : Next) (m : PlacedMarker) (ms : List PlacedMarker) (games : List Game) → markers_after n m ms ≡ [] → (progress_with games n).part ≡ no_part
+between_next : (n : Next) (m : PlacedMarker) (ms : List PlacedMarker) (games : List Game) → markers_after n m ms ≡ []
+    → (progress_with games n).part ≡ no_part
 between_next (going to) m ms games none = absurd (cc)
 between_next (whole g) m ms games none = refl
 
-last_marker : (p : Profile) (ms : List PlacedMarker) (b : Progress) (us : List Token) → (ms ≡ [] → b.part ≡ no_part) → EndsBetween (compared_from p ms b us)
+last_marker : (p : Profile) (ms : List PlacedMarker) (b : Progress) (us : List Token) → (ms ≡ [] → b.part ≡ no_part)
+    → EndsBetween (compared_from p ms b us)
 last_marker p ms b [] between = λ same none. between none
 last_marker p [] b (t ∷ ts) between = λ same none. between refl
 last_marker p (m ∷ ms) b (t ∷ ts) between =

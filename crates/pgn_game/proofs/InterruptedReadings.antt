@@ -52,7 +52,8 @@ module _ (p : Profile) (takes : p.missing_result ≡ takes_the_marker) where
       also _ _ _ (behind (text_of p b.games) _ _ (subst (IsPrefix (torn (with_marker p m) b.part)) text grown))
       (rw (text_of-snoc p b.games g) at (games_grow c ts))
 
-  torn_ahead : (b : Progress) (ts : List Token) (m : PlacedMarker) (ms : List PlacedMarker) → markers_from p b ts ≡ m ∷ ms → Ahead b m (read_from p b ts)
+  torn_ahead : (b : Progress) (ts : List Token) (m : PlacedMarker) (ms : List PlacedMarker) → markers_from p b ts ≡ m ∷ ms
+      → Ahead b m (read_from p b ts)
   torn_ahead b [] m ms is = absurd (cc)
   torn_ahead b (t ∷ ts) m ms is =
       by_token p b t ts (Ahead b m) (λ reason rejects. let none : markers_from p b (t ∷ ts) ≡ [] = cc in absurd (cc))
@@ -149,7 +150,8 @@ interrupted_readings decides rise =
           rw h.1 (first_stops p takes (decided u) h.0 (subst Ends h.1 (ends (tokens_of (u ++ x)) (rise (u ++ x)))));
       second_stops = λ p u x ts rest m ms takes cut ahead.
           let h = decides u x in
-          rw h.1 (before_marker p takes (decided u) h.0 ts rest (subst Ends h.1 (ends (tokens_of (u ++ x)) (rise (u ++ x)))) (sym h.1 ∙ cut) ahead);
+          rw h.1 (before_marker p takes (decided u) h.0 ts rest (subst Ends h.1 (ends (tokens_of (u ++ x)) (rise (u ++ x)))) (sym h.1 ∙ cut)
+              ahead);
       write_fails = λ p s ts rest front after token count takes cut at.
           let us = front ++ token ∷ [] in
           let here : ts ++ rest ≡ us ++ after = sym cut ∙ at ∙ sym (append_assoc front (token ∷ []) after) in

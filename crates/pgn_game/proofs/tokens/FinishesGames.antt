@@ -183,7 +183,8 @@ module _ (p : Profile) (u : List ℕ) (given : List Token) (now : Converter) (fi
       (fault_not_taken p so.tokens h.tokens h.token h.rest f new.reading c d shows h.fails)) same
 
   -- a marker was not taken
-  pub failed_game : (f : Fault) → ShowsStop p c f.reason → (l : Standing) (m : PlacedMarker) (mid new : Converter) (sink : Device) → HasLeft l u given
+  pub failed_game : (f : Fault) → ShowsStop p c f.reason → (l : Standing) (m : PlacedMarker) (mid new : Converter) (sink : Device)
+      → HasLeft l u given
       → (read p given).fault ≡ None → ReadsToLeftMarker p u so.tokens m mid c sink.before
       → EndsGame mid.reading m new.reading (Err f) sink → CountsGame mid new (Err f) sink → mid.games ≡ now.games
       → FinishesToFault p u given new f a sink.after

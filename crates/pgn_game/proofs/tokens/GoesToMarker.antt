@@ -34,7 +34,8 @@ module _ {old new : Converter} {piece : List ℕ} {used : ℕ} {sink : Device} w
   pub goes_all : {end : Option StepEnd} → StepGoes old piece new used (Ok end) sink → used ≡ length piece → GoesToMarker old piece new (Ok All) sink
   goes_all goes all = grind (arith, common_steps, keeps_as)
 
-  pub goes_marker : {m : PlacedMarker} → StepGoes old piece new used (Ok (Some (AtMarker m))) sink → waiting new.lexer < 2 * used + waiting old.lexer
+  pub goes_marker : {m : PlacedMarker} → StepGoes old piece new used (Ok (Some (AtMarker m))) sink
+      → waiting new.lexer < 2 * used + waiting old.lexer
       → 0 < length piece → GoesToMarker old piece new (Ok (ToMarker used m)) sink
   goes_marker goes sooner some = grind (arith, common_steps, none_in, keeps_as)
 

@@ -30,7 +30,8 @@ module _ (p : Profile) (given mid : List Token) (now : Converter) (a b : Option 
       → as_written new.reading ≡ as_written now.reading → ReadsMore p given tokens new a c
   reads_more tokens new c second same = grind (arith, common_steps, append_assoc)
 
-  pub meets_more : (tokens : List Token) (t : Token) (m : CodePlacedMarker) (new : Converter) (c : Option (List ℕ)) → Meets p mid tokens t m new b c
+  pub meets_more : (tokens : List Token) (t : Token) (m : CodePlacedMarker) (new : Converter) (c : Option (List ℕ))
+      → Meets p mid tokens t m new b c
       → as_written new.reading ≡ as_written now.reading → Meets p given tokens t m new a c
   meets_more tokens t m new c meets same =
       record {

@@ -120,7 +120,8 @@ steps_behind old mid new piece end used outcome a c e x y z here one two =
 
 -- the same where no byte was passed before the step
 pub steps_at_once : (old mid new : Converter) (piece : List ℕ) (end used : ℕ) (outcome : Result (Option StepEnd) Fault) (a c e : Option (List ℕ)) (x y z : ℕ)
-    → end ≡ 0 → 0 < length piece → Runs old piece mid end (Ok (Some NoMarker)) (between a c x y) → Steps mid piece new used outcome (between c e y z)
+    → end ≡ 0 → 0 < length piece → Runs old piece mid end (Ok (Some NoMarker)) (between a c x y)
+    → Steps mid piece new used outcome (between c e y z)
     → Steps old piece new used outcome (between a e x z)
 steps_at_once old mid new piece end used outcome a c e x y z none some one two =
     let start = subst (λ (n : ℕ). Runs old piece mid n (Ok (Some NoMarker)) (between a c x y)) none one in

@@ -18,7 +18,8 @@ verdict_refused r e = rw e
 
 -- the counts of a converter that has read the whole text are those of the text
 module _ {p : Profile} where
-  pub totalled : {s : List ℕ} {c : Converter} (t : Totals) → HasRead p c (tokens_of s) → t.games ≡ c.games → t.plies ≡ plies_of_finished_games c.reading
+  pub totalled : {s : List ℕ} {c : Converter} (t : Totals) → HasRead p c (tokens_of s) → t.games ≡ c.games
+      → t.plies ≡ plies_of_finished_games c.reading
       → t.most_probes ≡ c.reading.most_probes → t.most_probes ≤ 1040
       → (verdict p s ≡ verdict_in t) × MostProbes c.reading.writing.is_silent p s t.most_probes
   totalled t has games plies probes bound = search (rules, in_games, verdict_passes)

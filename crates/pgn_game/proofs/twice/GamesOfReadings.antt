@@ -201,7 +201,8 @@ announced_written : (q : Profile) (r : ReaderState) (marker : List ℕ) → q.mi
 announced_written q r marker takes_it profile announced = grind (arith, common_steps, takes_the_marker)
 
 -- an announced marker changes nothing else
-text_announced : (marker : List ℕ) (r : ReaderState) (here : Part) (stage : Stage) → HoldsText stage r here → HoldsText stage (with_announced marker r) here
+text_announced : (marker : List ℕ) (r : ReaderState) (here : Part) (stage : Stage) → HoldsText stage r here
+    → HoldsText stage (with_announced marker r) here
 text_announced marker r here InMovetext h = h
 text_announced marker r here _ h = h
 
@@ -352,12 +353,14 @@ module _ (q : Profile) (left_old left_new : Option (List ℕ)) (given : List Tok
         (subst (λ n. readings.WhySecond q left_old left_new h.tokens announced sink.before sink.before (record { at = n; reason = Changed })) h.meets.place
         (readings.differs h.token (comes q left_old left_new given m mid new a sink takes_it so h)
         (differs_at_marker q expected (part_after q h.tokens) h.token (marker_text m.marker) h.meets.is
-        (subst (λ n. not (bytes_eq (marker_text m.marker) (marker_text announced.marker) && (n == announced.at)) ≡ true) (sym h.meets.place) other))
+        (subst (λ n. not (bytes_eq (marker_text m.marker) (marker_text announced.marker) && (n == announced.at)) ≡ true) (sym h.meets.place)
+            other))
         (Appends-nil sink.before)))
 
     module _ (same : not (bytes_eq (marker_text m.marker) (marker_text announced.marker) && (m.at == announced.at)) ≡ false) where
       same_there : not (bytes_eq (marker_text m.marker) (marker_text announced.marker) && (h.token.at == announced.at)) ≡ false
-      same_there = subst (λ n. not (bytes_eq (marker_text m.marker) (marker_text announced.marker) && (n == announced.at)) ≡ false) (sym h.meets.place) same
+      same_there = subst (λ n. not (bytes_eq (marker_text m.marker) (marker_text announced.marker) && (n == announced.at)) ≡ false)
+          (sym h.meets.place) same
 
       -- it is not taken
       pub marker_refused_second : (f : Fault) → EndsGame mid.converter.reading m new.converter.reading (Err f) sink

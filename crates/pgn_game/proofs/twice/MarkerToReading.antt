@@ -166,7 +166,8 @@ module _ (q : Profile) (left_old left_new : Option (List ℕ)) (given mid : List
 -- The source has just ended.
 module _ (q : Profile) (left_old left left_new : Option (List ℕ)) (given : List Token) (u : List ℕ) (consumed : Consumes left_old left u)
     (now : Converter) (unused : List ℕ) (a b : Option (List ℕ)) (uses : UsesAll q u given left left_new (games_of now unused) a b) where
-  pub all_used : (new : Converter) (c : Option (List ℕ)) (sink : Device) (r : Result (Option CodePlacedMarker) Fault) → sink.before ≡ b → sink.after ≡ c
+  pub all_used : (new : Converter) (c : Option (List ℕ)) (sink : Device) (r : Result (Option CodePlacedMarker) Fault) → sink.before ≡ b
+      → sink.after ≡ c
       → EndsToMarker now new r sink → now.lexer.count ≤ 2 ^ 62
       → AfterMarker q left_old left_new given (record { converter = new; unused = unused; has_ended = true }) r a c
   all_used new c sink r from to ends few =

@@ -8,7 +8,8 @@ use Rattle.pgn_game.proofs.tokens.OneMoreToken.{first_passes, goes_on, read-pass
 use Rattle.pgn_game.proofs.twice.CountingToTaking.{game_stays}
 
 module _ (q : Profile) (given : List Token) (t : Token) (ms : List PlacedMarker) where
-  marked_token : (read q given).fault ≡ None → refusal q (part_after q given) t.kind ≡ None → HasMarkers q given ms → HasMarkers q (given ++ t ∷ [])
+  marked_token : (read q given).fault ≡ None → refusal q (part_after q given) t.kind ≡ None → HasMarkers q given ms
+      → HasMarkers q (given ++ t ∷ [])
       (ms ++ marker_at t.at (next (part_after q given) t.kind))
   marked_token passes free so ts =
       grind (arith, common_steps, append_assoc, markers_test, read-passes)
@@ -138,7 +139,8 @@ module _ (q : Profile) (given more : List Token) (before : (read q given).fault 
   pub marked_on : (ms : List PlacedMarker) → HasMarkers q given ms → HasMarkers q (given ++ more) ms
   marked_on ms so ts = grind (arith, common_steps, markers, append_assoc, quiet_markers, read, more_passes, more_same, markers_from, behind)
 
-  pub matched_on : HasNoEnd more → (ms : List PlacedMarker) (m : PlacedMarker) → HasMatched q ms given (m ∷ []) → HasMatched q ms (given ++ more) (m ∷ [])
+  pub matched_on : HasNoEnd more → (ms : List PlacedMarker) (m : PlacedMarker) → HasMatched q ms given (m ∷ [])
+      → HasMatched q ms (given ++ more) (m ∷ [])
   matched_on no_end ms m so ns ts =
       grind (arith, common_steps, compared_from, no_progress, append_assoc, quiet_compared, read, more_passes, more_same, behind)
 

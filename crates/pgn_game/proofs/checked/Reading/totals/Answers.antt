@@ -6,7 +6,8 @@ pub games-requires : goal.games-requires
 games-requires g c = search reading_fits_converter
 
 pub plies_of_finished_games-requires : goal.plies_of_finished_games-requires
-plies_of_finished_games-requires g c = (search reading_fits_converter, ap (λ (r : Reading). r.converter.fault) c.self.view_is ∙ c.requires.going.no_fault)
+plies_of_finished_games-requires g c =
+    (search reading_fits_converter, ap (λ (r : Reading). r.converter.fault) c.self.view_is ∙ c.requires.going.no_fault)
 
 pub most_probes-requires : goal.most_probes-requires
 most_probes-requires g c = search reading_fits_converter
