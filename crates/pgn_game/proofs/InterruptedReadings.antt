@@ -151,7 +151,7 @@ interrupted_readings decides rise =
       second_stops = λ p u x ts rest m ms takes cut ahead.
           let h = decides u x in
           rw h.1 (before_marker p takes (decided u) h.0 ts rest (subst Ends h.1 (ends (tokens_of (u ++ x)) (rise (u ++ x)))) (sym h.1 ∙ cut)
-              ahead);
+          ahead);
       write_fails = λ p s ts rest front after token count takes cut at.
           let us = front ++ token ∷ [] in
           let here : ts ++ rest ≡ us ++ after = sym cut ∙ at ∙ sym (append_assoc front (token ∷ []) after) in

@@ -354,7 +354,7 @@ module _ (q : Profile) (left_old left_new : Option (List ℕ)) (given : List Tok
         (readings.differs h.token (comes q left_old left_new given m mid new a sink takes_it so h)
         (differs_at_marker q expected (part_after q h.tokens) h.token (marker_text m.marker) h.meets.is
         (subst (λ n. not (bytes_eq (marker_text m.marker) (marker_text announced.marker) && (n == announced.at)) ≡ true) (sym h.meets.place)
-            other))
+        other))
         (Appends-nil sink.before)))
 
     module _ (same : not (bytes_eq (marker_text m.marker) (marker_text announced.marker) && (m.at == announced.at)) ≡ false) where

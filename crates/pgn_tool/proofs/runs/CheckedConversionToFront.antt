@@ -53,7 +53,7 @@ module _ (decides : DecidedIsPrefix) (grows : DueGrows) (equal : EqualReadings) 
       let h = begins ends.tokens ends.decided_by in
       let law =
       interrupted.second_stops p u x.0 ends.tokens h.0 ends.next_marker.0 ends.next_marker.1 takes (ap tokens_of (sym x.1) ∙ h.1)
-          ends.next_marker.2 in
+      ends.next_marker.2 in
       front_is out _ _
       (subst (λ (t : List ℕ). IsPrefix (written_by p (compared p ends.tokens (decided u))) (output p t)) (sym x.1) law.most) ends.appended
 

@@ -81,7 +81,7 @@ returns-clause-converts g c =
     let x = so.both in
     let reads = rw c.in_default.is at c.in_ok-marker.ensures.reads in
     both_end (q g read) (first g read) (second g read) (sink g read) _ c.loop-marker.ahead c.loop-marker.behind x c.read_game.new.self
-        c.totals.result
+    c.totals.result
     (reads (q g read) _ x.first_tokens x.first_stands) (c.in_ok-marker.ensures.silent ∙ so.first_silent)
     so.second_writes c.totals.ensures.games c.totals.ensures.plies
     (c.totals.ensures.probes ∙ ap (λ n. max n c.loop-marker.behind.converter.reading.most_probes) c.most_probes.ensures.value)

@@ -32,7 +32,7 @@ module _ (g : Over) (c : After-read_to_marker g) where
     reads : AfterMarker q left_old source.after given c.read_to_marker.new.self c.read_to_marker.result sink.before sink.after
     reads = met.reads q left_old given
         (announced_reading q left_old source.before old given c.args.expected.marker c.announce_marker.new.self c.announce_marker.ensures
-            here.has_given)
+        here.has_given)
 
     by : as_written c.read_to_marker.new.self.converter.reading ≡ counting q (marker_text c.args.expected.marker)
     by = met.written
@@ -53,7 +53,7 @@ returns-in-Err g c =
           let h = here.has_given in
           second_fails q left_old _ given c.args.expected c.tokens_rise.ensures h.takes h.has_read.passes here.between
           c.read_to_marker.new.self c.in-Err.fault _ _ (by g place q left_old given here)
-              (rw c.in-Err.is at (reads g place q left_old given here));
+          (rw c.in-Err.is at (reads g place q left_old given here));
       going = tt;
       counted = counts_changed c.in-Err.fault.reason _ _ _ _ (rw c.in-Err.is at (met g place).counted);
       silent = silent g place;
