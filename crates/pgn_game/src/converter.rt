@@ -11,7 +11,7 @@ ghost use Rattle.pgn_game.specs.declared.converter.Fed.TheVariants as fed;
 ghost use Rattle.pgn_game.specs.declared.reason.Reason.TheVariants.{InputTooLong, Lexical, ReadFault};
 ghost use Rattle.pgn_game.specs.declared.stage.Stage.TheVariants.{InMovetext};
 ghost use Rattle.pgn_game.specs.state.ConverterSteps.{IsBeforePiece, IsBeforeToken, IsGoing, IsReady};
-ghost use Rattle.pgn_game.specs.state.ConverterSteps.{Steps, StepsAtEnd, FeedsFront, FeedsToMarker};
+ghost use Rattle.pgn_game.specs.state.ConverterSteps.{StepsInPiece, StepsAtEnd, FeedsFront, FeedsToMarker};
 ghost use Rattle.pgn_game.specs.state.ConverterSteps.{GoesToMarker, GoesToEndOfPiece, EndsToMarker};
 ghost use Rattle.pgn_game.specs.state.ConverterSteps.{EndsGame, CountsGame, fault_of, outcome_at};
 ghost use Rattle.pgn_game.specs.state.ConverterSteps.{taking_announced_marker, announcing};
@@ -664,7 +664,7 @@ impl<const T: usize, const L: usize> Converter<T, L> {
     #[inline(always)]
     fn step<W: Sink>(&mut self, piece: &[u8], out: &mut W) -> Step
         requires { IsBeforePiece self.old piece.now }
-        ensures steps { Steps self.old piece.now self.new result.used result.outcome
+        ensures steps { StepsInPiece self.old piece.now self.new result.used result.outcome
             (sink_of self.old.reading W.taken W.failures out.old out.new) }
         ensures silent { KeepsSilence self.old.reading self.new.reading out.old out.new }
     {
@@ -680,7 +680,7 @@ impl<const T: usize, const L: usize> Converter<T, L> {
     fn step_movetext<W: Sink>(&mut self, piece: &[u8], out: &mut W) -> Step
         requires stage { self.old.reading.stage ≡ InMovetext }
         requires piece { IsBeforePiece self.old piece.now }
-        ensures steps { Steps self.old piece.now self.new result.used result.outcome
+        ensures steps { StepsInPiece self.old piece.now self.new result.used result.outcome
             (sink_of self.old.reading W.taken W.failures out.old out.new) }
         ensures silent { KeepsSilence self.old.reading self.new.reading out.old out.new }
     {
@@ -695,7 +695,7 @@ impl<const T: usize, const L: usize> Converter<T, L> {
     fn run_movetext<W: Sink>(&mut self, piece: &[u8], out: &mut W) -> Step
         requires stage { self.old.reading.stage ≡ InMovetext }
         requires piece { IsBeforePiece self.old piece.now }
-        ensures steps { Steps self.old piece.now self.new result.used result.outcome
+        ensures steps { StepsInPiece self.old piece.now self.new result.used result.outcome
             (sink_of self.old.reading W.taken W.failures out.old out.new) }
         ensures silent { KeepsSilence self.old.reading self.new.reading out.old out.new }
     {
@@ -727,7 +727,7 @@ impl<const T: usize, const L: usize> Converter<T, L> {
     #[inline(always)]
     fn step_token<W: Sink>(&mut self, piece: &[u8], out: &mut W) -> Step
         requires { IsBeforePiece self.old piece.now }
-        ensures steps { Steps self.old piece.now self.new result.used result.outcome
+        ensures steps { StepsInPiece self.old piece.now self.new result.used result.outcome
             (sink_of self.old.reading W.taken W.failures out.old out.new) }
         ensures silent { KeepsSilence self.old.reading self.new.reading out.old out.new }
     {
@@ -762,7 +762,7 @@ impl<const T: usize, const L: usize> Converter<T, L> {
     #[inline(always)]
     fn step_on<W: Sink>(&mut self, piece: &[u8], out: &mut W) -> Step
         requires { IsBeforePiece self.old piece.now }
-        ensures steps { Steps self.old piece.now self.new result.used result.outcome
+        ensures steps { StepsInPiece self.old piece.now self.new result.used result.outcome
             (sink_of self.old.reading W.taken W.failures out.old out.new) }
         ensures silent { KeepsSilence self.old.reading self.new.reading out.old out.new }
     {

@@ -10,17 +10,17 @@ use std::marker::Model;
 /// A level: the current position, and the one before its last move, if it has a move.
 #[derive(Clone, Copy)]
 struct Level {
-    present: Position,
+    position: Position,
     before: Option<Position>,
 }
 
 impl Level {
     // A level at this position, without a move.
-    fn at(present: Position) -> Level
-        ensures { result ≡ record { present = present; before = None } }
+    fn at(position: Position) -> Level
+        ensures { result ≡ record { position = position; before = None } }
     {
         Level {
-            present,
+            position,
             before: None,
         }
     }
@@ -66,7 +66,7 @@ impl<const L: usize> Levels<L> {
     // The current level.
     #[inline(always)]
     fn current(&self) -> &Level
-        ensures { level_of result.now ≡ self.now.present }
+        ensures { level_of result.now ≡ self.now.current }
     {
         let levels = self.levels.as_slice();
         match &levels[levels.len() - 1] {
@@ -78,9 +78,9 @@ impl<const L: usize> Levels<L> {
     /// Returns the position of the current level.
     #[inline(always)]
     pub fn position(&self) -> &Position
-        ensures { result.now ≡ self.now.present.present }
+        ensures { result.now ≡ self.now.current.position }
     {
-        &self.current().present
+        &self.current().position
     }
 
     /// Returns how many variations are open.
@@ -94,7 +94,7 @@ impl<const L: usize> Levels<L> {
     /// Whether a move was played at the current level.
     #[inline(always)]
     pub fn has_own_move(&self) -> bool
-        ensures { result ≡ is_some self.now.present.before }
+        ensures { result ≡ is_some self.now.current.before }
     {
         self.current().before.is_some()
     }
@@ -103,7 +103,7 @@ impl<const L: usize> Levels<L> {
     #[inline(always)]
     pub fn play(&mut self, next: Position)
         ensures { self.new ≡ record {
-          present = record { present = next; before = Some self.old.present.present };
+          current = record { position = next; before = Some self.old.current.position };
           around = self.old.around;
         } }
     {
@@ -111,16 +111,16 @@ impl<const L: usize> Levels<L> {
         let Some(level) = &mut self.levels[last] else {
             unreachable!()
         };
-        level.before = Some(level.present);
-        level.present = next;
+        level.before = Some(level.position);
+        level.position = next;
     }
 
     /// Opens a variation, which begins before the last move of the current level.
     pub fn open(&mut self)
-        requires before { IsSome self.old.present.before }
+        requires before { IsSome self.old.current.before }
         requires room { length self.old.around + 1 < L }
-        ensures { IfSome self.old.present.before (λ start. self.new
-            ≡ record { present = level_at start; around = self.old.present ∷ self.old.around }) }
+        ensures { IfSome self.old.current.before (λ start. self.new
+            ≡ record { current = level_at start; around = self.old.current ∷ self.old.around }) }
     {
         if let Some(start) = self.current().before {
             self.levels.push(Some(Level::at(start)));

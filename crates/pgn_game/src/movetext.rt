@@ -76,7 +76,7 @@ impl<const L: usize> Movetext<L> {
 
     /// Returns the current position.
     pub fn position(&self) -> &Position
-        ensures { result.now ≡ self.now.levels.present.present }
+        ensures { result.now ≡ self.now.levels.current.position }
     {
         self.levels.position()
     }
@@ -90,7 +90,7 @@ impl<const L: usize> Movetext<L> {
 
     /// Whether a move was played at the current level.
     pub fn has_own_move(&self) -> bool
-        ensures { result ≡ is_some self.now.levels.present.before }
+        ensures { result ≡ is_some self.now.levels.current.before }
     {
         self.levels.has_own_move()
     }

@@ -201,7 +201,7 @@ impl<const T: usize, const L: usize> Reader<T, L> {
 
     /// Returns the position after the moves so far.
     pub fn position(&self) -> &Position
-        ensures { result.now ≡ self.now.text.levels.present.present }
+        ensures { result.now ≡ self.now.text.levels.current.position }
     {
         self.text.position()
     }

@@ -133,5 +133,5 @@ module _ (laws : MoveLaws) where
         writable = r.writable;
         closes = λ more then f h k. r.closes false then then (λ d x. x) (m.closes then h);
         again = cc (m.placed, filter_again (placed_from first _ items));
-        moves = ap (λ ls. (outermost ls.present ls.around).trail) m.levels;
+        moves = ap (λ ls. (outermost ls.current ls.around).trail) m.levels;
       }

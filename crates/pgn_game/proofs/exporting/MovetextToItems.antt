@@ -10,7 +10,7 @@ use Rattle.pgn_game.proofs.exporting.MoveTextToMove.{ArePositions, MoveLaws, las
 use Rattle.pgn_game.proofs.exporting.MoveTextToMove.{number_kinds, number_shown, number_spells, number_writable, number_closes}
 
 abbrev pub level_in : Level → List Level → Levels
-level_in l around = record { present = l; around = around }
+level_in l around = record { current = l; around = around }
 
 -- A token anywhere in movetext leaves the levels as they are, and is no move.
 pub aside : {k : Kind} {item : List Item} (items : List Item) (first : Parts) (ls : Levels) → StandsFor k item

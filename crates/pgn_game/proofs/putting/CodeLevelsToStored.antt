@@ -19,7 +19,7 @@ inside-places (l ∷ around) =
 
 -- what is seen of these levels
 pub seen : (current : CodeLevel) (around : List CodeLevel)
-    → code_levels (places_of (current ∷ around)) ≡ record { present = level_of current; around = map level_of around }
+    → code_levels (places_of (current ∷ around)) ≡ record { current = level_of current; around = map level_of around }
 seen current around = ap nearest_first (inside-places (current ∷ around))
 
 -- how many there are
@@ -48,26 +48,26 @@ module _ {most : ℕ} {places : List (Option CodeLevel)} (fits : FitsLevelStore 
   pushed more l is = is ∙ ap (λ (ps : List (Option CodeLevel)). ps ++ Some l ∷ []) fits.there
 
   module _ {ls : StoredLevels} (is : code_levels places ≡ ls) where
-    pub held : ls ≡ record { present = level_of fits.current; around = map level_of fits.around }
+    pub held : ls ≡ record { current = level_of fits.current; around = map level_of fits.around }
     held = sym is ∙ ap code_levels fits.there ∙ seen fits.current fits.around
 
     pub depth-held : length ls.around + 1 ≡ length places
     depth-held = grind (arith, common_steps, held, length-map, length-places)
 
-    pub current_at : (l : CodeLevel) (d : Option CodeLevel) → get_or places (length places - 1) d ≡ Some l → level_of l ≡ ls.present
+    pub current_at : (l : CodeLevel) (d : Option CodeLevel) → get_or places (length places - 1) d ≡ Some l → level_of l ≡ ls.current
     current_at l d at = grind (arith, common_steps, last_at, held)
 
     -- another current level is written in its place
     pub plays : (l : CodeLevel) → code_levels (refill (length places) places (set places (length places - 1) (Some l)))
-        ≡ record { present = level_of l; around = ls.around }
+        ≡ record { current = level_of l; around = ls.around }
     plays l = grind (arith, common_steps, code_levels, written, set, last, set-append_seam, seen, level_of, held)
 
     -- one more has the current one around it
     pub opened : (more : List (Option CodeLevel)) (l : CodeLevel) → more ≡ places ++ Some l ∷ []
-        → code_levels more ≡ record { present = level_of l; around = ls.present ∷ ls.around }
+        → code_levels more ≡ record { current = level_of l; around = ls.current ∷ ls.around }
     opened more l pushes =
         ap code_levels (pushed more l pushes) ∙ seen l (fits.current ∷ fits.around)
-        ∙ sym (ap (λ (ls : StoredLevels). record { present = level_of l; around = ls.present ∷ ls.around }) held)
+        ∙ sym (ap (λ (ls : StoredLevels). record { current = level_of l; around = ls.current ∷ ls.around }) held)
 
 pub fits_front : (most : ℕ) (front : List (Option CodeLevel)) (around : List CodeLevel) → front ≡ places_of around
     → 0 < length around → length front ≤ most → FitsLevelStore most front
@@ -82,6 +82,6 @@ closes front (l ∷ around) ls is e = rw e (ap code_levels is ∙ seen l around)
 
 -- what a variation begins at: it is there, for the current level has a move
 pub opens : (o : Option Parts) (start : Parts) (ls new : StoredLevels) → o ≡ Some start
-    → new ≡ record { present = level_at start; around = ls.present ∷ ls.around }
-    → IfSome o (λ p. new ≡ record { present = level_at p; around = ls.present ∷ ls.around })
+    → new ≡ record { current = level_at start; around = ls.current ∷ ls.around }
+    → IfSome o (λ p. new ≡ record { current = level_at p; around = ls.current ∷ ls.around })
 opens o start ls new e is = rw e is

@@ -39,20 +39,20 @@ ends_in_move-append b (x ∷ xs) ys = ends_in_move-append _ xs ys
 
 -- the moves outside variations
 abbrev main_of : ModelLevels → List Move
-main_of ls = (outermost ls.present ls.around).trail
+main_of ls = (outermost ls.current ls.around).trail
 
-plies_by : (i : Item) (present : ModelLevel) (around : List ModelLevel)
-    → length (main_of (levels_after (record { present = present; around = around }) i))
-    ≡ length (main_of (record { present = present; around = around })) + plies_in i (length around)
-plies_by (move m) present [] = omega arith
-plies_by (move m) present (l ∷ around) = grind (arith, common_steps, eqb-suc-zero)
-plies_by close_variation present [] = omega arith
-plies_by close_variation present (l ∷ around) = omega arith
-plies_by _ present around = omega arith
+plies_by : (i : Item) (current : ModelLevel) (around : List ModelLevel)
+    → length (main_of (levels_after (record { current = current; around = around }) i))
+    ≡ length (main_of (record { current = current; around = around })) + plies_in i (length around)
+plies_by (move m) current [] = omega arith
+plies_by (move m) current (l ∷ around) = grind (arith, common_steps, eqb-suc-zero)
+plies_by close_variation current [] = omega arith
+plies_by close_variation current (l ∷ around) = omega arith
+plies_by _ current around = omega arith
 
 plies-snoc : (items : List Item) (i : Item)
     → length (main_moves (items ++ i ∷ [])) ≡ length (main_moves items) + plies_in i (depth (levels_of items))
-plies-snoc items i = cc (levels_more items i, plies_by i (levels_of items).present (levels_of items).around)
+plies-snoc items i = cc (levels_more items i, plies_by i (levels_of items).current (levels_of items).around)
 
 same_depth : (mode : Option Mode) (start : Parts) (items : List Item) (text : Movetext) (line : List ℕ) → HoldsItems mode start items text line
     → depth (levels_of items) ≡ length text.levels.around
@@ -85,16 +85,16 @@ module _ (start : Parts) where
   opened : (trail : List Move) (holds : Bool) (around : List ModelLevel) (new : StoredLevels)
       → IsTrue (is_some (before_last start (record { trail = trail; has_own_move = holds })))
       → IfSome (before_last start (record { trail = trail; has_own_move = holds }))
-      (λ s. new ≡ record { present = level_at s; around = stored_level start (record { trail = trail; has_own_move = holds }) ∷ map (stored_level start) around })
-      → new ≡ stored_levels start (levels_after (record { present = record { trail = trail; has_own_move = holds }; around = around }) open_variation)
+      (λ s. new ≡ record { current = level_at s; around = stored_level start (record { trail = trail; has_own_move = holds }) ∷ map (stored_level start) around })
+      → new ≡ stored_levels start (levels_after (record { current = record { trail = trail; has_own_move = holds }; around = around }) open_variation)
   opened trail true around new some h = h
   opened trail false around new some h = absurd (cc)
 
-  closed : (present : ModelLevel) (around : List ModelLevel) (new : StoredLevels) → 0 < length (map (stored_level start) around)
+  closed : (current : ModelLevel) (around : List ModelLevel) (new : StoredLevels) → 0 < length (map (stored_level start) around)
       → ClosesLevel (map (stored_level start) around) new
-      → new ≡ stored_levels start (levels_after (record { present = present; around = around }) close_variation)
-  closed present [] new some h = absurd (omega arith)
-  closed present (l ∷ around) new some h = h
+      → new ≡ stored_levels start (levels_after (record { current = current; around = around }) close_variation)
+  closed current [] new some h = absurd (omega arith)
+  closed current (l ∷ around) new some h = h
 
 -- a legal move leads to the position after it
 played_is : (p : Parts) (m : Move) (next : Parts) → legal p m ≡ Some next → next ≡ play p m
@@ -102,7 +102,7 @@ unfolding play
 played_is p m next is = cc
 
 abbrev then_at : StoredLevels → Parts → StoredLevels
-then_at ls next = record { present = record { present = next; before = Some ls.present.present }; around = ls.around }
+then_at ls next = record { current = record { position = next; before = Some ls.current.position }; around = ls.around }
 
 -- what an item of the model makes of movetext
 pub record Advances (i : Item) (text new : Movetext) : Type 0 where
@@ -111,12 +111,12 @@ pub record Advances (i : Item) (text new : Movetext) : Type 0 where
   pub plies : new.plies ≡ text.plies + plies_in i (length text.levels.around)
   pub is_after_move : new.is_after_move ≡ text.is_after_move
 
-pub plays_on : (x : Played) (text new : Movetext) → legal text.levels.present.present x.mv ≡ Some x.next
+pub plays_on : (x : Played) (text new : Movetext) → legal text.levels.current.position x.mv ≡ Some x.next
     → Plays x text new → Advances (move x.mv) text new
 plays_on x text new is on = record {
   levels = λ start ls e.
-      on.levels ∙ ap (then_at text.levels) (played_is text.levels.present.present x.mv _ is)
-      ∙ ap (λ l. then_at l (play l.present.present x.mv)) e;
+      on.levels ∙ ap (then_at text.levels) (played_is text.levels.current.position x.mv _ is)
+      ∙ ap (λ l. then_at l (play l.current.position x.mv)) e;
   plies = on.plies;
   is_after_move = on.is_after_move;
 }

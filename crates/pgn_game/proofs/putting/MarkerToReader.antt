@@ -44,12 +44,12 @@ due_is old part marker writes at token is = grind (arith, common_steps, section_
 
 -- At depth 0 the moves that lead here are those outside variations.
 at_depth_0 : (ls : ModelLevels) (around : List ModelLevel) → ls.around ≡ around
-    → length around ≡ 0 → (outermost ls.present ls.around).trail ≡ ls.present.trail
-at_depth_0 ls [] e n = ap (λ (l : List ModelLevel). (outermost ls.present l).trail) e
+    → length around ≡ 0 → (outermost ls.current ls.around).trail ≡ ls.current.trail
+at_depth_0 ls [] e n = ap (λ (l : List ModelLevel). (outermost ls.current l).trail) e
 at_depth_0 ls (l ∷ around) e n = absurd (omega (arith, n))
 
 last_is : (old : ReaderState) (part : Part) → old.text.levels.around ≡ [] → IsOpen old part
-    → (marker : List ℕ) → old.text.levels.present.present ≡ last_position (game_of part marker)
+    → (marker : List ℕ) → old.text.levels.current.position ≡ last_position (game_of part marker)
 last_is old part outside is marker = grind (arith, common_steps, depth_is, position_is, at_depth_0)
 
 abbrev finished_reader : (line marker : List ℕ) → ReaderState → ReaderState

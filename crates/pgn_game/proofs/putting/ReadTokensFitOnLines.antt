@@ -37,7 +37,7 @@ not_empty (c ∷ s) e = omega arith
 
 -- all positions of these levels are positions
 abbrev LeadThroughPositions : Parts → Levels → Type 0
-LeadThroughPositions start ls = ArePositions start ls.present.trail × AllByRecursion (λ l. ArePositions start l.trail) ls.around
+LeadThroughPositions start ls = ArePositions start ls.current.trail × AllByRecursion (λ l. ArePositions start l.trail) ls.around
 
 -- the tokens of an item fit on lines
 abbrev FitsOnLines : Placed → Type 0
@@ -128,11 +128,11 @@ module _ (leaves : LeavesPosition) (is_symbol : WrittenMoveIsSymbol) (reads_fen 
       by_answer (Some q) e is = leaves at q m position e
 
   levels_go_on : (start : Parts) (ls : Levels) (i : Item) → LeadThroughPositions start ls
-      → IsTrue (is_legal_at (replayed start ls.present.trail) i) → LeadThroughPositions start (levels_after ls i)
+      → IsTrue (is_legal_at (replayed start ls.current.trail) i) → LeadThroughPositions start (levels_after ls i)
   levels_go_on start ls (games.move m) good may =
-      ((plays_on _ m (last_position start ls.present.trail good.0) may, good.0), good.1)
+      ((plays_on _ m (last_position start ls.current.trail good.0) may, good.0), good.1)
   levels_go_on start ls games.open_variation good may =
-      (earlier_positions start ls.present.trail good.0, (good.0, good.1))
+      (earlier_positions start ls.current.trail good.0, (good.0, good.1))
   levels_go_on start ls games.close_variation good may = grind (arith, common_steps)
   levels_go_on start ls _ good may = good
 
@@ -141,8 +141,8 @@ module _ (leaves : LeavesPosition) (is_symbol : WrittenMoveIsSymbol) (reads_fen 
       → AllByRecursion FitsOnLines (placed_from start ls items)
   placed_fit start ls [] good sound may = tt
   placed_fit start ls (i ∷ is) good sound may =
-      let both = and_parts (is_legal_at (replayed start ls.present.trail) i) _ may in (
-        item_fits _ (depth ls) i (last_position start ls.present.trail good.0) sound.0 both.0,
+      let both = and_parts (is_legal_at (replayed start ls.current.trail) i) _ may in (
+        item_fits _ (depth ls) i (last_position start ls.current.trail good.0) sound.0 both.0,
         placed_fit start (levels_after ls i) is (levels_go_on start ls i good both.0) sound.1 both.1,
       )
 

@@ -73,7 +73,7 @@ module _ (p : Profile) (ps : List Pair) (name : List ℕ) (items : List Item) wh
       → next in_movetext (tokens.symbol s) ≡ going (at InMovetext ps name (items ++ games.move played.mv ∷ []))
   move_leads s played h = cc (symbol_leads in_movetext s false h.no_number h.no_marker)
 
-  opens_free : (levels_of items).present.has_own_move ≡ true → depth (levels_of items) < p.depth
+  opens_free : (levels_of items).current.has_own_move ≡ true → depth (levels_of items) < p.depth
       → refusal p in_movetext tokens.left_paren ≡ None
   opens_free holds room =
       let free : nat_le p.depth (depth (levels_of items)) ≡ false = grind (arith, nat_tests) in
@@ -85,7 +85,7 @@ module _ (p : Profile) (ps : List Pair) (name : List ℕ) (items : List Item) wh
       text_row p in_movetext _ refl ∙ pass _ _ None free
 
 abbrev leveled : Level → List Level → Levels
-leveled l around = record { present = l; around = around }
+leveled l around = record { current = l; around = around }
 
 abbrev Further : Profile → List Pair → List ℕ → List Item → List Level → List Kind → List Game → Type 0
 Further p ps name all around rest gs = (m : Level) → levels_of all ≡ leveled m around → Runs p (at InMovetext ps name all) rest gs
@@ -113,7 +113,7 @@ text_run {p} ps name {deep} {l} (variation _ _ ks ls items more holds room inner
     let opened : levels_of (before ++ games.open_variation ∷ []) ≡ leveled (new_level (without_last l.trail)) (l ∷ around) =
     rw at_level at (levels_more before games.open_variation) in
     let middle : List Item = (before ++ games.open_variation ∷ []) ++ items in
-    let holding : (levels_of before).present.has_own_move ≡ true = rw at_level holds in
+    let holding : (levels_of before).current.has_own_move ≡ true = rw at_level holds in
     let deepness : depth (levels_of before) ≡ deep = rw at_level at_depth in
     let deeper : depth (levels_of before) < p.depth = omega arith in
     rw (append_assoc ks (tokens.right_paren ∷ ls) rest) (goes _ _ _ _ gs

@@ -69,7 +69,7 @@ record Text_left (p : Profile) (ps : List Pair) (items : List Item) (ks : List K
   marker : List ℕ
   later : List Game
   kinds : ks ≡ text ++ last ∷ behind
-  closes : Closes p (start_of ps) (levels_of items).present (levels_of items).around text more
+  closes : Closes p (start_of ps) (levels_of items).current (levels_of items).around text more
   is_marker : marker_of last ≡ Some marker
   result : IsResult p.missing_result (value_of ps (codes "Result")) marker
   games : gs ≡ record { pairs = ps; items = items ++ more; marker = marker } ∷ later
@@ -78,8 +78,8 @@ record Text_left (p : Profile) (ps : List Pair) (items : List Item) (ks : List K
 -- one token more before it
 abbrev Adds : Profile → List Pair → List Item → Kind → List Item → Type 0
 Adds p ps items k new =
-    (text : List Kind) (more : List Item) → Closes p (start_of ps) (levels_of (items ++ new)).present (levels_of (items ++ new)).around text more
-    → Closes p (start_of ps) (levels_of items).present (levels_of items).around (k ∷ text) (new ++ more)
+    (text : List Kind) (more : List Item) → Closes p (start_of ps) (levels_of (items ++ new)).current (levels_of (items ++ new)).around text more
+    → Closes p (start_of ps) (levels_of items).current (levels_of items).around (k ∷ text) (new ++ more)
 
 text_more : {p : Profile} {ps : List Pair} {items : List Item} (new : List Item) {k : Kind} {ks : List Kind} {gs : List Game}
     → Adds p ps items k new → Text_left p ps (items ++ new) ks gs → Text_left p ps items (k ∷ ks) gs
@@ -164,17 +164,17 @@ module _ (p : Profile) (ps : List Pair) (items : List Item) where
   adds_move : (s : List ℕ) (played : Played) → Names (here (start_of ps) (levels_of items)) s played → Adds p ps items (tokens.symbol s)
       (games.move played.mv ∷ [])
   adds_move s played names text more c =
-      let l = (levels_of items).present in
+      let l = (levels_of items).current in
       add_front p l (level_after_move _ _) _ _ text (games.move _ ∷ []) more
       (λ d js is rest. move d l s played js is names rest) (rw (levels_more items (games.move played.mv)) at c)
 
-  adds_open : IsTrue (levels_of items).present.has_own_move → depth (levels_of items) < p.depth
+  adds_open : IsTrue (levels_of items).current.has_own_move → depth (levels_of items) < p.depth
       → Adds p ps items tokens.left_paren (games.open_variation ∷ [])
   adds_open holds room = search (rules, levels_more, deep-length, add_open)
 
 close_at : (p : Profile) (first : Parts) (l : Level) (around : List Level) (text : List Kind) (more : List Item) → (length around == 0) ≡ false
-    → Closes p first (levels_after (record { present = l; around = around }) games.close_variation).present
-    (levels_after (record { present = l; around = around }) games.close_variation).around text more
+    → Closes p first (levels_after (record { current = l; around = around }) games.close_variation).current
+    (levels_after (record { current = l; around = around }) games.close_variation).around text more
     → Closes p first l around (tokens.right_paren ∷ text) (games.close_variation ∷ more)
 close_at p first l around text more some c = search (rules, false≢true, add_close)
 

@@ -48,11 +48,11 @@ pub open_agrees : {old : ReaderState} {part : Part} → Agrees old part → IsTr
 open_agrees agrees is = open_at agrees refl is
 
 first_held : (old : ReaderState) (part : Part) → part.items ≡ []
-    → old.text ≡ movetext_from (start_of part.pairs) → old.text.levels.present.present ≡ position_in part
+    → old.text ≡ movetext_from (start_of part.pairs) → old.text.levels.current.position ≡ position_in part
 first_held old part none begins_game = grind arith
 
 pub position_in_pair : {old : ReaderState} {part : Part} {stage : Stage} → Agrees old part
-    → old.stage ≡ stage → is_outside_tag_pairs (at_stage stage part) ≡ false → old.text.levels.present.present ≡ position_in part
+    → old.stage ≡ stage → is_outside_tag_pairs (at_stage stage part) ≡ false → old.text.levels.current.position ≡ position_in part
 position_in_pair agrees at is = grind (arith, text_at, first_held)
 
 -- The table and the step of movetext are those of a token in it, and of the first one.

@@ -9,13 +9,13 @@ some_before : (start : Parts) (l : ModelLevel) → is_some (before_last start l)
 some_before start l = grind arith
 
 module _ (old : ReaderState) (part : Part) where
-  pub holds_is : IsOpen old part → is_some old.text.levels.present.before ≡ (levels_of_part part).present.has_own_move
+  pub holds_is : IsOpen old part → is_some old.text.levels.current.before ≡ (levels_of_part part).current.has_own_move
   holds_is is = grind (arith, some_before)
 
   pub depth_is : IsOpen old part → length old.text.levels.around ≡ depth (levels_of_part part)
   depth_is is = cc (length-map (levels_of_part part).around (stored_level (start_of part.pairs)))
 
-  pub position_is : IsOpen old part → old.text.levels.present.present ≡ position_in part
+  pub position_is : IsOpen old part → old.text.levels.current.position ≡ position_in part
   position_is is = rw is.held.levels
 
 -- Symbols.
@@ -87,7 +87,7 @@ found_refused p (Some (Ok one)) {reason} e = grind (arith, common_steps, met, hi
 
 -- what was found at the reader's position was found at the part's
 found_at : (old : ReaderState) (part : Part) (s : List ℕ) {here : Parts} {r : Result Played Reason}
-    → IsOpen old part → here ≡ old.text.levels.present.present → r ≡ found_in here (move_of here s)
+    → IsOpen old part → here ≡ old.text.levels.current.position → r ≡ found_in here (move_of here s)
     → found_in (position_in part) (move_of (position_in part) s) ≡ r
 found_at old part s is same found = cc (position_is old part is)
 
@@ -96,7 +96,7 @@ pub refused_inside : (here : Parts) (s : List ℕ) {reason : Reason}
 refused_inside here s found = (found_refused here (move_of here s) (sym found)).1
 
 module _ {old : ReaderState} {part : Part} (s : List ℕ) (here : Parts) (number : is_number s ≡ false) (score : is_score s ≡ false)
-    (is : IsOpen old part) (same : here ≡ old.text.levels.present.present) where
+    (is : IsOpen old part) (same : here ≡ old.text.levels.current.position) where
   pub move_free : {played : Played} → Ok played ≡ found_in here (move_of here s) → text_refusal old.profile part (symbol s) ≡ None
   move_free found = grind (arith, move_refusal, found_free, found_at)
 

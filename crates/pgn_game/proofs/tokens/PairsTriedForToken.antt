@@ -68,7 +68,7 @@ module _ (part : Part) where
 -- The move of another symbol is sought where movetext can begin or goes on.
 pub costs_found : {r : ReaderState} {part : Part} (s : List ℕ) (n : ℕ) → IsOpen r part
     → IsTrue (may_have_movetext r.stage) → is_number s ≡ false → is_score s ≡ false
-    → Costs r.text.levels.present.present s n → CostsToFind part (tokens.symbol s) n
+    → Costs r.text.levels.current.position s n → CostsToFind part (tokens.symbol s) n
 costs_found s n is at number score costs = search (rules, false≢true, position_is)
 
 -- An item is written at the cost that its place has.

@@ -23,7 +23,7 @@ pub refused_after : (old new : ReaderState) (IsOf : Part → Type 0) (k : Kind) 
     → new ≡ counting_probes old n
     → IsFalse (is_outside_the_table reason) → ((part : Part) → IsOf part → refusal old.profile part k ≡ Some reason)
     → ((part : Part) → IsOf part → CostsToFind part k n)
-    → ((part : Part) → IsOf part → position_if_move reason old.text.levels.present.present ≡ position_if_move reason (position_in part))
+    → ((part : Part) → IsOf part → position_if_move reason old.text.levels.current.position ≡ position_if_move reason (position_in part))
     → Takes old IsOf k new (Err reason) (unused o m)
 refused_after old new IsOf k reason n o m counted inside why costs here = record {
   accepts = λ part is.
@@ -216,7 +216,7 @@ module _ (old found : ReaderState) (s : List ℕ) (n : ℕ) (at : IsTrue (may_ha
   pub move_refused : (reason : Reason) (o : Option (List ℕ)) (m : ℕ)
       → Finds old s found (Err reason) n → TakesEntry old (symbol s) found (Err reason) (unused o m)
   move_refused reason o m finds =
-      let here = old.text.levels.present.present in
+      let here = old.text.levels.current.position in
       refused_after old found (IsEntry old (symbol s)) (symbol s) reason n o m finds.counted (refused_inside here s finds.found)
       (λ part is. is.row ∙ move_row_refused s here number score is.is_open refl finds.found)
       (λ part is. costs_found s n is.is_open at number score finds.tried)
@@ -227,7 +227,7 @@ module _ (old found : ReaderState) (s : List ℕ) (n : ℕ) (at : IsTrue (may_ha
       → ((part : Part) → IsOpen old part → TriesPut (mode_written old) part (going (with_items part (move mv ∷ []))) r n more)
       → TakesEntry old (symbol s) new r d
   takes_move new mv r d more finds puts none most costs =
-      let here = old.text.levels.present.present in
+      let here = old.text.levels.current.position in
       let (q, leads) = next_of (legal here mv) finds.legal in
       let played : Played = record { mv = mv; next = q } in
       let is_found : Ok played ≡ found_in here (move_of here s) =

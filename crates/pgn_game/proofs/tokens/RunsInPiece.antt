@@ -1,6 +1,6 @@
 -- Runs over a piece in turn, and the step that they are.
 use Rattle.pgn_game.specs.declared.converter.StepEnd.TheVariants.{NoMarker, Marker as AtMarker}
-use Rattle.pgn_game.proofs.Words.{seen, Fault, Converter, CountsFault, Device, Standing, waiting, ◌≡◌, ℕ, ◌+◌, ◌*◌, ◌<◌, ◌≤◌, ◌^◌, ◌⊎◌, inl, inr, zero, suc, Bool, false, List, length, drop, Option, None, Some, Result, Ok, Err, refl, subst, ◌∙◌, arith, length-drop, first, StepEnd, IsBeforePiece, IsBeforeToken, KeepsRest, StepAdvances, StepGoes, Steps, TakesSteps, fault_of, common_steps}
+use Rattle.pgn_game.proofs.Words.{seen, Fault, Converter, CountsFault, Device, Standing, waiting, ◌≡◌, ℕ, ◌+◌, ◌*◌, ◌<◌, ◌≤◌, ◌^◌, ◌⊎◌, inl, inr, zero, suc, Bool, false, List, length, drop, Option, None, Some, Result, Ok, Err, refl, subst, ◌∙◌, arith, length-drop, first, StepEnd, IsBeforePiece, IsBeforeToken, KeepsRest, StepAdvances, StepGoes, StepsInPiece, TakesStepsInPiece, fault_of, common_steps}
 use Rattle.pgn_game.proofs.tokens.StepsInPiece.{after_steps, reads_on_none, stands_here}
 
 -- A run may use no byte, and then nothing waits that did not before. It never asks for more bytes.
@@ -13,7 +13,7 @@ RunAdvances old new used (Err f) = Unit {0}
 
 -- what is read while tokens lie whole in the piece
 pub record Runs (old : Converter) (piece : List ℕ) (new : Converter) (used : ℕ) (outcome : Result (Option StepEnd) Fault) (sink : Device) : Type 0 where
-  pub after : TakesSteps old piece new used outcome sink
+  pub after : TakesStepsInPiece old piece new used outcome sink
   pub advances : RunAdvances old.lexer new.lexer used outcome
   pub goes : StepGoes old piece new used outcome sink
 
@@ -95,7 +95,7 @@ runs_then old mid new piece end used outcome a c e x y z here one two =
 
 -- a run that used a byte is a step
 pub steps_run : {old new : Converter} {piece : List ℕ} {used : ℕ} {sink : Device} (outcome : Result (Option StepEnd) Fault) → 0 < used
-    → Runs old piece new used outcome sink → Steps old piece new used outcome sink
+    → Runs old piece new used outcome sink → StepsInPiece old piece new used outcome sink
 steps_run {old} {new} {piece} {used} outcome some runs = grind (arith, common_steps)
 
 advances_on : (old mid new : Standing) (piece : List ℕ) (end used : ℕ) (outcome : Result (Option StepEnd) Fault) → end < length piece
@@ -106,8 +106,8 @@ advances_on old mid new piece end used (Err f) here one two = tt
 
 -- a run, and a step behind it
 pub steps_behind : (old mid new : Converter) (piece : List ℕ) (end used : ℕ) (outcome : Result (Option StepEnd) Fault) (a c e : Option (List ℕ)) (x y z : ℕ)
-    → end < length piece → Runs old piece mid end (Ok (Some NoMarker)) (between a c x y) → Steps mid (drop end piece) new used outcome (between c e y z)
-    → Steps old piece new (end + used) outcome (between a e x z)
+    → end < length piece → Runs old piece mid end (Ok (Some NoMarker)) (between a c x y) → StepsInPiece mid (drop end piece) new used outcome (between c e y z)
+    → StepsInPiece old piece new (end + used) outcome (between a e x z)
 steps_behind old mid new piece end used outcome a c e x y z here one two =
     record {
       after = λ p u given reaches.
@@ -121,22 +121,22 @@ steps_behind old mid new piece end used outcome a c e x y z here one two =
 -- the same where no byte was passed before the step
 pub steps_at_once : (old mid new : Converter) (piece : List ℕ) (end used : ℕ) (outcome : Result (Option StepEnd) Fault) (a c e : Option (List ℕ)) (x y z : ℕ)
     → end ≡ 0 → 0 < length piece → Runs old piece mid end (Ok (Some NoMarker)) (between a c x y)
-    → Steps mid piece new used outcome (between c e y z)
-    → Steps old piece new used outcome (between a e x z)
+    → StepsInPiece mid piece new used outcome (between c e y z)
+    → StepsInPiece old piece new used outcome (between a e x z)
 steps_at_once old mid new piece end used outcome a c e x y z none some one two =
     let start = subst (λ (n : ℕ). Runs old piece mid n (Ok (Some NoMarker)) (between a c x y)) none one in
     let all : 0 + used ≡ used = omega arith in
-    subst (λ (n : ℕ). Steps old piece new n outcome (between a e x z)) all (steps_behind old mid new piece 0 used outcome a c e x y z some start two)
+    subst (λ (n : ℕ). StepsInPiece old piece new n outcome (between a e x z)) all (steps_behind old mid new piece 0 used outcome a c e x y z some start two)
 
 -- a step that took a token that is no marker, as a run
-pub runs_step : {old new : Converter} {piece : List ℕ} {used : ℕ} {sink : Device} → Steps old piece new used (Ok (Some NoMarker)) sink
+pub runs_step : {old new : Converter} {piece : List ℕ} {used : ℕ} {sink : Device} → StepsInPiece old piece new used (Ok (Some NoMarker)) sink
     → Runs old piece new used (Ok (Some NoMarker)) sink
 runs_step steps =
     record { after = steps.after; advances = (omega (arith, steps.advances), λ some. steps.advances); goes = steps.goes }
 
 -- of the same converter
 pub steps_of : {here old new : Converter} {piece : List ℕ} {used : ℕ} {outcome : Result (Option StepEnd) Fault} (a b : Option (List ℕ)) (x y : ℕ)
-    → here ≡ old → Steps here piece new used outcome (seen here.reading.writing.is_silent (between a b x y))
-    → Steps old piece new used outcome (seen old.reading.writing.is_silent (between a b x y))
+    → here ≡ old → StepsInPiece here piece new used outcome (seen here.reading.writing.is_silent (between a b x y))
+    → StepsInPiece old piece new used outcome (seen old.reading.writing.is_silent (between a b x y))
 steps_of {here} {old} {new} {piece} {used} {outcome} a b x y same steps =
-    subst (λ (s : Converter). Steps s piece new used outcome (seen s.reading.writing.is_silent (between a b x y))) same steps
+    subst (λ (s : Converter). StepsInPiece s piece new used outcome (seen s.reading.writing.is_silent (between a b x y))) same steps

@@ -2,7 +2,7 @@
 use Rattle.std.proofs.Common.{length-take-le, take_all}
 use Rattle.pgn_game.specs.declared.marker.PlacedMarker.{PlacedMarker}
 use Rattle.pgn_game.specs.declared.converter.StepEnd.TheVariants.{NoMarker, Marker as AtMarker}
-use Rattle.pgn_game.proofs.Words.{InputTooLong, Fault, Profile, take-append-drop, take-take, drop-take, drop-drop, Token, decided, Follows, IsDecided, first, still, Standing, StandsAfter, ReaderState, as_written, Converter, Stands, Reaches, StopsIn, within_limit, too_long, ◌≡◌, ℕ, ◌+◌, ◌-◌, ◌<◌, ◌≤◌, ◌^◌, zero, suc, List, [], ◌∷◌, ◌++◌, length, take, drop, Option, None, Some, refl, sym, ap, subst, ◌∙◌, append_assoc, append-nil, length-append, length-drop, length-take, le_refl, drop_of_length-le, inl, inr, arith, Result, Ok, Err, take-add, AfterStep, next_at, SoFar, EndsAt, StepEnd, AfterSteps, StepsOn, ReadsPiece, ReadsToMarker, FailsIn, common_steps}
+use Rattle.pgn_game.proofs.Words.{InputTooLong, Fault, Profile, take-append-drop, take-take, drop-take, drop-drop, Token, decided, Follows, IsDecided, first, still, Standing, StandsAfter, ReaderState, as_written, Converter, Stands, Reaches, StopsIn, within_limit, too_long, ◌≡◌, ℕ, ◌+◌, ◌-◌, ◌<◌, ◌≤◌, ◌^◌, zero, suc, List, [], ◌∷◌, ◌++◌, length, take, drop, Option, None, Some, refl, sym, ap, subst, ◌∙◌, append_assoc, append-nil, length-append, length-drop, length-take, le_refl, drop_of_length-le, inl, inr, arith, Result, Ok, Err, take-add, AfterStep, next_at, SoFar, EndsAt, StepEnd, AfterStepsInPiece, StepsOn, ReadsPiece, ReadsToMarker, FailsIn, common_steps}
 use Rattle.pgn_game.proofs.tokens.MarkerToGame.{reads_none, reads_more, meets_more, not_taken_more}
 use Rattle.pgn_game.proofs.tokens.AcceptedToConverter.{follows_own, next_in_piece, read_as, still_none}
 use Rattle.pgn_game.proofs.tokens.BytesWithinLimit.{all_within, front_within}
@@ -135,8 +135,8 @@ module _ (p : Profile) (u : List ℕ) (given : List Token) (piece : List ℕ) (a
     (new : Converter) (written : as_written new.reading ≡ as_written now.reading) (used : ℕ) where
   -- more tokens
   pub after_steps : (outcome : Result (Option StepEnd) Fault)
-      → AfterSteps p (u ++ take at piece) on.so.tokens (drop at piece) new used outcome c d
-      → AfterSteps p u given piece new (at + used) outcome a d
+      → AfterStepsInPiece p (u ++ take at piece) on.so.tokens (drop at piece) new used outcome c d
+      → AfterStepsInPiece p u given piece new (at + used) outcome a d
   unfolding so_far_on
   after_steps (Ok None) after = grind (arith, common_steps, length-drop, all_on)
   after_steps (Ok (Some NoMarker)) after =
@@ -171,7 +171,7 @@ reads_one {u = u} {given = given} {piece = piece} {new = new} {used = used} some
 -- a step of at most one token
 pub after_token : (p : Profile) (u : List ℕ) (given : List Token) (piece : List ℕ) → 0 < length piece → (new : Converter) (used : ℕ)
     (outcome : Result (Option StepEnd) Fault) (a c : Option (List ℕ)) → length u + length piece ≤ 2 ^ 62
-    → AfterStep p u given piece new used outcome a c → AfterSteps p u given piece new used outcome a c
+    → AfterStep p u given piece new used outcome a c → AfterStepsInPiece p u given piece new used outcome a c
 unfolding reads_one
 after_token p u given piece some new used (Ok None) a c short (all, stands, is_decided, reads) = (
   all,

@@ -1,7 +1,7 @@
 -- What a step does over one call of the lexer, and over what is passed before a token.
 use Rattle.pgn_lexer.specs.Scanned.{token}
 use Rattle.pgn_game.specs.declared.converter.StepEnd.TheVariants.{NoMarker}
-use Rattle.pgn_game.proofs.Words.{LexFault, Lexical, Fault, Bool, IsTrue, false, ◌≡◌, ℕ, ◌+◌, ◌-◌, ◌<◌, ◌≤◌, ◌^◌, List, length, drop, length-drop, first, Option, None, Some, Result, Ok, Err, refl, subst, arith, Marker, Token, InMovetext, Reason, ReaderState, Converter, Device, IsSound, Standing, Keeps, fault, more, Scans, Passes, ReadsBehind, Steps, fault_of, outcome_at, TakesUnlessMarker, common_steps}
+use Rattle.pgn_game.proofs.Words.{LexFault, Lexical, Fault, Bool, IsTrue, false, ◌≡◌, ℕ, ◌+◌, ◌-◌, ◌<◌, ◌≤◌, ◌^◌, List, length, drop, length-drop, first, Option, None, Some, Result, Ok, Err, refl, subst, arith, Marker, Token, InMovetext, Reason, ReaderState, Converter, Device, IsSound, Standing, Keeps, fault, more, Scans, Passes, ReadsBehind, StepsInPiece, fault_of, outcome_at, TakesUnlessMarker, common_steps}
 use Rattle.pgn_game.proofs.tokens.AcceptedToConverter.{follows_own, now_at, took, took_fault, took_none}
 use Rattle.pgn_game.proofs.tokens.PastNumbers.{passes_count, passes_few, passes_sooner, reads_past}
 use Rattle.pgn_game.proofs.tokens.RunsInPiece.{Runs, between, steps_behind}
@@ -20,7 +20,7 @@ module _ (lexer : Standing) (reading : ReaderState) (games : ℕ) (piece : List 
   module _ {l : Standing} {used : ℕ} (within : used ≤ length piece) (some : 0 < length piece) where
     -- no token ends in the piece
     pub steps_more : Scans lexer piece l used more → (o : Option (List ℕ)) (failures : ℕ)
-        → Steps here piece (now_at l reading games false) used (Ok None) (between o o failures failures)
+        → StepsInPiece here piece (now_at l reading games false) used (Ok None) (between o o failures failures)
     steps_more scans o failures =
         record {
           after = λ p u given reaches.
@@ -42,7 +42,7 @@ module _ (lexer : Standing) (reading : ReaderState) (games : ℕ) (piece : List 
 
     -- the text is rejected
     pub steps_fault : (f : LexFault) → Scans lexer piece l used (fault f) → (o : Option (List ℕ)) (failures : ℕ)
-        → Steps here piece (record (now_at l reading games false) { fault = Some (record { at = f.at; reason = Lexical f.reason }) }) used
+        → StepsInPiece here piece (record (now_at l reading games false) { fault = Some (record { at = f.at; reason = Lexical f.reason }) }) used
         (Err (record { at = f.at; reason = Lexical f.reason })) (between o o failures failures)
     steps_fault f scans o failures =
         let why : Fault = record { at = f.at; reason = Lexical f.reason } in
@@ -69,7 +69,7 @@ module _ (lexer : Standing) (reading : ReaderState) (games : ℕ) (piece : List 
       keeps : Keeps reading new
       keeps = kept reading new t.kind sink met takes
 
-      pub steps_met : Steps here piece (record {
+      pub steps_met : StepsInPiece here piece (record {
         lexer = l;
         reading = new;
         games = games;
@@ -143,7 +143,7 @@ module _ (lexer : Standing) (reading : ReaderState) (games : ℕ) (piece : List 
   more_left : 0 < length rest
   more_left = omega (arith, long, behind.within)
 
-  pub steps_met_behind : Steps (now_at lexer reading games false) piece (record {
+  pub steps_met_behind : StepsInPiece (now_at lexer reading games false) piece (record {
     lexer = l;
     reading = new;
     games = games;

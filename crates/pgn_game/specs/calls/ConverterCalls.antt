@@ -66,7 +66,7 @@ profile_of most depth mode = record { tags = most; depth = depth; mode = mode; m
 
 -- the game just finished, as the reader still holds it
 abbrev pub game_in_reader : ReaderState → FinishedGame
-game_in_reader reading = record { pairs = reading.tags.held; plies = reading.text.plies; position = reading.text.levels.present.present; marker = reading.marker }
+game_in_reader reading = record { pairs = reading.tags.held; plies = reading.text.plies; position = reading.text.levels.current.position; marker = reading.marker }
 
 -- the same, if a game is just finished
 abbrev pub game_in_reader_if : Bool → ReaderState → Option FinishedGame
@@ -107,7 +107,7 @@ finished_game_section c = elim c.just_finished [
 
 -- the position that a reader reports with a fault, if a move was rejected: its current one
 abbrev pub reported_position : ReaderState → Reason → Option Parts
-reported_position reading reason = position_if_move reason reading.text.levels.present.present
+reported_position reading reason = position_if_move reason reading.text.levels.current.position
 
 -- the position in which a move was rejected, if that is the fault
 abbrev pub refused_position : Converter → Option Parts

@@ -223,7 +223,7 @@ rows p part k =
     ∷ row IllegalMove (is_outside_tag_pairs part && is_move_with is_no_move part k)
     ∷ row AmbiguousMove (is_outside_tag_pairs part && is_move_with is_many_moves part k)
     ∷ row MoveLimit (is_outside_tag_pairs part && is_move_with is_one_move part k && is_at_limit (position_in part))
-    ∷ row NoMoveBefore (is_outside_tag_pairs part && is_left_paren k && not (levels_of_part part).present.has_own_move)
+    ∷ row NoMoveBefore (is_outside_tag_pairs part && is_left_paren k && not (levels_of_part part).current.has_own_move)
     ∷ row TooDeep (is_outside_tag_pairs part && is_left_paren k && nat_le p.depth (depth (levels_of_part part)))
     ∷ row UnmatchedClose (is_outside_tag_pairs part && is_right_paren k && (depth (levels_of_part part) == 0))
     ∷ row MarkerInVariation (is_outside_tag_pairs part && is_marker k && nat_le 1 (depth (levels_of_part part)))

@@ -31,12 +31,12 @@ pub record Level : Type 0 where
 
 -- the current level, and those around it, the nearest first
 pub record Levels : Type 0 where
-  pub present : Level
+  pub current : Level
   pub around : List Level
 
 -- no move is played
 abbrev pub first_level : Levels
-first_level = record { present = record { trail = []; has_own_move = false }; around = [] }
+first_level = record { current = record { trail = []; has_own_move = false }; around = [] }
 
 -- the moves without the last one
 abbrev pub without_last : List Move → List Move
@@ -46,14 +46,14 @@ without_last (m ∷ ms) = ms
 -- the nearest of the levels around is the current one again
 abbrev pub back_to : List Level → Levels → Levels
 back_to [] ls = ls
-back_to (l ∷ around) ls = record { present = l; around = around }
+back_to (l ∷ around) ls = record { current = l; around = around }
 
 -- A move is played at the current level. A variation begins a level without the last move before
 -- it, which it replaces. Its end brings back the level around it. Nothing else matters.
 abbrev pub levels_after : Levels → Item → Levels
-levels_after ls (move m) = record { present = record { trail = m ∷ ls.present.trail; has_own_move = true }; around = ls.around }
+levels_after ls (move m) = record { current = record { trail = m ∷ ls.current.trail; has_own_move = true }; around = ls.around }
 levels_after ls open_variation =
-    record { present = record { trail = without_last ls.present.trail; has_own_move = false }; around = ls.present ∷ ls.around }
+    record { current = record { trail = without_last ls.current.trail; has_own_move = false }; around = ls.current ∷ ls.around }
 levels_after ls close_variation = back_to ls.around ls
 levels_after ls _ = ls
 
@@ -73,7 +73,7 @@ replayed start (m ∷ ms) = play (replayed start ms) m
 -- the position at the current level: all moves that lead to it, replayed from the game's first
 -- position
 abbrev pub here : Parts → Levels → Parts
-here start ls = replayed start ls.present.trail
+here start ls = replayed start ls.current.trail
 
 -- the level around all others, which is that of the main line
 abbrev pub outermost : Level → List Level → Level
@@ -82,7 +82,7 @@ outermost l (k ∷ ks) = outermost k ks
 
 -- the moves outside variations, the last one first
 abbrev pub main_moves : List Item → List Move
-main_moves items = (outermost (levels_of items).present (levels_of items).around).trail
+main_moves items = (outermost (levels_of items).current (levels_of items).around).trail
 
 -- how many of these moves a game has
 abbrev pub plies_of : Game → ℕ

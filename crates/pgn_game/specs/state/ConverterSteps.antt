@@ -358,24 +358,24 @@ pub record StepsOn (p : Profile) (u : List ℕ) (given : List Token) (piece : Li
   pub decided : IsDecided (u ++ take used piece) (drop used piece) so.tokens ⊎ ((used ≡ 0) × (so.tokens ≡ given))
 
 -- What a step in a piece results in that may take more tokens than one.
-abbrev pub AfterSteps : Profile → List ℕ → List Token → List ℕ → Converter → ℕ
+abbrev pub AfterStepsInPiece : Profile → List ℕ → List Token → List ℕ → Converter → ℕ
     → Result (Option StepEnd) Fault → Option (List ℕ) → Option (List ℕ) → Type 0
-AfterSteps p u given piece new used (Ok None) before after =
+AfterStepsInPiece p u given piece new used (Ok None) before after =
     (used ≡ length piece) × ReadsPiece p u (first piece) given piece new before after
-AfterSteps p u given piece new used (Ok (Some NoMarker)) before after = StepsOn p u given piece new used before after
-AfterSteps p u given piece new used (Ok (Some (AtMarker m))) before after =
+AfterStepsInPiece p u given piece new used (Ok (Some NoMarker)) before after = StepsOn p u given piece new used before after
+AfterStepsInPiece p u given piece new used (Ok (Some (AtMarker m))) before after =
     ReadsToMarker p u given piece used m new before after
-AfterSteps p u given piece new used (Err f) before after =
+AfterStepsInPiece p u given piece new used (Err f) before after =
     FailsIn p (u ++ piece) given f new.reading before after
 
-abbrev pub TakesSteps : Converter → List ℕ → Converter → ℕ → Result (Option StepEnd) Fault → Device → Type 0
-TakesSteps old piece new used outcome sink =
+abbrev pub TakesStepsInPiece : Converter → List ℕ → Converter → ℕ → Result (Option StepEnd) Fault → Device → Type 0
+TakesStepsInPiece old piece new used outcome sink =
     (p : Profile) (u : List ℕ) (given : List Token) → Reaches p old u (first piece) given
-    → AfterSteps p u given piece new used outcome sink.before sink.after
+    → AfterStepsInPiece p u given piece new used outcome sink.before sink.after
 
 -- What a step in a piece does to a converter.
-pub record Steps (old : Converter) (piece : List ℕ) (new : Converter) (used : ℕ) (outcome : Result (Option StepEnd) Fault) (sink : Device) : Type 0 where
-  pub after : TakesSteps old piece new used outcome sink
+pub record StepsInPiece (old : Converter) (piece : List ℕ) (new : Converter) (used : ℕ) (outcome : Result (Option StepEnd) Fault) (sink : Device) : Type 0 where
+  pub after : TakesStepsInPiece old piece new used outcome sink
   pub advances : StepAdvances old.lexer piece new.lexer used outcome
   pub goes : StepGoes old piece new used outcome sink
 

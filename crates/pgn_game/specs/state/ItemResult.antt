@@ -32,12 +32,12 @@ pub record PutsTokens {A E : Type 0} (tokens : List (List ℕ)) (line new_line :
 -- the number before the next move, if it needs one
 abbrev pub number_due : Movetext → List (List ℕ)
 number_due text =
-    let here = text.levels.present.present in
+    let here = text.levels.current.position in
     number_before text.is_after_move (is_black_to_move here) here.full
 
 -- the tokens of the next item
 abbrev pub tokens_due : Movetext → Item → List (List ℕ)
-tokens_due text i = tokens_at text.is_after_move text.levels.present.present i
+tokens_due text i = tokens_at text.is_after_move text.levels.current.position i
 
 -- those of them that are written: all or none
 abbrev pub tokens_if : Bool → Movetext → Item → List (List ℕ)
@@ -64,8 +64,8 @@ plies_in i depth = elim (is_move i) [ true ↦ counted_at depth | false ↦ 0 ]
 -- level is around one that closes.
 abbrev pub LeadsLevels : Annotation → StoredLevels → StoredLevels → Type 0
 LeadsLevels Open old new =
-    IfSome old.present.before
-    (λ start. new ≡ record { present = level_at start; around = old.present ∷ old.around })
+    IfSome old.current.before
+    (λ start. new ≡ record { current = level_at start; around = old.current ∷ old.around })
 LeadsLevels Close old new = ClosesLevel old.around new
 LeadsLevels _ old new = new ≡ old
 
@@ -90,19 +90,19 @@ pub record ItemCall {S : Type 0} (written : Written) (taken : S → Option (List
 
 -- A legal move can be put: it can be counted, and so can the pairs that writing it tries.
 pub record MayPutMove (text : Movetext) (m : Move) (probes : ℕ) : Type 0 where
-  pub legal : IsTrue (is_legal text.levels.present.present m)
+  pub legal : IsTrue (is_legal text.levels.current.position m)
   pub few : text.plies < 2 ^ 64 - 1
   pub room : probes + 1032 < 2 ^ 32
 
 -- the same for a move that is only written
 pub record MayWriteMove (text : Movetext) (x : Played) (probes : ℕ) : Type 0 where
-  pub legal : IsLegal text.levels.present.present x
+  pub legal : IsLegal text.levels.current.position x
   pub room : probes + 1032 < 2 ^ 32
 
 -- the number of pairs tried before an item is written, and after
 abbrev pub TriesItem : Option Mode → Movetext → Item → ℕ → ℕ → Type 0
 TriesItem mode text i old new =
-    CostsToWrite (is_written mode (length text.levels.around) i) text.levels.present.present i old new
+    CostsToWrite (is_written mode (length text.levels.around) i) text.levels.current.position i old new
 
 -- the pairs tried to write an item are those that its text costs, and at most 1,032
 pub record TriesToWrite (mode : Option Mode) (text : Movetext) (i : Item) (old new : ℕ) : Type 0 where
@@ -112,7 +112,7 @@ pub record TriesToWrite (mode : Option Mode) (text : Movetext) (i : Item) (old n
 -- Movetext goes on with a legal move, whose text may be written by then.
 pub record Plays (x : Played) (old new : Movetext) : Type 0 where
   pub levels : new.levels ≡ record {
-    present = record { present = x.next; before = Some old.levels.present.present };
+    current = record { position = x.next; before = Some old.levels.current.position };
     around = old.levels.around;
   }
   pub plies : new.plies ≡ old.plies + counted_at (length old.levels.around)

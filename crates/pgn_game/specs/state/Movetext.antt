@@ -12,25 +12,25 @@ use Rattle.pgn_game.specs.export.Text.{Placed, placed_from, is_move, written_ite
 
 -- a level: the current position, and the one before its last move, if it has a move of its own
 pub record StoredLevel : Type 0 where
-  pub present : Parts
+  pub position : Parts
   pub before : Option Parts
 
 -- the current level, and those around it, the nearest first
 pub record StoredLevels : Type 0 where
-  pub present : StoredLevel
+  pub current : StoredLevel
   pub around : List StoredLevel
 
 -- a level that begins with this position, with no move of its own yet
 abbrev pub level_at : Parts → StoredLevel
-level_at start = record { present = start; before = None }
+level_at start = record { position = start; before = None }
 
 -- the main line of a game that begins with this position, with no move yet
 abbrev pub only_level : Parts → StoredLevels
-only_level start = record { present = level_at start; around = [] }
+only_level start = record { current = level_at start; around = [] }
 
 -- a level of the code, as a contract sees it
 abbrev pub level_of : CodeLevel → StoredLevel
-level_of l = record { present = l.present; before = l.before }
+level_of l = record { position = l.position; before = l.before }
 
 -- The code stores the levels in a list of places: the main line is first, the current level last,
 -- and an empty place counts for nothing. These are the levels of such places, put inside the levels
@@ -43,7 +43,7 @@ inside ls (None ∷ more) = inside ls more
 -- these levels, of which the nearest is first; if there is none, a main line alone
 abbrev pub nearest_first : List StoredLevel → StoredLevels
 nearest_first [] = only_level first_position
-nearest_first (l ∷ around) = record { present = l; around = around }
+nearest_first (l ∷ around) = record { current = l; around = around }
 
 -- the levels that the code stores in these places
 abbrev pub code_levels : List (Option CodeLevel) → StoredLevels
@@ -69,7 +69,7 @@ pub record IsDepth (most : ℕ) (around : List StoredLevel) (n : ℕ) : Type 0 w
 -- A variation closes: the nearest level around is current again. No claim if there is none.
 abbrev pub ClosesLevel : List StoredLevel → StoredLevels → Type 0
 ClosesLevel [] new = Unit {0}
-ClosesLevel (l ∷ around) new = new ≡ record { present = l; around = around }
+ClosesLevel (l ∷ around) new = new ≡ record { current = l; around = around }
 
 -- What a contract sees of the current movetext: its levels, its number of moves outside variations,
 -- and whether the last item written is a move.
@@ -93,11 +93,11 @@ before_last start l = elim l.has_own_move [ true ↦ Some (replayed start (witho
 
 -- a level of the definitions as it is stored, with positions in place of moves
 abbrev pub stored_level : Parts → ModelLevel → StoredLevel
-stored_level start l = record { present = replayed start l.trail; before = before_last start l }
+stored_level start l = record { position = replayed start l.trail; before = before_last start l }
 
 -- all levels of the definitions as they are stored
 abbrev pub stored_levels : Parts → ModelLevels → StoredLevels
-stored_levels start ls = record { present = stored_level start ls.present; around = map (stored_level start) ls.around }
+stored_levels start ls = record { current = stored_level start ls.current; around = map (stored_level start) ls.around }
 
 -- whether the last of these items is a move; without one, the Bool
 abbrev pub ends_in_move : Bool → List Placed → Bool

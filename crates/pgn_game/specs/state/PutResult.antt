@@ -214,11 +214,11 @@ counting_probes old n = record old { most_probes = max old.most_probes n }
 -- The move that a symbol names was sought, and the pairs that were tried are counted.
 pub record Finds (old : ReaderState) (s : List ℕ) (new : ReaderState) (r : Result Move Reason)
     (n : ℕ) : Type 0 where
-  pub found : with_position old.text.levels.present.present r
-      ≡ found_in old.text.levels.present.present (move_of old.text.levels.present.present s)
-  pub legal : IfOk r (λ m. IsTrue (is_legal old.text.levels.present.present m))
+  pub found : with_position old.text.levels.current.position r
+      ≡ found_in old.text.levels.current.position (move_of old.text.levels.current.position s)
+  pub legal : IfOk r (λ m. IsTrue (is_legal old.text.levels.current.position m))
   pub counted : new ≡ counting_probes old n
-  pub tried : Costs old.text.levels.present.present s n
+  pub tried : Costs old.text.levels.current.position s n
   pub few : n ≤ 8
   pub some : OnOk r (0 < n)
 

@@ -109,7 +109,7 @@ pub record IsBehind (reading : ReaderState) (g : Game) : Type 0 where
   pub agrees : Agrees reading no_part
   pub pairs : reading.tags.held ≡ g.pairs
   pub plies : reading.text.plies ≡ plies_of g
-  pub position : reading.text.levels.present.present ≡ last_position g
+  pub position : reading.text.levels.current.position ≡ last_position g
   pub marker : reading.marker ≡ g.marker
   pub probed : IsTrue (has_move g.items) → 0 < reading.most_probes
 
@@ -177,7 +177,7 @@ pub data IsStopped (old : ReaderState) (part : Part) (k : Kind) (new : ReaderSta
     (before after : Option (List ℕ)) : Reason → Type 0 where
   refused : (reason : Reason) → refusal old.profile part k ≡ Some reason → Appends before after []
       → Raises (Tries old.writing.is_silent old.profile part k) old.most_probes new.most_probes
-      → position_if_move reason new.text.levels.present.present ≡ position_if_move reason (position_in part)
+      → position_if_move reason new.text.levels.current.position ≡ position_if_move reason (position_in part)
       → IsStopped old part k new before after reason
   unwritten : refusal old.profile part k ≡ None
       → AppendsFront before after (gain (as_written old) part k)

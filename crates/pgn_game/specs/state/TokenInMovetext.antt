@@ -68,7 +68,7 @@ IsLegal here played = legal here played.mv ≡ Some played.next
 abbrev pub ItemFits : ℕ → Movetext → Annotation → Type 0
 ItemFits most text (Word word) = IsToken word.now
 ItemFits most text Open =
-    IsTrue (is_some text.levels.present.before) × (length text.levels.around + 1 < most)
+    IsTrue (is_some text.levels.current.before) × (length text.levels.around + 1 < most)
 ItemFits most text Close = 0 < length text.levels.around
 ItemFits most text _ = Unit {0}
 
@@ -99,7 +99,7 @@ text_refusal p part tokens.end = Some UnexpectedEnd
 text_refusal p part tokens.right_bracket = Some NotAMove
 text_refusal p part (tokens.str text) = Some NotAMove
 text_refusal p part tokens.left_paren =
-    or_else (not (levels_of_part part).present.has_own_move) NoMoveBefore
+    or_else (not (levels_of_part part).current.has_own_move) NoMoveBefore
     (or_else (nat_le p.depth (depth (levels_of_part part))) TooDeep None)
 text_refusal p part tokens.right_paren = or_else (depth (levels_of_part part) == 0) UnmatchedClose None
 text_refusal p part tokens.asterisk =

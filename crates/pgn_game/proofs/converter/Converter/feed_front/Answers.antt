@@ -1,5 +1,5 @@
 use Rattle.pgn_game.specs.declared.converter.StepEnd.TheVariants.{NoMarker, Marker as AtMarker}
-use Rattle.pgn_game.proofs.Words.{KeepsSilence, ◌+◌, drop, sink_of, ◌≡◌, Ok, None, Some, arith, refl, ap, ◌∙◌, length, length-drop, take_rest, StepGoes, Steps}
+use Rattle.pgn_game.proofs.Words.{KeepsSilence, ◌+◌, drop, sink_of, ◌≡◌, Ok, None, Some, arith, refl, ap, ◌∙◌, length, length-drop, take_rest, StepGoes, StepsInPiece}
 use Rattle.pgn_game.proofs.ReaderFitsInMemory.{fits_alike}
 use Rattle.pgn_game.proofs.putting.SilentReader.{seen_alike, silence_kept, silence_then}
 use Rattle.pgn_game.proofs.tokens.GoesToMarker.{goes_all, goes_fault, goes_marker, keeps_at_start}
@@ -26,9 +26,9 @@ loop-at-init g c =
 
 -- The step over the rest of the piece, as the call sees the sink, and how far the call gets.
 module _ (g : _) (c : After-step-step g) where
-  step : Steps c.loop-at.self (drop c.loop-at.at c.args.piece.now) c.step-step.new.self c.step-step.result.used c.step-step.result.outcome
+  step : StepsInPiece c.loop-at.self (drop c.loop-at.at c.args.piece.now) c.step-step.new.self c.step-step.result.used c.step-step.result.outcome
       (sink_of c.args.self.now.reading g.W.Sink.taken g.W.Sink.failures c.loop-at.out c.step-step.new.out)
-  step = rw take_rest at (seen_alike (Steps _ _ _ _ _) _ _ _ c.loop-at.invariant.silent.silent c.step-step.ensures.steps)
+  step = rw take_rest at (seen_alike (StepsInPiece _ _ _ _ _) _ _ _ c.loop-at.invariant.silent.silent c.step-step.ensures.steps)
 
   goes : StepGoes c.args.self.now c.args.piece.now c.step-step.new.self (c.loop-at.at + c.step-step.result.used) c.step-step.result.outcome
       (sink_of c.args.self.now.reading g.W.Sink.taken g.W.Sink.failures c.args.out.now c.step-step.new.out)

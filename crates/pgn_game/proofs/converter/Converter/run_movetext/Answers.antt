@@ -1,5 +1,5 @@
 use Rattle.pgn_game.specs.declared.converter.StepEnd.TheVariants.{NoMarker}
-use Rattle.pgn_game.proofs.Words.{IsSound, false, sink_of, kind_of, ◌≡◌, ◌∙◌, arith, ap, None, Ok, Some, take_rest, device, drop, may_have_movetext, refl, Steps, outcome_at, MeetsEntry, TakesUnlessMarker}
+use Rattle.pgn_game.proofs.Words.{IsSound, false, sink_of, kind_of, ◌≡◌, ◌∙◌, arith, ap, None, Ok, Some, take_rest, device, drop, may_have_movetext, refl, StepsInPiece, outcome_at, MeetsEntry, TakesUnlessMarker}
 use Rattle.pgn_game.proofs.ReaderFitsInMemory.{fits_alike, fits_reader}
 use Rattle.pgn_game.proofs.putting.SilentReader.{seen_alike, silence_kept, silence_then}
 use Rattle.pgn_game.proofs.tokens.AcceptedToConverter.{now_at}
@@ -53,7 +53,7 @@ module _ (g : _) (c : After-accept_entry-met g) where
       (device g.W.Sink.taken g.W.Sink.failures c.loop-used.out c.accept_entry-met.new.out) here.silent.silent c.accept_entry-met.ensures.takes)
 
   -- the step that it is
-  steps : Steps (now_at c.loop-used.self-inside.lexer c.loop-used.self-inside.reader c.loop-used.self-inside.games false)
+  steps : StepsInPiece (now_at c.loop-used.self-inside.lexer c.loop-used.self-inside.reader c.loop-used.self-inside.games false)
       (drop c.loop-used.used c.args.piece.now)
       (after_at_end c.whole_token-count.new.self c.accept_entry-met.new.self c.loop-used.self-inside.games false c.in-Some.token.at c.accept_entry-met.result)
       c.whole_token-count.result.0 (outcome_at c.in-Some.token.at c.accept_entry-met.result)
@@ -131,4 +131,4 @@ returns-clause-steps g c =
       | then-loop-used-test+in_default w ↦ rw w.self-is c.loop-used.invariant.silent.silent
     ] in
     steps_behind _ _ _ _ _ _ _ _ _ _ _ _ _ (omega (arith, ran.goes.within, c.if-used-piece.false)) ran
-    (rw take_rest at (seen_alike (Steps _ _ _ _ _) _ _ _ quiet c.step_on-step.ensures.steps))
+    (rw take_rest at (seen_alike (StepsInPiece _ _ _ _ _) _ _ _ quiet c.step_on-step.ensures.steps))

@@ -20,7 +20,7 @@ invariant_of-self g c =
 pub returns-in-Some : goal.returns-in-Some
 returns-in-Some g c =
     let now = c.args.self.now in
-    let before : now.present.before ≡ Some c.in-Some.start = ap (λ (l : StoredLevel). l.before) (sym c.current.ensures) ∙ c.in-Some.is in
-    opens now.present.before c.in-Some.start now _ before
+    let before : now.current.before ≡ Some c.in-Some.start = ap (λ (l : StoredLevel). l.before) (sym c.current.ensures) ∙ c.in-Some.is in
+    opens now.current.before c.in-Some.start now _ before
     (opened c.self.invariant c.self.view_is c.push.new.self.items c.at.result c.push.ensures.items
-    ∙ ap (λ (l : CodeLevel). record { present = level_of l; around = now.present ∷ now.around }) c.at.ensures)
+    ∙ ap (λ (l : CodeLevel). record { current = level_of l; around = now.current ∷ now.around }) c.at.ensures)

@@ -8,8 +8,8 @@ returns g c =
     let now = c.args.self.now in
     let at : get_or places (length places - 1) c.index-deref_mut-last.result ≡ Some c.in-Some.level =
     cc (c.in-Some.is, c.deref_mut.ensures.value, c.len-last.ensures.value) in
-    let same : level_of c.in-Some.level ≡ now.present =
+    let same : level_of c.in-Some.level ≡ now.current =
     current_at c.self.invariant c.self.view_is c.in-Some.level c.index-deref_mut-last.result at in
     rw (c.deref_mut.ensures.value, c.len-last.ensures.value)
-    (plays c.self.invariant c.self.view_is (record { present = c.args.next; before = Some c.in-Some.level.present })
-    ∙ ap (λ (l : StoredLevel). record { present = record { present = c.args.next; before = Some l.present }; around = now.around }) same)
+    (plays c.self.invariant c.self.view_is (record { position = c.args.next; before = Some c.in-Some.level.position })
+    ∙ ap (λ (l : StoredLevel). record { current = record { position = c.args.next; before = Some l.position }; around = now.around }) same)

@@ -18,8 +18,8 @@ returns-clause-item g c =
     let next = c.position_after-next.result in
     let item = c.in_ok-write_move.ensures.item in
     let after = item.writes.ends in
-    let same = c.position.ensures ∙ ap (λ (t : Movetext). t.levels.present.present) c.self.view_is
-    ∙ sym (ap (λ (t : Movetext). t.levels.present.present) after) in
+    let same = c.position.ensures ∙ ap (λ (t : Movetext). t.levels.current.position) c.self.view_is
+    ∙ sym (ap (λ (t : Movetext). t.levels.current.position) after) in
     record {
       writes = adds_put (mode_of_written c.args.written) (move m) c.args.self.now c.args.line.now c.write_move.new.line _ c.play.new.self item.writes.puts
           (subst (λ (t : Movetext). Advances (move m) t c.play.new.self) after

@@ -14,7 +14,7 @@ returns-then-not-writes_move g c =
         silent = λ silent. refl;
       };
       probes = record {
-        tried = subst (λ (b : Bool). CostsToWrite b c.args.self.now.levels.present.present (move m) c.args.probes.now c.args.probes.now) written refl;
+        tried = subst (λ (b : Bool). CostsToWrite b c.args.self.now.levels.current.position (move m) c.args.probes.now c.args.probes.now) written refl;
         rises = (omega arith, omega arith);
       };
     }
@@ -31,7 +31,7 @@ returns-in_err-write_tokens_of_move g c =
         silent = λ silent. absurd (cc (not_silent c.args.written _ (move m) (sym written), silent));
       };
       probes = record {
-        tried = subst (λ (b : Bool). CostsToWrite b c.args.self.now.levels.present.present (move m) c.args.probes.now c.write_tokens_of_move.new.probes) written
+        tried = subst (λ (b : Bool). CostsToWrite b c.args.self.now.levels.current.position (move m) c.args.probes.now c.write_tokens_of_move.new.probes) written
             puts.probes.tried;
         rises = puts.probes.rises;
       };
@@ -52,7 +52,7 @@ returns g c =
         silent = λ silent. absurd (cc (not_silent c.args.written _ (move m) (sym written), silent));
       };
       probes = record {
-        tried = subst (λ (b : Bool). CostsToWrite b c.args.self.now.levels.present.present (move m) c.args.probes.now c.write_tokens_of_move.new.probes) written
+        tried = subst (λ (b : Bool). CostsToWrite b c.args.self.now.levels.current.position (move m) c.args.probes.now c.write_tokens_of_move.new.probes) written
             puts.probes.tried;
         rises = puts.probes.rises;
       };

@@ -6,8 +6,8 @@ use Rattle.pgn_game.proofs.movetext.Movetext.write_tokens_of_move.Goals as goal
 
 pub returns-in_err-put_number-clause-puts : goal.returns-in_err-put_number-clause-puts
 returns-in_err-put_number-clause-puts g c =
-    let p = c.args.self.now.levels.present.present in
-    let same = c.position.ensures ∙ ap (λ (t : Movetext). t.levels.present.present) c.self.view_is in
+    let p = c.args.self.now.levels.current.position in
+    let same = c.position.ensures ∙ ap (λ (t : Movetext). t.levels.current.position) c.self.view_is in
     let text = is_text p c.position.result.now c.args.played.now.mv c.write_san-san.result.items c.write_san-san.ensures.text same in
     puts_fail (number_due c.args.self.now) (text_of_move p c.args.played.now.mv ∷ [])
     c.args.line.now c.put_number.new.line c.put_number.new.line _ c.from_residual.result _
@@ -22,9 +22,9 @@ put-requires g c = of_san c.as_slice.result.now _ c.as_slice.ensures.value c.wri
 
 pub returns-clause-puts : goal.returns-clause-puts
 returns-clause-puts g c =
-    let p = c.args.self.now.levels.present.present in
+    let p = c.args.self.now.levels.current.position in
     let number = c.in_ok-put_number.ensures.puts in
-    let same = c.position.ensures ∙ ap (λ (t : Movetext). t.levels.present.present) c.self.view_is in
+    let same = c.position.ensures ∙ ap (λ (t : Movetext). t.levels.current.position) c.self.view_is in
     let text = is_text p c.position.result.now c.args.played.now.mv c.write_san-san.result.items c.write_san-san.ensures.text same in
     let put : PutsTokens (c.as_slice.result.now ∷ []) c.put_number.new.line c.put.new.self c.put.result
     (device g.W.Sink.taken g.W.Sink.failures c.put_number.new.out c.put.new.out) =
@@ -38,7 +38,7 @@ returns-clause-puts g c =
 
 pub returns-in_err-put_number-clause-probes : goal.returns-in_err-put_number-clause-probes
 returns-in_err-put_number-clause-probes g c =
-    let same = c.position.ensures ∙ ap (λ (t : Movetext). t.levels.present.present) c.self.view_is in
+    let same = c.position.ensures ∙ ap (λ (t : Movetext). t.levels.current.position) c.self.view_is in
     record {
       tried = writes_move _ c.position.result.now c.args.played.now.mv _ _ _ same c.requires.legal c.write_san-san.ensures.pairs;
       rises = search rules;
@@ -46,7 +46,7 @@ returns-in_err-put_number-clause-probes g c =
 
 pub returns-clause-probes : goal.returns-clause-probes
 returns-clause-probes g c =
-    let same = c.position.ensures ∙ ap (λ (t : Movetext). t.levels.present.present) c.self.view_is in
+    let same = c.position.ensures ∙ ap (λ (t : Movetext). t.levels.current.position) c.self.view_is in
     record {
       tried = writes_move _ c.position.result.now c.args.played.now.mv _ _ _ same c.requires.legal c.write_san-san.ensures.pairs;
       rises = search rules;

@@ -6,7 +6,7 @@ use Rattle.pgn_game.proofs.reader.Reader.open_variation.Goals as goal
 
 -- what a `(` is rejected for, by what the reader holds
 rows : (old held : ReaderState) → held ≡ old → (part : Part) → IsOpen old part → text_refusal old.profile part left_paren
-    ≡ or_else (not (is_some held.text.levels.present.before)) NoMoveBefore
+    ≡ or_else (not (is_some held.text.levels.current.before)) NoMoveBefore
     (or_else (nat_le held.profile.depth (length held.text.levels.around)) TooDeep None)
 rows old held same part is = rw same (cc (holds_is old part is, depth_is old part is))
 
