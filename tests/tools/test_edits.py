@@ -400,6 +400,9 @@ class Verdicts(unittest.TestCase):
         self.check("refused", 1, "./proofs/A.antt:1:1: " + unread, refused)
         self.check("BAD EDIT", 1, "src/a.rt:1:1: error: `f`: `x` is not in scope", refused)
         self.check("refused", 1, "./specs/A.antt:1:1: error: `f`: expected type `a`", refused)
+        cites = "error: 1 declaration that depends on `f`, which was rejected, was not checked: g"
+        self.check("refused", 1, "./proofs/B.antt:1:1: error: `f`: expected type `a`",
+                   "./proofs/B.antt:9:1: " + cites, refused)
         stale = "error: module `Rattle-low-a` has changed. Run the lower steps again"
         self.check("BAD EDIT", 1, stale, refused)
         for status, last in ((1, proved), (2, refused), (-9, refused), (1, "error[E0308]"),
