@@ -79,9 +79,10 @@ def san(fen: str, move: str, *, uci: bool = False) -> Played:
                   result.uci.decode("ascii"))
 
 
-def fens_of_plies(fen: str, moves: str, count: int) -> List[str]:
-    """Plays so many moves in SAN, which may have their numbers: the FEN after each."""
-    size = (_library.LONGEST_FEN + 1) * count
+def fens_of_plies(fen: str, moves: str) -> List[str]:
+    """Plays moves in SAN between blanks, which may have their numbers: the FEN after each."""
+    # a move has two letters or more, and a blank before the next
+    size = (_library.LONGEST_FEN + 1) * ((len(moves) + 1) // 3)
     # the last line feed has nothing behind it
     fens = _lines_of_plies(fen, moves, _library.SAN_FEN, size).split("\n")
     del fens[-1]

@@ -169,8 +169,10 @@ class Game:
             # without a call of the property, if the text is there
             text = self._text if self._unwritten is None else self.text
             self._is_used = True
-            movetext = text_of(text).partition("\n\n")[2]
-            self._moves = read_moves(movetext, self._first_fen(), self._habit or Habit())
+            section, _, movetext = text_of(text).partition("\n\n")
+            # most games have no such tag, and then no tag is read for it
+            fen = self._first_fen() if '[FEN "' in section else INITIAL_FEN
+            self._moves = read_moves(movetext, fen, self._habit or Habit())
         return self._moves
 
     def position_at(self, ply: int) -> str:

@@ -5,7 +5,7 @@ grammar. The library has checked every move, so nothing is checked again.
 """
 import re
 from itertools import groupby, repeat, starmap
-from typing import Any, Callable, Iterator, List, Optional, Tuple, Union
+from typing import Any, Callable, Iterator, List, Optional, Sequence, Tuple, Union
 
 from . import _calls
 from ._commands import (CLOCK, ELAPSED, Arrow, Evaluation, MarkedSquare, arrows_of, evaluation_of,
@@ -20,33 +20,44 @@ _WORD = re.compile("[^\t-\r ]+")
 class Habit:
     """What was asked of the plies of a source so far, by which those of its next game are made."""
 
-    __slots__ = ("fens", "ucis")
+    __slots__ = ("fens", "ucis", "sans")
 
     def __init__(self) -> None:
-        # whether positions were asked for since plies were made with them, and UCI behind positions
-        self.fens = self.ucis = False
+        # whether positions were asked for since plies were made with them, UCI behind positions,
+        # and SANs of plies that were made with their positions
+        self.fens = self.ucis = self.sans = False
 
 
 class _Played:
-    """The moves of a line in SAN, and what the library says of them, in a call for all.
+    """The moves of a line, and what the library says of them, in a call for all.
 
     The plies have it, and it has none of them: so they are freed without the garbage collector.
     """
 
-    __slots__ = ("start", "first", "sans", "habit", "ucis", "fens", "foreseen")
+    __slots__ = ("start", "first", "_sans", "habit", "ucis", "fens", "foreseen")
     # of each move its UCI, and the FEN of the position after it, if they were asked for
     ucis: List[str]
     fens: List[str]
     # these FENs, if they were found before
     foreseen: List[str]
 
-    def __init__(self, start: "Union[Ply, str]", first: int, sans: List[str],
+    def __init__(self, start: "Union[Ply, str]", first: int, sans: Union[List[str], str],
                  habit: Habit) -> None:
-        # the ply before the first move, or the FEN of its position; the number of the first ply
-        self.start, self.first, self.sans, self.habit = start, first, sans, habit
+        # the ply before the first move, or the FEN of its position; the number of the first ply;
+        # the SAN of each move, or the movetext
+        self.start, self.first, self._sans, self.habit = start, first, sans, habit
 
     def start_fen(self) -> str:
         return self.start if isinstance(self.start, str) else self.start.fen
+
+    @property
+    def sans(self) -> List[str]:
+        """The SAN of each move."""
+        sans = self._sans
+        if isinstance(sans, str):
+            self._sans = sans = _sans_of(sans)
+            self.habit.sans = True
+        return sans
 
     def find_fens(self) -> List[str]:
         """Finds the position after each move; also the UCI, if both were asked for before."""
@@ -57,8 +68,7 @@ class _Played:
         if hasattr(self, "foreseen"):
             self.fens = self.foreseen
         else:
-            sans = self.sans
-            self.fens = _calls.fens_of_plies(self.start_fen(), " ".join(sans), len(sans))
+            self.fens = _calls.fens_of_plies(self.start_fen(), " ".join(self.sans))
         return self.fens
 
     def find_ucis(self) -> List[str]:
@@ -187,6 +197,25 @@ class _PlacedPly(Ply):
     fen: str
 
 
+class _UnnamedPly(_PlacedPly):
+    """The same without its SAN, which is found when it is asked for."""
+
+    __slots__ = {"_san": None}
+    _san: str
+
+    @property
+    def san(self) -> str:
+        """The move in SAN, with its mark of check or mate: `Nf3`, `exd8=Q#`."""
+        try:
+            return self._san
+        except AttributeError:
+            return self._played.sans[self._at]
+
+    @san.setter
+    def san(self, san: str) -> None:
+        self._san = san
+
+
 def _ply(at: int, san: str, played: _Played) -> Ply:
     """A move of a line, before which so many were played."""
     ply = Ply()
@@ -206,15 +235,23 @@ def _plies(sans: List[str], played: _Played) -> List[Ply]:
     return plies
 
 
-def _placed_plies(sans: List[str], fens: List[str], played: _Played) -> List[Ply]:
-    """The same with their positions, but for the first: if that is asked for, `played` has them."""
-    plies = list(starmap(_PlacedPly, repeat((), len(sans))))
+def _placed_plies(sans: List[str], fens: List[str], played: _Played) -> List[_PlacedPly]:
+    plies = list(starmap(_PlacedPly, repeat((), len(fens))))
     for at, ply in enumerate(plies):
         ply._at = at
         ply.san = sans[at]
         ply.fen = fens[at]
         ply._played = played
-    return [_ply(0, sans[0], played), *plies[1:]]
+    return plies
+
+
+def _unnamed_plies(fens: List[str], played: _Played) -> List[_UnnamedPly]:
+    plies = list(starmap(_UnnamedPly, repeat((), len(fens))))
+    for at, ply in enumerate(plies):
+        ply._at = at
+        ply.fen = fens[at]
+        ply._played = played
+    return plies
 
 
 class Line:
@@ -314,6 +351,17 @@ def read_moves(movetext: str, fen: str, habit: Habit) -> Line:
     """The moves of the movetext of a game in export format."""
     if "{" in movetext or "$" in movetext or "(" in movetext:
         return _read_noted_moves(movetext, fen, habit)
+    line = Line(fen)
+    if habit.fens:
+        line.plies = _foreseen_plies(movetext, fen, habit)
+    else:
+        sans = _sans_of(movetext)
+        line.plies = _plies(sans, _Played(fen, 1, sans, habit))
+    return line
+
+
+def _sans_of(movetext: str) -> List[str]:
+    """The moves of a movetext without notes."""
     sans = movetext.split()
     # the marker; and the numbers, before each move of White and before the first one of a line
     del sans[-1:]
@@ -321,22 +369,38 @@ def read_moves(movetext: str, fen: str, habit: Habit) -> Line:
         del sans[0], sans[1::3]
     else:
         del sans[::3]
-    line, played = Line(fen), _Played(fen, 1, sans, habit)
-    if habit.fens and sans:
-        habit.fens = False
-        moves = movetext.rsplit(None, 1)[0]
-        played.foreseen = _calls.fens_of_plies(fen, moves, len(sans))
-        line.plies = _placed_plies(sans, played.foreseen, played)
+    return sans
+
+
+def _foreseen_plies(movetext: str, fen: str, habit: Habit) -> List[Ply]:
+    """The plies of a movetext without notes, with their positions.
+
+    The first one has none: if that is asked for, so may be those of the next game.
+    """
+    moves = movetext.rsplit(None, 1)
+    if len(moves) == 1:
+        # the marker alone
+        return []
+    habit.fens, fens = False, _calls.fens_of_plies(fen, moves[0])
+    plies: Sequence[Ply]
+    if habit.sans:
+        sans = _sans_of(movetext)
+        played, first = _Played(fen, 1, sans, habit), sans[0]
+        plies = _placed_plies(sans, fens, played)
     else:
-        line.plies = _plies(sans, played)
-    return line
+        # behind its number
+        played, first = _Played(fen, 1, movetext, habit), movetext.split(None, 2)[1]
+        plies = _unnamed_plies(fens, played)
+    played.foreseen = fens
+    return [_ply(0, first, played), *plies[1:]]
 
 
 def _read_noted_moves(movetext: str, fen: str, habit: Habit) -> Line:
     """The same where there are NAGs, comments or variations."""
     words = movetext.replace("\n", " ").split(" ")
-    line, played = Line(fen), _Played(fen, 1, [], habit)
-    opened: List[Tuple[Line, _Played]] = []
+    sans: List[str] = []
+    line, played = Line(fen), _Played(fen, 1, sans, habit)
+    opened: List[Tuple[Line, _Played, List[str]]] = []
     noted: Union[Line, Ply] = line
     at = 0
     while True:
@@ -344,8 +408,8 @@ def _read_noted_moves(movetext: str, fen: str, habit: Habit) -> Line:
         at += 1
         first = word[0]
         if first in "abcdefghKQRBNO":
-            noted = _ply(len(played.sans), word, played)
-            played.sans.append(word)
+            noted = _ply(len(sans), word, played)
+            sans.append(word)
             line.plies.append(noted)
         elif word[-1] == ".":
             pass
@@ -356,14 +420,15 @@ def _read_noted_moves(movetext: str, fen: str, habit: Habit) -> Line:
             noted.notes.append(" ".join(words[at:end]))
             at = end + 1
         elif first == "(":
-            opened.append((line, played))
+            opened.append((line, played, sans))
             start = line.plies[-2] if len(line.plies) > 1 else line.start
             variation = Line(start)
             line.plies[-1].notes.append(variation)
             noted = line = variation
-            played = _Played(start, played.first + len(played.sans) - 1, [], habit)
+            number, sans = played.first + len(sans) - 1, []
+            played = _Played(start, number, sans, habit)
         elif first == ")":
-            line, played = opened.pop()
+            line, played, sans = opened.pop()
             noted = line.plies[-1]
         else:
             return line

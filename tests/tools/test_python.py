@@ -610,6 +610,21 @@ class Positions(unittest.TestCase):
 
         self.assertEqual(self.formats(of=read), [gillspoon._library.SAN_FEN] * 2)
 
+    def test_sans_beside_foreseen_positions(self):
+        """They are found where one is asked for, and then for all games behind that."""
+        moves, calls = gillspoon._moves, []
+        with mock.patch.object(moves, "_sans_of", wraps=moves._sans_of) as sans_of:
+            for game in gillspoon.games(b"e4 e5 * d4 d5 Nf3 * Nf3 Nf6 g3 * c4 c5 *"):
+                plies = list(game.mainline())
+                self.assertEqual([it.fen for it in plies][-1], game.fen)
+                if game.number == 3:
+                    plies[1].san = "d5"
+                    for these in (plies, copies.deepcopy(plies), pickle.loads(pickle.dumps(plies))):
+                        self.assertEqual([it.san for it in these], ["Nf3", "d5", "g3"])
+                        self.assertEqual([it.uci for it in these], ["g1f3", "g8f6", "g2g3"])
+                calls.append(sans_of.call_count)
+        self.assertEqual(calls, [1, 1, 2, 3])
+
     def test_long_lines(self):
         """A line may be longer than the buffer that is kept."""
         game = next(gillspoon.games(b"Nf3 Nf6 Ng1 Ng8 " * 1000 + b"*"))
