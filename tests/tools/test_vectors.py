@@ -179,7 +179,7 @@ class Writer(unittest.TestCase):
             ("vectors/vectors.json", '"plies": 85', '"plies": 84', ["vectors/vectors.json"]),
             ("crates/pgn_vectors/src/themes.rt", "        faults::tokens(),\n", "",
              ["crates/pgn_vectors/src/themes.rt"]),
-            ("crates/pgn_vectors/src/themes/faults.rt", "at: 1,", "at: 2,",
+            ("crates/pgn_vectors/src/themes/faults.rt", "Refused(1,", "Refused(2,",
              ["crates/pgn_vectors/src/themes/faults.rt"]),
         ]
         count = len(programs.vectors())

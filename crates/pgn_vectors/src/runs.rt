@@ -31,7 +31,7 @@ pub fn verdict_of(run: Result<Totals, Fault>) -> Verdict {
             games: totals.games,
             plies: totals.plies,
         },
-        Err(fault) => Verdict::Refused(fault),
+        Err(fault) => Verdict::Refused(fault.at, fault.reason),
     }
 }
 

@@ -1,5 +1,5 @@
 //! Vectors: inputs with their outputs and verdicts.
-use pgn_game::{Fault, Mode};
+use pgn_game::{Mode, Reason};
 
 /// How a conversion ends.
 #[derive(Clone, Copy, Debug, PartialEq, Eq)]
@@ -7,7 +7,7 @@ pub enum Verdict {
     /// All games are converted: the number of games, and of their plies outside variations.
     Converted { games: u64, plies: u64 },
     /// The input is rejected at this place, for this reason.
-    Refused(Fault),
+    Refused(u64, Reason),
 }
 
 /// An input, its output and its verdict.

@@ -53,50 +53,35 @@ const ROWS: &[Row] = &[
         first: "[Result \"1-0\"] 0-1",
         second: "[Result \"1-0\"] 0-1",
         output: "",
-        verdict: Verdict::Refused(Fault {
-            at: 15,
-            reason: Reason::ResultDiffers,
-        }),
+        verdict: Verdict::Refused(15, Reason::ResultDiffers),
     },
     Row {
         name: "a bad second game",
         first: "* 1. e4 e5 2. Ke3 *",
         second: "* 1. e4 e5 2. Ke3 *",
         output: LONE,
-        verdict: Verdict::Refused(Fault {
-            at: 14,
-            reason: Reason::IllegalMove,
-        }),
+        verdict: Verdict::Refused(14, Reason::IllegalMove),
     },
     Row {
         name: "a bad only game",
         first: "1. e4 e5 2. Ke3 *",
         second: "1. e4 e5 2. Ke3 *",
         output: "",
-        verdict: Verdict::Refused(Fault {
-            at: 12,
-            reason: Reason::IllegalMove,
-        }),
+        verdict: Verdict::Refused(12, Reason::IllegalMove),
     },
     Row {
         name: "an unfinished game",
         first: "1. e4",
         second: "1. e4",
         output: "",
-        verdict: Verdict::Refused(Fault {
-            at: 5,
-            reason: Reason::UnexpectedEnd,
-        }),
+        verdict: Verdict::Refused(5, Reason::UnexpectedEnd),
     },
     Row {
         name: "the second ends sooner",
         first: "1. e4 *",
         second: "1. e4",
         output: HEAD,
-        verdict: Verdict::Refused(Fault {
-            at: 5,
-            reason: Reason::Changed,
-        }),
+        verdict: Verdict::Refused(5, Reason::Changed),
     },
     Row {
         name: "other moves",
@@ -117,50 +102,35 @@ const ROWS: &[Row] = &[
         first: "1-0",
         second: "0-1",
         output: "",
-        verdict: Verdict::Refused(Fault {
-            at: 0,
-            reason: Reason::Changed,
-        }),
+        verdict: Verdict::Refused(0, Reason::Changed),
     },
     Row {
         name: "another place",
         first: "1-0",
         second: " 1-0",
         output: "",
-        verdict: Verdict::Refused(Fault {
-            at: 1,
-            reason: Reason::Changed,
-        }),
+        verdict: Verdict::Refused(1, Reason::Changed),
     },
     Row {
         name: "a game fewer",
         first: "* *",
         second: "*",
         output: LONE,
-        verdict: Verdict::Refused(Fault {
-            at: 1,
-            reason: Reason::Changed,
-        }),
+        verdict: Verdict::Refused(1, Reason::Changed),
     },
     Row {
         name: "a byte that begins no token",
         first: "1. e4 1-0",
         second: "1. e4 ~ 1-0",
         output: HEAD_WON,
-        verdict: Verdict::Refused(Fault {
-            at: 6,
-            reason: Reason::Changed,
-        }),
+        verdict: Verdict::Refused(6, Reason::Changed),
     },
     Row {
         name: "a move that is not legal",
         first: "1. e4 1-0",
         second: "1. e5 1-0",
         output: HEAD_WON,
-        verdict: Verdict::Refused(Fault {
-            at: 3,
-            reason: Reason::Changed,
-        }),
+        verdict: Verdict::Refused(3, Reason::Changed),
     },
 ];
 
@@ -241,8 +211,8 @@ fn takes_missing_result(rt: &impl Abort, vector: &Vector, is_refused: bool) {
 /// The same verdict where a missing Result makes no difference; whole games alone are written.
 fn agrees_twice(rt: &impl Abort, vector: &'static Vector, text: &mut Vec<u8>) {
     let result = run_to(whole(vector.input), whole(vector.input), text, vector.mode);
-    if let Verdict::Refused(fault) = vector.verdict {
-        if fault.reason == Reason::ResultDiffers {
+    if let Verdict::Refused(_, reason) = vector.verdict {
+        if reason == Reason::ResultDiffers {
             takes_missing_result(rt, vector, result.is_err());
             return;
         }
@@ -285,10 +255,7 @@ const TWO_WRITTEN: &str =
 
 /// The verdict of two games of which this read fails.
 fn failed_read(fails_at: usize) -> Verdict {
-    Verdict::Refused(Fault {
-        at: fails_at as u64,
-        reason: Reason::ReadFault,
-    })
+    Verdict::Refused(fails_at as u64, Reason::ReadFault)
 }
 
 /// What is written when so many bytes were read of the first. A marker that is a symbol is known at

@@ -203,8 +203,8 @@ fn fits(rt: &impl Abort, outline: &Outline, vector: &Vector) {
     let last = last_part(rt, outline);
     assert_eq!(rt; last.end, vector.output.len(), "{}", outline.name);
     assert!(rt; last.read <= outline.read, "{}", outline.name);
-    if let Verdict::Refused(fault) = vector.verdict {
-        assert!(rt; last.at <= fault.at, "{}", outline.name);
+    if let Verdict::Refused(at, _) = vector.verdict {
+        assert!(rt; last.at <= at, "{}", outline.name);
     }
 }
 

@@ -112,8 +112,8 @@ fn cuts(rt: &impl Abort, vector: &'static Vector, text: &mut Vec<u8>) {
         );
         if ran.failures == 0 {
             assert_agrees(rt, vector, ran.result, written);
-            if let Verdict::Refused(fault) = vector.verdict {
-                assert!(rt; fault.at <= ran.given as u64, "{}", vector.name);
+            if let Verdict::Refused(at, _) = vector.verdict {
+                assert!(rt; at <= ran.given as u64, "{}", vector.name);
             }
             return;
         }

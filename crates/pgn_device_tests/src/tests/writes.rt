@@ -208,7 +208,7 @@ fn writes_a_front_of_each_vector(rt: HostRuntime) {
 fn verdict_in(outline: &Outline, vector: &Vector, length: usize) -> Verdict {
     let reason = Reason::WriteFault;
     match outline.place(length) {
-        Some(at) => Verdict::Refused(Fault { at, reason }),
+        Some(at) => Verdict::Refused(at, reason),
         None => vector.verdict,
     }
 }

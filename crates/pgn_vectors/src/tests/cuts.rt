@@ -42,7 +42,8 @@ fn is_front(rt: &impl Abort, vector: &Vector, fed: Result<u64, Fault>, text: &[u
         vector.name
     );
     if let Err(fault) = fed {
-        assert_eq!(rt; Verdict::Refused(fault), vector.verdict, "{}", vector.name);
+        let refused = Verdict::Refused(fault.at, fault.reason);
+        assert_eq!(rt; refused, vector.verdict, "{}", vector.name);
     }
 }
 

@@ -15,10 +15,7 @@ const REFUSED: Vector = Vector {
     mode: Mode::Full,
     input: "1. e5 *",
     output: "text\n",
-    verdict: Verdict::Refused(Fault {
-        at: 3,
-        reason: Reason::IllegalMove,
-    }),
+    verdict: Verdict::Refused(3, Reason::IllegalMove),
 };
 
 /// A run that ends with so many games and plies.

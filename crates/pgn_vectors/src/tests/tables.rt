@@ -72,7 +72,7 @@ fn takes_each_vector_byte_by_byte(rt: HostRuntime) {
 /// The output of each input that is converted gives the same verdict and the same output.
 fn gives_itself(rt: &impl Abort, table: &[Vector], text: &mut Vec<u8>) {
     for vector in table {
-        if let Verdict::Refused(_) = vector.verdict {
+        if let Verdict::Refused(_, _) = vector.verdict {
             continue;
         }
         let run = converted(vector.output.as_bytes(), vector.mode, text);
@@ -130,9 +130,10 @@ fn refuses_all_behind(
     text: &mut Vec<u8>,
 ) -> Result<(), Fail> {
     for vector in table {
-        let Verdict::Refused(fault) = vector.verdict else {
+        let Verdict::Refused(at, reason) = vector.verdict else {
             continue;
         };
+        let fault = Fault { at, reason };
         input.clear();
         input.extend_from_slice(b"* ")?;
         input.extend_from_slice(vector.input.as_bytes())?;

@@ -1,7 +1,7 @@
 // Written by bin/write_vectors from vectors/limits.toml.
 //! Inputs at the limits, and one byte or token above them.
 use crate::{Vector, Verdict};
-use pgn_game::{Fault, LexReason, Mode, Reason};
+use pgn_game::{LexReason, Mode, Reason};
 
 /// Symbols and tag names.
 pub fn symbols_and_names() -> &'static [Vector] {
@@ -11,20 +11,14 @@ pub fn symbols_and_names() -> &'static [Vector] {
             mode: Mode::Full,
             input: "aaaaaaaaaaaaaaaaaaaaaaaaaaaaaaaaaaaaaaaaaaaaaaaaaaaaaaaaaaaaaaaaaaaaaaaaaaaaaaaaaaaaaaaaaaaaaaaaaaaaaaaaaaaaaaaaaaaaaaaaaaaaaaaaaaaaaaaaaaaaaaaaaaaaaaaaaaaaaaaaaaaaaaaaaaaaaaaaaaaaaaaaaaaaaaaaaaaaaaaaaaaaaaaaaaaaaaaaaaaaaaaaaaaaaaaaaaaaaaaaaaaaaaaaaaaaaaa",
             output: "",
-            verdict: Verdict::Refused(Fault {
-                at: 0,
-                reason: Reason::NotAMove,
-            }),
+            verdict: Verdict::Refused(0, Reason::NotAMove),
         },
         Vector {
             name: "a symbol of 256 bytes",
             mode: Mode::Full,
             input: "aaaaaaaaaaaaaaaaaaaaaaaaaaaaaaaaaaaaaaaaaaaaaaaaaaaaaaaaaaaaaaaaaaaaaaaaaaaaaaaaaaaaaaaaaaaaaaaaaaaaaaaaaaaaaaaaaaaaaaaaaaaaaaaaaaaaaaaaaaaaaaaaaaaaaaaaaaaaaaaaaaaaaaaaaaaaaaaaaaaaaaaaaaaaaaaaaaaaaaaaaaaaaaaaaaaaaaaaaaaaaaaaaaaaaaaaaaaaaaaaaaaaaaaaaaaaaaaa",
             output: "",
-            verdict: Verdict::Refused(Fault {
-                at: 0,
-                reason: Reason::Lexical(LexReason::SymbolTooLong),
-            }),
+            verdict: Verdict::Refused(0, Reason::Lexical(LexReason::SymbolTooLong)),
         },
         Vector {
             name: "a name of 249 bytes",
@@ -38,10 +32,7 @@ pub fn symbols_and_names() -> &'static [Vector] {
             mode: Mode::Full,
             input: "[aaaaaaaaaaaaaaaaaaaaaaaaaaaaaaaaaaaaaaaaaaaaaaaaaaaaaaaaaaaaaaaaaaaaaaaaaaaaaaaaaaaaaaaaaaaaaaaaaaaaaaaaaaaaaaaaaaaaaaaaaaaaaaaaaaaaaaaaaaaaaaaaaaaaaaaaaaaaaaaaaaaaaaaaaaaaaaaaaaaaaaaaaaaaaaaaaaaaaaaaaaaaaaaaaaaaaaaaaaaaaaaaaaaaaaaaaaaaaaaaaaaaaaaaaa \"\"] *",
             output: "",
-            verdict: Verdict::Refused(Fault {
-                at: 1,
-                reason: Reason::TagLineTooLong,
-            }),
+            verdict: Verdict::Refused(1, Reason::TagLineTooLong),
         },
     ]
 }
@@ -61,30 +52,21 @@ pub fn values() -> &'static [Vector] {
             mode: Mode::Full,
             input: "[A \"xxxxxxxxxxxxxxxxxxxxxxxxxxxxxxxxxxxxxxxxxxxxxxxxxxxxxxxxxxxxxxxxxxxxxxxxxxxxxxxxxxxxxxxxxxxxxxxxxxxxxxxxxxxxxxxxxxxxxxxxxxxxxxxxxxxxxxxxxxxxxxxxxxxxxxxxxxxxxxxxxxxxxxxxxxxxxxxxxxxxxxxxxxxxxxxxxxxxxxxxxxxxxxxxxxxxxxxxxxxxxxxxxxxxxxxxxxxxxxxxxxxxxxxxx\"] *",
             output: "",
-            verdict: Verdict::Refused(Fault {
-                at: 3,
-                reason: Reason::TagLineTooLong,
-            }),
+            verdict: Verdict::Refused(3, Reason::TagLineTooLong),
         },
         Vector {
             name: "a value of 255 bytes",
             mode: Mode::Full,
             input: "[A \"xxxxxxxxxxxxxxxxxxxxxxxxxxxxxxxxxxxxxxxxxxxxxxxxxxxxxxxxxxxxxxxxxxxxxxxxxxxxxxxxxxxxxxxxxxxxxxxxxxxxxxxxxxxxxxxxxxxxxxxxxxxxxxxxxxxxxxxxxxxxxxxxxxxxxxxxxxxxxxxxxxxxxxxxxxxxxxxxxxxxxxxxxxxxxxxxxxxxxxxxxxxxxxxxxxxxxxxxxxxxxxxxxxxxxxxxxxxxxxxxxxxxxxxxxxxxxxx\"] *",
             output: "",
-            verdict: Verdict::Refused(Fault {
-                at: 3,
-                reason: Reason::TagLineTooLong,
-            }),
+            verdict: Verdict::Refused(3, Reason::TagLineTooLong),
         },
         Vector {
             name: "a value of 256 bytes",
             mode: Mode::Full,
             input: "[A \"xxxxxxxxxxxxxxxxxxxxxxxxxxxxxxxxxxxxxxxxxxxxxxxxxxxxxxxxxxxxxxxxxxxxxxxxxxxxxxxxxxxxxxxxxxxxxxxxxxxxxxxxxxxxxxxxxxxxxxxxxxxxxxxxxxxxxxxxxxxxxxxxxxxxxxxxxxxxxxxxxxxxxxxxxxxxxxxxxxxxxxxxxxxxxxxxxxxxxxxxxxxxxxxxxxxxxxxxxxxxxxxxxxxxxxxxxxxxxxxxxxxxxxxxxxxxxxxx\"] *",
             output: "",
-            verdict: Verdict::Refused(Fault {
-                at: 3,
-                reason: Reason::Lexical(LexReason::StringTooLong),
-            }),
+            verdict: Verdict::Refused(3, Reason::Lexical(LexReason::StringTooLong)),
         },
     ]
 }
@@ -104,10 +86,7 @@ pub fn escaped_values() -> &'static [Vector] {
             mode: Mode::Full,
             input: "[A \"\\\"\\\"\\\"\\\"\\\"\\\"\\\"\\\"\\\"\\\"\\\"\\\"\\\"\\\"\\\"\\\"\\\"\\\"\\\"\\\"\\\"\\\"\\\"\\\"\\\"\\\"\\\"\\\"\\\"\\\"\\\"\\\"\\\"\\\"\\\"\\\"\\\"\\\"\\\"\\\"\\\"\\\"\\\"\\\"\\\"\\\"\\\"\\\"\\\"\\\"\\\"\\\"\\\"\\\"\\\"\\\"\\\"\\\"\\\"\\\"\\\"\\\"\\\"\\\"\\\"\\\"\\\"\\\"\\\"\\\"\\\"\\\"\\\"\\\"\\\"\\\"\\\"\\\"\\\"\\\"\\\"\\\"\\\"\\\"\\\"\\\"\\\"\\\"\\\"\\\"\\\"\\\"\\\"\\\"\\\"\\\"\\\"\\\"\\\"\\\"\\\"\\\"\\\"\\\"\\\"\\\"\\\"\\\"\\\"\\\"\\\"\\\"\\\"\\\"\\\"\\\"\\\"\\\"\\\"\\\"\\\"\\\"\\\"\\\"\\\"\"] *",
             output: "",
-            verdict: Verdict::Refused(Fault {
-                at: 3,
-                reason: Reason::TagLineTooLong,
-            }),
+            verdict: Verdict::Refused(3, Reason::TagLineTooLong),
         },
         Vector {
             name: "tag-limits",
@@ -121,10 +100,7 @@ pub fn escaped_values() -> &'static [Vector] {
             mode: Mode::Full,
             input: "[Event \"vvvvvvvvvvvvvvvvvvvvvvvvvvvvvvvvvvvvvvvvvvvvvvvvvvvvvvvvvvvvvvvvvvvvvvvvvvvvvvvvvvvvvvvvvvvvvvvvvvvvvvvvvvvvvvvvvvvvvvvvvvvvvvvvvvvvvvvvvvvvvvvvvvvvvvvvvvvvvvvvvvvvvvvvvvvvvvvvvvvvvvvvvvvvvvvvvvvvvvvvvvvvvvvvvvvvvvvvvvvvvvvvvvvvvvvvvvvvvvvvvvvvv\"] *",
             output: "",
-            verdict: Verdict::Refused(Fault {
-                at: 7,
-                reason: Reason::TagLineTooLong,
-            }),
+            verdict: Verdict::Refused(7, Reason::TagLineTooLong),
         },
     ]
 }
@@ -147,10 +123,7 @@ pub fn more_pairs() -> &'static [Vector] {
         mode: Mode::Full,
         input: "[T10 \"v\"][T11 \"v\"][T12 \"v\"][T13 \"v\"][T14 \"v\"][T15 \"v\"][T16 \"v\"][T17 \"v\"][T18 \"v\"][T19 \"v\"][T20 \"v\"][T21 \"v\"][T22 \"v\"][T23 \"v\"][T24 \"v\"][T25 \"v\"][T26 \"v\"][T27 \"v\"][T28 \"v\"][T29 \"v\"][T30 \"v\"][T31 \"v\"][T32 \"v\"][T33 \"v\"][T34 \"v\"][T35 \"v\"][T36 \"v\"][T37 \"v\"][T38 \"v\"][T39 \"v\"][T40 \"v\"][T41 \"v\"][T42 \"v\"][T43 \"v\"][T44 \"v\"][T45 \"v\"][T46 \"v\"][T47 \"v\"][T48 \"v\"][T49 \"v\"][T50 \"v\"][T51 \"v\"][T52 \"v\"][T53 \"v\"][T54 \"v\"][T55 \"v\"][T56 \"v\"][T57 \"v\"][T58 \"v\"][T59 \"v\"][T60 \"v\"][T61 \"v\"][T62 \"v\"][T63 \"v\"][T64 \"v\"][T65 \"v\"][T66 \"v\"][T67 \"v\"][T68 \"v\"][T69 \"v\"][T70 \"v\"][T71 \"v\"][T72 \"v\"][T73 \"v\"][T74 \"v\"] *",
         output: "",
-        verdict: Verdict::Refused(Fault {
-            at: 576,
-            reason: Reason::TooManyTags,
-        }),
+        verdict: Verdict::Refused(576, Reason::TooManyTags),
     }]
 }
 
@@ -176,10 +149,7 @@ pub fn depth() -> &'static [Vector] {
             mode: Mode::Full,
             input: "e4 (d4 (d4 (d4 (d4 (d4 (d4 (d4 (d4 (d4 (d4 (d4 (d4 (d4 (d4 (d4 (d4 (d4 (d4 (d4 (d4 (d4 (d4 (d4 (d4 (d4 (d4 (d4 (d4 (d4 (d4 (d4 (d4 (d4",
             output: "[Event \"?\"]\n[Site \"?\"]\n[Date \"????.??.??\"]\n[Round \"?\"]\n[White \"?\"]\n[Black \"?\"]\n[Result \"*\"]\n\n1. e4 ( 1. d4 ( 1. d4 ( 1. d4 ( 1. d4 ( 1. d4 ( 1. d4 ( 1. d4 ( 1. d4 ( 1. d4 (\n1. d4 ( 1. d4 ( 1. d4 ( 1. d4 ( 1. d4 ( 1. d4 ( 1. d4 ( 1. d4 ( 1. d4 ( 1. d4 (\n1. d4 ( 1. d4 ( 1. d4 ( 1. d4 ( 1. d4 ( 1. d4 ( 1. d4 ( 1. d4 ( 1. d4 ( 1. d4 (\n",
-            verdict: Verdict::Refused(Fault {
-                at: 131,
-                reason: Reason::TooDeep,
-            }),
+            verdict: Verdict::Refused(131, Reason::TooDeep),
         },
     ]
 }
@@ -199,50 +169,35 @@ pub fn words() -> &'static [Vector] {
             mode: Mode::Full,
             input: "1. e4 {wwwwwwwwwwwwwwwwwwwwwwwwwwwwwwwwwwwwwwwwwwwwwwwwwwwwwwwwwwwwwwwwwwwwwwwwwwwwwwww} *",
             output: "[Event \"?\"]\n[Site \"?\"]\n[Date \"????.??.??\"]\n[Round \"?\"]\n[White \"?\"]\n[Black \"?\"]\n[Result \"*\"]\n\n",
-            verdict: Verdict::Refused(Fault {
-                at: 7,
-                reason: Reason::Lexical(LexReason::WordTooLong),
-            }),
+            verdict: Verdict::Refused(7, Reason::Lexical(LexReason::WordTooLong)),
         },
         Vector {
             name: "a line that is full before the fault",
             mode: Mode::Full,
             input: "e4 {wwwwwwwwwwwwwwwwwwwwwwwwwwwwwwwwwwwwwwwwwwwwwwwwwwwwwwwwwwwwwwwwwwwwwwww x} e5 Ke3 *",
             output: "[Event \"?\"]\n[Site \"?\"]\n[Date \"????.??.??\"]\n[Round \"?\"]\n[White \"?\"]\n[Black \"?\"]\n[Result \"*\"]\n\n1. e4 {\nwwwwwwwwwwwwwwwwwwwwwwwwwwwwwwwwwwwwwwwwwwwwwwwwwwwwwwwwwwwwwwwwwwwwwwww x }\n",
-            verdict: Verdict::Refused(Fault {
-                at: 83,
-                reason: Reason::IllegalMove,
-            }),
+            verdict: Verdict::Refused(83, Reason::IllegalMove),
         },
         Vector {
             name: "a word that ends with the input",
             mode: Mode::Full,
             input: "1. e4 {wwwwwwwwwwwwwwwwwwwwwwwwwwwwwwwwwwwwwwwwwwwwwwwwwwwwwwwwwwwwwwwwwwwwwwwwwwwwwww",
             output: "[Event \"?\"]\n[Site \"?\"]\n[Date \"????.??.??\"]\n[Round \"?\"]\n[White \"?\"]\n[Black \"?\"]\n[Result \"*\"]\n\n1. e4 {\n",
-            verdict: Verdict::Refused(Fault {
-                at: 86,
-                reason: Reason::Lexical(LexReason::UnclosedComment),
-            }),
+            verdict: Verdict::Refused(86, Reason::Lexical(LexReason::UnclosedComment)),
         },
         Vector {
             name: "a word before a control byte",
             mode: Mode::Full,
             input: "1. e4 {wwwwwwwwwwwwwwwwwwwwwwwwwwwwwwwwwwwwwwwwwwwwwwwwwwwwwwwwwwwwwwwwwwwwwwwwwwwwwww\u{1}} *",
             output: "[Event \"?\"]\n[Site \"?\"]\n[Date \"????.??.??\"]\n[Round \"?\"]\n[White \"?\"]\n[Black \"?\"]\n[Result \"*\"]\n\n1. e4 {\n",
-            verdict: Verdict::Refused(Fault {
-                at: 86,
-                reason: Reason::Lexical(LexReason::ControlByte),
-            }),
+            verdict: Verdict::Refused(86, Reason::Lexical(LexReason::ControlByte)),
         },
         Vector {
             name: "a word before a closing brace in a line comment",
             mode: Mode::Full,
             input: "1. e4 ;wwwwwwwwwwwwwwwwwwwwwwwwwwwwwwwwwwwwwwwwwwwwwwwwwwwwwwwwwwwwwwwwwwwwwwwwwwwwwww}",
             output: "[Event \"?\"]\n[Site \"?\"]\n[Date \"????.??.??\"]\n[Round \"?\"]\n[White \"?\"]\n[Black \"?\"]\n[Result \"*\"]\n\n1. e4 {\n",
-            verdict: Verdict::Refused(Fault {
-                at: 86,
-                reason: Reason::Lexical(LexReason::BraceInLineComment),
-            }),
+            verdict: Verdict::Refused(86, Reason::Lexical(LexReason::BraceInLineComment)),
         },
     ]
 }

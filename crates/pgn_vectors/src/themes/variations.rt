@@ -1,7 +1,7 @@
 // Written by bin/write_vectors from vectors/variations.toml.
 //! Games with variations, in full and reduced, and inputs that are rejected in a variation.
 use crate::{Vector, Verdict};
-use pgn_game::{Fault, Mode, Reason};
+use pgn_game::{Mode, Reason};
 
 /// One variation, or two of the same move.
 pub fn one_variation() -> &'static [Vector] {
@@ -182,80 +182,56 @@ pub fn unfinished() -> &'static [Vector] {
             mode: Mode::Full,
             input: "1. e4 ((d4)) *",
             output: "[Event \"?\"]\n[Site \"?\"]\n[Date \"????.??.??\"]\n[Round \"?\"]\n[White \"?\"]\n[Black \"?\"]\n[Result \"*\"]\n\n",
-            verdict: Verdict::Refused(Fault {
-                at: 7,
-                reason: Reason::NoMoveBefore,
-            }),
+            verdict: Verdict::Refused(7, Reason::NoMoveBefore),
         },
         Vector {
             name: "a variation at once, reduced",
             mode: Mode::Reduced,
             input: "1. e4 ((d4)) *",
             output: "[Event \"?\"]\n[Site \"?\"]\n[Date \"????.??.??\"]\n[Round \"?\"]\n[White \"?\"]\n[Black \"?\"]\n[Result \"*\"]\n\n",
-            verdict: Verdict::Refused(Fault {
-                at: 7,
-                reason: Reason::NoMoveBefore,
-            }),
+            verdict: Verdict::Refused(7, Reason::NoMoveBefore),
         },
         Vector {
             name: "a marker in a variation",
             mode: Mode::Full,
             input: "1. e4 (1. d4 1-0 ) *",
             output: "[Event \"?\"]\n[Site \"?\"]\n[Date \"????.??.??\"]\n[Round \"?\"]\n[White \"?\"]\n[Black \"?\"]\n[Result \"*\"]\n\n",
-            verdict: Verdict::Refused(Fault {
-                at: 13,
-                reason: Reason::MarkerInVariation,
-            }),
+            verdict: Verdict::Refused(13, Reason::MarkerInVariation),
         },
         Vector {
             name: "a marker in a variation, reduced",
             mode: Mode::Reduced,
             input: "1. e4 (1. d4 1-0 ) *",
             output: "[Event \"?\"]\n[Site \"?\"]\n[Date \"????.??.??\"]\n[Round \"?\"]\n[White \"?\"]\n[Black \"?\"]\n[Result \"*\"]\n\n",
-            verdict: Verdict::Refused(Fault {
-                at: 13,
-                reason: Reason::MarkerInVariation,
-            }),
+            verdict: Verdict::Refused(13, Reason::MarkerInVariation),
         },
         Vector {
             name: "an asterisk in a variation",
             mode: Mode::Full,
             input: "e4 (d4 *",
             output: "[Event \"?\"]\n[Site \"?\"]\n[Date \"????.??.??\"]\n[Round \"?\"]\n[White \"?\"]\n[Black \"?\"]\n[Result \"*\"]\n\n",
-            verdict: Verdict::Refused(Fault {
-                at: 7,
-                reason: Reason::MarkerInVariation,
-            }),
+            verdict: Verdict::Refused(7, Reason::MarkerInVariation),
         },
         Vector {
             name: "an asterisk in a variation, reduced",
             mode: Mode::Reduced,
             input: "e4 (d4 *",
             output: "[Event \"?\"]\n[Site \"?\"]\n[Date \"????.??.??\"]\n[Round \"?\"]\n[White \"?\"]\n[Black \"?\"]\n[Result \"*\"]\n\n",
-            verdict: Verdict::Refused(Fault {
-                at: 7,
-                reason: Reason::MarkerInVariation,
-            }),
+            verdict: Verdict::Refused(7, Reason::MarkerInVariation),
         },
         Vector {
             name: "the end in a variation",
             mode: Mode::Full,
             input: "1. e4 (1. d4",
             output: "[Event \"?\"]\n[Site \"?\"]\n[Date \"????.??.??\"]\n[Round \"?\"]\n[White \"?\"]\n[Black \"?\"]\n[Result \"*\"]\n\n",
-            verdict: Verdict::Refused(Fault {
-                at: 12,
-                reason: Reason::UnexpectedEnd,
-            }),
+            verdict: Verdict::Refused(12, Reason::UnexpectedEnd),
         },
         Vector {
             name: "the end in a variation, reduced",
             mode: Mode::Reduced,
             input: "1. e4 (1. d4",
             output: "[Event \"?\"]\n[Site \"?\"]\n[Date \"????.??.??\"]\n[Round \"?\"]\n[White \"?\"]\n[Black \"?\"]\n[Result \"*\"]\n\n",
-            verdict: Verdict::Refused(Fault {
-                at: 12,
-                reason: Reason::UnexpectedEnd,
-            }),
+            verdict: Verdict::Refused(12, Reason::UnexpectedEnd),
         },
     ]
 }
@@ -268,100 +244,70 @@ pub fn misplaced() -> &'static [Vector] {
             mode: Mode::Full,
             input: "e4 (d4)) *",
             output: "[Event \"?\"]\n[Site \"?\"]\n[Date \"????.??.??\"]\n[Round \"?\"]\n[White \"?\"]\n[Black \"?\"]\n[Result \"*\"]\n\n",
-            verdict: Verdict::Refused(Fault {
-                at: 7,
-                reason: Reason::UnmatchedClose,
-            }),
+            verdict: Verdict::Refused(7, Reason::UnmatchedClose),
         },
         Vector {
             name: "one too many closed, reduced",
             mode: Mode::Reduced,
             input: "e4 (d4)) *",
             output: "[Event \"?\"]\n[Site \"?\"]\n[Date \"????.??.??\"]\n[Round \"?\"]\n[White \"?\"]\n[Black \"?\"]\n[Result \"*\"]\n\n",
-            verdict: Verdict::Refused(Fault {
-                at: 7,
-                reason: Reason::UnmatchedClose,
-            }),
+            verdict: Verdict::Refused(7, Reason::UnmatchedClose),
         },
         Vector {
             name: "a variation after a number",
             mode: Mode::Full,
             input: "1. (d4) *",
             output: "[Event \"?\"]\n[Site \"?\"]\n[Date \"????.??.??\"]\n[Round \"?\"]\n[White \"?\"]\n[Black \"?\"]\n[Result \"*\"]\n\n",
-            verdict: Verdict::Refused(Fault {
-                at: 3,
-                reason: Reason::NoMoveBefore,
-            }),
+            verdict: Verdict::Refused(3, Reason::NoMoveBefore),
         },
         Vector {
             name: "a variation after a number, reduced",
             mode: Mode::Reduced,
             input: "1. (d4) *",
             output: "[Event \"?\"]\n[Site \"?\"]\n[Date \"????.??.??\"]\n[Round \"?\"]\n[White \"?\"]\n[Black \"?\"]\n[Result \"*\"]\n\n",
-            verdict: Verdict::Refused(Fault {
-                at: 3,
-                reason: Reason::NoMoveBefore,
-            }),
+            verdict: Verdict::Refused(3, Reason::NoMoveBefore),
         },
         Vector {
             name: "a move from the position after the variation",
             mode: Mode::Full,
             input: "e4 (d4 d5) e5 (d5) exd5 *",
             output: "[Event \"?\"]\n[Site \"?\"]\n[Date \"????.??.??\"]\n[Round \"?\"]\n[White \"?\"]\n[Black \"?\"]\n[Result \"*\"]\n\n",
-            verdict: Verdict::Refused(Fault {
-                at: 19,
-                reason: Reason::IllegalMove,
-            }),
+            verdict: Verdict::Refused(19, Reason::IllegalMove),
         },
         Vector {
             name: "a move from the position after the variation, reduced",
             mode: Mode::Reduced,
             input: "e4 (d4 d5) e5 (d5) exd5 *",
             output: "[Event \"?\"]\n[Site \"?\"]\n[Date \"????.??.??\"]\n[Round \"?\"]\n[White \"?\"]\n[Black \"?\"]\n[Result \"*\"]\n\n",
-            verdict: Verdict::Refused(Fault {
-                at: 19,
-                reason: Reason::IllegalMove,
-            }),
+            verdict: Verdict::Refused(19, Reason::IllegalMove),
         },
         Vector {
             name: "a move of the side not to move in a variation",
             mode: Mode::Full,
             input: "e4 (e5) *",
             output: "[Event \"?\"]\n[Site \"?\"]\n[Date \"????.??.??\"]\n[Round \"?\"]\n[White \"?\"]\n[Black \"?\"]\n[Result \"*\"]\n\n",
-            verdict: Verdict::Refused(Fault {
-                at: 4,
-                reason: Reason::IllegalMove,
-            }),
+            verdict: Verdict::Refused(4, Reason::IllegalMove),
         },
         Vector {
             name: "a move of the side not to move in a variation, reduced",
             mode: Mode::Reduced,
             input: "e4 (e5) *",
             output: "[Event \"?\"]\n[Site \"?\"]\n[Date \"????.??.??\"]\n[Round \"?\"]\n[White \"?\"]\n[Black \"?\"]\n[Result \"*\"]\n\n",
-            verdict: Verdict::Refused(Fault {
-                at: 4,
-                reason: Reason::IllegalMove,
-            }),
+            verdict: Verdict::Refused(4, Reason::IllegalMove),
         },
         Vector {
             name: "a pair in a variation",
             mode: Mode::Full,
             input: "e4 (d4 [A \"1\"]) *",
             output: "[Event \"?\"]\n[Site \"?\"]\n[Date \"????.??.??\"]\n[Round \"?\"]\n[White \"?\"]\n[Black \"?\"]\n[Result \"*\"]\n\n",
-            verdict: Verdict::Refused(Fault {
-                at: 7,
-                reason: Reason::TagInMovetext,
-            }),
+            verdict: Verdict::Refused(7, Reason::TagInMovetext),
         },
         Vector {
             name: "a pair in a variation, reduced",
             mode: Mode::Reduced,
             input: "e4 (d4 [A \"1\"]) *",
             output: "[Event \"?\"]\n[Site \"?\"]\n[Date \"????.??.??\"]\n[Round \"?\"]\n[White \"?\"]\n[Black \"?\"]\n[Result \"*\"]\n\n",
-            verdict: Verdict::Refused(Fault {
-                at: 7,
-                reason: Reason::TagInMovetext,
-            }),
+            verdict: Verdict::Refused(7, Reason::TagInMovetext),
         },
     ]
 }
