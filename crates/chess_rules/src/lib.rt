@@ -19,8 +19,6 @@ mod square;
 mod squares;
 mod step;
 mod tables;
-#[cfg(test)]
-mod tests;
 
 pub use board::Board;
 pub use candidates::{may_have_two_origins, only_origin, origins};

@@ -14,8 +14,6 @@ mod letter;
 mod placement;
 mod resolution;
 mod san;
-#[cfg(test)]
-mod tests;
 mod uci;
 
 pub use fen::{FenFault, read_fen, write_fen};

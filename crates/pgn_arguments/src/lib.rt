@@ -2,7 +2,5 @@
 #![tactic(auto)]
 
 mod arguments;
-#[cfg(test)]
-mod tests;
 
 pub use arguments::{ParseFault, Task, parse};

@@ -16,8 +16,6 @@ mod nowhere;
 mod outlet;
 mod sink;
 mod tag_line;
-#[cfg(test)]
-mod tests;
 
 pub use current_line::CurrentLine;
 pub use layout::Layout;

@@ -14,6 +14,3 @@ mod token;
 
 pub use lexer::Lexer;
 pub use token::{LexFault, LexReason, Outcome, Scan, Token, TokenKind};
-
-#[cfg(test)]
-mod tests;

@@ -13,8 +13,6 @@ mod bytes;
 mod lines;
 mod outside;
 mod tag_line;
-#[cfg(test)]
-mod tests;
 
 pub use crate::bad_game::{BadGame, Ends};
 

@@ -1,10 +1,10 @@
 //! Each text is read whole, byte by byte, and in two pieces at every cut. All this is done in four
 //! ways: by `next` alone, by `read_on` alone, and by `whole_token` where that gives a token.
-use crate::{LexFault, LexReason, Lexer, Outcome, Token, TokenKind};
 use TokenKind::{
     Asterisk, CommentClose, CommentOpen, End, Glyph, LeftBracket, LeftParen, Period, RightBracket,
     RightParen, Str, Symbol, Word,
 };
+use pgn_lexer::{LexFault, LexReason, Lexer, Outcome, Token, TokenKind};
 
 const LONGEST: usize = 1 << 32;
 

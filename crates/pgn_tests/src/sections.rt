@@ -1,5 +1,5 @@
 //! Worked rows: where reading goes on, by the rules in words.
-use crate::{BadGame, Ends, next_section};
+use pgn_sections::{BadGame, Ends, next_section};
 use std::process::Abort;
 
 // Behind the game that begins at a place, with its fault at another, reading goes on there.

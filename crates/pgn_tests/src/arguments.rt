@@ -1,5 +1,5 @@
 //! Command lines, and the tasks and texts that answer them.
-use crate::{ParseFault, Task, parse};
+use pgn_arguments::{ParseFault, Task, parse};
 use std::alloc::{AllocError, Global};
 use std::process::Abort;
 use std::test::Fail;

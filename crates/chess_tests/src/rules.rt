@@ -3,12 +3,12 @@
 
 mod candidates;
 
-use crate::board::Board;
-use crate::legal::{in_check, try_pair};
-use crate::piece::{Colour, Kind, Piece, Promotion};
-use crate::position::{Move, Parts, Position, PositionFault, Rights};
-use crate::probes::Probes;
-use crate::square::Square;
+ghost use Rattle.std.specs.Prelude.{◌<◌};
+
+use chess_rules::{
+    Board, Colour, Kind, Move, Parts, Piece, Position, PositionFault, Probes, Promotion, Rights,
+    Square, in_check, try_pair,
+};
 use std::test::Fail;
 
 const EVERY_RIGHT: Rights = Rights {
@@ -32,6 +32,18 @@ const PROMOTIONS: [Option<Promotion>; 5] = [
     Some(Promotion::Bishop),
     Some(Promotion::Knight),
 ];
+
+// The square with this index, from 0 for a1, rank by rank, to 63 for h8.
+fn nth(index: usize) -> Square {
+    Square::new((index % 8) as u8, (index / 8 % 8) as u8).unwrap_or_default()
+}
+
+// The index of a square.
+fn cell(square: Square) -> usize
+    ensures { result < 64 }
+{
+    8 * square.rank() as usize + square.file() as usize
+}
 
 // The piece of a letter of PGN 16.1.3.1.
 fn piece(letter: u8) -> Option<Piece> {
@@ -65,7 +77,7 @@ fn parts(text: &[u8]) -> Parts {
             file = file.wrapping_add(byte.wrapping_sub(b'0'));
         } else {
             if let Some(square) = Square::new(file, rank) {
-                board[square.index()] = piece(byte);
+                board[cell(square)] = piece(byte);
             }
             file = file.wrapping_add(1);
         }
@@ -86,7 +98,7 @@ fn told(position: &Position) -> Parts {
     for rank in 0..8u8 {
         for file in 0..8u8 {
             if let Some(square) = Square::new(file, rank) {
-                board[square.index()] = position.at(square);
+                board[cell(square)] = position.at(square);
             }
         }
     }
@@ -137,8 +149,8 @@ fn legal_moves(position: &Position) -> (u32, u32) {
         for to in 0..64usize {
             for promotion in PROMOTIONS {
                 let mv = Move {
-                    from: Square::nth(from),
-                    to: Square::nth(to),
+                    from: nth(from),
+                    to: nth(to),
                     promotion,
                 };
                 if let Some(next) = try_pair(position, mv, &mut Probes::new()) {
@@ -157,8 +169,8 @@ fn count_moves(position: &Position) -> u32 {
         for to in 0..64usize {
             for promotion in PROMOTIONS {
                 let mv = Move {
-                    from: Square::nth(from),
-                    to: Square::nth(to),
+                    from: nth(from),
+                    to: nth(to),
                     promotion,
                 };
                 if try_pair(position, mv, &mut Probes::new()).is_some() {

@@ -1,13 +1,10 @@
 //! Moves as text, read and written, in worked positions.
 
-use crate::fen::read_fen;
-use crate::form::{Form, read_form};
-use crate::resolution::{Played, resolve};
-use crate::san::write_san;
-use crate::tests::POSITIONS;
+use crate::text::POSITIONS;
 use chess_rules::{
     Kind, Move, Position, Probes, Promotion, Square, has_legal_move, in_check, origins, try_pair,
 };
+use chess_text::{Form, Played, read_fen, read_form, resolve, write_san};
 use std::process::Abort;
 
 const KINDS: [Kind; 6] = [

@@ -1,12 +1,10 @@
 //! Candidates, move counts by way of them, mates and stalemates.
 
-use crate::candidates::{may_have_two_origins, only_origin, origins};
-use crate::legal::{has_legal_move, in_check, try_pair};
-use crate::piece::{Colour, Kind, Piece};
-use crate::position::{Move, Parts, Position, Rights};
-use crate::probes::Probes;
-use crate::square::Square;
-use crate::tests::{EVERY_RIGHT, PROMOTIONS, count_moves, parts, play, square};
+use crate::rules::{EVERY_RIGHT, PROMOTIONS, count_moves, nth, parts, play, square};
+use chess_rules::{
+    Colour, Kind, Move, Parts, Piece, Position, Probes, Rights, Square, has_legal_move, in_check,
+    may_have_two_origins, only_origin, origins, try_pair,
+};
 use std::test::Fail;
 
 const KINDS: [Kind; 6] = [
@@ -22,7 +20,7 @@ fn has_origin(position: &Position, kind: Kind, target: Square, origin: Square) -
     origins(position, kind, target)
         .as_slice()
         .iter()
-        .any(|found| found.is(origin))
+        .any(|&found| found == origin)
 }
 
 // The origins are these, and no others.
@@ -96,7 +94,7 @@ fn count_plies(position: &Position, plies: u8) -> u32 {
     }
     let mut ways = 0u32;
     for index in 0..64usize {
-        let to = Square::nth(index);
+        let to = nth(index);
         for kind in KINDS {
             for from in origins(position, kind, to).as_slice() {
                 for promotion in PROMOTIONS {
@@ -136,9 +134,16 @@ fn counts_three_plies_with_castling_and_pins(rt: HostRuntime) -> Result<(), Fail
     Ok(())
 }
 
-fn other(piece: Piece) -> Piece {
+fn other(colour: Colour) -> Colour {
+    match colour {
+        Colour::White => Colour::Black,
+        Colour::Black => Colour::White,
+    }
+}
+
+fn of_other(piece: Piece) -> Piece {
     Piece {
-        colour: piece.colour.other(),
+        colour: other(piece.colour),
         kind: piece.kind,
     }
 }
@@ -147,14 +152,14 @@ fn other(piece: Piece) -> Piece {
 fn swapped(old: &Parts) -> Parts {
     let mut board = [None; 64];
     for index in 0..64usize {
-        board[8 * (7 - index / 8) + index % 8] = old.board[index].map(other);
+        board[8 * (7 - index / 8) + index % 8] = old.board[index].map(of_other);
     }
     let target = old
         .target
         .and_then(|target| Square::new(target.file(), 7 - target.rank()));
     Parts {
         board,
-        side: old.side.other(),
+        side: other(old.side),
         rights: Rights {
             white_short: old.rights.black_short,
             white_long: old.rights.black_long,
@@ -188,7 +193,7 @@ fn count_pairs(position: &Position) -> u32 {
     let mut pairs = 0u32;
     for index in 0..64usize {
         for kind in KINDS {
-            let found = origins(position, kind, Square::nth(index));
+            let found = origins(position, kind, nth(index));
             pairs = pairs.wrapping_add(found.len() as u32);
         }
     }

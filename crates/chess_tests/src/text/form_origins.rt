@@ -1,10 +1,8 @@
 //! From which squares a form's move is a step, and from which it is legal, in worked positions.
 
-use crate::fen::read_fen;
-use crate::form::read_form;
-use crate::form_origins::{OriginKind, origins_of_form};
 use OriginKind::{Legal, NoStep, Unsafe};
 use chess_rules::Probes;
+use chess_text::{OriginKind, origins_of_form, read_fen, read_form};
 use std::process::Abort;
 
 const FIRST: &str = "rnbqkbnr/pppppppp/8/8/8/8/PPPPPPPP/RNBQKBNR w KQkq - 0 1";

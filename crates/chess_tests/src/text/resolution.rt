@@ -1,9 +1,7 @@
 //! Forms, and the moves that they name in worked positions.
 
-use crate::fen::{read_fen, write_fen};
-use crate::form::Form;
-use crate::resolution::{SanFault, resolve};
 use chess_rules::{Kind, Probes, Promotion, Square};
+use chess_text::{Form, SanFault, read_fen, resolve, write_fen};
 use std::process::Abort;
 
 const FIRST: &str = "rnbqkbnr/pppppppp/8/8/8/8/PPPPPPPP/RNBQKBNR w KQkq - 0 1";

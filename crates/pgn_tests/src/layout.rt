@@ -1,5 +1,5 @@
 //! Texts of the standard, and writers that fail.
-use crate::{
+use pgn_layout::{
     CurrentLine, Layout, Nowhere, Outlet, Sink, WriteFault, end_tags, fits_tag_line, write_all,
     write_tag,
 };

@@ -1,8 +1,7 @@
 //! Moves in UCI, read and written, in worked positions.
 
-use crate::fen::{read_fen, write_fen};
-use crate::uci::{UciFault, read_uci, write_uci};
 use chess_rules::Probes;
+use chess_text::{UciFault, read_fen, read_uci, write_fen, write_uci};
 use std::process::Abort;
 
 const FIRST: &str = "rnbqkbnr/pppppppp/8/8/8/8/PPPPPPPP/RNBQKBNR w KQkq - 0 1";

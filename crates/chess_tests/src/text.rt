@@ -7,8 +7,8 @@ mod resolution;
 mod san;
 mod uci;
 
-use crate::fen::{FenFault, read_fen, write_fen};
 use chess_rules::Position;
+use chess_text::{FenFault, read_fen, write_fen};
 use std::process::Abort;
 
 // Texts that are canonical already.

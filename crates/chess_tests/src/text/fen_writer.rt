@@ -1,8 +1,7 @@
 //! FENs of positions one after another, written by one writer.
 
-use crate::fen::read_fen;
-use crate::fen_writer::FenWriter;
-use crate::tests::POSITIONS;
+use crate::text::POSITIONS;
+use chess_text::{FenWriter, read_fen};
 use std::process::Abort;
 
 // Each from the one before it by a move. Ranks change, change back, and change while others stay.

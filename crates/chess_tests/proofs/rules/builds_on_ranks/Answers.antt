@@ -6,7 +6,7 @@ use Rattle.chess_rules.specs.declared.piece.Kind.{Kind}
 use Rattle.chess_rules.specs.declared.piece.Kind.TheVariants.{Bishop, King, Knight, Pawn, Queen, Rook}
 use Rattle.chess_rules.specs.declared.piece.Piece.{Piece}
 use Rattle.chess_rules.specs.Words.{lanes, word}
-use Rattle.chess_rules.proofs.tests.builds_on_ranks.Goals as goal
+use Rattle.chess_tests.proofs.rules.builds_on_ranks.Goals as goal
 
 abbrev man : Colour → Kind → Option Piece
 man colour kind = Some (record { colour = colour; kind = kind })
