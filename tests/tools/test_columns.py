@@ -84,7 +84,7 @@ class Columns(Folder, unittest.TestCase):
         self.expect("bench/run", ["#!/bin/sh", "# " + LONG, "echo " + LONG, "a  # " + LONG], [2, 4])
 
     def test_other_files(self):
-        for name in ("bin/sample", "crates/a/must-fail/a.edit", "crates/a/out/src/a.rt", "out/A.md",
+        for name in ("bin/sample", "edits/a.edits", "crates/a/out/src/a.rt", "out/A.md",
                      "bench/out/a.sh", "share/a.sh", "a.txt"):
             self.put(name, "# " + LONG, "// " + LONG)
         with open(self.folder + "/bin/bytes", "wb") as file:

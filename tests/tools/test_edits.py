@@ -36,12 +36,12 @@ def text_of(*path):
 class Edits(unittest.TestCase):
     def setUp(self):
         script = loaded()
-        self.by_crate, self.others = script.edits_by_crate(), script.edits_of_toolchain()
+        self.by_crate = script.edits_by_crate()
         self.edits = [it for them in self.by_crate.values() for it in them]
         self.notices = script.notices()
 
     def test_each_fits_its_source(self):
-        for it in self.edits + self.others:
+        for it in self.edits:
             why = loaded().edited(it, os.path.join(ROOT, "crates", it.crate))[1]
             self.assertEqual(why, None, it.name)
 
@@ -53,7 +53,7 @@ class Edits(unittest.TestCase):
         self.assertGreater(len(self.edits), 200)
 
     def test_each_has_a_name_of_its_own(self):
-        names = [it.name for it in self.edits + self.others]
+        names = [it.name for it in self.edits]
         self.assertEqual(sorted(set(names)), sorted(names))
 
     def test_a_file_has_the_edits_of_a_crate_by_function(self):
@@ -68,7 +68,7 @@ class Edits(unittest.TestCase):
     def rows(self):
         """The rows of docs/PROVED.md, each with what guards it."""
         rows = loaded().rows_of(text_of("docs", "PROVED.md"))
-        return loaded().guards_by_row(rows, self.edits + self.others + self.notices)
+        return loaded().guards_by_row(rows, self.edits + self.notices)
 
     def test_each_function_that_a_row_names_has_an_edit(self):
         ran = call("--guards", "--check")
@@ -84,7 +84,7 @@ class Edits(unittest.TestCase):
     def test_the_page_names_each(self):
         ran = call("--guards")
         self.assertEqual((ran.returncode, ran.stderr), (0, ""))
-        names = {it.name for it in self.edits + self.others}
+        names = {it.name for it in self.edits}
         for said in (ran.stdout, text_of("edits", "README.md")):
             found = set(re.findall("`(%s)`" % loaded().NAME, said))
             self.assertEqual(sorted(found - names), [])
@@ -106,7 +106,7 @@ class Edits(unittest.TestCase):
         self.assertEqual(kinds, {"test", "rows", "noticed"})
 
     def test_the_mistakes_that_matter_most_are_tried_on_each_change(self):
-        tried = {it.name for it in self.others + [it for it in self.edits if it.each_change]}
+        tried = {it.name for it in self.edits if it.each_change}
         table = text_of("edits", "README.md").partition("## The mistakes that matter most")[2]
         rows = [it for it in table.split("\n") if it.startswith("|")][2:]
         self.assertGreater(len(rows), 20)
@@ -125,11 +125,11 @@ class Edits(unittest.TestCase):
     def test_counts(self):
         each = [it for it in self.edits if it.each_change]
         last = call("--list").stdout.rstrip("\n").split("\n")[len(self.edits):]
-        self.assertEqual(last[0], "%d edits, %d of them tried on each change; %d more are in "
-                         "must-fail/" % (len(self.edits), len(each), len(self.others)))
+        self.assertEqual(last[0], "%d edits, %d of them tried on each change" % (
+            len(self.edits), len(each)))
         rows = [set(re.findall("`(%s)`" % loaded().NAME, it))
                 for it in call("--guards").stdout.split("\n- ")]
-        names = {it.name for it in each + self.others}
+        names = {it.name for it in each}
         self.assertEqual(last[1], "%d rows of docs/PROVED.md have edits, %d of them one that is "
                          "tried on each change" % (sum(1 for it in rows if it),
                                                    sum(1 for it in rows if it & names)))
@@ -161,11 +161,11 @@ HEAD = "edit: lib-f-is-wrong\nguards: f, text\nfile: src/lib.rt\n"
 class Reading(unittest.TestCase):
     """How an edit is written."""
 
-    def read(self, text, name="low.edits"):
+    def read(self, text):
         with tempfile.TemporaryDirectory() as room:
-            with open(os.path.join(room, name), "w", encoding="utf-8") as file:
+            with open(os.path.join(room, "low.edits"), "w", encoding="utf-8") as file:
                 file.write(text)
-            return loaded().read_guards(os.path.join(room, name), "low")
+            return loaded().read_guards(os.path.join(room, "low.edits"), "low")
 
     def test_lines_of_an_edit(self):
         edits = self.read("# low\n\n" + HEAD + "# a reason\nold:  a\nnew:  b: c\nold: d\nnew:\n\n\n"
@@ -176,12 +176,6 @@ class Reading(unittest.TestCase):
         self.assertEqual([it.each_change for it in edits], [False, True])
         self.assertEqual([it.name for it in edits], ["lib-f-is-wrong"] * 2)
         self.assertRegex(edits[1].place, r"low\.edits:13$")
-
-    def test_those_of_the_toolchain(self):
-        text = "# guards: f, text\nfile: src/lib.rt\nold: a\nnew: b\n"
-        edit, = self.read(text, "lib-f-is-wrong.edit")
-        self.assertEqual((edit.name, edit.guards), ("lib-f-is-wrong", [{"f", "text"}]))
-        self.assertEqual(edit.changes, [("src/lib.rt", "a", "b")])
 
     def test_what_else_guards_a_row(self):
         found = self.read("test: a_b\nguards: f, text\nguards: g\n\nrows: ARows\nguards: h\n\n"
@@ -410,6 +404,96 @@ class Verdicts(unittest.TestCase):
             self.check("BAD EDIT", status, last)
 
 
+SOURCE = """const A: u8 = 1;
+
+impl T {
+    // one
+    pub(crate) fn one(
+        self,
+    ) -> u8
+        ensures { result ≡ 1 }
+    {
+        if self.is {
+            1
+        }
+    }
+
+    const B: u8 = 2;
+
+    fn two(self) -> u8 {
+        self.one()
+    }
+}
+"""
+
+
+class Sharing(unittest.TestCase):
+    """Which edits share a check, and what that says of each."""
+
+    def edit(self, name, *changes):
+        edit = loaded().Edit("low", name, "low.edits:1")
+        edit.changes = list(changes)
+        return edit
+
+    def test_the_function_at_a_place(self):
+        for text, found in (
+            ("const A", ("", False)), ("impl T", ("", False)), ("// one", ("", False)),
+            ("fn one", ("one", False)), ("result", ("one", False)), ("self.is", ("one", True)),
+            ("        1\n", ("one", True)), ("const B", ("", False)), ("fn two", ("two", False)),
+            ("self.one", ("two", True)),
+        ):
+            place = SOURCE.index(text)
+            self.assertEqual(loaded().function_at(SOURCE, place), found, text)
+
+    def test_edits_of_bodies_alone_share_a_check(self):
+        with tempfile.TemporaryDirectory() as room:
+            for path in ("src/lib.rt", "specs/A.antt"):
+                os.mkdir(os.path.join(room, path.split("/")[0]))
+                with open(os.path.join(room, path), "w", encoding="utf-8") as file:
+                    file.write(SOURCE)
+            body, other = ("src/lib.rt", "self.is", "true"), ("src/lib.rt", "self.one()", "2")
+            for changes, does in (
+                ([body], True), ([other], False), ([body, other], False),
+                ([("src/lib.rt", "result ≡ 1", "result ≡ 2")], False),
+                ([("src/lib.rt", "A: u8 = 1", "A: u8 = 2")], False),
+                ([("specs/A.antt", "self.is", "true")], False),
+                ([("src/lib.rt", "u8", "u16")], False), ([("src/no.rt", "u8", "u16")], False),
+            ):
+                edit = self.edit("lib-one-is-wrong", *changes)
+                self.assertEqual(loaded().changes_a_body(edit, room), does, changes)
+
+    def reason(self, *lines):
+        edit = self.edit("lib-one-is-wrong", ("src/lib.rt", "self.is", "true"))
+        said = "".join(it + "\n" for it in lines)
+        return loaded().reason_in(said, edit, {"src/lib.rt": SOURCE})
+
+    def test_what_refuses_a_function_for_sure(self):
+        no_proof = "fn low::T::one: no proof: expected answers in ./proofs/T/one/Answers.antt"
+        for line in (
+            "note: src/lib.rt:5:5: it is not proved that what the function ensures holds",
+            "note: src/lib.rt:11:9: it is not proved that the index is in range",
+            "./proofs/T/one/Answers.antt:4:2: error: `returns`: expected type `a`",
+        ):
+            self.assertEqual(self.reason(line, no_proof), line)
+            self.assertEqual(self.reason("checked low::T::two, 1 of 2", line, no_proof), line)
+            self.assertEqual(self.reason(line), None)
+            self.assertEqual(self.reason(line, no_proof.replace("one", "two")), None)
+            calls = "fn low::T::one: no proof: it calls `low::T::two`, which is not proved"
+            self.assertEqual(self.reason(line, calls), None)
+
+    def test_what_is_said_of_another_function(self):
+        no_proof = "fn low::T::one: not proved"
+        for line in (
+            "note: src/lib.rt:18:9: it is not proved that what `one` requires holds",
+            "note: src/other.rt:5:5: it is not proved that what the function ensures holds",
+            "./proofs/T/two/Answers.antt:4:2: error: `returns`: expected type `a`",
+            "./proofs/one/two/Answers.antt:4:2: error: `returns`: expected type `a`",
+            "./proofs/T/one/Answers.antt:4:2: error: `returns`: `x` is not in scope",
+            "src/lib.rt:11:9: help: write a proof",
+        ):
+            self.assertEqual(self.reason(line, no_proof), None, line)
+
+
 class Lanes(unittest.TestCase):
     def test_one_a_processor_where_each_has_4_gb(self):
         lanes = loaded().lanes_for
@@ -422,12 +506,18 @@ class Lanes(unittest.TestCase):
         edits = [script.Edit("low", it, "") for it in ("a-f-x", "a-f-y", "a-g-x", "b-g-x")]
         self.assertEqual(script.by_function(edits), [edits[:2], edits[2:3], edits[3:]])
 
+    def test_functions_share_checks_where_lanes_have_enough_of_them(self):
+        script = loaded()
+        self.assertEqual(script.sharing(list("abcde"), 4), [["a", "b"], ["c", "d"], ["e"]])
+        self.assertEqual(script.sharing(list("ab"), 4), [["a"], ["b"]])
+        sizes = [len(it) for it in script.sharing(["a"] * 100, 3)]
+        self.assertEqual((max(sizes), sum(sizes)), (script.TOGETHER, 100))
+
     def test_a_copy_has_the_work_that_a_check_needs(self):
         files = (
             "HANDLES", "crates.txt", "crates/low/src/lib.rt", "crates/low/out/rlib/low",
-            "crates/low/out/incremental/a", "crates/low/must-fail/a-b-c.edit",
-            "crates/top/src/lib.rt", "crates/top/out/incremental/b", "crates/top/out/rlib/top",
-            "crates/other/src/lib.rt", "crates/other/out/rlib/other",
+            "crates/low/out/incremental/a", "crates/top/src/lib.rt", "crates/top/out/incremental/b",
+            "crates/top/out/rlib/top", "crates/other/src/lib.rt", "crates/other/out/rlib/other",
         )
         with tempfile.TemporaryDirectory() as room:
             for name in files:

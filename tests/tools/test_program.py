@@ -57,7 +57,7 @@ class EachBuild:
         changes = dict.fromkeys(("crates/pgn_game/src/lib.rt", "crates/pgn_game/src/new.rt",
                                  "crates/pgn_tool/src/lib.rt", "crates.txt"), True)
         changes.update(dict.fromkeys(("crates/pgn_vectors/src/lib.rt", "README.md",
-                                      "crates/pgn_tool/must-fail/a.edit"), False))
+                                      "crates/pgn_tool/proofs/a.antt"), False))
         for path, builds in {**changes, **self.own_changes}.items():
             self.here.make_older()
             self.here.change(path)
