@@ -1,0 +1,55 @@
+"""Tests what bin/test calls and its status, with other commands in the place of those."""
+import os
+import shutil
+import unittest
+
+from programs import ROOT, Folder, run
+
+# Notes its call and ends with 3 if it is the one that has to fail. As on a server of CI, rt has no
+# verdict for a part of the crates.
+COMMAND = """#!/bin/sh
+name=${0##*/}
+echo "$name $*" >>"$LOG"
+for word; do
+  [ "$last" = --ready ] && : >"$word"
+  last=$word
+done
+[ "$name $#" != 'rt 2' ] || exit 2
+[ "$name" != "$FAILS" ] || exit 3
+"""
+SCRIPTS = ("try_edits", "build_program", "build_page", "test_tools")
+
+
+class Gate(Folder, unittest.TestCase):
+    def setUp(self):
+        super().setUp()
+        for name in ["path/rt"] + ["bin/" + it for it in SCRIPTS]:
+            os.chmod(self.put(name, COMMAND), 0o755)
+        shutil.copy(ROOT + "/bin/test", self.folder + "/bin")
+        for name in ("HANDLES", "crates.txt", "crates/low/src/lib.rt"):
+            self.put(name, "")
+
+    def call(self, *words, fails=""):
+        """The status, and the calls in the order of their names."""
+        log = self.put("log", "")
+        env = dict(os.environ, PATH=self.folder + "/path:" + os.environ["PATH"], LOG=log, FAILS=fails)
+        ran = run([self.folder + "/bin/test", *words], env=env, timeout=60)
+        return ran.returncode, sorted(self.get("log").decode().splitlines())
+
+    def test_calls(self):
+        status, calls = self.call()
+        self.assertEqual((status, len(calls), calls[0]), (0, 2, "rt ci"))
+        self.assertRegex(calls[1], "^try_edits --each-change")
+        status, calls = self.call("--all")
+        self.assertEqual((status, calls[:3]), (0, [
+            "build_page ", "build_program --library --proved", "build_program --proved"]))
+        self.assertEqual((calls[3], calls[4], len(calls)), ("rt ci", "test_tools --all", 6))
+        self.assertRegex(calls[5], "^try_edits --each-change")
+        status, calls = self.call("--quick")
+        self.assertEqual((status, len(calls)), (0, 1))
+        self.assertRegex(calls[0], r"^rt all test --jobs \d+$")
+
+    def test_status(self):
+        for name in ("rt", *SCRIPTS):
+            self.assertEqual(self.call("--all", fails=name)[0], 3, name)
+        self.assertEqual(self.call("--some"), (2, []))
