@@ -1,7 +1,6 @@
 -- The words that proofs of this crate name, under one path.
 pub use Rattle.std.proofs.Common.{Bool, List, [], add-one, ap, append-nil, append_assoc, ap₂, arith, cond, drop, drop-cons, false, get_or, inl, inr, length, length-append, length-drop, map, nat_le, not, refl, replicate, reverse, rules, set, subst, suc, sym, take, true, zero, ℕ, ◌&&◌, ◌*◌, ◌++◌, ◌+◌, ◌-◌, ◌/◌, ◌<◌, ◌^◌, ◌||◌, ◌∙◌, ◌∷◌, ◌≡◌, ◌≢◌, ◌≤◌, ◌⊎◌, lit<, pow-suc, ◌%◌}
-pub use Rattle.std.proofs.lemmas.Bool.{and_from, and_left, and_parts, and_right, both_ways, cases_Bool, cases_lt, eq-eqb, eqb-true, cases_eq, leb-true}
-pub use Rattle.std.proofs.lemmas.Bool.{false_from_ne_true, false≢true, lt-ltb, ltb-true, not-false, not-true, or_cases, or_from, or_parts, or_right}
+pub use Rattle.std.proofs.lemmas.Bool.{and_from, and_left, and_parts, and_right, both_ways, cases_Bool, cases_lt, eq-eqb, eqb-true, cases_eq, leb-true, false_from_ne_true, false≢true, lt-ltb, ltb-true, not-false, not-true, or_cases, or_from, or_parts, or_right}
 pub use Rattle.std.proofs.lemmas.Bool.Decides.{nat_tests}
 pub use Rattle.std.proofs.lemmas.Fmt.{decimal_nonempty, digits_decimal, digits_value-decimal, length-decimal-le}
 pub use Rattle.std.proofs.lemmas.List.{append_cancel_left, drop_all, get_or-map, length-map, length-reverse, length-take, map-append, replicate_more, reverse-append, reverse-reverse, take-append-drop, take-replicate, take-take, take_all, take_more, take_more_set, take_rest, ext_get_or, get_or-replicate, get_or-set_other, length-replicate, replicate-append-replicate, take-set, take_at}
@@ -9,16 +8,14 @@ pub use Rattle.std.proofs.lemmas.List.Concat.{flat_map-append}
 pub use Rattle.std.proofs.lemmas.List.Elements.{All-weaker, Contains-append_left, Contains-append_right, filter_map-append, filter_passes}
 pub use Rattle.std.proofs.lemmas.List.Folds.{Any-from_list_any, length-flat_map-take, list_all-append, list_all_at, list_any_at, list_any_more}
 pub use Rattle.std.proofs.lemmas.List.FromFn.{get_or-map-range_with_len, get_or-range_with_len, length-range_with_len}
-pub use Rattle.std.proofs.lemmas.List.Sorted.{All-permutation, Contains-permutation, IsPermutation-refl, IsPermutation-sym, length_permutation}
-pub use Rattle.std.proofs.lemmas.List.Sorted.{list_any-IsPermutation, sum_by-IsPermutation}
+pub use Rattle.std.proofs.lemmas.List.Sorted.{All-permutation, Contains-permutation, IsPermutation-refl, IsPermutation-sym, length_permutation, list_any-IsPermutation, sum_by-IsPermutation}
 pub use Rattle.std.proofs.lemmas.List.Splits.{join_with_byte-slice_split, length-slice_split, slice_split-cons_no, slice_split-cons_yes}
 pub use Rattle.std.proofs.lemmas.List.Sums.{passes_at_first, position_or_len_is, split_at_first, sum_by-cons, sum_by_more}
 pub use Rattle.std.proofs.lemmas.Slice.Eq.{bytes_eq-Decides}
 pub use Rattle.std.proofs.lemmas.Str.Parse.{IsNumeralModel, digits_value_short, numerals_by_fold}
 unfoldable pub use Rattle.std.specs.Fmt.{digits}
 pub use Rattle.std.specs.Int.{abs_diff}
-pub use Rattle.std.specs.List.{All, Any, Contains, after_first, before_first, cons_option, filter, filter_map, join_with_byte, list_all, list_any, refill}
-pub use Rattle.std.specs.List.{onto_first, position_or_len, prefix_len, range_with_len, slice_split}
+pub use Rattle.std.specs.List.{All, Any, Contains, after_first, before_first, cons_option, filter, filter_map, join_with_byte, list_all, list_any, refill, onto_first, position_or_len, prefix_len, range_with_len, slice_split}
 pub use Rattle.std.specs.List.Sorted.{IsPermutation}
 pub use Rattle.std.specs.Option.{ok_or, option_to_list}
 pub use Rattle.std.specs.Prelude.{Err, IfSome, IsTrue, None, Ok, Option, Result, Some, bytes_eq, codes, count_by, decimal, find, flat_map, fold, if◌then◌else◌, is_err, is_none, is_ok, is_some, nat_lt, option_map, slice_index_or, slice_set, sum_by, ◌==◌, ◌↔◌, IfOk}
@@ -42,26 +39,19 @@ pub use Rattle.chess_rules.specs.declared.position.Move.{Move}
 pub use Rattle.chess_rules.specs.declared.position.Parts.{Parts}
 pub use Rattle.chess_rules.specs.declared.position.PositionFault.TheVariants.{KingCapturable, Kings, NumberRange, PawnOnEdge, TargetRank}
 pub use Rattle.chess_rules.specs.declared.position.Rights.{Rights}
-pub use Rattle.chess_text.specs.Fen.{Fen, SpellsBoard, SpellsNumber, at_field, fen_text, field, if_position, is_space, parts_or_fault, parts_read}
-pub use Rattle.chess_text.specs.Fen.{read, rest}
-pub use Rattle.chess_text.specs.Field.{is_digit, is_target, number_of, rights_of, rights_text, side_of, side_text, target_of}
-pub use Rattle.chess_text.specs.Field.{target_text, value}
+pub use Rattle.chess_text.specs.Fen.{Fen, SpellsBoard, SpellsNumber, at_field, fen_text, field, if_position, is_space, parts_or_fault, parts_read, read, rest}
+pub use Rattle.chess_text.specs.Field.{is_digit, is_target, number_of, rights_of, rights_text, side_of, side_text, target_of, target_text, value}
 pub use Rattle.chess_text.specs.Form.{Spells, SpellsBare, SpellsPieceMove, bare_form, before_capture, before_file, before_marks, before_promotion, before_rank, before_sign, before_target, below_eight, capture_texts, castle_of, castle_or, castle_texts, file_at_end, file_of, form_of, front, front_if, hint_text, is_among, is_form, is_mark, kind_of_text, last_byte, letter_texts, piece_move_if, piece_move_of, promotion_at_end, promotion_letter, promotion_of, promotion_texts, promotions, rank_at_end, rank_of, square_of, target_at_end}
-pub use Rattle.chess_text.specs.FormOrigins.{LegalOriginsDecide, count_legal, form_move, is_legal_kind, is_step_of_form, kind_of_move, nth_square}
-pub use Rattle.chess_text.specs.FormOrigins.{origin_kind}
+pub use Rattle.chess_text.specs.FormOrigins.{LegalOriginsDecide, count_legal, form_move, is_legal_kind, is_step_of_form, kind_of_move, nth_square, origin_kind}
 unfoldable pub use Rattle.chess_text.specs.FormOrigins.{origins_of_form}
-pub use Rattle.chess_text.specs.Laws.{CanonicalIsShortest, Names, NoMoveIsRead, ShorterIsAmbiguous, SingleReading, TheOneMoveIsRead, CanonicalFits, FaultIsLowest, FenOnce, FieldsAreSpellings, ReadingIsSpelling}
-pub use Rattle.chess_text.specs.Laws.{TwoMovesAreAmbiguous, disambiguations, text_with}
+pub use Rattle.chess_text.specs.Laws.{CanonicalIsShortest, Names, NoMoveIsRead, ShorterIsAmbiguous, SingleReading, TheOneMoveIsRead, CanonicalFits, FaultIsLowest, FenOnce, FieldsAreSpellings, ReadingIsSpelling, TwoMovesAreAmbiguous, disambiguations, text_with}
 pub use Rattle.chess_text.specs.Letter.{file_letter, kinds, letter, piece_letter, rank_digit, square_text, piece_of}
-pub use Rattle.chess_text.specs.MoveOfForm.{agrees, castling_move, describes, form_pairs, hints_fit, is_castling, move_from, move_of_form}
-pub use Rattle.chess_text.specs.MoveOfForm.{moves_to_try, only, piece_move_fits, played, same_promotion, with_next, with_next_position}
+pub use Rattle.chess_text.specs.MoveOfForm.{agrees, castling_move, describes, form_pairs, hints_fit, is_castling, move_from, move_of_form, moves_to_try, only, piece_move_fits, played, same_promotion, with_next, with_next_position}
 unfoldable pub use Rattle.chess_text.specs.MoveOfForm.{agreeing}
-pub use Rattle.chess_text.specs.Placement.{cells_at, cells_of, is_item, is_rank, is_run, is_slash, placement_of, placement_text, one_cell}
-pub use Rattle.chess_text.specs.Placement.{rank_text, ranks, row, run_text}
+pub use Rattle.chess_text.specs.Placement.{cells_at, cells_of, is_item, is_rank, is_run, is_slash, placement_of, placement_text, one_cell, rank_text, ranks, row, run_text}
 pub use Rattle.chess_text.specs.Items.{item}
 pub use Rattle.chess_text.specs.San.{MarkPairs, capture_if, capture_text, castling_text, disambiguated_text, disambiguation, disambiguation_by, disambiguation_pairs, from_square, has_rivals, is_capture, is_rival, kind_pairs, kind_text, king_text, mark, mark_after, on_file, on_rank, pawn_capture, piece_text, promotion_text, rivals, san, unmarked}
-pub use Rattle.chess_text.specs.WrittenMove.{IsMoveSymbol, WrittenMoveIsRead, WrittenMoveIsSymbol, begins_with_letter, is_letter, is_marker}
-pub use Rattle.chess_text.specs.WrittenMove.{is_move_byte}
+pub use Rattle.chess_text.specs.WrittenMove.{IsMoveSymbol, WrittenMoveIsRead, WrittenMoveIsSymbol, begins_with_letter, is_letter, is_marker, is_move_byte}
 pub use Rattle.chess_text.specs.declared.fen.FenFault.{FenFault}
 pub use Rattle.chess_text.specs.declared.form.Form.{Form}
 pub use Rattle.chess_text.specs.declared.form.Form.TheVariants.{Castle, Man}

@@ -1,7 +1,6 @@
 -- The words that proofs of this crate name, under one path.
-pub use Rattle.pgn_c.specs.NextGame.{AreKnown, ConvertsNext, IsGame, NextOf, HasGameByMarker, fault_result, game_result, nothing}
+pub use Rattle.pgn_c.specs.NextGame.{AreKnown, ConvertsNext, IsGame, NextOf, HasGameByMarker, fault_result, game_result, nothing, profile_counting, profile_taking, status_for, text_from}
 pub use Rattle.pgn_c.specs.NextGameSteps.{Finds, Holds, ReadsTo}
-pub use Rattle.pgn_c.specs.NextGame.{profile_counting, profile_taking, status_for, text_from}
 pub use Rattle.pgn_c.specs.Results.{IsFilled, padded, profile_in, result_of, status_of}
 pub use Rattle.pgn_c.specs.TagAt.{BeginsWithTag, TagResult, no_tag}
 pub use Rattle.pgn_c.specs.TagScan.{length_to_quote, name_length, one_more, pair_behind_bracket, text_behind, value_length}

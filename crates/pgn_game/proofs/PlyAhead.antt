@@ -1,11 +1,10 @@
 -- The next ply of a line of play, by the next word that is to name a move.
-use Rattle.pgn_game.proofs.Words.{◌≡◌, ℕ, List, ◌∷◌, arith, Result, Ok, Err, Some, Parts, Played, Reason, san, text_of_move, Ahead, NextMove, NextPly, bytes_between, moves_from, word_in, common_steps}
+use Rattle.pgn_game.proofs.Words.{◌≡◌, ℕ, List, ◌∷◌, arith, Ok, Some, Parts, san, text_of_move, Ahead, NextMove, NextPly, bytes_between, moves_from, word_in, common_steps}
 use Rattle.pgn_game.specs.declared.line_of_play.MoveOfLine.{MoveOfLine}
 use Rattle.pgn_game.specs.declared.line_of_play.Ply.{Ply as CodePly}
 use Rattle.pgn_game.specs.declared.line_of_play.Span.{Span}
 use Rattle.pgn_game.specs.declared.notation.Notation.{Notation}
 use Rattle.pgn_game.specs.calls.Notations.{named_in}
-use Rattle.pgn_game.specs.calls.LineOfPlay.{Line, Word}
 
 -- what was seen before the call
 abbrev seen : Notation → Parts → List ℕ → ℕ → Ahead

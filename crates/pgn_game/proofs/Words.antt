@@ -1,6 +1,6 @@
 -- The words that most proofs name, under one path: tokens, positions, formats, stages, reasons,
 -- profiles, tag pairs and games.
-pub use Rattle.pgn_lexer.specs.Tokens.{Kind, Token, left_paren, right_paren, EndsAt}
+pub use Rattle.pgn_lexer.specs.Tokens.{Kind, Token, left_paren, right_paren, EndsAt, asterisk, left_bracket, right_bracket, str, symbol}
 pub use Rattle.chess_rules.specs.declared.position.Parts.{Parts}
 pub use Rattle.chess_text.specs.declared.resolution.Played.{Played}
 pub use Rattle.chess_text.specs.declared.resolution.SanFault.{SanFault}
@@ -13,16 +13,14 @@ pub use Rattle.pgn_game.specs.declared.reason.Reason.{Reason}
 pub use Rattle.pgn_game.specs.declared.reason.Reason.TheVariants.{Lexical, ExpectedName, BadTagName, DuplicateTag, TooManyTags, ExpectedValue, BadResult, BadFen, TagLineTooLong, ExpectedBracket, SetUpWithoutFen, ReducedFen, TagInMovetext, NotAMove, IllegalMove, AmbiguousMove, MoveLimit, NoMoveBefore, TooDeep, UnmatchedClose, MarkerInVariation, ResultDiffers, UnexpectedEnd, ReadFault, WriteFault, InputTooLong, Changed}
 pub use Rattle.pgn_game.specs.games.Profile.{Profile, Missing, counts_as, takes_the_marker, known_result, counting, with_missing}
 pub use Rattle.pgn_game.specs.games.Pairs.{Pair, value_of, has_pair, comes_before, insert_pair}
-pub use Rattle.pgn_game.specs.games.Game.{Item, Game, Part, no_part}
+pub use Rattle.pgn_game.specs.games.Game.{Item, Game, Part, no_part, close_variation, open_variation}
 pub use Rattle.std.proofs.Common.{All, Bool, Bor, Err, IfOk, IfSome, IsErr, IsFalse, IsSome, IsSomeAnd, IsTrue, List, None, Ok, OnOk, Option, Result, Some, [], add-one, ap, append-nil, append_assoc, arith, bytes_eq, codes, cond, decimal, drop, eq-eqb, false, filter, fold, get_or, if◌then◌else◌, inl, inr, insert, is_none, is_ok, is_some, le-ltb, le_refl, length, length-append, lit<, lit≤, lt-ltb, map, max, nat_le, nat_lt, not, option_map, refl, rules, set, slice_get, subst, suc, sum, sym, take, true, true≢false, unwrap_or, zero, ℕ, ◌&&◌, ◌++◌, ◌+◌, ◌-◌, ◌<◌, ◌==◌, ◌^◌, ◌||◌, ◌↔◌, ◌∙◌, ◌∷◌, ◌≡◌, ◌≤◌, ◌⊎◌, drop_of_length-le, le_trans, length-drop, length-take, ◌*◌}
 pub use Rattle.std.proofs.ByRecursion.{All-append, All-map, All-weaker, all_kept_by, All-get_or}
 pub use Rattle.std.proofs.KnownBytes.{Appends-nil, Appends-trans, Consumes-kept, Consumes-nil, Consumes-trans}
 pub use Rattle.std.proofs.Math.Seq.{drop-append-add, drop-append_seam, drop-cons, drop-length, take-append-add, take-append_seam, take-suc, take-add, get_or-append_seam, set-append_seam, take-nil}
-pub use Rattle.std.proofs.lemmas.Bool.{and_from, and_parts, and_right, cases_Bool, cases_order, eqb-true, false≢true, le-leb, leb-false, leb-true, not-true}
-pub use Rattle.std.proofs.lemmas.Bool.{lt-leb, ltb-false, ltb-true, ne_eqb, not-false, or_cases, or_from, or_parts, or_right, true_from_ne_false}
+pub use Rattle.std.proofs.lemmas.Bool.{and_from, and_parts, and_right, cases_Bool, cases_order, eqb-true, false≢true, le-leb, leb-false, leb-true, not-true, lt-leb, ltb-false, ltb-true, ne_eqb, not-false, or_cases, or_from, or_parts, or_right, true_from_ne_false}
 pub use Rattle.std.proofs.lemmas.Bool.Decides.{eqb_tells, nat_tests}
-pub use Rattle.std.proofs.lemmas.List.{drop_all, drop_at, length-map, length-set, length-take-le, take-append-drop, take-append-le, take_all, take_at, append_cancel_left, drop-map, get_or-drop, get_or-set_other, get_or-set_same, get_or_append_left, get_or_read, length_push, take-map}
-pub use Rattle.std.proofs.lemmas.List.{take_more_set, drop-append-le, drop-drop, drop-take, map-append, take-take, take_rest}
+pub use Rattle.std.proofs.lemmas.List.{drop_all, drop_at, length-map, length-set, length-take-le, take-append-drop, take-append-le, take_all, take_at, append_cancel_left, drop-map, get_or-drop, get_or-set_other, get_or-set_same, get_or_append_left, get_or_read, length_push, take-map, take_more_set, drop-append-le, drop-drop, drop-take, map-append, take-take, take_rest}
 pub use Rattle.std.proofs.lemmas.List.Elements.{All-cons, All-head, All-nil, All-tail, filter-append}
 pub use Rattle.std.proofs.lemmas.List.Folds.{list_all-append, list_any-append}
 pub use Rattle.std.proofs.lemmas.List.Sums.{count_by-le-length, fold-append, length-filter, sum-map, sum_by-append, sum_by-cons}
@@ -45,11 +43,8 @@ pub use Rattle.pgn_game.specs.games.FaultTable.{Row, fen_fault_field, fen_field,
 unfoldable pub use Rattle.pgn_game.specs.games.FaultTable.{refusal}
 pub use Rattle.pgn_game.specs.laws.Filled.{exported_pairs, filled}
 pub use Rattle.pgn_game.specs.laws.FixedPoint.{AreExportable, ExportIsKept, ExportIsKeptOfSource, ExportingTwice, FewPairsHaveRoom, FixedPoint, IsExportable, IsWrittenAgain, SameOutput, SameText, SliceIsKept, SourceIsKept, TagSectionFits, TextSpells, counted, games_in}
-pub use Rattle.pgn_game.specs.games.Game.{close_variation, open_variation}
-pub use Rattle.pgn_game.specs.state.ItemResult.{Adds, Annotates, Plays, PutsTokens, TriesItem, WritesItem, after_move_if, item_text, number_due, plies_in}
-pub use Rattle.pgn_game.specs.state.ItemResult.{tokens_due, tokens_if, LeavesSink}
-pub use Rattle.pgn_game.specs.games.Levels.{Level, Levels, back_to, depth, first_level, here, last_position, levels_after, levels_of, main_moves, outermost}
-pub use Rattle.pgn_game.specs.games.Levels.{plies_of, replayed, start_of, without_last}
+pub use Rattle.pgn_game.specs.state.ItemResult.{Adds, Annotates, Plays, PutsTokens, TriesItem, WritesItem, after_move_if, item_text, number_due, plies_in, tokens_due, tokens_if, LeavesSink}
+pub use Rattle.pgn_game.specs.games.Levels.{Level, Levels, back_to, depth, first_level, here, last_position, levels_after, levels_of, main_moves, outermost, plies_of, replayed, start_of, without_last}
 pub use Rattle.pgn_game.specs.games.Markers.{marker_text, missing_of}
 pub use Rattle.pgn_game.specs.calls.Written.{bytes_seen, failures_seen, is_nothing, mode_of_written, mode_unless, seen}
 pub use Rattle.pgn_game.specs.state.Movetext.{HoldsLineOf, ClosesLevel, FitsLevelStore, HoldsItems, Movetext, StoredLevel, StoredLevels, before_last, code_levels, ends_in_move, inside, level_at, level_of, movetext_after_fen, movetext_from, nearest_first, only_level, places_of, stored_level, stored_levels}
@@ -61,10 +56,8 @@ pub use Rattle.pgn_game.specs.games.Spells.{AreDistinct, AreDropped, BeginsBare,
 pub use Rattle.pgn_game.specs.state.StoredPairs.{AllAfter, AllBelow, AreInOrder, FitsPairStore, HasBegun, InOrder, TagPairs, index_of, pair_at, pairs_seen, placed}
 pub use Rattle.pgn_game.specs.export.TagSection.{exported, in_roster, other_pairs, roster_pairs, tag_lines, tag_section, with_set_up}
 unfoldable pub use Rattle.pgn_game.specs.export.TagSection.{roster}
-pub use Rattle.pgn_game.specs.export.Text.{Placed, full_text, game_text, has_move, is_main_move, is_move, number_before, placed_from, tokens_at, tokens_from}
-pub use Rattle.pgn_game.specs.export.Text.{tokens_out, torn, torn_at, torn_for, written_items, text_of as text_of_games}
-pub use Rattle.pgn_game.specs.state.TokenInMovetext.{IsEntry, IsOpen, ItemFits, fen_position, game_of, may_have_movetext, model_item, or_else}
-pub use Rattle.pgn_game.specs.state.TokenInMovetext.{text_refusal, with_items}
+pub use Rattle.pgn_game.specs.export.Text.{Placed, full_text, game_text, has_move, is_main_move, is_move, number_before, placed_from, tokens_at, tokens_from, tokens_out, torn, torn_at, torn_for, written_items, text_of as text_of_games}
+pub use Rattle.pgn_game.specs.state.TokenInMovetext.{IsEntry, IsOpen, ItemFits, fen_position, game_of, may_have_movetext, model_item, or_else, text_refusal, with_items}
 pub use Rattle.pgn_game.specs.declared.marker.Marker.{Marker}
 pub use Rattle.pgn_game.specs.declared.marker.Marker.TheVariants.{BlackWins, Draw, Unknown, WhiteWins}
 pub use Rattle.pgn_layout.specs.Device.{AppendsFront, Counts, Device, Writes, WritesText, device, one_more, FailsOnce, IsStill, nowhere}
@@ -72,11 +65,9 @@ pub use Rattle.pgn_layout.specs.Layout.{EndGame, Put, ended, laid_from, line_at,
 pub use Rattle.pgn_layout.specs.Lines.{IsToken, full_lines, has_room, last_line, lines_from, lines_of, text_of}
 pub use Rattle.pgn_layout.specs.TagLine.{escape_of, escaped, needs_escape, tag_line}
 pub use Rattle.pgn_lexer.specs.Bytes.{continues_symbol, is_space, starts_symbol}
-pub use Rattle.pgn_lexer.specs.Laws.{IsLast, KindsAreReadBack, NumbersAreSymbols, RisesTo, TokensAreSound, TokensRise, TextsRestart, CanBeMarker, DecidedIsPrefix}
-pub use Rattle.pgn_lexer.specs.Laws.{BeginsWithToken, SymbolsStandInText}
+pub use Rattle.pgn_lexer.specs.Laws.{IsLast, KindsAreReadBack, NumbersAreSymbols, RisesTo, TokensAreSound, TokensRise, TextsRestart, CanBeMarker, DecidedIsPrefix, BeginsWithToken, SymbolsStandInText}
 pub use Rattle.pgn_lexer.specs.Scanned.{kind_of, fault, more}
 pub use Rattle.pgn_lexer.specs.Sound.{CommentsClose, IsData, IsSoundKind, IsSymbol, begins_with, IsWord}
-pub use Rattle.pgn_lexer.specs.Tokens.{asterisk, left_bracket, right_bracket, str, symbol}
 pub use Rattle.pgn_lexer.specs.TokensOf.{tokens_of, onto, Within, begins, begins_after, begins_class, begins_first, column, has_mark}
 pub use Rattle.pgn_lexer.specs.Written.{AreEnded, IsEndedBy, IsPiece, IsReadable, Piece, kinds_in, text_of_pieces, written}
 pub use Rattle.pgn_lexer.specs.declared.token.TokenKind.{TokenKind}
@@ -91,17 +82,13 @@ pub use Rattle.pgn_game.specs.calls.ConverterCalls.{NoWriteFails, StillStands, w
 pub use Rattle.pgn_lexer.specs.Standing.{Standing, coming, waiting}
 pub use Rattle.pgn_lexer.specs.Stands.{AfterScan, FinishGivesToken, Follows, HasLeft, IsDecided, IsNext, StandsAfter, first, still, Scans}
 pub use Rattle.pgn_game.specs.state.Readings.{BothSoFar, HasMarkers, HasMatched, Reading, changed_reason, model_marker, AfterMarker, AllRead, ComesNext, EndComes, FirstFails, GameRead, GameWritten, HasCome, HasGiven, MarkerComes, ReadFails, ReadingStops, ReadsUpToMarker, SecondFails, StandsBetween, StandsIn, WhyFirst, WhySecond, WritesGame, as_changed, at_read, no_sink}
-pub use Rattle.pgn_game.specs.calls.MostTried.{CostsIf, CostsToAdd, CostsToFind, CostsToWrite, MostFrom, MostTried, Raises, Tries, CostsUnlessRefused, is_sought}
-pub use Rattle.pgn_game.specs.calls.MostTried.{TriesUnwritten, added, is_written, none}
-pub use Rattle.pgn_game.specs.calls.GamesCalls.{AfterNext, CountsNext, Games, HasReadAll, HaveRead, NextGame, NextStops, NoGame, ReadSoFar, at_end, ReadsNext, ReadsNoGame}
-pub use Rattle.pgn_game.specs.calls.GamesCalls.{games_of, most_left, within}
+pub use Rattle.pgn_game.specs.calls.MostTried.{CostsIf, CostsToAdd, CostsToFind, CostsToWrite, MostFrom, MostTried, Raises, Tries, CostsUnlessRefused, is_sought, TriesUnwritten, added, is_written, none}
+pub use Rattle.pgn_game.specs.calls.GamesCalls.{AfterNext, CountsNext, Games, HasReadAll, HaveRead, NextGame, NextStops, NoGame, ReadSoFar, at_end, ReadsNext, ReadsNoGame, games_of, most_left, within}
 pub use Rattle.pgn_game.specs.export.Due.{Gains, gain, text_next}
 pub use Rattle.pgn_game.specs.state.ConverterSteps.{AfterStep, AfterStepAtEnd, AllSoFar, AtEndSoFar, EndsGame, EndsWithin, FaultAtEnd, FeedsAllSoFar, FeedsSoFar, FinishesSoFar, GainsAs, IsGoing, Meets, NotTaken, OneGame, Reaches, ReadsMore, SameGames, SoFar, StaysBetween, due_as, ended_by, fault_of, next_at, outcome_at, part_after, AfterEndToMarker, AfterStepsInPiece, CountsGame, EndsSoFar, EndsToMarker, FailsAtEnd, FailsIn, GoesToMarker, IsBeforePiece, IsBeforeToken, IsReadyAfter, KeepsRest, LeftSoFar, ReadsPiece, ReadsToEnd, ReadsToLeftMarker, ReadsToMarker, StepAdvances, StepAtEndAdvances, StepGoes, StepsInPiece, StepsAtEnd, StepsOn, TakesStepsInPiece, announcing, is_ended, taking_announced_marker}
-pub use Rattle.pgn_game.specs.calls.Checked.{Comparison, PlacedMarker, checked_profile, compared, compared_from, earlier_fault, is_changed, is_other, marker_at}
-pub use Rattle.pgn_game.specs.calls.Checked.{markers, markers_after, markers_from, torn_before, with_marker, written_by}
+pub use Rattle.pgn_game.specs.calls.Checked.{Comparison, PlacedMarker, checked_profile, compared, compared_from, earlier_fault, is_changed, is_other, marker_at, markers, markers_after, markers_from, torn_before, with_marker, written_by}
 pub use Rattle.pgn_lexer.specs.Decided.{decided}
-pub use Rattle.pgn_game.specs.calls.Conversion.{AfterConversion, AfterEnd, AfterSlice, CountsDevices, Fails, FailsOn, IsConverted, IsTotalled, MostProbes, CountsResult, CountsSink, CountsWriting, Decides, IsTokenPrefix}
-pub use Rattle.pgn_game.specs.calls.Conversion.{ReadsNoMore, verdict_in}
+pub use Rattle.pgn_game.specs.calls.Conversion.{AfterConversion, AfterEnd, AfterSlice, CountsDevices, Fails, FailsOn, IsConverted, IsTotalled, MostProbes, CountsResult, CountsSink, CountsWriting, Decides, IsTokenPrefix, ReadsNoMore, verdict_in}
 pub use Rattle.pgn_game.specs.state.GamesSteps.{FillResult, MoreResult, MoreSoFar, ReadsSoFar, StandsWithin, AfterToMarker, CountsReading, FeedsRest, MeetsNext, ReadsAllOf, StopsBefore, UsesAll}
 pub use Rattle.pgn_game.specs.laws.GamesRestart.{FinishesGame, GamesRestart, counting_also, games_read}
 pub use Rattle.pgn_game.specs.declared.conversion.Totals.{Totals}

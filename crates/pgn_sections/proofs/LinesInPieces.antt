@@ -3,12 +3,12 @@ use Rattle.std.proofs.lemmas.Grind.{common_steps}
 use Rattle.std.proofs.Common.{◌≡◌, ℕ, ◌+◌, ◌-◌, ◌<◌, Bool, true, false, List, [], ◌∷◌, ◌++◌, Option, None, Some, length, drop, take, refl, sym, ◌∙◌, ap, arith, append-nil}
 use Rattle.std.proofs.lemmas.Bool.{false≢true, lt-ltb}
 use Rattle.std.proofs.lemmas.List.{drop_all}
-use Rattle.std.specs.Prelude.{IsTrue, is_some, suc, not, ◌&&◌, ◌==◌, if◌then◌else◌}
+use Rattle.std.specs.Prelude.{IsTrue, is_some, not, ◌&&◌, ◌==◌, if◌then◌else◌}
 use Rattle.std.specs.List.{list_all}
 use Rattle.pgn_sections.specs.BadGame.{behind_line, place_on, with_line}
 use Rattle.pgn_sections.specs.Bytes.{begins_with, is_space}
 use Rattle.pgn_sections.specs.FirstLine.{line_from, line_to_return}
-use Rattle.pgn_sections.specs.Lines.{ends_line, first_place, lines_of, place_in, with_first}
+use Rattle.pgn_sections.specs.Lines.{ends_line, first_place, lines_of, place_in}
 use Rattle.pgn_sections.specs.Pieces.{CanFollow, FindsPlace, IsSameGame}
 use Rattle.pgn_sections.specs.declared.bad_game.BadGame.{BadGame}
 

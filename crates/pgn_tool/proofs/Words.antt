@@ -20,8 +20,7 @@ pub use Rattle.pgn_game.specs.games.Game.{Game, Part}
 pub use Rattle.pgn_game.specs.calls.GamesCalls.{Games, HaveRead, NextGame, NextStops, NoGame, ReadsNoGame, at_end, most_left, within, CountsNext, ReadsNext}
 pub use Rattle.pgn_game.specs.games.Levels.{start_of}
 pub use Rattle.pgn_game.specs.games.Profile.{Profile, takes_the_marker}
-pub use Rattle.pgn_game.specs.games.Progress.{Progress, Read, Verdict, due, no_progress, output, progress_after, read}
-pub use Rattle.pgn_game.specs.games.Progress.{read_from, refused, totals, verdict, verdict_of, Counted}
+pub use Rattle.pgn_game.specs.games.Progress.{Progress, Read, Verdict, due, no_progress, output, progress_after, read, read_from, refused, totals, verdict, verdict_of, Counted}
 pub use Rattle.pgn_game.specs.games.Reason.{line_of}
 pub use Rattle.pgn_game.specs.export.TagSection.{exported, tag_section}
 unfoldable pub use Rattle.pgn_game.specs.export.TagSection.{roster}
@@ -37,16 +36,13 @@ pub use Rattle.pgn_lexer.specs.Decided.{decided}
 pub use Rattle.pgn_lexer.specs.Tokens.{Kind, Token}
 pub use Rattle.pgn_lexer.specs.TokensOf.{tokens_of}
 pub use Rattle.pgn_tool.specs.CheckedRun.{AnswersSame, AnswersTwice, BlamesTwice, EndsTwice, Gives, RunsTwice, profile_twice}
-pub use Rattle.pgn_tool.specs.Files.{FileStep, IsBegun, IsNew, added, bytes_in, closed, failures_in, file_steps, has_bytes, is_text, made, file_sink}
-pub use Rattle.pgn_tool.specs.Files.{number_after, refusal_step, taken_by, whole_files}
-pub use Rattle.pgn_tool.specs.ListLines.{CountsReadFault, IsListed, ListResult, ListStops, ListsNoMore, game_line, line_just_finished, lines_from}
-pub use Rattle.pgn_tool.specs.ListLines.{lines_of, list_profile, listed_value, six_fields, too_long, unread}
+pub use Rattle.pgn_tool.specs.Files.{FileStep, IsBegun, IsNew, added, bytes_in, closed, failures_in, file_steps, has_bytes, is_text, made, file_sink, number_after, refusal_step, taken_by, whole_files}
+pub use Rattle.pgn_tool.specs.ListLines.{CountsReadFault, IsListed, ListResult, ListStops, ListsNoMore, game_line, line_just_finished, lines_from, lines_of, list_profile, listed_value, six_fields, too_long, unread}
 unfoldable pub use Rattle.pgn_tool.specs.ListLines.{finished_game_line}
 pub use Rattle.pgn_tool.specs.Machine.{Holding, IsOpened, Machine, Reading, holds, missing}
 pub use Rattle.pgn_tool.specs.Program.{Carries, EndsUnopened, IsMissing, RunsAnswer, RunsWords, StartsFrom, by_fault, by_task, file_source, opened, opened_again, source_of, streams, unbuffered, unopened, unopened_again}
 pub use Rattle.pgn_tool.specs.SplitFiles.{CountsSource, CountsSplit, EndsSplit, GameSplit, IsOwn, LastFile, RunsSplit, SplitFiles, reported, settled}
-pub use Rattle.pgn_tool.specs.SplitGames.{CutFile, CutsFile, IsSplit, IsSplitWhole, Logs, LogsCut, SplitResult, SplitStops, SplitsNoMore, StopsAt}
-pub use Rattle.pgn_tool.specs.SplitGames.{files_of, texts_in, torn_file, torn_text}
+pub use Rattle.pgn_tool.specs.SplitGames.{CutFile, CutsFile, IsSplit, IsSplitWhole, Logs, LogsCut, SplitResult, SplitStops, SplitsNoMore, StopsAt, files_of, texts_in, torn_file, torn_text}
 pub use Rattle.pgn_tool.specs.BetweenGames.{ListedSoFar, SplitSoFar}
 pub use Rattle.pgn_tool.specs.TaskRun.{Answers, Blames, Concludes, Ends, EndsList, FlushCounts, HasFailed, HasFront, IsCalm, IsSmooth, IsUntouched, Job, Runs, Tells, TellsVerdict, Works, checking, counting_line, exporting, line, listing, profile_for, status_of, text_for}
 pub use Rattle.pgn_tool.specs.declared.game_sink.GameFile.{GameFile}

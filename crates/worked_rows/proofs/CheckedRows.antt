@@ -1,7 +1,6 @@
 -- Worked rows of inputs that are read twice.
-use Rattle.worked_rows.proofs.Words.{String, ◌≡◌, ℕ, ◌+◌, List, [], ◌++◌, None, Some, length, refl, codes, replicate, take, tokens_of, Full, Reduced}
+use Rattle.worked_rows.proofs.Words.{String, ◌≡◌, ℕ, ◌+◌, List, [], ◌++◌, None, Some, length, refl, codes, replicate, take, tokens_of, Full, Reduced, ResultDiffers, IllegalMove, UnexpectedEnd, Changed, Profile, Verdict, totals, due, output}
 use Rattle.std.specs.Prelude.{drop}
-use Rattle.worked_rows.proofs.Words.{ResultDiffers, IllegalMove, UnexpectedEnd, Changed, Profile, Verdict, totals, due, output}
 use Rattle.pgn_lexer.specs.Decided.{decided}
 use Rattle.pgn_game.specs.calls.Checked.{checked_profile, compared, written_by, checked_verdict, checked_output}
 use Rattle.pgn_game.specs.calls.CheckedConversion.{WriteStops}

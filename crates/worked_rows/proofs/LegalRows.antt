@@ -1,6 +1,5 @@
 -- Worked rows of legal moves: a variation begins in the position before the move that it replaces.
-use Rattle.worked_rows.proofs.Words.{◌≡◌, ℕ, true, false, [], ◌∷◌, None, refl, codes, square, squares, first_position, position_of}
-use Rattle.worked_rows.proofs.Words.{play, Pair, Item, move, open_variation, close_variation}
+use Rattle.worked_rows.proofs.Words.{◌≡◌, ℕ, true, false, [], ◌∷◌, None, refl, codes, square, squares, first_position, position_of, play, Pair, Item, move, open_variation, close_variation}
 use Rattle.pgn_game.specs.laws.MovesAreLegal.{plays_legally}
 
 -- a move from one square to another, each as file and rank from 0

@@ -1,6 +1,5 @@
 -- The definitions, computed on worked positions.
-use Rattle.worked_rows.proofs.Words.{Promotion, ◌≡◌, ℕ, [], ◌∷◌, refl, sum_by, count_by, Option, None, Some, Bool, true, false, White}
-use Rattle.worked_rows.proofs.Words.{Black, Queen, Knight, Pawn, Move, Parts, square, squares}
+use Rattle.worked_rows.proofs.Words.{Promotion, ◌≡◌, ℕ, [], ◌∷◌, refl, sum_by, count_by, Option, None, Some, Bool, true, false, White, Black, Queen, Knight, Pawn, Move, Parts, square, squares}
 use Rattle.chess_rules.specs.declared.position.PositionFault.TheVariants.{Kings, PawnOnEdge, KingCapturable, TargetRank, NumberRange}
 use Rattle.chess_rules.specs.Position.{position_fault, is_position, initial}
 use Rattle.chess_rules.specs.Legal.{legal, is_legal, is_check, is_mate, has_legal_move, every_promotion}

@@ -1,6 +1,5 @@
 -- Worked rows of the most pairs that are tried for one token of an input.
-use Rattle.worked_rows.proofs.Words.{◌≡◌, ℕ, true, false, refl, sym, ◌∙◌, List, arith, codes, take, Parts, squares, agreeing, tokens_of, NotAMove}
-use Rattle.worked_rows.proofs.Words.{IllegalMove, first_position, position_of, move_of, play, refusal, read}
+use Rattle.worked_rows.proofs.Words.{◌≡◌, ℕ, true, false, refl, sym, ◌∙◌, List, arith, codes, take, Parts, squares, agreeing, tokens_of, NotAMove, IllegalMove, first_position, position_of, move_of, play, refusal, read}
 use Rattle.std.specs.Prelude.{drop}
 use Rattle.chess_rules.specs.Legal.{is_check}
 use Rattle.chess_text.specs.San.{MarkPairs}

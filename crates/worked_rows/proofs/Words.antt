@@ -22,5 +22,4 @@ pub use Rattle.pgn_lexer.specs.TokensOf.{tokens_of}
 pub use Rattle.pgn_lexer.specs.declared.token.LexReason.{LexReason}
 pub use Rattle.std.proofs.Common.{List, None, [], arith, false, length, refl, sym, true, ℕ, ◌++◌, ◌∙◌, ◌∷◌, ◌≡◌}
 unfoldable pub use Rattle.std.specs.Fmt.{digits}
-pub use Rattle.std.specs.Prelude.{Bool, Option, Some, codes, count_by, find, flat_map, if◌then◌else◌, map, nat_le, option_map, replicate}
-pub use Rattle.std.specs.Prelude.{sum_by, take, unwrap_or, ◌&&◌, ◌+◌, ◌-◌, ◌==◌}
+pub use Rattle.std.specs.Prelude.{Bool, Option, Some, codes, count_by, find, flat_map, if◌then◌else◌, map, nat_le, option_map, replicate, sum_by, take, unwrap_or, ◌&&◌, ◌+◌, ◌-◌, ◌==◌}

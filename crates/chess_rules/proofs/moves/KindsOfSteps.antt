@@ -1,5 +1,5 @@
 -- A step is of one kind, obeys the rules of that kind, and has its board.
-use Rattle.chess_rules.proofs.Words.{King, Rook, Pawn, Kind, Colour, Piece, Move, Parts, StepKind, Plain, EnPassant, ShortCastling, LongCastling, Square, gap, attacks, Board, at, cell_of, some_piece, is_empty, other, has_colour, has_piece, Wing, own, home, captured_pawn, castles, is_piece_step, is_pawn_way, is_pawn_step, promotion_fits, is_target, is_en_passant, castles_short, castles_long, short_right, long_right, short_wing, long_wing, carried, en_passant_board, castled, board_after, reaches, step_kind, ◌≡◌, ◌≢◌, ℕ, Bool, true, false, not, ◌&&◌, ◌||◌, ◌⊎◌, inl, inr, sym, ◌∙◌, ap, arith, nat_lt, ◌==◌, Option, None, Some, is_some, if◌then◌else◌, false≢true, false_from_ne_true, and_from, nat_tests, get_or-set_other, or_right, rules, common_steps}
+use Rattle.chess_rules.proofs.Words.{King, Rook, Pawn, Kind, Colour, Piece, Move, Parts, StepKind, Plain, EnPassant, ShortCastling, LongCastling, gap, attacks, Board, at, some_piece, is_empty, other, has_colour, has_piece, Wing, own, home, captured_pawn, castles, is_piece_step, is_pawn_way, is_pawn_step, promotion_fits, is_target, is_en_passant, castles_short, castles_long, short_right, long_right, short_wing, long_wing, carried, en_passant_board, castled, board_after, reaches, step_kind, ◌≡◌, ◌≢◌, Bool, true, false, not, ◌&&◌, ◌||◌, ◌⊎◌, inl, inr, sym, ◌∙◌, ap, arith, nat_lt, ◌==◌, Option, None, Some, is_some, if◌then◌else◌, false≢true, false_from_ne_true, and_from, nat_tests, get_or-set_other, or_right, rules, common_steps}
 use Rattle.chess_rules.proofs.moves.WaysToStep.{PieceStep, PawnStep, Passing, Castles, piece_step_means, pawn_step_means, passing_means, castles_means, way_of, by_piece, by_pawn, by_passing, by_short, by_long, some_of}
 use Rattle.chess_rules.proofs.sets.AllSquares.{first_true, second_true, same_tests, equal_tests}
 use Rattle.chess_rules.proofs.lines.AttackToReach.{kinds_same, colours_same}

@@ -1,7 +1,6 @@
 -- The tables of squares hold what is said of each square.
 use Rattle.chess_rules.proofs.sets.WordsToCells.{has_word}
-use Rattle.chess_rules.proofs.Words.{Square, has, word, Places, square_at, ◌≡◌, ℕ, zero, suc, ◌+◌, ◌<◌, Bool, List, [], ◌∷◌}
-use Rattle.chess_rules.proofs.Words.{◌∙◌, ap, arith, get_or, map, range_with_len, get_or-range_with_len, length-range_with_len}
+use Rattle.chess_rules.proofs.Words.{Square, has, word, Places, square_at, ◌≡◌, ℕ, zero, suc, ◌+◌, ◌<◌, Bool, List, [], ◌∷◌, ◌∙◌, ap, arith, get_or, map, range_with_len, get_or-range_with_len, length-range_with_len}
 
 -- What the tables hold.
 

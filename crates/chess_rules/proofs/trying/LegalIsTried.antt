@@ -1,5 +1,5 @@
 -- The origin of each step is a candidate, and so is that of each legal move.
-use Rattle.chess_rules.proofs.Words.{Colour, Kind, Pawn, Move, Parts, Square, square, gap, inside, same_square, strictly_between, between_on_rank, Board, at, is_empty, is_clear, kind_attacks, attacks, own, home, home_rank, pawn_rank, double_rank, is_advance, is_double_step, is_pawn_step, short_right, long_right, short_wing, long_wing, Wing, sees, is_aligned, step, if_safe, is_on_board, board_after, after, CandidatesComplete, StepsFromCandidates, ◌≡◌, ℕ, ◌+◌, ◌/◌, ◌<◌, Bool, true, false, Option, None, Some, option_map, if◌then◌else◌, not, ◌&&◌, ◌||◌, refl, sym, ap₂, subst, arith, ◌==◌, nat_tests, or_cases, or_left, or_right, and_from, King, Knight, Piece, Promotion, squares, is_jump, same_kind, has_colour, has_piece, is_position, is_legal, every_promotion, has_legal_move, king_square, one_move, is_legal_pair, is_king_step, is_untried, has_untried_move, has_king_step, inl, inr, List, [], ◌∷◌, ◌∙◌, filter, list_any, false_from_ne_true, rules, common_steps}
+use Rattle.chess_rules.proofs.Words.{Colour, Kind, Pawn, Move, Parts, Square, square, gap, inside, same_square, strictly_between, between_on_rank, Board, at, is_empty, is_clear, kind_attacks, attacks, own, home, home_rank, is_advance, is_double_step, is_pawn_step, short_right, long_right, short_wing, long_wing, Wing, sees, is_aligned, step, if_safe, is_on_board, board_after, after, CandidatesComplete, StepsFromCandidates, ◌≡◌, ℕ, ◌<◌, Bool, true, false, Option, None, Some, option_map, if◌then◌else◌, not, ◌&&◌, ◌||◌, refl, sym, ap₂, subst, arith, ◌==◌, nat_tests, or_cases, or_left, or_right, and_from, King, Knight, Piece, Promotion, squares, is_jump, same_kind, has_colour, has_piece, is_position, is_legal, every_promotion, has_legal_move, king_square, one_move, is_legal_pair, is_king_step, is_untried, has_untried_move, has_king_step, inl, inr, List, [], ◌∷◌, ◌∙◌, filter, list_any, false_from_ne_true, rules, common_steps}
 use Rattle.chess_rules.proofs.moves.WaysToStep.{Castles, piece_step_means, passing_means, castles_means, way_of, by_piece, by_pawn, by_passing, by_short, by_long}
 use Rattle.chess_rules.proofs.sets.AllSquares.{first_true, second_true, each_square, equal_from, equal_tests, not_true, same_tests, Passes, some_square, any_square}
 use Rattle.chess_rules.proofs.lines.AttackToReach.{near, ahead_gap, attack_seen, clear_if}

@@ -1,6 +1,5 @@
 -- A search that counts, step by step.
-use Rattle.chess_rules.proofs.Words.{Square, members, HasNone, Counts, ◌≡◌, ℕ, ◌+◌, ◌<◌, ◌≤◌, Bool, true, false, List, TakesLowest, common_steps}
-use Rattle.chess_rules.proofs.Words.{◌∷◌, length, ◌∙◌, ap, arith, list_any, sum_by, sum_by-cons}
+use Rattle.chess_rules.proofs.Words.{Square, members, HasNone, Counts, ◌≡◌, ℕ, ◌+◌, ◌<◌, ◌≤◌, Bool, true, false, List, TakesLowest, common_steps, ◌∷◌, length, ◌∙◌, ap, arith, list_any, sum_by, sum_by-cons}
 
 pub counts_exactly : (found : Bool) (old new whole : ℕ) → (found ≡ true → 0 < whole) → new ≡ old + whole → Counts found old new whole
 counts_exactly found old new whole one h = grind arith

@@ -1,7 +1,7 @@
 -- The board that a text spells, rank by rank from its first one.
 unfoldable use Rattle.chess_rules.specs.Words.{lanes}
 use Rattle.chess_text.proofs.positions.LanesOfItems.{lanes_fit, lanes_nil, lanes_with_item, ranks_above}
-use Rattle.chess_text.proofs.Words.{◌^◌, ◌≡◌, ℕ, zero, suc, ◌+◌, ◌-◌, ◌*◌, ◌<◌, ◌≤◌, ◌==◌, Bool, true, false, ◌&&◌, ◌||◌, List, [], ◌∷◌, ◌++◌, length, take, drop, reverse, reverse-append, inl, inr, refl, sym, ◌∙◌, ap, ap₂, subst, arith, append-nil, append_assoc, length-append, None, Some, flat_map, if◌then◌else◌, list_all, nat_tests, nat_le, nat_lt, false≢true, false_from_ne_true, Board, Piece, Option, ranks, is_item, is_rank, cells_of, placement_of, get_or, drop-cons, drop_all, cases_lt, onto_first, slice_split-cons_no, length-slice_split, is_slash, is_space, is_some, before_first, replicate, is_run, cells_at, item, common_steps, ◌%◌, length-replicate, piece_of, one_cell}
+use Rattle.chess_text.proofs.Words.{◌^◌, ◌≡◌, ℕ, zero, suc, ◌+◌, ◌-◌, ◌*◌, ◌<◌, ◌≤◌, ◌==◌, Bool, true, false, ◌&&◌, ◌||◌, List, [], ◌∷◌, ◌++◌, length, take, drop, reverse, reverse-append, inl, inr, refl, sym, ◌∙◌, ap, ap₂, subst, arith, append-nil, append_assoc, length-append, None, Some, flat_map, if◌then◌else◌, list_all, nat_tests, nat_le, nat_lt, false≢true, false_from_ne_true, Board, Piece, Option, ranks, is_item, is_rank, cells_of, placement_of, get_or, drop-cons, drop_all, cases_lt, onto_first, slice_split-cons_no, length-slice_split, is_slash, is_space, is_some, before_first, replicate, cells_at, item, common_steps, ◌%◌, length-replicate, piece_of, one_cell}
 
 -- The reading, byte by byte: `row` has the squares of the rank so far, `done` those of the ranks
 -- above.

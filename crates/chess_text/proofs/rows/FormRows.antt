@@ -1,7 +1,6 @@
 -- The forms of worked texts.
 use Prim.Native.String.{String}
-use Rattle.chess_text.proofs.Words.{◌≡◌, ℕ, true, false, Option, None, Some, refl, codes, Kind, King, Queen, Rook, Bishop, Knight, Pawn}
-use Rattle.chess_text.proofs.Words.{Promotion, Square, square, Form, Castle, Man, Spells, is_form, form_of}
+use Rattle.chess_text.proofs.Words.{◌≡◌, ℕ, true, false, Option, None, Some, refl, codes, Kind, King, Queen, Rook, Bishop, Knight, Pawn, Promotion, Square, square, Form, Castle, Man, Spells, is_form, form_of}
 use Rattle.chess_rules.specs.declared.piece.Promotion.TheVariants as promotions
 
 -- to a square, with no promotion

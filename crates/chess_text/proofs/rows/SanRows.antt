@@ -1,7 +1,6 @@
 -- The texts of worked moves.
 use Prim.Native.String.{String}
-use Rattle.chess_text.proofs.Words.{◌≡◌, ℕ, ◌-◌, List, [], ◌∷◌, Option, None, Some, refl, ◌∙◌, codes, Result, Ok, Err}
-use Rattle.chess_text.proofs.Words.{Promotion, Move, Parts, Square, square, squares, legal, FenFault, read, san}
+use Rattle.chess_text.proofs.Words.{◌≡◌, ℕ, ◌-◌, List, [], ◌∷◌, Option, None, Some, refl, ◌∙◌, codes, Result, Ok, Err, Promotion, Move, Parts, Square, square, squares, legal, FenFault, read, san}
 use Rattle.chess_rules.specs.declared.piece.Promotion.TheVariants.{Queen, Knight}
 use Rattle.chess_text.proofs.rows.MovesOfPieces.{san_is_tried, san_tried}
 

@@ -6,8 +6,7 @@ use Rattle.pgn_game.proofs.AllOfJoined.{all_front, all_behind}
 use Rattle.pgn_game.proofs.exporting.GameTextToGame.{ExportedPairs, exported_of, exported_result, given_result, some_exported, start_is_position}
 use Rattle.pgn_game.proofs.exporting.PairsExportedAgain.{exported_again, start_again, is_set_up_again, result_again, by_name_order}
 use Rattle.pgn_game.proofs.exporting.MovetextOfMode.{kept, KeptText, kept_text}
-use Rattle.pgn_game.proofs.exporting.PiecesToTokens.{AllShown, none_shown, next_shown, single, shown-append, PiecesOf, no_pieces, both_pieces}
-use Rattle.pgn_game.proofs.exporting.PiecesToTokens.{at_text, line_feed, line_pieces, tag_kinds, tag_pieces, tags_spell, tags_close}
+use Rattle.pgn_game.proofs.exporting.PiecesToTokens.{AllShown, none_shown, next_shown, single, shown-append, PiecesOf, no_pieces, both_pieces, at_text, line_feed, line_pieces, tag_kinds, tag_pieces, tags_spell, tags_close}
 use Rattle.pgn_game.proofs.reading.RunsToEnd.{kinds}
 use Rattle.pgn_game.proofs.exporting.SpelledToSound.{SoundGame, sound_game, marker_opens, marker_closed, marker_written, marker_writable}
 use Rattle.pgn_game.proofs.exporting.MoveTextToMove.{MoveLaws}

@@ -6,8 +6,7 @@ use Rattle.pgn_game.proofs.AllOfJoined.{all_front, all_behind}
 use Rattle.pgn_game.proofs.putting.ItemsAppended.{placed-append, tokens_from-append}
 use Rattle.pgn_game.proofs.exporting.PiecesToTokens.{IsWritable, AllShown, none_shown, next_shown, shown-append, single}
 use Rattle.pgn_game.proofs.exporting.SpelledToSound.{GoesOn, plain}
-use Rattle.pgn_game.proofs.exporting.MoveTextToMove.{ArePositions, MoveLaws, last_position, earlier_positions, plays_on, writable_move, names_again}
-use Rattle.pgn_game.proofs.exporting.MoveTextToMove.{number_kinds, number_shown, number_spells, number_writable, number_closes}
+use Rattle.pgn_game.proofs.exporting.MoveTextToMove.{ArePositions, MoveLaws, last_position, earlier_positions, plays_on, writable_move, names_again, number_kinds, number_shown, number_spells, number_writable, number_closes}
 
 abbrev pub level_in : Level → List Level → Levels
 level_in l around = record { current = l; around = around }

@@ -2,8 +2,7 @@
 use Rattle.pgn_game.proofs.Words.{InOrder, ◌≡◌, ℕ, ◌+◌, ◌≤◌, Bool, true, false, cond, List, [], ◌∷◌, ◌++◌, length, map, refl, sym, ap, ◌∙◌, arith, Option, None, Some, inl, inr, not, bytes_eq, is_some, unwrap_or, codes, IsTrue, IsFalse, AllByRecursion, list_all, false≢true, cases_Bool, escaped, Mode, Full, Reduced, Profile, Pair, value_of, has_pair, roster, in_roster, roster_pairs, with_set_up, other_pairs, exported, in_name, is_result, start_of, IsPair, AreDistinct, KeepsTags, IsSetUp, by_name, rules, common_steps}
 use Rattle.pgn_game.proofs.MarkerTexts.{marker_room, result_marker}
 use Rattle.pgn_game.proofs.reading.PairsInTurn.{takes, value_of-all, order-all}
-use Rattle.pgn_game.proofs.pairs.ExportedValues.{with_default, without_set_up, set_up, set_up_if, set_up_gone, set_up_values, no_fen, no_set_up}
-use Rattle.pgn_game.proofs.pairs.ExportedValues.{other_value, exported_known, exported_other, exported_none, no_set_up_of, on_roster, all-exported}
+use Rattle.pgn_game.proofs.pairs.ExportedValues.{with_default, without_set_up, set_up, set_up_if, set_up_gone, set_up_values, no_fen, no_set_up, other_value, exported_known, exported_other, exported_none, no_set_up_of, on_roster, all-exported}
 use Rattle.pgn_game.proofs.pairs.NameOrder.{order-insert, order-filter, same_pairs, distinct_in_order}
 use Rattle.pgn_game.proofs.pairs.ValuesByName.{bytes_eq-refl, pick, found}
 

@@ -1,6 +1,5 @@
 -- Escapes make a value no shorter.
-use Rattle.pgn_game.proofs.Words.{ℕ, ◌≤◌, Bool, true, false, List, [], ◌∷◌, length, arith, length-append, if◌then◌else◌}
-use Rattle.pgn_game.proofs.Words.{needs_escape, escape_of, escaped}
+use Rattle.pgn_game.proofs.Words.{ℕ, ◌≤◌, Bool, true, false, List, [], ◌∷◌, length, arith, length-append, if◌then◌else◌, needs_escape, escape_of, escaped}
 
 some_byte : (e : Bool) (b : ℕ) → 1 ≤ length (if e then 92 ∷ b ∷ [] else b ∷ [])
 some_byte true b = omega arith

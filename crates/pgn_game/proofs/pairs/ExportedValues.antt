@@ -1,8 +1,7 @@
 -- The value of a name in the pairs that are written, and a fact on each of them.
 use Rattle.pgn_game.proofs.Words.{◌≡◌, ℕ, ◌+◌, length, Bool, true, false, cond, List, [], ◌∷◌, drop, Option, None, Some, refl, ap, sym, ◌∙◌, add-one, bytes_eq, slice_get, unwrap_or, map, filter, not, is_some, ◌||◌, ◌&&◌, codes, drop-cons, All-append, all_kept_by, AllByRecursion, and_right, Mode, Full, Reduced, Pair, value_of, has_pair, insert_pair, roster, in_roster, roster_pairs, other_pairs, with_set_up, exported, arith, rules}
 use Rattle.pgn_game.proofs.putting.WritesInTurn.{within_at}
-use Rattle.pgn_game.proofs.pairs.ValuesByName.{bytes_eq-true, bytes_eq-sym, pick, value_of-cons, value_of-append, value_of-kept, value_of-put}
-use Rattle.pgn_game.proofs.pairs.ValuesByName.{has-cons, no_value, either_of, either_none, found, all-insert}
+use Rattle.pgn_game.proofs.pairs.ValuesByName.{bytes_eq-true, bytes_eq-sym, pick, value_of-cons, value_of-append, value_of-kept, value_of-put, has-cons, no_value, either_of, either_none, found, all-insert}
 
 abbrev pub with_default : List Pair → Pair → Pair
 with_default ps d = record { name = d.name; value = unwrap_or (value_of ps d.name) d.value }

@@ -1,7 +1,6 @@
 -- The levels as they are kept and as contracts see them: kept with the main line first, seen with
 -- the nearest first.
-use Rattle.pgn_game.proofs.Words.{◌≡◌, ℕ, ◌+◌, ◌-◌, ◌<◌, ◌≤◌, List, [], ◌∷◌, ◌++◌, length, length-map, map, refl, sym, ap, ◌∙◌, arith, length-append, get_or, set, take, refill, take-append_seam, Option, None, Some, IfSome, Parts, get_or-append_seam, set-append_seam, common_steps}
-use Rattle.pgn_game.proofs.Words.{StoredLevel, StoredLevels, inside, code_levels, nearest_first, places_of, level_at, level_of, FitsLevelStore, ClosesLevel}
+use Rattle.pgn_game.proofs.Words.{◌≡◌, ℕ, ◌+◌, ◌-◌, ◌<◌, ◌≤◌, List, [], ◌∷◌, ◌++◌, length, length-map, map, refl, sym, ap, ◌∙◌, arith, length-append, get_or, set, take, refill, take-append_seam, Option, None, Some, IfSome, Parts, get_or-append_seam, set-append_seam, common_steps, StoredLevel, StoredLevels, inside, code_levels, nearest_first, places_of, level_at, level_of, FitsLevelStore, ClosesLevel}
 use Rattle.pgn_game.proofs.pairs.StoredPlaces.{written}
 use Rattle.pgn_game.specs.declared.levels.Level.{Level as CodeLevel}
 

@@ -6,8 +6,7 @@ use Rattle.pgn_layout.specs.declared.sink.WriteFault.{WriteFault}
 use Rattle.pgn_game.specs.games.Game.{move}
 use Rattle.pgn_game.proofs.reading.MovetextTokens.{levels_more}
 use Rattle.pgn_game.proofs.putting.WritesInTurn.{front_of_more, Writes-append}
-use Rattle.pgn_game.proofs.putting.ItemsAppended.{written_from_start, written_behind, written_more, tokens_behind, tokens_more, full_lines_put}
-use Rattle.pgn_game.proofs.putting.ItemsAppended.{last_line_put}
+use Rattle.pgn_game.proofs.putting.ItemsAppended.{written_from_start, written_behind, written_more, tokens_behind, tokens_more, full_lines_put, last_line_put}
 
 -- Tokens put in turn: what goes out, and the line that is held.
 full_lines_laid : (ts us : List (List ℕ)) → All IsToken ts → All IsToken us → text_of_lines (full_lines (lines_of (ts ++ us)))

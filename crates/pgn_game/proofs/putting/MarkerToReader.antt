@@ -1,5 +1,5 @@
 -- What putting a marker comes to, and a token of movetext whose section cannot be written.
-use Rattle.pgn_game.proofs.Words.{◌≡◌, ℕ, List, [], ◌∷◌, ◌++◌, length, drop, Option, refl, ap, subst, ◌∙◌, append_assoc, arith, IsTrue, Ok, Err, All, lit<, lit≤, drop-append_seam, Appends-trans, Appends, AppendsFront, Device, one_more, IsToken, lines_of, full_lines, last_line, text_of as text_of_lines, Put, EndGame, text_at, line_at, Finished, Marker, WhiteWins, BlackWins, Draw, Unknown, marker_text, Mode, Between, AfterTags, InMovetext, Profile, counting, counts_as, Pair, Item, Part, Level as ModelLevel, Levels as ModelLevels, depth, start_of, outermost, replayed, last_position, tag_section, levels_of_part, tokens_out, full_text, torn_for, Next, whole, ReaderState, IsBehind, failures_seen, seen, Bool, true, false, as_written, known_of, IsOpen, game_of, may_have_movetext, BeginsText, PutResult, gain_to, section_due, section_due_of, common_steps}
+use Rattle.pgn_game.proofs.Words.{◌≡◌, ℕ, List, [], ◌∷◌, ◌++◌, length, drop, Option, refl, ap, subst, ◌∙◌, append_assoc, arith, IsTrue, Ok, Err, All, lit<, lit≤, drop-append_seam, Appends-trans, Appends, AppendsFront, Device, one_more, IsToken, lines_of, full_lines, last_line, text_of as text_of_lines, Put, EndGame, text_at, line_at, Finished, Marker, WhiteWins, BlackWins, Draw, Unknown, marker_text, Mode, Between, AfterTags, InMovetext, Profile, counting, counts_as, Pair, Item, Part, Level as ModelLevel, Levels as ModelLevels, start_of, outermost, last_position, tag_section, tokens_out, full_text, torn_for, Next, whole, ReaderState, IsBehind, failures_seen, seen, Bool, true, false, as_written, IsOpen, game_of, may_have_movetext, BeginsText, PutResult, gain_to, section_due, section_due_of, common_steps}
 use Rattle.pgn_layout.specs.declared.sink.WriteFault.{WriteFault}
 use Rattle.pgn_game.specs.declared.reason.Reason.TheVariants as reasons
 use Rattle.pgn_game.proofs.putting.WritesInTurn.{front_of_more, front_after}

@@ -1,7 +1,7 @@
 -- Each token that is written of a game that is read fits on a line, so its movetext is on the lines
 -- that its tokens have.
 use Rattle.std.proofs.ByRecursion.{All-append as all_joined}
-use Rattle.pgn_game.proofs.Words.{◌≡◌, ℕ, ◌<◌, ◌≤◌, Bool, true, false, List, [], ◌∷◌, ◌++◌, length, Option, None, Some, refl, arith, inl, inr, is_some, IsTrue, and_parts, false≢true, filter, list_all, unwrap_or, codes, All, All-nil, All-cons, AllByRecursion, Move, Parts, is_position, legal, is_legal, LeavesPosition, WrittenMoveIsSymbol, ReadingIsSpelling, IsToken, lines_of, Kind, Token, IsSoundKind, Mode, Full, Reduced, Profile, Pair, Item, Game, Part, Levels, levels_after, depth, first_level, back_to, start_of, Placed, placed_from, is_main_move, written_items, number_before, tokens_at, tokens_from, tokens_out, is_black_to_move, text_of_move, play, marker_of, Next, going, whole, next, in_text, items_of, Progress, progress_with, progress_after, no_progress, read_from, tokens_of, replayed, begins_with_letter, TokensDetermineLines, TokensAreSound, IsWord, is_legal_at, plays_legally, MovesAreLegal, common_steps}
+use Rattle.pgn_game.proofs.Words.{◌≡◌, ℕ, ◌<◌, ◌≤◌, Bool, true, false, List, [], ◌∷◌, ◌++◌, length, Option, None, Some, refl, arith, is_some, IsTrue, and_parts, false≢true, filter, list_all, unwrap_or, codes, All, All-nil, All-cons, AllByRecursion, Move, Parts, is_position, legal, is_legal, LeavesPosition, WrittenMoveIsSymbol, ReadingIsSpelling, IsToken, lines_of, Kind, Token, IsSoundKind, Mode, Full, Reduced, Profile, Pair, Item, Game, Part, Levels, levels_after, depth, start_of, Placed, placed_from, is_main_move, written_items, number_before, tokens_at, tokens_from, tokens_out, is_black_to_move, text_of_move, play, marker_of, Next, going, whole, next, in_text, items_of, Progress, progress_with, progress_after, no_progress, read_from, tokens_of, replayed, begins_with_letter, TokensDetermineLines, TokensAreSound, IsWord, is_legal_at, plays_legally, MovesAreLegal, common_steps}
 use Rattle.std.proofs.lemmas.List.Elements.{All-append}
 use Rattle.pgn_game.specs.games.Game as games
 use Rattle.pgn_game.specs.laws.MovetextLines.{AreOnLines, GameIsOnLines, MovetextIsOnLines}

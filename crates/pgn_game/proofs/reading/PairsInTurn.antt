@@ -1,8 +1,7 @@
 -- Pairs that come one after another, and what is asked of each beside those before it.
 use Rattle.pgn_game.proofs.Words.{InOrder, ◌≡◌, ℕ, suc, ◌+◌, ◌<◌, ◌≤◌, Bool, true, false, List, [], ◌∷◌, length, refl, sym, ap, ◌∙◌, arith, Option, None, IsFalse, bytes_eq, AllByRecursion, or_parts, or_from, Profile, Pair, value_of, has_pair, insert_pair, IsPair, AreDistinct, KeepsTags, rules, fold}
 use Rattle.pgn_game.proofs.pairs.NameOrder.{order-insert}
-use Rattle.pgn_game.proofs.pairs.ValuesByName.{bytes_eq-true, bytes_eq-sym, either_of, either_none, pick, value_of-cons, value_of-put, has-cons}
-use Rattle.pgn_game.proofs.pairs.ValuesByName.{has-insert, not_among, no_value, by_insert, all-insert}
+use Rattle.pgn_game.proofs.pairs.ValuesByName.{bytes_eq-true, bytes_eq-sym, either_of, either_none, pick, value_of-cons, value_of-put, has-cons, has-insert, not_among, no_value, by_insert, all-insert}
 
 abbrev pub with_pairs : List Pair → List Pair → List Pair
 with_pairs ps qs = fold (λ sorted q. insert_pair q sorted) ps qs

@@ -3,9 +3,8 @@ use Rattle.pgn_game.proofs.Words.{◌≡◌, ℕ, ◌+◌, ◌<◌, ◌≤◌, B
 use Rattle.pgn_lexer.specs.Tokens as tokens
 use Rattle.pgn_game.specs.games.Game as games
 use Rattle.pgn_game.proofs.reading.RunsToEnd.{at, Runs, ends, goes, finishes}
-use Rattle.pgn_game.proofs.refusals.RefusalsInMovetext.{marker_if, rows_for, same_at_zero, symbol_next, symbol_refusal}
-use Rattle.pgn_game.proofs.refusals.RefusalsByStage.{test_failed, rest_passed, open_refusal, open_between, name_refusal, value_refusal, is_textual}
-use Rattle.pgn_game.proofs.refusals.RefusalsByStage.{after_tags, leads_after_tags, between, leads_between, text_row}
+use Rattle.pgn_game.proofs.refusals.RefusalsInMovetext.{rows_for, same_at_zero, symbol_next, symbol_refusal}
+use Rattle.pgn_game.proofs.refusals.RefusalsByStage.{test_failed, rest_passed, open_refusal, open_between, name_refusal, value_refusal, is_textual, after_tags, leads_after_tags, between, leads_between, text_row}
 use Rattle.pgn_game.proofs.reading.PairsInTurn.{with_pairs, Takes, taken}
 use Rattle.pgn_game.proofs.reading.MovetextTokens.{levels_more, stands_levels, differs, result_is}
 

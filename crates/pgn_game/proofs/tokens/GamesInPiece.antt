@@ -1,6 +1,6 @@
 -- Games in turn in a piece.
 use Rattle.std.proofs.Common.{take_all}
-use Rattle.pgn_game.proofs.Words.{Token, Fault, Profile, take-append-drop, drop-drop, decided, first, still, Converter, Stands, FedAll, FedGame, FedToFault, FedFault, FedWhole, ReadsUpTo, StopsIn, within_limit, at_token, too_long, AllSoFar, ◌≡◌, ℕ, ◌+◌, ◌^◌, ◌≤◌, List, [], ◌∷◌, ◌++◌, length, take, drop, Option, None, refl, sym, ap, ◌∙◌, append-nil, append_assoc, length-drop, arith, inl, common_steps}
+use Rattle.pgn_game.proofs.Words.{Token, Fault, Profile, take-append-drop, drop-drop, decided, first, still, Converter, Stands, FedAll, FedGame, FedToFault, FedFault, FedWhole, ReadsUpTo, StopsIn, within_limit, at_token, too_long, AllSoFar, ◌≡◌, ℕ, ◌+◌, ◌^◌, ◌≤◌, List, [], ◌∷◌, ◌++◌, length, take, drop, Option, None, refl, sym, ap, ◌∙◌, append-nil, append_assoc, length-drop, arith, common_steps}
 use Rattle.pgn_game.proofs.tokens.OneMoreToken.{gains_none, gains_more, stops_more}
 use Rattle.pgn_game.proofs.tokens.StepsInPiece.{further, whole_piece, decided_at_end, stands_before_any}
 

@@ -2,7 +2,7 @@
 use Rattle.pgn_game.specs.declared.marker.PlacedMarker.{PlacedMarker}
 use Rattle.pgn_game.specs.declared.converter.StepEnd.TheVariants.{Marker as AtMarker}
 use Rattle.pgn_game.specs.declared.converter.FedUpTo.TheVariants.{All, Marker as ToMarker}
-use Rattle.pgn_game.proofs.Words.{Fault, Converter, Device, InputTooLong, waiting, as_written, ◌≡◌, ℕ, ◌+◌, ◌*◌, ◌^◌, ◌<◌, ◌≤◌, Bool, false, List, [], length, take, Option, None, Some, Result, Ok, Err, sym, ◌∙◌, arith, length-take, none-some, take-nil, StepEnd, FedUpTo, GoesToMarker, IsGoing, KeepsRest, StepGoes, fault_of, common_steps}
+use Rattle.pgn_game.proofs.Words.{Fault, Converter, Device, InputTooLong, waiting, as_written, ◌≡◌, ℕ, ◌+◌, ◌*◌, ◌^◌, ◌<◌, ◌≤◌, Bool, false, List, [], length, take, Option, None, Some, Result, Ok, Err, arith, length-take, take-nil, StepEnd, FedUpTo, GoesToMarker, IsGoing, KeepsRest, StepGoes, fault_of, common_steps}
 
 -- what was there before the first token, where no game is just finished from now on
 pub keeps_at_start : {A : Type 0} {x : A} {view old : Converter} → view ≡ old → IsGoing old

@@ -1,10 +1,10 @@
 -- The token that finishes a game is its marker, which is the Result of its tag section.
 use Rattle.pgn_lexer.specs.Tokens as tokens
-use Rattle.pgn_game.proofs.Words.{Kind, Token, Reason, Stage, AfterLeftBracket, AfterName, AfterValue, Profile, value_of, Game, Part, ◌≡◌, ℕ, false, List, [], ◌∷◌, ◌++◌, Option, None, Some, refl, codes, unwrap_or, IsTrue, IsFalse, not-false, bytes_eq-Decides, refusal, marker_of, is_comment, result_for, text_refusal, Next, going, whole, next, next_in, in_text, at_stage, progress_with, read, games_read, FinishesGame, EndsByMarker, GamesEndByMarker, rules, SetUpWithoutFen, Between, AfterTags, InMovetext, nat_le, sym, ◌∙◌, bytes_eq, levels_of_part, lacks_fen, depth, ap, Read, subst, Progress, arith, common_steps}
+use Rattle.pgn_game.proofs.Words.{Kind, Token, Reason, Stage, AfterLeftBracket, AfterName, AfterValue, Profile, value_of, Game, Part, ◌≡◌, ℕ, false, List, [], ◌∷◌, ◌++◌, Option, None, Some, refl, codes, unwrap_or, IsTrue, IsFalse, not-false, bytes_eq-Decides, refusal, marker_of, is_comment, result_for, text_refusal, Next, going, whole, next, next_in, in_text, at_stage, progress_with, read, games_read, FinishesGame, EndsByMarker, GamesEndByMarker, rules, SetUpWithoutFen, Between, AfterTags, InMovetext, sym, ◌∙◌, lacks_fen, ap, Read, subst, Progress, arith, common_steps}
 use Rattle.pgn_game.proofs.exporting.PairsExportedAgain.{result_of}
 use Rattle.pgn_game.proofs.pairs.ExportedValues.{exported_known}
 use Rattle.pgn_game.proofs.refusals.RefusalsByStage.{is_textual, is_lexical, after_tags, between, rest_passed, test_failed, text_row}
-use Rattle.pgn_game.proofs.refusals.RefusalsInMovetext.{marker_refusal, other_if, same_at_zero}
+use Rattle.pgn_game.proofs.refusals.RefusalsInMovetext.{marker_refusal, same_at_zero}
 use Rattle.pgn_game.proofs.tokens.GamesInTurn.{due_between, last_is, none_behind, none_or_some, not_one_more, passes_before}
 use Rattle.pgn_game.proofs.tokens.OneMoreToken.{read-passes, read-refuses}
 

@@ -1,5 +1,5 @@
 -- The tokens up to a marker, and the game that it ends; or the token that was not taken.
-use Rattle.pgn_game.proofs.Words.{Token, Fault, Profile, Missing, counts_as, takes_the_marker, Game, ◌≡◌, ℕ, ◌+◌, Bool, false, List, [], ◌∷◌, ◌++◌, Option, None, Some, Result, Ok, Err, refl, sym, ap, subst, ◌∙◌, Device, Appends, append-nil, append_assoc, Standing, Finished, IsAccepted, Reason, WriteFault, IsTrue, true, ◌⊎◌, inl, inr, bytes_seen, due, with_missing, counting, ReaderState, IsKnown, as_written, known_text, Gains, finished_game_of, Converter, game_in_reader, HasRead, TakesToken, FaultAtEnd, OneGame, SameGames, ReadsMore, Meets, NotTaken, EndsGame, due_as, ended_by, part_after, known_result, arith, common_steps}
+use Rattle.pgn_game.proofs.Words.{Token, Fault, Profile, Missing, counts_as, takes_the_marker, Game, ◌≡◌, ℕ, ◌+◌, Bool, false, List, [], ◌∷◌, ◌++◌, Option, None, Some, Result, Ok, Err, refl, sym, ap, subst, ◌∙◌, Device, Appends, append-nil, append_assoc, Standing, Finished, IsAccepted, Reason, WriteFault, IsTrue, true, ◌⊎◌, inl, inr, bytes_seen, due, ReaderState, IsKnown, as_written, known_text, Gains, finished_game_of, Converter, game_in_reader, HasRead, TakesToken, FaultAtEnd, OneGame, SameGames, ReadsMore, Meets, NotTaken, EndsGame, ended_by, part_after, known_result, arith, common_steps}
 use Rattle.pgn_game.specs.declared.marker.PlacedMarker.{PlacedMarker as CodePlacedMarker}
 use Rattle.pgn_game.proofs.tokens.OneMoreToken.{due_grows, gains_more, stops_more, games_still, counts_still, position_still}
 use Rattle.pgn_game.proofs.tokens.AcceptedToConverter.{at_fault, at_refusal, gains_token, has_read_game, one_game, written_same}

@@ -1,6 +1,5 @@
 -- A converter that has read no token, where a missing Result counts as another marker from now on.
-use Rattle.pgn_game.proofs.Words.{Agrees, HoldsText, Stage, Between, StillStands, silenced, writing_nothing, Fault, Profile, ◌≡◌, Bool, true, false, [], ℕ, Option, refl, Standing, Marker, marker_text, counting, HasRead, takes_the_marker, with_missing, no_part, taking_announced_marker, ReadsByMarker, reading_by_marker, arith, common_steps}
-use Rattle.pgn_game.proofs.Words.{ReaderState, Converter, CountsMissingAs, IsSound, counting_missing_as, game_in_reader_if, MostTried, none, rules}
+use Rattle.pgn_game.proofs.Words.{Agrees, HoldsText, Stage, Between, StillStands, silenced, writing_nothing, Fault, Profile, ◌≡◌, Bool, true, false, [], ℕ, Option, refl, Standing, Marker, marker_text, counting, HasRead, takes_the_marker, with_missing, no_part, taking_announced_marker, ReadsByMarker, reading_by_marker, arith, common_steps, ReaderState, Converter, CountsMissingAs, IsSound, counting_missing_as, game_in_reader_if, MostTried, none, rules}
 use Rattle.pgn_game.proofs.twice.MarkerCounts.{agrees_under}
 
 abbrev pub reader_counting : Marker → ReaderState → ReaderState

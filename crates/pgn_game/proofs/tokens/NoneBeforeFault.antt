@@ -1,5 +1,5 @@
 -- Behind the last piece no game is finished before a token that is rejected, or a write that fails.
-use Rattle.pgn_game.proofs.Words.{Token, Fault, Profile, ◌≡◌, ℕ, ◌+◌, List, [], ◌∷◌, ◌++◌, length, Option, None, refl, sym, ap, ◌∙◌, inl, inr, ◌⊎◌, append-nil, append_assoc, length-append, arith, tokens_of, Standing, coming, HasLeft, Progress, progress_after, no_progress, Read, read, read_from, due, Stops, refused_stop as refused, unwritten, StopsWriting, games_before, rules, common_steps}
+use Rattle.pgn_game.proofs.Words.{Token, Fault, Profile, ◌≡◌, ℕ, ◌+◌, List, [], ◌∷◌, ◌++◌, length, Option, None, refl, sym, ap, ◌∙◌, inl, inr, ◌⊎◌, append-nil, append_assoc, length-append, arith, tokens_of, Standing, coming, HasLeft, Progress, progress_after, Read, read, read_from, due, Stops, refused_stop as refused, unwritten, StopsWriting, games_before, rules, common_steps}
 use Rattle.pgn_game.proofs.tokens.OneMoreToken.{first_passes, goes_on, due_grows}
 use Rattle.pgn_game.proofs.tokens.LastTokens.{left_games, none_finished_before}
 

@@ -3,7 +3,7 @@ use Rattle.chess_text.specs.declared.form.Form.TheVariants.{Castle, Man}
 use Rattle.pgn_lexer.specs.Tokens as tokens
 use Rattle.pgn_game.specs.games.Game.{move}
 use Rattle.pgn_game.specs.calls.MostTried as most_tried
-use Rattle.pgn_game.proofs.Words.{◌≡◌, ℕ, ◌≤◌, max, Bool, true, false, ◌&&◌, ◌||◌, not, List, [], ◌∷◌, Option, None, Some, option_map, Result, Ok, Err, refl, sym, subst, ◌∙◌, arith, Parts, Form, Played, SanFault, NoMove, Ambiguous, move_of_form, form_pairs, CostsAnswer, CostsForm, Kind, Token, Mode, Reason, Profile, Item, Part, refusal, row, rows, is_many_moves, is_number, is_score, is_outside_tag_pairs, position_in, depth, levels_of_part, next, CostsIf, CostsToFind, CostsToWrite, MostFrom, Tries, added, is_written, Progress, progress_after, read_from, move_of, and_parts, FewCandidates, form_of, ReadingAFormIsSpelling, Costs, CostsUnlessRefused, is_sought, common_steps}
+use Rattle.pgn_game.proofs.Words.{◌≡◌, ℕ, ◌≤◌, max, Bool, true, false, List, [], ◌∷◌, Option, None, Some, option_map, Result, Ok, Err, refl, sym, subst, ◌∙◌, arith, Parts, Form, Played, SanFault, NoMove, Ambiguous, move_of_form, form_pairs, CostsAnswer, CostsForm, Kind, Token, Mode, Reason, Profile, Item, Part, refusal, is_many_moves, position_in, CostsIf, CostsToFind, CostsToWrite, MostFrom, Tries, is_written, Progress, progress_after, read_from, move_of, and_parts, FewCandidates, form_of, ReadingAFormIsSpelling, Costs, CostsUnlessRefused, is_sought, common_steps}
 use Rattle.pgn_game.proofs.exporting.GameToResult.{row_fails}
 use Rattle.pgn_game.proofs.tokens.OneMoreToken.{goes_on}
 

@@ -1,6 +1,5 @@
 -- How many tokens come without another byte, and the counts before the first byte.
-use Rattle.pgn_game.proofs.Words.{◌≡◌, ◌≤◌, ◌^◌, false, None, arith, Standing, waiting, ReaderState, IsSound, pending_in}
-use Rattle.pgn_game.proofs.Words.{rules}
+use Rattle.pgn_game.proofs.Words.{◌≡◌, ◌≤◌, ◌^◌, false, None, arith, Standing, waiting, ReaderState, IsSound, pending_in, rules}
 use Rattle.pgn_lexer.specs.declared.partial_token.LexMode.{LexMode}
 use Rattle.pgn_lexer.specs.declared.partial_token.LexMode.TheVariants.{LineWord, Symbol, Glyph, Suffix, BraceWord, Line}
 

@@ -6,8 +6,7 @@ use Rattle.pgn_game.proofs.Words.{Token, Profile, Game, ◌≡◌, ℕ, ◌+◌,
 use Rattle.pgn_game.proofs.tokens.GamesInTurn.{passes_before}
 use Rattle.pgn_game.proofs.tokens.NoneBeforeFault.{reads_behind}
 use Rattle.pgn_game.proofs.refusals.RefusalsInMovetext.{score_of}
-use Rattle.pgn_game.proofs.tokens.LastTokens.{AddsOne, HasLast, IsLeft, end, end_at, glyph, left_games, left_in, none, none_torn}
-use Rattle.pgn_game.proofs.tokens.LastTokens.{quiet_games, symbol, token_at}
+use Rattle.pgn_game.proofs.tokens.LastTokens.{AddsOne, HasLast, IsLeft, end, end_at, glyph, left_games, left_in, none, none_torn, quiet_games, symbol, token_at}
 
 -- ---- The output of a text without a fault
 

@@ -3,7 +3,7 @@
 -- are tokens.
 use Rattle.pgn_layout.specs.Lines.{text_of as text_of_lines}
 use Rattle.pgn_lexer.specs.Tokens as tokens
-use Rattle.pgn_game.proofs.Words.{Kind, Token, Reason, ResultDiffers, Profile, counts_as, takes_the_marker, Pair, value_of, Game, Part, ◌≡◌, ◌⊎◌, inl, inr, ℕ, ◌+◌, Bool, true, false, ◌&&◌, not, ◌==◌, List, [], ◌∷◌, ◌++◌, length, take, drop, codes, bytes_eq, unwrap_or, Option, None, Some, IsTrue, refl, sym, ap, ◌∙◌, length-append, true≢false, arith, list_all, bytes_eq-Decides, Fault, Marker, marker_text, counting, with_missing, tag_lines, depth, start_of, Row, row, rows, first_holding, refusal, is_outside_tag_pairs, has_other_result, levels_of_part, marker_of, IsResult, Next, going, whole, next, Progress, progress_with, progress_after, no_progress, Read, read_from, read, or_else, and_parts, not-true, lines_of, game_text, tokens_out, is_about_result, rejects_marker, IsReadAlike, MissingResults, common_steps}
+use Rattle.pgn_game.proofs.Words.{Kind, Token, Reason, ResultDiffers, Profile, counts_as, takes_the_marker, Pair, value_of, Game, Part, ◌≡◌, ◌⊎◌, inl, inr, ℕ, ◌+◌, Bool, true, false, ◌&&◌, not, ◌==◌, List, [], ◌∷◌, ◌++◌, length, take, drop, codes, unwrap_or, Option, None, Some, IsTrue, refl, sym, ap, ◌∙◌, length-append, true≢false, arith, list_all, bytes_eq-Decides, Fault, Marker, marker_text, counting, with_missing, tag_lines, depth, start_of, Row, row, rows, first_holding, refusal, is_outside_tag_pairs, has_other_result, levels_of_part, marker_of, IsResult, Next, going, whole, next, Progress, progress_with, progress_after, no_progress, Read, read_from, read, or_else, and_parts, not-true, lines_of, game_text, tokens_out, is_about_result, rejects_marker, IsReadAlike, MissingResults, common_steps}
 use Rattle.pgn_game.specs.export.Text.{text_of}
 use Rattle.pgn_game.proofs.refusals.RefusalsInMovetext.{other_if}
 use Rattle.pgn_game.proofs.exporting.GameTextToGame.{exported_result}

@@ -1,6 +1,5 @@
 -- Which device counts a failure in a step, of the reasons one by one.
-use Rattle.pgn_game.proofs.Words.{Reason, ReadFault, WriteFault, Changed, ◌≡◌, ℕ, refl, ap, subst, ◌∙◌, inl, inr, arith, Device, Bool, true, false, IsTrue, Result, Ok, Err, Fault, seen, nowhere, no_sink, CountsResult, CountsSink, CountsWriting, NoWriteFails, Totals, CountsReading, CountsThree}
-use Rattle.pgn_game.proofs.Words.{IsStill, one_more, CountsReason, CountsDevices, changed_reason}
+use Rattle.pgn_game.proofs.Words.{Reason, ReadFault, WriteFault, Changed, ◌≡◌, ℕ, refl, ap, subst, ◌∙◌, inl, inr, arith, Device, Bool, true, false, IsTrue, Result, Ok, Err, Fault, seen, nowhere, no_sink, CountsResult, CountsSink, CountsWriting, NoWriteFails, Totals, CountsReading, CountsThree, IsStill, one_more, CountsReason, CountsDevices, changed_reason}
 
 -- an error of the reader is no difference, and no failed read
 pub reader_reason : (r : Reason) (s o n : ℕ) → CountsReason r o n → CountsDevices r s s o n

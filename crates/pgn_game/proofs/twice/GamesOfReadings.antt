@@ -2,7 +2,7 @@
 -- token at which reading stops.
 use Rattle.pgn_lexer.specs.Tokens as tokens
 use Rattle.pgn_game.specs.declared.marker.PlacedMarker.{PlacedMarker as CodePlacedMarker}
-use Rattle.pgn_game.proofs.Words.{Kind, Token, Reason, Changed, WriteFault, Fault, Profile, takes_the_marker, Game, Part, no_part, ◌≡◌, ℕ, ◌+◌, ◌^◌, ◌<◌, ◌≤◌, ◌||◌, ◌&&◌, ◌==◌, not, is_some, bytes_eq, Bool, true, false, List, [], ◌∷◌, ◌++◌, length, take, drop, Option, None, Some, Ok, Err, IfSome, refl, sym, ap, subst, ◌∙◌, append_assoc, append-nil, drop-length, arith, and_parts, not-false, bytes_eq-Decides, Appends-nil, Appends-trans, Appends, Device, TokensRise, tokens_of, coming, Stage, Between, InMovetext, HoldsText, Marker, counting, refusal, is_end, marker_of, torn, gain, text_next, Next, going, whole, next, read, progress_with, IsLastGame, game_in_reader, ReaderState, with_announced, as_written, known_text, IsStopped, Converter, marker_text, game_of, PlacedMarker, is_other, is_changed, HasMarkers, HasMatched, Reading, model_marker, changed_reason, OneGame, ReadsMore, EndsGame, due_as, part_after, text_of_games as text_of, append_cancel_left, IfSome_then, game_text, AllRead, ComesNext, EndComes, FirstFails, GameRead, GameWritten, HasCome, HasGiven, MarkerComes, ReadingStops, SecondFails, StandsBetween, StandsIn, at_read, as_changed, announcing, AreShown, writing_nothing, common_steps}
+use Rattle.pgn_game.proofs.Words.{Kind, Token, Reason, Changed, WriteFault, Fault, Profile, takes_the_marker, Game, Part, no_part, ◌≡◌, ℕ, ◌+◌, ◌^◌, ◌<◌, ◌≤◌, ◌||◌, ◌&&◌, ◌==◌, not, is_some, bytes_eq, Bool, true, false, List, [], ◌∷◌, ◌++◌, length, take, drop, Option, None, Some, Ok, Err, IfSome, refl, sym, ap, subst, ◌∙◌, append_assoc, append-nil, drop-length, arith, and_parts, not-false, bytes_eq-Decides, Appends-nil, Appends-trans, Appends, Device, TokensRise, tokens_of, coming, Stage, Between, InMovetext, HoldsText, Marker, counting, refusal, is_end, marker_of, torn, gain, text_next, Next, going, whole, next, read, IsLastGame, game_in_reader, ReaderState, with_announced, as_written, IsStopped, Converter, marker_text, game_of, PlacedMarker, is_other, is_changed, HasMarkers, HasMatched, Reading, model_marker, changed_reason, OneGame, ReadsMore, EndsGame, part_after, append_cancel_left, IfSome_then, game_text, AllRead, ComesNext, EndComes, FirstFails, GameRead, GameWritten, HasCome, HasGiven, MarkerComes, ReadingStops, SecondFails, StandsBetween, StandsIn, at_read, as_changed, announcing, AreShown, writing_nothing, common_steps}
 use Rattle.pgn_game.specs.state.ReaderState as reader_state
 use Rattle.pgn_game.specs.state.Readings.{at_token}
 use Rattle.pgn_game.specs.state.Readings as readings

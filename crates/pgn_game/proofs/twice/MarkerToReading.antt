@@ -2,7 +2,7 @@
 -- ended.
 use Rattle.pgn_lexer.specs.declared.partial_token.LexMode.{LexMode}
 use Rattle.pgn_game.specs.declared.marker.PlacedMarker.{PlacedMarker as CodePlacedMarker}
-use Rattle.pgn_game.proofs.Words.{Token, within_limit, InputTooLong, Fault, Profile, ◌≡◌, ℕ, ◌^◌, ◌≤◌, arith, false, true, List, [], ◌∷◌, ◌++◌, length, Option, None, Some, Result, Ok, Err, IfSome, IsStill, CountsFault, refl, sym, ap, subst, ◌∙◌, append_assoc, append-nil, Consumes-trans, Consumes, Stands, inl, takes_the_marker, with_missing, Device, tokens_of, decided, Standing, coming, HasLeft, first, Converter, ReadsMore, as_written, StandsWithin, Reading, games_of, AreShown, AfterEndToMarker, EndsToMarker, taking_announced_marker, AfterToMarker, CountsReading, StopsBefore, UsesAll, AfterMarker, HasGiven, ReadingStops, ReadFails, at_read, StandsIn, common_steps}
+use Rattle.pgn_game.proofs.Words.{Token, InputTooLong, Fault, Profile, ◌≡◌, ℕ, ◌^◌, ◌≤◌, arith, false, true, List, [], ◌∷◌, ◌++◌, length, Option, None, Some, Result, Ok, Err, IfSome, IsStill, CountsFault, refl, sym, ap, subst, ◌∙◌, append_assoc, append-nil, Consumes-trans, Consumes, Stands, takes_the_marker, with_missing, Device, tokens_of, decided, Standing, coming, HasLeft, first, Converter, ReadsMore, as_written, StandsWithin, Reading, games_of, AreShown, AfterEndToMarker, EndsToMarker, taking_announced_marker, AfterToMarker, CountsReading, StopsBefore, UsesAll, AfterMarker, HasGiven, ReadingStops, ReadFails, at_read, StandsIn, common_steps}
 use Rattle.pgn_game.specs.calls.ConverterCalls.{at_end}
 use Rattle.pgn_game.specs.state.GamesSteps as games_steps
 use Rattle.pgn_game.specs.state.Readings.{at_token}

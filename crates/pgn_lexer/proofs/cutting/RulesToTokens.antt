@@ -2,8 +2,7 @@
 use Rattle.pgn_lexer.proofs.Words.{◌≡◌, ℕ, ◌+◌, ◌<◌, ◌≤◌, Bool, true, false, List, [], ◌∷◌, ◌++◌, length, refl, sym, ap, ◌∙◌, append-nil, append_assoc, arith, length-append, ◌||◌, not, take_while, false≢true, LexReason, ControlByte, BadSuffix, Class, CommentClass, is_line_end, is_space, is_control, is_digit, starts_symbol, continues_symbol, is_suffix, continues_word, Kind, Token, class, comment_class, symbol_at, word_at, glyph_at, suffix_at, Within, begins_class, begins_brace, begins_line, after_class, after_brace, after_line, onto, tokens_from, StopsAt, IsRun, IsSingle, IsSuffix, SpellsToken, Refuses, Where, Cuts, both_true, string_at, reading, with_front, Data, or_cases, and_parts, not-true, common_steps, outside, column, in_suffix, in_escape_line, line, quotes, begins_first, after_first, refused, comment_close, str, glyph, number_of, rules}
 use Rattle.pgn_lexer.specs.Lexes as lexes
 use Rattle.pgn_lexer.proofs.stepping.RunOfBytes.{take_while-true, take_while-false, suffix_goes}
-use Rattle.pgn_lexer.proofs.bytes.ClassToTest.{stray_class, line_end_class, blank_class, line_end_comment, suffix_class, reserved_class}
-use Rattle.pgn_lexer.proofs.bytes.ClassToTest.{control_class, control_comment}
+use Rattle.pgn_lexer.proofs.bytes.ClassToTest.{stray_class, line_end_class, blank_class, line_end_comment, suffix_class, reserved_class, control_class, control_comment}
 use Rattle.pgn_lexer.proofs.stepping.ByteInSymbol.{symbol_fits, symbol_long}
 use Rattle.pgn_lexer.proofs.cutting.StringData.{reads_data, reads_control, quotes_skip}
 use Rattle.pgn_lexer.proofs.stepping.ByteInComment.{word_fits, word_class, line_ends}

@@ -1,6 +1,5 @@
 -- What two lists of tokens both begin with.
-use Rattle.pgn_lexer.proofs.Words.{◌≡◌, ℕ, Bool, true, false, List, [], ◌∷◌, ◌++◌, refl, ap, bytes_eq, Kind, Token, same_kind}
-use Rattle.pgn_lexer.proofs.Words.{same_token, common, IsPrefix, arith}
+use Rattle.pgn_lexer.proofs.Words.{◌≡◌, ℕ, Bool, true, false, List, [], ◌∷◌, ◌++◌, refl, ap, bytes_eq, Kind, Token, same_kind, same_token, common, IsPrefix, arith}
 use Rattle.std.proofs.lemmas.Slice.Eq.{bytes_eq-Decides}
 
 bytes_eq-refl : (xs : List ℕ) → bytes_eq xs xs ≡ true

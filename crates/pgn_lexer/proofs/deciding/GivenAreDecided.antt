@@ -1,6 +1,5 @@
 -- The tokens given are those that are decided.
-use Rattle.pgn_lexer.proofs.Words.{◌≡◌, ℕ, List, [], ◌∷◌, ◌++◌, sym, ap, ◌∙◌, append-nil, arith, Token, tokens_of, common}
-use Rattle.pgn_lexer.proofs.Words.{decided, PartialToken, IsSound, HasNotFailed, tokens_to_come, common_steps}
+use Rattle.pgn_lexer.proofs.Words.{◌≡◌, ℕ, List, [], ◌∷◌, ◌++◌, sym, ap, ◌∙◌, append-nil, arith, Token, tokens_of, common, decided, PartialToken, IsSound, HasNotFailed, tokens_to_come, common_steps}
 use Rattle.pgn_lexer.proofs.deciding.CommonTokens.{common-append, common-refl}
 
 -- what all six lists begin with

@@ -1,8 +1,7 @@
 -- A byte in a glyph or a suffix.
 use Rattle.pgn_lexer.proofs.Words.{◌≡◌, ℕ, ◌+◌, ◌-◌, ◌*◌, ◌<◌, ◌≤◌, Bool, true, false, List, [], ◌∷◌, ◌++◌, length, refl, ap, ◌∙◌, arith, take_while, nat_le, ◌==◌, if◌then◌else◌, leb-true, leb-false, LoneDollar, GlyphRange, BadSuffix, Used, EndsBefore, is_digit, is_suffix, glyph, gives, stops, number_from, numbered_at, glyph_at, suffix_at, in_glyph, in_suffix, outside, onto, tokens_from, spelling, into, fails, LexMode, TokenForm, rules, SuffixRun}
 use Rattle.pgn_lexer.specs.ByteResult as byte_result
-use Rattle.pgn_lexer.proofs.stepping.RunOfBytes.{take_while-true, glyph_goes, glyph_ends, suffix_goes, suffix_ends, run_grows, run_breaks, run_ends}
-use Rattle.pgn_lexer.proofs.stepping.RunOfBytes.{run_closes}
+use Rattle.pgn_lexer.proofs.stepping.RunOfBytes.{take_while-true, glyph_goes, glyph_ends, suffix_goes, suffix_ends, run_grows, run_breaks, run_ends, run_closes}
 use Rattle.pgn_lexer.proofs.stepping.StepGives.{GivesIn}
 
 number_grows : (n : ℕ) (ds : List ℕ) → n ≤ number_from n ds

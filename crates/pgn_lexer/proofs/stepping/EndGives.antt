@@ -1,6 +1,5 @@
 -- The end of the text gives what is left.
-use Rattle.pgn_lexer.proofs.Words.{◌≡◌, ℕ, List, [], ◌∷◌, ◌++◌, LexFault, TokenForm, Token, end, PartialToken, kind_in}
-use Rattle.pgn_lexer.proofs.Words.{fault_met, Scanned, fault, Standing, IsNext, HasLeft, Finishes, arith, common_steps}
+use Rattle.pgn_lexer.proofs.Words.{◌≡◌, ℕ, List, [], ◌∷◌, ◌++◌, LexFault, TokenForm, Token, end, PartialToken, kind_in, fault_met, Scanned, fault, Standing, IsNext, HasLeft, Finishes, arith, common_steps}
 use Rattle.pgn_lexer.specs.Scanned.{token}
 use Rattle.pgn_lexer.proofs.stepping.ByteGives.{ClosesToken, ClosesFault, ClosesEnd}
 use Rattle.pgn_lexer.proofs.stepping.StandsAfterCalls.{same_parts}

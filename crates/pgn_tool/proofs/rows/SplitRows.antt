@@ -1,6 +1,5 @@
 -- Worked rows: the files that a split makes of a text.
-use Rattle.pgn_tool.proofs.Words.{◌≡◌, ℕ, List, [], ◌∷◌, ◌++◌, Some, refl, codes, digits, tokens_of, UnmatchedClose, refusal}
-use Rattle.pgn_tool.proofs.Words.{roster, read, list_profile, FileStep, closed, made, files_of}
+use Rattle.pgn_tool.proofs.Words.{◌≡◌, ℕ, List, [], ◌∷◌, ◌++◌, Some, refl, codes, digits, tokens_of, UnmatchedClose, refusal, roster, read, list_profile, FileStep, closed, made, files_of}
 use Rattle.pgn_tool.proofs.rows.RunRows.{head}
 
 abbrev Makes : List ℕ → List FileStep → Type 0

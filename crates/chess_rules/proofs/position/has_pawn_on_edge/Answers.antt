@@ -1,5 +1,4 @@
-use Rattle.chess_rules.proofs.Words.{Pawn, Piece, at, is_pawn, has_kind, square_at, Places, word, ◌≡◌, ◌&&◌, ◌||◌, refl, sym, ◌∙◌}
-use Rattle.chess_rules.proofs.Words.{ap, subst, arith, Option, ◌==◌}
+use Rattle.chess_rules.proofs.Words.{Pawn, Piece, at, is_pawn, has_kind, square_at, Places, word, ◌≡◌, ◌&&◌, ◌||◌, refl, sym, ◌∙◌, ap, subst, arith, Option, ◌==◌}
 use Rattle.chess_rules.proofs.sets.SetsToSquares.{places_and, full_when}
 use Rattle.chess_rules.proofs.sets.TablesOfSquares.{mask, places}
 use Rattle.chess_rules.proofs.position.has_pawn_on_edge.Goals as goal

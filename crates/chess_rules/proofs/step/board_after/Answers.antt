@@ -1,5 +1,4 @@
-use Rattle.chess_rules.proofs.Words.{carried, short_right, long_right, short_wing, long_wing, Plain, EnPassant, ShortCastling, LongCastling}
-use Rattle.chess_rules.proofs.Words.{◌≡◌, ◌∙◌, sym, ap, arith, Some}
+use Rattle.chess_rules.proofs.Words.{carried, short_right, long_right, short_wing, long_wing, Plain, EnPassant, ShortCastling, LongCastling, ◌≡◌, ◌∙◌, sym, ap, arith, Some}
 use Rattle.chess_rules.proofs.moves.KindsOfSteps.{obeys_if_step, board_of_step, rook_waits}
 use Rattle.chess_rules.proofs.step.board_after.Goals as goal
 use Rattle.chess_rules.proofs.step.board_after.Goals.{in-None, in-Some}

@@ -1,5 +1,4 @@
-use Rattle.chess_rules.proofs.Words.{Pawn, reaches, promotion_fits, castles, short_wing, long_wing, Plain, ShortCastling, LongCastling, ◌≡◌}
-use Rattle.chess_rules.proofs.Words.{◌&&◌, ◌∙◌, sym, ap, arith}
+use Rattle.chess_rules.proofs.Words.{Pawn, reaches, promotion_fits, castles, short_wing, long_wing, Plain, ShortCastling, LongCastling, ◌≡◌, ◌&&◌, ◌∙◌, sym, ap, arith}
 use Rattle.chess_rules.proofs.moves.KindsOfSteps.{obeys_if_step, passing_rules}
 use Rattle.chess_rules.proofs.step.is_step_of_kind.Goals as goal
 use Rattle.chess_rules.proofs.step.is_step_of_kind.Goals.{then-promotion_fits, else-promotion_fits}

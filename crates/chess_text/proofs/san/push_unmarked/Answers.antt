@@ -1,6 +1,5 @@
 use Rattle.std.proofs.lemmas.Grind.{common_steps}
-use Rattle.chess_text.proofs.Words.{◌≡◌, true, Some, sym, ◌∙◌, subst, arith, Kind, King, Pawn, Piece, Move, Parts, at, own}
-use Rattle.chess_text.proofs.Words.{disambiguation_pairs, kind_pairs, kind_text, unmarked}
+use Rattle.chess_text.proofs.Words.{◌≡◌, Some, sym, ◌∙◌, arith, Kind, King, Pawn, Piece, Move, Parts, at, own, disambiguation_pairs, kind_pairs, kind_text, unmarked}
 use Rattle.chess_text.proofs.forms.MoverOfMove.{may_have_rivals, mover, mover_stands}
 use Rattle.chess_text.proofs.san.push_unmarked.Goals as goal
 

@@ -1,6 +1,5 @@
 use Rattle.std.proofs.lemmas.Grind.{common_steps}
-use Rattle.chess_text.proofs.Words.{◌≡◌, Bool, true, length, take, ◌∙◌, ap, arith, list_any, IsPermutation, length_permutation, Square}
-use Rattle.chess_text.proofs.Words.{candidates, rivals}
+use Rattle.chess_text.proofs.Words.{◌≡◌, Bool, take, ◌∙◌, arith, list_any, IsPermutation, length_permutation, Square, candidates, rivals}
 use Rattle.chess_text.proofs.names.OneMoveAgrees.{seen, found_more, all_found, rivals_seen, lone_candidate, no_rivals}
 use Rattle.chess_text.proofs.san.rivals_of.Goals as goal
 

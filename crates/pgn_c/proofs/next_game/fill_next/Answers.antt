@@ -1,5 +1,4 @@
-use Rattle.pgn_c.proofs.Words.{◌≡◌, ℕ, length, take, drop, Some, ap, sym, subst, ◌∙◌, arith, length-take-le, NextOf, profile_counting}
-use Rattle.pgn_c.proofs.Words.{text_from}
+use Rattle.pgn_c.proofs.Words.{◌≡◌, ℕ, length, take, drop, Some, ap, sym, subst, ◌∙◌, arith, length-take-le, NextOf, profile_counting, text_from}
 use Rattle.pgn_c.proofs.ConversionToBuffer.{filled}
 use Rattle.pgn_c.proofs.next_game.fill_next.Goals as goal
 

@@ -131,3 +131,24 @@ returns-in_err-write_game-clause-counted g c =
     rw (error_returned _ c.from_residual-in_err-write_game.ensures.1)
     (second_counts c.in_err-write_game.field-0.0.reason (first g here.After-read_game) (second_read g write) (written g write) _ _
     (c.in_ok-marker.ensures.counted.0 ∙ so.first) so.second so.sink (rw c.in_err-write_game.was at (counted g write)))
+
+pub new-ahead-requires : goal.new-ahead-requires
+new-ahead-requires g c = (c.requires.memory, c.requires.levels)
+
+pub new-behind-requires : goal.new-behind-requires
+new-behind-requires g c = (c.requires.memory, c.requires.levels)
+
+pub write_nothing-requires : goal.write_nothing-requires
+write_nothing-requires g c = (c.requires.memory, c.new-ahead.ensures.going)
+
+pub read_game-requires : goal.read_game-requires
+read_game-requires g c = (c.requires.memory, c.loop-marker.invariant.first_going)
+
+pub write_game-requires : goal.write_game-requires
+write_game-requires g c = (c.requires.memory, c.loop-marker.invariant.second_going)
+
+pub most_probes-requires : goal.most_probes-requires
+most_probes-requires g c = c.requires.memory
+
+pub totals-requires : goal.totals-requires
+totals-requires g c = (c.requires.memory, (c.loop-marker.invariant.second_going, c.most_probes.ensures.bound))

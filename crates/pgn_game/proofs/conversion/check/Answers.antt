@@ -22,3 +22,9 @@ returns g c =
       short = is_short true p _ source.after None None c.convert_all.result converts;
       counted = counted;
     }
+
+pub new-converter-requires : goal.new-converter-requires
+new-converter-requires g c = (c.requires.memory, c.requires.levels)
+
+pub write_nothing-requires : goal.write_nothing-requires
+write_nothing-requires g c = c.requires.memory

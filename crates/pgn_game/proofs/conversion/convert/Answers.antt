@@ -15,3 +15,6 @@ returns g c =
           c.convert_all.result converts;
       counted = rw c.new-converter.ensures.writes at c.convert_all.ensures.counted;
     }
+
+pub new-converter-requires : goal.new-converter-requires
+new-converter-requires g c = (c.requires.memory, c.requires.levels)

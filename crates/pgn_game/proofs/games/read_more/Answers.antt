@@ -13,3 +13,18 @@ returns-in-Ok-clause-more g c = filled _ _ _ _ _ c.in-Ok.ensures.fills
 
 pub keep_failed_read-requires : goal.keep_failed_read-requires
 keep_failed_read-requires g c = search fits_alike
+
+pub returns-in-Ok-clause-fits : goal.returns-in-Ok-clause-fits
+returns-in-Ok-clause-fits g c = c.fill.ensures.fits
+
+pub returns-in-Ok-clause-counted : goal.returns-in-Ok-clause-counted
+returns-in-Ok-clause-counted g c = c.in-Ok.ensures.counted
+
+pub returns-in-Err-clause-more : goal.returns-in-Err-clause-more
+returns-in-Err-clause-more g c = (c.keep_failed_read.ensures.fault, c.keep_failed_read.ensures.kept, c.in-Err.ensures.fills)
+
+pub returns-in-Err-clause-fits : goal.returns-in-Err-clause-fits
+returns-in-Err-clause-fits g c = c.fill.ensures.fits
+
+pub returns-in-Err-clause-counted : goal.returns-in-Err-clause-counted
+returns-in-Err-clause-counted g c = c.in-Err.ensures.counted

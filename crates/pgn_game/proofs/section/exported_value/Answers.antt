@@ -1,5 +1,4 @@
-use Rattle.pgn_game.proofs.Words.{rules, ◌≡◌, Bool, true, false, not, Option, List, ℕ, None, Some, refl, Bor, option_copied, false≢true}
-use Rattle.pgn_game.proofs.Words.{is_some}
+use Rattle.pgn_game.proofs.Words.{rules, ◌≡◌, Bool, true, false, not, Option, List, ℕ, None, Some, refl, Bor, option_copied, false≢true, is_some}
 use Rattle.pgn_game.proofs.pairs.ExportedValues.{exported_either, exported_none}
 use Rattle.pgn_game.proofs.pairs.ValuesByName.{either_of}
 use Rattle.pgn_game.proofs.section.exported_value.Goals as goal

@@ -1,5 +1,4 @@
-use Rattle.pgn_tool.proofs.Words.{arith, ◌≡◌, ℕ, List, Option, Some, Result, Ok, Err, refl, subst, IfSome, Device, tokens_of, Unsplit}
-use Rattle.pgn_tool.proofs.Words.{NoMemory, FileStep, whole_files, EndsSplit, IsSplitWhole, Logs, SplitResult, texts_in}
+use Rattle.pgn_tool.proofs.Words.{arith, ◌≡◌, ℕ, List, Option, Some, Result, Ok, Err, refl, subst, IfSome, Device, tokens_of, Unsplit, NoMemory, FileStep, whole_files, EndsSplit, IsSplitWhole, Logs, SplitResult, texts_in}
 use Rattle.pgn_tool.proofs.memory_tests.split_text.Goals as goal
 
 whole : (answer : Result Unit Unsplit) (source left : Option (List ℕ)) (before after : Option (List FileStep)) (err : Device)

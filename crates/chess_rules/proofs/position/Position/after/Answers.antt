@@ -1,6 +1,5 @@
-use Rattle.chess_rules.proofs.Words.{Parts, other, king_attacked, is_position, is_check, after, full_after, king_square, parts_of, arith, ◌≡◌}
+use Rattle.chess_rules.proofs.Words.{Parts, other, king_attacked, is_position, is_check, after, full_after, king_square, parts_of, arith, ◌≡◌, true, false, sym, ◌∙◌, ap, subst, Some, IfSome}
 use Rattle.chess_rules.proofs.lines.AttackToReach.{other-other}
-use Rattle.chess_rules.proofs.Words.{true, false, sym, ◌∙◌, ap, subst, Some, IfSome}
 use Rattle.chess_rules.proofs.positions.RulesOfPosition.{stored}
 use Rattle.chess_rules.proofs.moves.LegalToPosition.{position_after, other_king_stays, legal_when}
 use Rattle.chess_rules.proofs.moves.PlainStepAttacks.{step_when_legal}

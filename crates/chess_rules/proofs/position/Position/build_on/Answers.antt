@@ -1,5 +1,4 @@
-use Rattle.chess_rules.proofs.Words.{Colour, White, Black, is_attacked, Board, kings, other, Square, king_square, ◌≡◌, ◌∙◌, ap, arith, length, king_attacked}
-use Rattle.chess_rules.proofs.Words.{Option, None, Some, ◌==◌, if◌then◌else◌}
+use Rattle.chess_rules.proofs.Words.{Colour, White, Black, is_attacked, Board, kings, other, Square, king_square, ◌≡◌, ◌∙◌, ap, arith, length, king_attacked, Option, None, Some, ◌==◌, if◌then◌else◌}
 use Rattle.chess_rules.proofs.positions.RulesOfPosition.{own_king_seen, other_king_seen}
 use Rattle.chess_rules.proofs.position.Position.build_on.Goals as goal
 

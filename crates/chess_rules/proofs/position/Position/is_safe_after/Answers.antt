@@ -1,5 +1,4 @@
-use Rattle.chess_rules.proofs.Words.{Plain, is_aligned, other, slides, squares, step_kind, ◌≡◌, false, not, ◌⊎◌, inl, inr, sym, ◌∙◌}
-use Rattle.chess_rules.proofs.Words.{ap, ap₂, arith, list_any}
+use Rattle.chess_rules.proofs.Words.{Plain, is_aligned, other, slides, squares, step_kind, ◌≡◌, false, not, ◌⊎◌, inl, inr, sym, ◌∙◌, ap, ap₂, arith, list_any}
 use Rattle.chess_rules.proofs.sets.SetsToSquares.{full_when}
 use Rattle.chess_rules.proofs.positions.RulesOfPosition.{stored}
 use Rattle.chess_rules.proofs.moves.PlainStepAttacks.{safe_when_plain}

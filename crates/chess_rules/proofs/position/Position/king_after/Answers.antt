@@ -1,5 +1,4 @@
-use Rattle.chess_rules.proofs.Words.{Move, Parts, Board, Square, is_position, is_on_board, board_after, king_square, ◌≡◌, true, refl, sym}
-use Rattle.chess_rules.proofs.Words.{◌∙◌, ap, Option, None, Some, IfSome, if◌then◌else◌}
+use Rattle.chess_rules.proofs.Words.{Move, Parts, Board, Square, is_position, is_on_board, board_after, king_square, ◌≡◌, true, refl, sym, ◌∙◌, ap, Option, None, Some, IfSome, if◌then◌else◌}
 use Rattle.chess_rules.proofs.positions.RulesOfPosition.{stored}
 use Rattle.chess_rules.proofs.moves.BoardAfterMove.{king_after}
 use Rattle.chess_rules.proofs.moves.LegalToPosition.{king_moves}

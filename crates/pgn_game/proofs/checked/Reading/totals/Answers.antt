@@ -11,3 +11,9 @@ plies_of_finished_games-requires g c =
 
 pub most_probes-requires : goal.most_probes-requires
 most_probes-requires g c = search reading_fits_converter
+
+pub returns-clause-games : goal.returns-clause-games
+returns-clause-games g c = rw (← c.self.view_is) c.games.ensures
+
+pub returns-clause-plies : goal.returns-clause-plies
+returns-clause-plies g c = rw (← c.self.view_is) c.plies_of_finished_games.ensures

@@ -1,5 +1,4 @@
-use Rattle.pgn_game.proofs.Words.{◌-◌, [], arith, refl, sym, ap, subst, no_progress, no_part, ReaderState, Agrees, plies_of_finished_games, MostTried, none}
-use Rattle.pgn_game.proofs.Words.{profile_of, false≢true}
+use Rattle.pgn_game.proofs.Words.{arith, refl, no_progress, none, false≢true}
 use Rattle.pgn_game.proofs.ReaderFitsInMemory.{fits_reader}
 use Rattle.pgn_game.proofs.tokens.SoundAtStart.{sound_at_start}
 use Rattle.pgn_game.proofs.converter.Converter.begin_at.Goals as goal

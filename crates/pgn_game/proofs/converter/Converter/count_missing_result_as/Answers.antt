@@ -1,4 +1,4 @@
-use Rattle.pgn_game.proofs.Words.{Option, sym, ap, subst, ◌∙◌, CountsMissingAs, FinishedGame, counting_missing_as, refl}
+use Rattle.pgn_game.proofs.Words.{sym, subst, CountsMissingAs, refl}
 use Rattle.pgn_game.proofs.ReaderFitsInMemory.{fits_reader}
 use Rattle.pgn_game.proofs.tokens.MissingCountsAs.{finished_alike, sound_counting, stands_counting}
 use Rattle.pgn_game.proofs.converter.Converter.count_missing_result_as.Goals as goal

@@ -59,3 +59,9 @@ returns-in_err-end_game-in-Marker-clause-silent g c =
 pub returns-in_ok-end_game-in-Marker-clause-silent : goal.returns-in_ok-end_game-in-Marker-clause-silent
 returns-in_ok-end_game-in-Marker-clause-silent g c =
     silence_then _ _ _ _ _ _ c.feed_to_marker.ensures.silent c.end_game.ensures.silent
+
+pub returns-in_err-feed_to_marker-clause-silent : goal.returns-in_err-feed_to_marker-clause-silent
+returns-in_err-feed_to_marker-clause-silent g c = c.feed_to_marker.ensures.silent
+
+pub returns-in-All-clause-silent : goal.returns-in-All-clause-silent
+returns-in-All-clause-silent g c = c.feed_to_marker.ensures.silent

@@ -1,5 +1,5 @@
-use Rattle.pgn_game.proofs.Words.{◌≡◌, ℕ, ◌+◌, ◌-◌, ◌^◌, length, arith, ap}
-use Rattle.pgn_game.proofs.Words.{take_all, length-take, err_from_is_err_and, Converter, at_token}
+use Rattle.pgn_game.proofs.Words.{refl, ◌≡◌, ℕ, ◌+◌, ◌-◌, ◌^◌, length, arith, ap, take_all, length-take, err_from_is_err_and, Converter, at_token}
+use Rattle.pgn_game.proofs.putting.SilentReader.{silence_kept}
 use Rattle.pgn_game.proofs.ReaderFitsInMemory.{fits_alike}
 use Rattle.pgn_game.proofs.tokens.GoesToMarker.{front_goes, too_long_goes}
 use Rattle.pgn_game.proofs.tokens.StepsAtEnd.{not_just_finished, sound_behind_fault}
@@ -87,3 +87,18 @@ pub invariant_of-self : goal.invariant_of-self
 invariant_of-self g c =
     let flag = not_just_finished _ _ (rw (← c.self-2.view_is) at c.feed_front.ensures.goes.keeps.none_just_finished) in
     rw (c.too_long.ensures.kept, flag) (sound_behind_fault _ _ _ _ _ c.self-2.invariant.count)
+
+pub returns-in-Some-clause-silent : goal.returns-in-Some-clause-silent
+returns-in-Some-clause-silent g c = silence_kept _ _ _ refl
+
+pub returns-in_err-used-clause-silent : goal.returns-in_err-used-clause-silent
+returns-in_err-used-clause-silent g c = c.feed_front.ensures.silent
+
+pub returns-in-Marker-clause-silent : goal.returns-in-Marker-clause-silent
+returns-in-Marker-clause-silent g c = c.feed_front.ensures.silent
+
+pub returns-else-front-piece-clause-silent : goal.returns-else-front-piece-clause-silent
+returns-else-front-piece-clause-silent g c = c.feed_front.ensures.silent
+
+pub returns-then-front-piece-clause-silent : goal.returns-then-front-piece-clause-silent
+returns-then-front-piece-clause-silent g c = rw (← c.self-2.view_is) at c.feed_front.ensures.silent

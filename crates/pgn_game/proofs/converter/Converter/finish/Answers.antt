@@ -97,3 +97,12 @@ invariant_of-self g c =
       | else-finished_game w ↦ absurd (false≢true (sym w.if-finished_game.false ∙ sym w.self-is ∙ is))
     ])
     (rw (← self.view_is) at c.in_ok-marker.ensures.ends.keeps.fault)
+
+pub returns-in-Some-clause-silent : goal.returns-in-Some-clause-silent
+returns-in-Some-clause-silent g c = silence_kept _ _ _ refl
+
+pub returns-in_err-marker-clause-silent : goal.returns-in_err-marker-clause-silent
+returns-in_err-marker-clause-silent g c = silence_then _ _ _ _ _ _ c.loop-marker.invariant.silent c.finish_to_marker.ensures.silent
+
+pub returns-in-None-clause-silent : goal.returns-in-None-clause-silent
+returns-in-None-clause-silent g c = rw (← c.self-in-None.view_is) at (silence_then _ _ _ _ _ _ c.loop-marker.invariant.silent c.finish_to_marker.ensures.silent)

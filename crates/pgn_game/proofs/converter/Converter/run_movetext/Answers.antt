@@ -1,5 +1,5 @@
 use Rattle.pgn_game.specs.declared.converter.StepEnd.TheVariants.{NoMarker}
-use Rattle.pgn_game.proofs.Words.{IsSound, false, sink_of, kind_of, ◌≡◌, ◌∙◌, arith, ap, None, Ok, Some, take_rest, device, drop, may_have_movetext, refl, StepsInPiece, outcome_at, MeetsEntry, TakesUnlessMarker}
+use Rattle.pgn_game.proofs.Words.{IsSound, KeepsSilence, false, sink_of, kind_of, ◌≡◌, ◌∙◌, arith, ap, None, Ok, Some, take_rest, device, drop, may_have_movetext, refl, StepsInPiece, outcome_at, MeetsEntry, TakesUnlessMarker}
 use Rattle.pgn_game.proofs.ReaderFitsInMemory.{fits_alike, fits_reader}
 use Rattle.pgn_game.proofs.putting.SilentReader.{seen_alike, silence_kept, silence_then}
 use Rattle.pgn_game.proofs.tokens.AcceptedToConverter.{now_at}
@@ -122,13 +122,38 @@ step_on-step-requires g c =
     let ran = ran g (goal.at.step_on-step-requires g c).Left-loop-used in
     (search fits_alike, rw take_rest (before_rest c.requires.piece.short ran.goes (omega (arith, ran.goes.within, c.if-used-piece.false))))
 
+-- and that it kept silence
+kept : (g : _) (c : Left-loop-used g) → KeepsSilence c.args.self.now.reading c.loop-used-test.self.reading c.args.out.now c.loop-used.out
+kept g c =
+    elim c.loop-used-test.branch [
+      | else-loop-used-test w ↦ rw w.self-is c.loop-used.invariant.silent
+      | then-loop-used-test+in_default w ↦ rw w.self-is c.loop-used.invariant.silent
+    ]
+
+pub returns-then-used-piece-clause-silent : goal.returns-then-used-piece-clause-silent
+returns-then-used-piece-clause-silent g c = kept g (goal.at.returns-then-used-piece-clause-silent g c).Left-loop-used
+
 pub returns-clause-steps : goal.returns-clause-steps
 returns-clause-steps g c =
-    let ran = ran g (goal.at.returns-clause-steps g c).Left-loop-used in
-    let quiet : c.loop-used-test.self.reading.writing.is_silent ≡ c.args.self.now.reading.writing.is_silent =
-    elim c.loop-used-test.branch [
-      | else-loop-used-test w ↦ rw w.self-is c.loop-used.invariant.silent.silent
-      | then-loop-used-test+in_default w ↦ rw w.self-is c.loop-used.invariant.silent.silent
-    ] in
+    let left = (goal.at.returns-clause-steps g c).Left-loop-used in
+    let ran = ran g left in
     steps_behind _ _ _ _ _ _ _ _ _ _ _ _ _ (omega (arith, ran.goes.within, c.if-used-piece.false)) ran
-    (rw take_rest at (seen_alike (StepsInPiece _ _ _ _ _) _ _ _ quiet c.step_on-step.ensures.steps))
+    (rw take_rest at (seen_alike (StepsInPiece _ _ _ _ _) _ _ _ (kept g left).silent c.step_on-step.ensures.steps))
+
+pub returns-clause-silent : goal.returns-clause-silent
+returns-clause-silent g c =
+    silence_then _ _ _ _ _ _ (kept g (goal.at.returns-clause-silent g c).Left-loop-used) c.step_on-step.ensures.silent
+
+pub returns-in_default-met-clause-silent : goal.returns-in_default-met-clause-silent
+returns-in_default-met-clause-silent g c = silence_then _ _ _ _ _ _ c.loop-used.invariant.silent c.accept_entry-met.ensures.silent
+
+pub invariant_of-self : goal.invariant_of-self
+invariant_of-self g c =
+    let here = c.loop-used.invariant in
+    rw (here.flag, here.not_finished, here.fault) here.sound
+
+pub whole_token-count-requires : goal.whole_token-count-requires
+whole_token-count-requires g c = rw take_rest (room_behind c.requires.piece.short c.loop-used.invariant.runs.goes)
+
+pub settle-outcome-requires : goal.settle-outcome-requires
+settle-outcome-requires g c = record { no_fault = c.loop-used.invariant.fault }

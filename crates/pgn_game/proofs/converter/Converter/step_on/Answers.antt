@@ -1,6 +1,7 @@
 use Rattle.pgn_game.proofs.Words.{arith, refl}
 use Rattle.pgn_game.proofs.ReaderFitsInMemory.{fits_reader}
 use Rattle.pgn_game.proofs.tokens.RunsInPiece.{steps_of}
+use Rattle.pgn_game.proofs.putting.SilentReader.{silence_kept}
 use Rattle.pgn_game.proofs.tokens.StepsAtEnd.{fields_before, short_before, sound_behind_fault}
 use Rattle.pgn_game.proofs.tokens.StepsOverTokens.{sound_met, sound_more, steps_fault, steps_met, steps_more}
 use Rattle.pgn_game.proofs.converter.Converter.step_on.Goals as goal
@@ -58,3 +59,18 @@ invariant_of-self g c =
     rw (old.flag, old.none, old.not_over)
     (sound_more _ _ _ _ old.sound (short_before c.self.view_is c.requires) c.read_on-scan.ensures.used c.requires.some
     (rw c.in-NeedMore.is at c.read_on-scan.follows.holds-at-none))
+
+pub read_on-scan-requires : goal.read_on-scan-requires
+read_on-scan-requires g c = rw (← c.self.view_is) at c.requires.short
+
+pub settle-requires : goal.settle-requires
+settle-requires g c = record { no_fault = (fields_before c.self.view_is c.self.invariant c.requires.before).none }
+
+pub returns-in-NeedMore-clause-silent : goal.returns-in-NeedMore-clause-silent
+returns-in-NeedMore-clause-silent g c = rw (← c.self.view_is) (silence_kept _ _ _ refl)
+
+pub returns-in-Fault-clause-silent : goal.returns-in-Fault-clause-silent
+returns-in-Fault-clause-silent g c = rw (← c.self.view_is) (silence_kept _ _ _ refl)
+
+pub returns-in-Token-clause-silent : goal.returns-in-Token-clause-silent
+returns-in-Token-clause-silent g c = rw (← c.self.view_is) c.accept_copied-met.ensures.silent

@@ -3,6 +3,7 @@ use Rattle.pgn_game.proofs.Words.{IsSound, List, Option, ℕ, refl, None, false,
 use Rattle.pgn_game.proofs.ReaderFitsInMemory.{fits_alike, fits_reader}
 use Rattle.pgn_game.proofs.tokens.AcceptedToConverter.{now_at}
 use Rattle.pgn_game.proofs.tokens.RunsInPiece.{Runs, between, before_rest, steps_at_once, steps_behind, steps_of, steps_run}
+use Rattle.pgn_game.proofs.putting.SilentReader.{silence_kept}
 use Rattle.pgn_game.proofs.tokens.StepsAtEnd.{fields_before, short_before}
 use Rattle.pgn_game.proofs.tokens.StepsOverTokens.{runs_past, sound_met_behind, sound_past, steps_met_behind}
 use Rattle.pgn_game.proofs.converter.Converter.step_token.Goals as goal
@@ -99,3 +100,21 @@ returns-clause-steps g c =
     (steps_of _ _ _ _ old.same
     (steps_met_behind _ _ _ _ old.sound (short_before c.self.view_is c.requires) not_in_movetext
     (rw c.in-Some.is at c.whole_token-used.ensures.reads) c.whole_token-used.ensures.used met.new.self met.result _ met.ensures.takes))
+
+pub whole_token-used-requires : goal.whole_token-used-requires
+whole_token-used-requires g c = rw (← c.self.view_is) at c.requires.short
+
+pub returns-then-used-eq0-clause-silent : goal.returns-then-used-eq0-clause-silent
+returns-then-used-eq0-clause-silent g c = rw (← c.self.view_is) c.step_on.ensures.silent
+
+pub returns-then-used-piece-clause-silent : goal.returns-then-used-piece-clause-silent
+returns-then-used-piece-clause-silent g c = rw (← c.self.view_is) (silence_kept _ _ _ refl)
+
+pub returns-in_default-clause-silent : goal.returns-in_default-clause-silent
+returns-in_default-clause-silent g c = rw (← c.self.view_is) c.step_on-rest.ensures.silent
+
+pub settle-requires : goal.settle-requires
+settle-requires g c = record { no_fault = (fields_before c.self.view_is c.self.invariant c.requires.before).none }
+
+pub returns-clause-silent : goal.returns-clause-silent
+returns-clause-silent g c = rw (← c.self.view_is) c.accept_unless_marker-met.ensures.silent

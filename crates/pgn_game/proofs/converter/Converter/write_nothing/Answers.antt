@@ -1,4 +1,4 @@
-use Rattle.pgn_game.proofs.Words.{Option, sym, ap, subst, ◌∙◌, FinishedGame, StillStands, writing_nothing, silenced, refl}
+use Rattle.pgn_game.proofs.Words.{sym, subst, StillStands, refl}
 use Rattle.pgn_game.proofs.ReaderFitsInMemory.{fits_reader}
 use Rattle.pgn_game.proofs.tokens.MissingCountsAs.{finished_silently, sound_silently, stands_silently}
 use Rattle.pgn_game.proofs.converter.Converter.write_nothing.Goals as goal

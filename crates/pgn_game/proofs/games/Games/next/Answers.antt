@@ -9,3 +9,12 @@ returns-clause-reads g c = rw (← c.self.view_is) c.next_game.ensures.goes.read
 
 pub returns-clause-again : goal.returns-clause-again
 returns-clause-again g c = rw (← c.self.view_is) c.next_game.ensures.again
+
+pub returns-clause-fault : goal.returns-clause-fault
+returns-clause-fault g c = c.next_game.ensures.goes.fault
+
+pub returns-clause-counted : goal.returns-clause-counted
+returns-clause-counted g c = rw (← c.self.view_is) c.next_game.ensures.goes.counted
+
+pub returns-clause-silent : goal.returns-clause-silent
+returns-clause-silent g c = rw (← c.self.view_is) c.next_game.ensures.silent

@@ -1,5 +1,4 @@
-use Rattle.pgn_game.proofs.Words.{◌≡◌, ◌∷◌, Some, ap, sym, ◌∙◌, arith, rules, StoredLevel}
-use Rattle.pgn_game.proofs.Words.{level_of}
+use Rattle.pgn_game.proofs.Words.{◌≡◌, ◌∷◌, Some, ap, sym, ◌∙◌, arith, rules, StoredLevel, level_of}
 use Rattle.pgn_game.specs.declared.levels.Level.{Level as CodeLevel}
 use Rattle.pgn_game.proofs.putting.CodeLevelsToStored.{depth-held, opened, opens, pushed}
 use Rattle.pgn_game.proofs.levels.Levels.open.Goals as goal

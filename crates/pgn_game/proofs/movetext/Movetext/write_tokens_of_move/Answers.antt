@@ -1,5 +1,4 @@
-use Rattle.pgn_game.proofs.Words.{arith, rules, ◌≡◌, ◌<◌, ◌≤◌, length, ◌∷◌, [], List, ℕ, ap, subst, ◌∙◌, device, IsToken}
-use Rattle.pgn_game.proofs.Words.{text_of_move, Movetext, PutsTokens, number_due}
+use Rattle.pgn_game.proofs.Words.{arith, rules, ◌≡◌, ◌<◌, ◌≤◌, length, ◌∷◌, [], List, ℕ, ap, subst, ◌∙◌, device, IsToken, text_of_move, Movetext, PutsTokens, number_due}
 use Rattle.pgn_game.proofs.putting.ItemToMovetext.{puts_after, puts_fail, is_text, is_token, writes_move}
 use Rattle.pgn_game.proofs.putting.NumberToTokens.{puts_token}
 use Rattle.pgn_game.proofs.movetext.Movetext.write_tokens_of_move.Goals as goal

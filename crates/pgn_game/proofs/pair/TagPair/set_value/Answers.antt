@@ -1,5 +1,4 @@
-use Rattle.pgn_game.proofs.Words.{◌≡◌, ℕ, ◌+◌, ◌≤◌, List, ◌++◌, take, drop, length, refl, arith, ap, ◌∙◌, Result, Ok, Err, IsOk}
-use Rattle.pgn_game.proofs.Words.{length-take-le, Pair, take_at, drop_at}
+use Rattle.pgn_game.proofs.Words.{◌≡◌, ℕ, ◌+◌, ◌≤◌, List, ◌++◌, take, drop, length, refl, arith, ap, ◌∙◌, Result, Ok, Err, IsOk, length-take-le, Pair, take_at, drop_at}
 use Rattle.pgn_game.proofs.pairs.EscapedLength.{length-le-escaped}
 use Rattle.std.specs.Result.{OnOk}
 use Rattle.pgn_game.proofs.pair.TagPair.set_value.Goals as goal
