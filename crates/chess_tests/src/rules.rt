@@ -25,7 +25,16 @@ const NO_RIGHT: Rights = Rights {
     black_long: false,
 };
 
-const PROMOTIONS: [Option<Promotion>; 5] = [
+pub(crate) const KINDS: [Kind; 6] = [
+    Kind::King,
+    Kind::Queen,
+    Kind::Rook,
+    Kind::Bishop,
+    Kind::Knight,
+    Kind::Pawn,
+];
+
+pub(crate) const PROMOTIONS: [Option<Promotion>; 5] = [
     None,
     Some(Promotion::Queen),
     Some(Promotion::Rook),

@@ -1,20 +1,11 @@
 //! Candidates, move counts by way of them, mates and stalemates.
 
-use crate::rules::{EVERY_RIGHT, PROMOTIONS, count_moves, nth, parts, play, square};
+use crate::rules::{EVERY_RIGHT, KINDS, PROMOTIONS, count_moves, nth, parts, play, square};
 use chess_rules::{
     Colour, Kind, Move, Parts, Piece, Position, Probes, Rights, Square, has_legal_move, in_check,
     may_have_two_origins, only_origin, origins, try_pair,
 };
 use std::test::Fail;
-
-const KINDS: [Kind; 6] = [
-    Kind::King,
-    Kind::Queen,
-    Kind::Rook,
-    Kind::Bishop,
-    Kind::Knight,
-    Kind::Pawn,
-];
 
 fn has_origin(position: &Position, kind: Kind, target: Square, origin: Square) -> bool {
     origins(position, kind, target)

@@ -21,7 +21,7 @@ fn line(byte: u8) -> u8 {
     }
 }
 
-fn square(name: [u8; 2]) -> Square {
+pub(crate) fn square(name: [u8; 2]) -> Square {
     Square::new(line(name[0]), line(name[1])).unwrap_or_default()
 }
 

@@ -1,32 +1,13 @@
 //! Moves as text, read and written, in worked positions.
 
+use crate::rules::{KINDS, PROMOTIONS};
 use crate::text::POSITIONS;
+use crate::text::resolution::square;
 use chess_rules::{
     Kind, Move, Position, Probes, Promotion, Square, has_legal_move, in_check, origins, try_pair,
 };
 use chess_text::{Form, Played, read_fen, read_form, resolve, write_san};
 use std::process::Abort;
-
-const KINDS: [Kind; 6] = [
-    Kind::King,
-    Kind::Queen,
-    Kind::Rook,
-    Kind::Bishop,
-    Kind::Knight,
-    Kind::Pawn,
-];
-
-const PROMOTIONS: [Option<Promotion>; 5] = [
-    None,
-    Some(Promotion::Queen),
-    Some(Promotion::Rook),
-    Some(Promotion::Bishop),
-    Some(Promotion::Knight),
-];
-
-fn square(name: [u8; 2]) -> Square {
-    Square::new(name[0].wrapping_sub(b'a'), name[1].wrapping_sub(b'1')).unwrap_or_default()
-}
 
 fn go(from: [u8; 2], to: [u8; 2], promotion: Option<Promotion>) -> Move {
     Move {
