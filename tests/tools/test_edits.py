@@ -1,10 +1,14 @@
 """The wrong bodies of edits/ fit the sources, each function that docs/PROVED.md names has one, and
 bin/try_edits reads what a check says of an edit."""
+import contextlib
 import glob
+import io
+import itertools
 import os
 import re
 import subprocess
 import tempfile
+import threading
 import unittest
 
 from programs import ROOT, load
@@ -420,6 +424,7 @@ impl T {
 
     const B: u8 = 2;
 
+    #[inline]
     fn two(self) -> u8 {
         self.one()
     }
@@ -439,8 +444,8 @@ class Sharing(unittest.TestCase):
         for text, found in (
             ("const A", ("", False)), ("impl T", ("", False)), ("// one", ("", False)),
             ("fn one", ("one", False)), ("result", ("one", False)), ("self.is", ("one", True)),
-            ("        1\n", ("one", True)), ("const B", ("", False)), ("fn two", ("two", False)),
-            ("self.one", ("two", True)),
+            ("        1\n", ("one", True)), ("const B", ("", False)), ("inline", ("two", False)),
+            ("fn two", ("two", False)), ("self.one", ("two", True)),
         ):
             place = SOURCE.index(text)
             self.assertEqual(loaded().function_at(SOURCE, place), found, text)
@@ -462,10 +467,53 @@ class Sharing(unittest.TestCase):
                 edit = self.edit("lib-one-is-wrong", *changes)
                 self.assertEqual(loaded().changes_a_body(edit, room), does, changes)
 
+    def test_the_functions_of_an_edit(self):
+        paths = ["low::a::T::one", "low::a::U::one", "low::b::T::one", "low::ab::one", "low::alone"]
+        for path, found in (
+            ("src/a.rt", paths[:2]), ("src/b.rt", paths[2:3]), ("src/ab.rt", paths[3:4]),
+            ("src/c.rt", paths[:4]), ("specs/A.antt", paths[:4]),
+        ):
+            edit = self.edit("file-one-is-wrong", (path, "", ""))
+            self.assertEqual(loaded().functions_of(edit, paths), found, path)
+        self.assertEqual(loaded().functions_of(edit, paths[4:]), ["one"])
+
+    def tried(self, checks, *groups):
+        """The edits of each check, of which these refuse those that they are called with."""
+        script, seen = loaded(), []
+        script.changes_a_body = lambda edit, folder: edit.function != "x"
+        trial = script.Trial("", None)
+        trial.paths["low"] = ["low::" + it for it in "abcx"]
+
+        def together(crate, edits, folder):
+            seen.append(" ".join(it.name[4:] for it in edits))
+            return [it for it in edits if it.name[4:] in checks.get(seen[-1], "")]
+
+        trial.try_together = together
+        trial.try_edit = lambda crate, edit, folder: seen.append(edit.name[4:]) or [edit.function]
+        groups = [[self.edit("lib-" + it) for it in them.split()] for them in groups]
+        for them in itertools.chain(*groups):
+            them.changes = [("src/lib.rt", "", "")]
+        return seen, trial.try_groups("low", groups, "")
+
+    def test_one_that_is_not_refused_for_sure_is_tried_again(self):
+        for checks, groups, seen in (
+            ({"a-1 b-1": "a-1 b-1"}, ("a-1", "b-1"), ["a-1 b-1"]),
+            # those that are left go on with the next of the other functions
+            ({"a-1 b-1": "b-1", "a-1 b-2": "a-1 b-2"}, ("a-1", "b-1 b-2"), ["a-1 b-1", "a-1 b-2"]),
+            ({"a-1 b-1": "b-1"}, ("a-1", "b-1"), ["a-1 b-1", "a-1"]),
+            # a check that refuses none says nothing of any
+            ({}, ("a-1", "b-1 b-2"), ["a-1 b-1", "a-1", "b-1", "b-2"]),
+            # what changes more than a body shares no check
+            ({"a-1 b-1": "a-1 b-1"}, ("x-1", "a-1", "b-1"), ["a-1 b-1", "x-1"]),
+        ):
+            self.assertEqual(self.tried(checks, *groups)[0], seen)
+        functions = self.tried({"a-1 b-1": "b-1"}, "a-1", "b-1")[1]
+        self.assertEqual(functions, {"a", "low::b"})
+
     def reason(self, *lines):
         edit = self.edit("lib-one-is-wrong", ("src/lib.rt", "self.is", "true"))
         said = "".join(it + "\n" for it in lines)
-        return loaded().reason_in(said, edit, {"src/lib.rt": SOURCE})
+        return loaded().reason_in(said, edit, ["low::T::one"], {"src/lib.rt": SOURCE})
 
     def test_what_refuses_a_function_for_sure(self):
         no_proof = "fn low::T::one: no proof: expected answers in ./proofs/T/one/Answers.antt"
@@ -484,7 +532,7 @@ class Sharing(unittest.TestCase):
     def test_what_is_said_of_another_function(self):
         no_proof = "fn low::T::one: not proved"
         for line in (
-            "note: src/lib.rt:18:9: it is not proved that what `one` requires holds",
+            "note: src/lib.rt:19:9: it is not proved that what `one` requires holds",
             "note: src/other.rt:5:5: it is not proved that what the function ensures holds",
             "./proofs/T/two/Answers.antt:4:2: error: `returns`: expected type `a`",
             "./proofs/one/two/Answers.antt:4:2: error: `returns`: expected type `a`",
@@ -509,9 +557,51 @@ class Lanes(unittest.TestCase):
     def test_functions_share_checks_where_lanes_have_enough_of_them(self):
         script = loaded()
         self.assertEqual(script.sharing(list("abcde"), 4), [["a", "b"], ["c", "d"], ["e"]])
-        self.assertEqual(script.sharing(list("ab"), 4), [["a"], ["b"]])
+        self.assertEqual(script.sharing(["a", "bb"], 4), [["bb"], ["a"]])
         sizes = [len(it) for it in script.sharing(["a"] * 100, 3)]
         self.assertEqual((max(sizes), sum(sizes)), (script.TOGETHER, 100))
+
+    def proved(self, said):
+        """The calls of `check`, where it says this of a crate, and what `try_all` does."""
+        script, calls, is_begun = loaded(), [], threading.Event()
+
+        def check(folder, *flags):
+            crate = os.path.basename(folder)
+            calls.append(crate + " begins")
+            if crate == "pgn_layout":
+                is_begun.set()
+            # the two are proved side by side
+            self.assertTrue(crate != "chess_rules" or is_begun.wait(20))
+            self.assertEqual(flags, ("--jobs", "1"))
+            calls.append(crate + " ends")
+            return 0, said[crate]
+
+        def try_groups(trial, crate, groups, folder):
+            calls.append(crate + " is tried")
+            trial.counts["refused"] += sum(map(len, groups))
+            return []
+
+        script.check, script.Trial.try_groups = check, try_groups
+        script.copy_repository = lambda *given: None
+        script.check_copy = lambda *given: (0, "logic=proved \n")
+        edits = {it: [script.Edit(it, "a-f-x", "")] for it in said}
+        with contextlib.redirect_stdout(io.StringIO()) as out:
+            is_well = script.try_all(edits, 2, None, None)
+        return calls, is_well, out.getvalue()
+
+    def test_crates_are_proved_side_by_side_behind_their_libraries(self):
+        said = dict.fromkeys(("chess_text", "chess_rules", "pgn_layout"), "logic=proved \n")
+        calls, is_well, out = self.proved(said)
+        self.assertTrue(is_well, out)
+        at = {it: calls.index(it) for it in calls}
+        self.assertLess(at["chess_rules ends"], at["chess_text begins"])
+        for it in said:
+            self.assertLess(at[it + " ends"], at[it + " is tried"])
+        calls, is_well, out = self.proved(said | {"chess_text": "logic=not-proved\n"})
+        self.assertFalse(is_well)
+        self.assertIn("chess_text is not proved, so its edits show nothing", out)
+        self.assertRegex(out, r" 2 lanes: 2 refused, 1 NOT TRIED\n")
+        self.assertNotIn("chess_text is tried", calls)
 
     def test_a_copy_has_the_work_that_a_check_needs(self):
         files = (
