@@ -1,6 +1,6 @@
 -- **Definition**: the machine that the devices of a run are, by their states before and after it.
 -- Files of games are of a type F, and a file that is being written of a type G.
-use Rattle.std.specs.Prelude.{◌≡◌, Bool, false}
+use Rattle.std.specs.Prelude.{◌≡◌, false}
 use Rattle.pgn_layout.specs.Device.{device}
 use Rattle.pgn_layout.specs.declared.sink.Sink.{Ghosts as OfSink}
 use Rattle.pgn_game.specs.declared.source.Source.{Ghosts as OfSource}

@@ -1,7 +1,7 @@
 -- **Definition**: what a machine gives to a run: files to read, and devices.
 -- The real machine reports nothing here. What is said of machines that report holds for the program
 -- all the same: it is generic, so it does the same on each.
-use Rattle.std.specs.Prelude.{◌≡◌, ℕ, Bool, true, false, List, Option, Result, Ok, Err}
+use Rattle.std.specs.Prelude.{◌≡◌, ℕ, Bool, true, List, Option, Result, Ok, Err}
 use Rattle.std.specs.declared.io.ErrorKind.{ErrorKind}
 use Rattle.std.specs.declared.io.ErrorKind.TheVariants.{OutOfMemory}
 use Rattle.pgn_layout.specs.Device.{Device}
