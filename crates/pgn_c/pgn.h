@@ -141,8 +141,9 @@ enum {
 typedef struct pgn_bad_game {
     size_t begin;            /* where the game before it ends */
     size_t fault;            /* the place of its fault */
-    size_t at;               /* where the next line begins; `begin` before the first call */
-    size_t comment_at;       /* where the comment begins that is open, if has_comment */
+    size_t at;               /* where the next line begins; `begin` before the first call; behind
+                                PGN_OK the place where reading goes on */
+    size_t comment_at;       /* where the comment begins that is open there, if has_comment */
     size_t escapes_at;       /* where the escape lines before the next line begin, if has_escapes */
     uint32_t ends;           /* which lines can show where it ends */
     uint32_t has_tags;       /* 1: a line so far had a tag */
@@ -326,11 +327,12 @@ pgn_tag pgn_tag_at(const uint8_t *text, size_t length, size_t at);
  * other fields are the call's own. `is_last` is not 0 if nothing follows the piece. Places count
  * from the first byte of the text.
  *
- * PGN_OK: reading goes on at `place`, which lies above `begin`. A byte order mark that stands where
- *     the game ends is passed.
- * PGN_NO_GAME: the place is not in this text: all the rest belongs to the bad game.
- * PGN_MORE: the whole lines of the piece are read. The next piece begins with the bytes that are
- *     left, from `at` on. Give more of them than before.
+ * PGN_OK: reading goes on at `place`, which lies above `begin`. `at` is the same place. A byte order
+ *     mark that stands where the game ends is passed.
+ * PGN_NO_GAME: the place is not in this text: all the rest belongs to the bad game. `at` is behind
+ *     the text, and `comment_at` says which comment is open there.
+ * PGN_MORE: the whole lines of the piece are read, and `at` is behind them. The next piece begins
+ *     with the bytes that are left, from `at` on. Give more of them than before.
  * PGN_NO_MODE: there are no such `ends`. The game is unchanged.
  * PGN_BAD_PLACE: the piece would end at 2^64 or above. The game is unchanged.
  */

@@ -72,7 +72,7 @@ def whole(text, begin, fault, ends):
 
 
 def in_pieces(text, begin, fault, chance):
-    """The place of a text in pieces of any length, or None."""
+    """What the calls say of a text in pieces: the place or None, and the game then."""
     game = calls.BadGame(begin=begin, fault=fault, at=begin)
     end, status = begin, calls.MORE
     while status == calls.MORE:
@@ -80,7 +80,7 @@ def in_pieces(text, begin, fault, chance):
         piece = text[game.at:end]
         found = calls.next_section(game, piece, len(piece), end == len(text))
         status = found.status
-    return {calls.OK: found.place, calls.NO_GAME: None}[status]
+    return {calls.OK: found.place, calls.NO_GAME: None}[status], game
 
 
 class Rule(unittest.TestCase):
@@ -88,9 +88,12 @@ class Rule(unittest.TestCase):
         begin = chance.choice((0, chance.randint(0, len(text))))
         fault = chance.choice((begin, chance.randint(begin, len(text)), len(text)))
         wanted = section_rule.next_section(text, begin, fault)
-        place, _ = whole(text, begin, fault, calls.ENDS_ANYWHERE)
+        place, game = whole(text, begin, fault, calls.ENDS_ANYWHERE)
         self.assertEqual(place, wanted, (text, begin, fault))
-        self.assertEqual(in_pieces(text, begin, fault, chance), wanted, (text, begin, fault))
+        self.assertEqual(game.at, len(text) if wanted is None else wanted, (text, begin, fault))
+        place, same = in_pieces(text, begin, fault, chance)
+        self.assertEqual(place, wanted, (text, begin, fault))
+        self.assertEqual(bytes(same), bytes(game), (text, begin, fault))
         hidden, _ = whole(text, 0, len(text), calls.ENDS_IN_COMMENTS)
         self.assertEqual(hidden, section_rule.hidden_game(text), text)
         none, game = whole(text, 0, 0, calls.ENDS_NOWHERE)

@@ -239,8 +239,9 @@ pub extern "C" fn pgn_tag_at(text: &[u8], at: usize) -> PgnTag
 /// piece. Places count from the first byte of the text.
 ///
 /// - Status 0: the result has the place, which lies above `begin`. It is a guess: the next line
-///   that begins a tag section.
-/// - Status 4: no place is in this text. All the rest belongs to the bad game.
+///   that begins a tag section. `at` is this place.
+/// - Status 4: no place is in this text. All the rest belongs to the bad game. `at` is behind the
+///   text, and `comment_at` is the comment that is open there, if `has_comment`.
 /// - Status 5: the whole lines of the piece are read. `at` is behind them, and the next piece
 ///   begins there.
 /// - Status 3: there are no such `ends`. Nothing was read.

@@ -14,7 +14,7 @@ pub struct PgnBadGame {
     pub begin: usize,
     /// The place of its fault.
     pub fault: usize,
-    /// Where the next line begins.
+    /// Where the next line begins, or reading goes on, if that is found.
     pub at: usize,
     /// Where the comment begins that is open, if `has_comment`.
     pub comment_at: usize,

@@ -3,13 +3,13 @@ use Rattle.std.proofs.lemmas.Grind.{common_steps}
 use Rattle.std.proofs.Common.{◌≡◌, ℕ, ◌+◌, ◌-◌, ◌<◌, Bool, true, false, List, [], ◌∷◌, ◌++◌, Option, None, Some, length, drop, take, refl, sym, ◌∙◌, ap, arith, append-nil}
 use Rattle.std.proofs.lemmas.Bool.{false≢true, lt-ltb}
 use Rattle.std.proofs.lemmas.List.{drop_all}
-use Rattle.std.specs.Prelude.{IsTrue, is_some, not, ◌&&◌, ◌==◌, if◌then◌else◌}
+use Rattle.std.specs.Prelude.{IsTrue, is_some, not, ◌&&◌, ◌||◌, ◌==◌, if◌then◌else◌}
 use Rattle.std.specs.List.{list_all}
 use Rattle.pgn_sections.specs.BadGame.{behind_line, place_on, with_line}
 use Rattle.pgn_sections.specs.Bytes.{begins_with, is_space}
 use Rattle.pgn_sections.specs.FirstLine.{line_from, line_to_return}
-use Rattle.pgn_sections.specs.Lines.{ends_line, first_place, lines_of, place_in}
-use Rattle.pgn_sections.specs.Pieces.{CanFollow, FindsPlace, IsSameGame}
+use Rattle.pgn_sections.specs.Lines.{ends_line, lines_of, place_in, with_first}
+use Rattle.pgn_sections.specs.Pieces.{CanFollow, FindsPlace, IsSameGame, behind_lines, ends_with_line_feed, whole_lines}
 use Rattle.pgn_sections.specs.declared.bad_game.BadGame.{BadGame}
 
 -- The first line of a piece and what follows it. So many bytes of it are before the piece.
@@ -73,21 +73,130 @@ no_line true [] h e = refl
 no_line true (b ∷ u) h e = absurd (some_line 0 b u e)
 no_line false u h e = absurd (false≢true h)
 
--- the first whole line shows a place, or none
-first_place_is : (g : BadGame) (is_last : Bool) (u s line : List ℕ) (n : ℕ) (found : Option ℕ) → CanFollow is_last s → line_from is_last 0 u ≡ Some n
-    → line ≡ take n u → place_on g line ≡ found → place_in g (lines_of (u ++ s)) ≡ first_place found (place_in (behind_line g line) (lines_of (drop n u ++ s)))
-first_place_is g is_last u s line n found follow e l p =
-    ap (λ (lines : List (List ℕ)). place_in g lines) (whole_line is_last u s n follow e)
-    ∙ ap (λ (t : List ℕ). first_place (place_on g t) (place_in (behind_line g t) (lines_of (drop n u ++ s)))) (sym l)
-    ∙ ap (λ (o : Option ℕ). first_place o (place_in (behind_line g line) (lines_of (drop n u ++ s)))) p
+-- a line ends with an LF if its rest does
+feed_longer : (b : ℕ) (u : List ℕ) → ends_with_line_feed u ≡ true → ends_with_line_feed (b ∷ u) ≡ true
+feed_longer b [] e = absurd (false≢true e)
+feed_longer b (c ∷ u) e = e
 
-pub shows : (g : BadGame) (is_last : Bool) (u s line : List ℕ) (n place : ℕ) → CanFollow is_last s → line_from is_last 0 u ≡ Some n
-    → line ≡ take n u → place_on g line ≡ Some place → place_in g (lines_of (u ++ s)) ≡ Some place
-shows g is_last u s line n place follow e l p = first_place_is g is_last u s line n (Some place) follow e l p
+-- A first line that is a whole piece ends with an LF, if the text goes on: at its first byte, ..
+feed_at_once : (before b end : ℕ) (u : List ℕ) → (b == 10) ≡ true → end ≡ before + 1 → drop (end - before) (b ∷ u) ≡ []
+    → ends_with_line_feed (take (end - before) (b ∷ u)) ≡ true
+feed_at_once before b end u is k none = grind (arith, common_steps)
 
-pub passes : (g : BadGame) (is_last : Bool) (u s line : List ℕ) (n : ℕ) → CanFollow is_last s → line_from is_last 0 u ≡ Some n
-    → line ≡ take n u → place_on g line ≡ None → place_in g (lines_of (u ++ s)) ≡ place_in (behind_line g line) (lines_of (drop n u ++ s))
-passes g is_last u s line n follow e l p = first_place_is g is_last u s line n None follow e l p
+-- .. behind a CR, ..
+feed_behind_return : (before b end : ℕ) (u : List ℕ) → line_to_return false before u ≡ Some end → drop (end - before) (b ∷ u) ≡ []
+    → ends_with_line_feed (take (end - before) (b ∷ u)) ≡ true
+feed_behind_return before b end [] e none = absurd cc
+feed_behind_return before b end (c ∷ u) e none = grind (arith, common_steps)
+
+-- .. or behind other bytes
+feed_further : (before b end : ℕ) (u : List ℕ) → before + 1 < end
+    → (drop (end - (before + 1)) u ≡ [] → ends_with_line_feed (take (end - (before + 1)) u) ≡ true) → drop (end - before) (b ∷ u) ≡ []
+    → ends_with_line_feed (take (end - before) (b ∷ u)) ≡ true
+feed_further before b end u above on none = grind (arith, common_steps, feed_longer)
+
+above_front : (before end : ℕ) (u : List ℕ) → line_from false before u ≡ Some end → before < end
+above_front before end [] e = absurd cc
+above_front before end (b ∷ u) e = (first_line false before b u [] end (λ h. absurd (false≢true h)) e).above
+
+feed_at_end : (before : ℕ) (u : List ℕ) (end : ℕ) → line_from false before u ≡ Some end → drop (end - before) u ≡ []
+    → ends_with_line_feed (take (end - before) u) ≡ true
+feed_at_end before [] end e none = absurd cc
+feed_at_end before (b ∷ u) end e none =
+    grind (arith, common_steps, feed_at_once, feed_behind_return, feed_further before b end u, above_front (before + 1) end u, feed_at_end (before + 1) u end)
+
+-- a text with a byte has a line
+a_line : (b : ℕ) (s : List ℕ) → lines_of (b ∷ s) ≡ [] → ⊥
+a_line b s e = some_of (ends_line b s) b (lines_of s) (lines_of s) e where
+  some_of : (is_end : Bool) (b : ℕ) (more lines : List (List ℕ)) → (if is_end then (b ∷ []) ∷ more else with_first b lines) ≡ [] → ⊥
+  some_of true b more lines e = absurd cc
+  some_of false b more [] e = absurd cc
+  some_of false b more (line ∷ lines) e = absurd cc
+
+-- the whole lines behind a first one
+whole_behind : (is_last : Bool) (line : List ℕ) (lines : List (List ℕ)) → (lines ≡ [] → (is_last || ends_with_line_feed line) ≡ true)
+    → whole_lines is_last (line ∷ lines) ≡ line ∷ whole_lines is_last lines
+whole_behind is_last line [] h = rw (h refl) refl
+whole_behind is_last line (next ∷ lines) h = refl
+
+no_lines : (s : List ℕ) → lines_of s ≡ [] → s ≡ []
+no_lines [] e = refl
+no_lines (b ∷ s) e = absurd (a_line b s e)
+
+-- The whole lines of a piece are its first one and those behind it.
+whole_first : (is_last : Bool) (u : List ℕ) (n : ℕ) → line_from is_last 0 u ≡ Some n
+    → whole_lines is_last (lines_of u) ≡ take n u ∷ whole_lines is_last (lines_of (drop n u))
+whole_first is_last u n e =
+    let lines : lines_of u ≡ take n u ∷ lines_of (drop n u) =
+    rw (append-nil u, append-nil (drop n u)) at (whole_line is_last u [] n (λ _. refl) e) in
+    ap (whole_lines is_last) lines ∙ whole_behind is_last (take n u) (lines_of (drop n u)) (λ none. ends is_last e (no_lines (drop n u) none)) where
+      ends : (is_last : Bool) → line_from is_last 0 u ≡ Some n → drop n u ≡ [] → (is_last || ends_with_line_feed (take n u)) ≡ true
+      ends true e none = refl
+      ends false e none =
+          let whole : n - 0 ≡ n = omega arith in
+          rw whole at (feed_at_end 0 u n e (rw whole none))
+
+-- one byte more before what has no whole line
+none_longer : (b : ℕ) (lines : List (List ℕ)) → (b == 10) ≡ false → whole_lines false lines ≡ [] → whole_lines false (with_first b lines) ≡ []
+none_longer b [] n h = rw n refl
+none_longer b ([] ∷ []) n h = rw n refl
+none_longer b ((c ∷ line) ∷ []) n h = grind (arith, common_steps)
+none_longer b (line ∷ next ∷ lines) n h = absurd cc
+
+none_whole : (before : ℕ) (u : List ℕ) → line_from false before u ≡ None → whole_lines false (lines_of u) ≡ []
+none_whole before [] e = refl
+none_whole before (b ∷ []) e = none_alone b (line_to_return false before []) (line_from false (before + 1) []) e where
+  none_alone : (b : ℕ) (behind_return further : Option ℕ)
+      → (if b == 10 then Some (before + 1) else if b == 13 then behind_return else further) ≡ None
+      → whole_lines false (lines_of (b ∷ [])) ≡ []
+  none_alone b behind_return further e = grind (arith, common_steps)
+none_whole before (b ∷ c ∷ u) e = grind (arith, common_steps, none_longer, none_whole (before + 1) (c ∷ u))
+
+-- a piece without a first whole line has none
+pub no_whole_line : (is_last : Bool) (u : List ℕ) → line_from is_last 0 u ≡ None → whole_lines is_last (lines_of u) ≡ []
+no_whole_line true u e = rw (no_line true u refl e) refl
+no_whole_line false u e = none_whole 0 u e
+
+-- A game and lines to read lead to the place and the game to which another game and other lines
+-- lead.
+pub record ReadsOn (g : BadGame) (lines : List (List ℕ)) (new : BadGame) (left : List (List ℕ)) : Type 0 where
+  pub found : place_in g lines ≡ place_in new left
+  pub game : behind_lines g lines ≡ behind_lines new left
+
+pub reads_then : (a b c : BadGame) (x y z : List (List ℕ)) → ReadsOn a x b y → ReadsOn b y c z → ReadsOn a x c z
+reads_then a b c x y z p q = record { found = p.found ∙ q.found; game = p.game ∙ q.game }
+
+-- a first line that shows no place
+reads_first : (g new : BadGame) (lines left : List (List ℕ)) (line : List ℕ) → lines ≡ line ∷ left → place_on g line ≡ None
+    → new ≡ behind_line g line → ReadsOn g lines new left
+reads_first g new lines left line e none same = rw (e, same) (record { found = rw none refl; game = rw none refl })
+
+-- one that shows a place
+pub record StopsAtPlace (g : BadGame) (lines : List (List ℕ)) (place : ℕ) : Type 0 where
+  pub found : place_in g lines ≡ Some place
+  pub game : behind_lines g lines ≡ record g { at = place }
+
+stops_first : (g : BadGame) (lines left : List (List ℕ)) (line : List ℕ) (place : ℕ) → lines ≡ line ∷ left → place_on g line ≡ Some place
+    → StopsAtPlace g lines place
+stops_first g lines left line place e shown = rw e (record { found = rw shown refl; game = rw shown refl })
+
+-- The first whole line of a piece shows no place: so the lines are those behind it, of the piece
+-- alone and with what follows it. Or it shows one.
+module _ (g : BadGame) (is_last : Bool) (u line : List ℕ) (n : ℕ) (first : line_from is_last 0 u ≡ Some n) (is_line : line ≡ take n u) where
+  pub reads_whole : (new : BadGame) (rest : List ℕ) → rest ≡ drop n u → place_on g line ≡ None → new ≡ behind_line g line
+      → ReadsOn g (whole_lines is_last (lines_of u)) new (whole_lines is_last (lines_of rest))
+  reads_whole new rest r none same = reads_first g new _ _ line (whole_first is_last u n first ∙ rw (is_line, r) refl) none same
+
+  pub reads_on : (new : BadGame) (rest s : List ℕ) → CanFollow is_last s → rest ≡ drop n u → place_on g line ≡ None → new ≡ behind_line g line
+      → ReadsOn g (lines_of (u ++ s)) new (lines_of (rest ++ s))
+  reads_on new rest s follow r none same = reads_first g new _ _ line (whole_line is_last u s n follow first ∙ rw (is_line, r) refl) none same
+
+  pub stops : (place : ℕ) → place_on g line ≡ Some place → StopsAtPlace g (whole_lines is_last (lines_of u)) place
+  stops place shown = stops_first g _ (whole_lines is_last (lines_of (drop n u))) line place (whole_first is_last u n first ∙ rw is_line refl) shown
+
+  pub shows : (place : ℕ) (s : List ℕ) → CanFollow is_last s → place_on g line ≡ Some place → place_in g (lines_of (u ++ s)) ≡ Some place
+  shows place s follow shown =
+      (stops_first g _ (lines_of (drop n u ++ s)) line place (whole_line is_last u s n follow first ∙ rw is_line refl) shown).found
 
 same_of_both : (b : Bool) (g x y : BadGame) → IsSameGame g x → IsSameGame g y → IsSameGame g (if b then x else y)
 same_of_both true g x y p q = p

@@ -1,8 +1,11 @@
 -- Worked rows of where reading goes on behind a bad game: the text, where the game before ends, the
 -- place of the fault, and the result. They are worked out by hand from the rules in words.
-use Rattle.std.proofs.Common.{◌≡◌, None, Some, refl}
+use Rattle.std.proofs.Common.{◌≡◌, false, true, [], ◌∷◌, None, Some, refl}
 use Rattle.std.specs.Prelude.{codes}
-use Rattle.pgn_sections.specs.Lines.{next_place}
+use Rattle.pgn_sections.specs.BadGame.{unread}
+use Rattle.pgn_sections.specs.Lines.{lines_of, next_place}
+use Rattle.pgn_sections.specs.Pieces.{behind_lines, whole_lines}
+use Rattle.pgn_sections.specs.declared.bad_game.Ends.TheVariants.{Anywhere}
 
 next_places : Unit {0}
 next_places =
@@ -49,4 +52,44 @@ next_places =
     let tag_pairs_that_are_broken_2 : next_place (codes "[White Ada] 1. e9\n[Black \"Bo\"]\n") 0 15 ≡ Some 18 = refl in
     let tag_pairs_that_are_broken_3 : next_place (codes "[White {\"]} e4 1-0\n[Event \"a\"]\n") 0 12 ≡ None = refl in
     let tag_pairs_that_are_broken_4 : next_place (codes "[White \"a\\\"] 1. e4\"] 1. e9\n[Event \"a\"]\n") 0 24 ≡ Some 27 = refl in
+    tt
+
+-- the whole lines of a piece
+lines_of_pieces : Unit {0}
+lines_of_pieces =
+    let last_piece : whole_lines true (lines_of (codes "a\nb\r\nc")) ≡ codes "a\n" ∷ codes "b\r\n" ∷ codes "c" ∷ [] = refl in
+    -- more may follow the last line of another piece, and an LF its CR
+    let without_an_end : whole_lines false (lines_of (codes "a\nb\r\nc")) ≡ codes "a\n" ∷ codes "b\r\n" ∷ [] = refl in
+    let cr_at_the_end : whole_lines false (lines_of (codes "a\rb\r")) ≡ codes "a\r" ∷ [] = refl in
+    let lf_at_the_end : whole_lines false (lines_of (codes "a\r\n\n")) ≡ codes "a\r\n" ∷ codes "\n" ∷ [] = refl in
+    let no_line : whole_lines false (lines_of (codes "abc")) ≡ [] = refl in
+    tt
+
+-- the game behind lines
+games_behind_lines : Unit {0}
+games_behind_lines =
+    -- a comment is open at the end of the text
+    let an_open_comment : behind_lines (unread 0 6) (lines_of (codes "1. e4 {a\n b")) ≡ record {
+      begin = 0;
+      fault = 6;
+      at = 11;
+      ends = Anywhere;
+      has_tags = false;
+      has_movetext = true;
+      is_behind_empty_line = false;
+      comment_at = Some 6;
+      escapes_at = None;
+    } = refl in
+    -- the place is that of the escape line before the tag, and what was seen is of the lines before
+    let a_place : behind_lines (unread 0 6) (lines_of (codes "1. e9\n\n% a\n [A")) ≡ record {
+      begin = 0;
+      fault = 6;
+      at = 7;
+      ends = Anywhere;
+      has_tags = false;
+      has_movetext = true;
+      is_behind_empty_line = true;
+      comment_at = None;
+      escapes_at = Some 7;
+    } = refl in
     tt

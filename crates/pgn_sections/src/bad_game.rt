@@ -16,7 +16,7 @@ pub enum Ends {
     Anywhere,
     /// Lines in comments, as for a sound game, of which a comment may hide another one.
     InComments,
-    /// None. The lines are read for the comment that is open at their end.
+    /// None. The lines are read for the comment that is open at their end (`comment_at`).
     Nowhere,
 }
 
@@ -27,7 +27,7 @@ pub struct BadGame {
     pub begin: usize,
     /// The place of its fault.
     pub fault: usize,
-    /// Where the next line begins.
+    /// Where the next line begins, or reading goes on, if that is found.
     pub at: usize,
     /// Which lines can show where it ends.
     pub ends: Ends,

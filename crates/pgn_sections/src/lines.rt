@@ -14,7 +14,9 @@ impl BadGame {
     ///
     /// With `None` the game has read the whole lines of the piece, and `at` is behind them. The
     /// bytes from there on are the front of the next piece. Behind the last piece `None` says that
-    /// the place is not in this text. With a place the game stays at the line that shows it.
+    /// the place is not in this text. `comment_at` is then the comment that is open at its end.
+    ///
+    /// With a place, `at` is this place. The game has read the lines before the one that shows it.
     ///
     /// # Examples
     ///
@@ -37,6 +39,7 @@ impl BadGame {
         while let Some(length) = line_length(rest, is_last) {
             let line = text_to(rest, length);
             if let Some(place) = self.place_on(line) {
+                self.at = place;
                 return Some(place);
             }
             self.read_line(line);

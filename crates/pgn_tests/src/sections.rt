@@ -312,6 +312,8 @@ fn pieces(rt: HostRuntime) {
     reads_to(&rt, &mut game, text, 30, 19);
     let rest = text.get(19..).unwrap_or(b"");
     assert_eq!(rt; read_on(&mut game, rest, true), Some(12));
+    let read = game.at;
+    assert_eq!(rt; read, 12);
 }
 
 // What is found in a text that is read for these ends, and where a comment is open then.

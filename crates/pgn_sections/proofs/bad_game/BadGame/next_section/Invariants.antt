@@ -1,6 +1,7 @@
 use Rattle.std.proofs.Common.{ℕ, List, ◌≡◌, ◌+◌, ◌-◌, ◌≤◌, ◌++◌, drop, length}
-use Rattle.pgn_sections.specs.Lines.{lines_of, place_in}
-use Rattle.pgn_sections.specs.Pieces.{CanFollow, IsSameGame}
+use Rattle.pgn_sections.specs.Lines.{lines_of}
+use Rattle.pgn_sections.specs.Pieces.{CanFollow, IsSameGame, whole_lines}
+use Rattle.pgn_sections.proofs.LinesInPieces.{ReadsOn}
 use Rattle.pgn_sections.proofs.bad_game.BadGame.next_section.Given as goal
 
 -- The game has read the lines before the rest of the piece, and none of them shows a place.
@@ -11,7 +12,8 @@ invariant-loop-length l =
       from : l.fn.self.at ≤ l.self.at;
       count : l.self.at + length l.rest ≡ l.fn.self.at + length l.piece;
       rest : l.rest ≡ drop (l.self.at - l.fn.self.at) l.piece;
-      place : (s : List ℕ) → CanFollow l.is_last s → place_in l.fn.self (lines_of (l.piece ++ s)) ≡ place_in l.self (lines_of (l.rest ++ s));
+      whole : ReadsOn l.fn.self (whole_lines l.is_last (lines_of l.piece)) l.self (whole_lines l.is_last (lines_of l.rest));
+      on : (s : List ℕ) → CanFollow l.is_last s → ReadsOn l.fn.self (lines_of (l.piece ++ s)) l.self (lines_of (l.rest ++ s));
     }
 
 abbrev pub decreases-loop-length : goal.decreases-loop-length
