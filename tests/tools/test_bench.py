@@ -8,7 +8,8 @@ import shutil
 import sys
 import unittest
 
-from programs import ROOT, Folder, load, new_folder, run
+import documents
+from programs import ROOT, Folder, load, need, new_folder, not_tried, run
 
 sys.dont_write_bytecode = True
 sys.path.insert(0, ROOT + "/bench")
@@ -116,6 +117,102 @@ RESULT = {
                ("proved", "server"): 1000, ("Cargo", "server"): 1009, ("dependent", "server"): 1081},
     "stack": {"export": 128, "export --checked": 180, "check": 124, "list": 132},
 }
+
+
+# A crate of crates.txt: its name, what kind of crate it is, and what it uses.
+CRATE = re.compile(r"(?m)^(\w+)(?: \w+)?:(.*)$")
+
+
+def imported(text):
+    """What a source file takes from other crates: pairs of a crate and a name."""
+    text = re.sub(r"//.*", "", text)
+    for crate, names in re.findall(r"\b(\w+)::(\w+|\{[^}]*\}|\*)", text):
+        for name in names.strip("{}").split(","):
+            if name.strip():
+                yield crate, name.split()[0]
+
+
+def shown(root):
+    """The names that a crate shows at its root, by its lib.rt."""
+    names = re.findall(r"(?m)^pub (?:fn|struct|enum|trait|const|type|mod) (\w+)", root)
+    for listed in re.findall(r"(?m)^pub use [\w:]*?(\w+|\{[^}]*\});", root):
+        names += [it.split()[-1] for it in listed.strip("{}").split(",") if it.strip()]
+    return set(names)
+
+
+class TheStart(unittest.TestCase):
+    """The block of docs/PERF.md that builds the start beside a clone, up to the first build."""
+
+    @classmethod
+    def setUpClass(cls):
+        need("git", "tar")
+        if run(["git", "rev-parse", "HEAD"]).returncode:
+            not_tried("this is no repository of git")
+        lines = documents.lines_of("docs/PERF.md")
+        cls.block = next(inner for _, _, inner in documents.blocks_of(lines)
+                         if any(it.startswith("bench/run ") for it in inner))
+        cls.build = next(at for at, it in enumerate(cls.block) if "rt run" in it)
+        cls.start = re.search(r"\b[0-9a-f]{40}\b", lines[0])[0]
+        if run(["git", "cat-file", "-e", cls.start + "^{commit}"]).returncode:
+            raise AssertionError("this clone lacks the start, commit %s: git fetch --unshallow"
+                                 % cls.start)
+        folder = new_folder(cls)
+        cls.new, cls.old = folder + "/new", folder + "/old"
+        for words, place in ((["git", "clone", "-q", ROOT, cls.new], ROOT),
+                             (["sh", "-ec", "\n".join(cls.block[:cls.build])], cls.new)):
+            ran = run(words, cwd=place)
+            if (ran.returncode, ran.stdout, ran.stderr) != (0, b"", b""):
+                raise AssertionError("%s: %s" % (words, ran))
+
+    def read(self, path):
+        with open(path, encoding="utf-8") as file:
+            return file.read()
+
+    def test_it_is_the_start(self):
+        ran = run(["git", "rev-parse", "HEAD"], cwd=self.old)
+        self.assertEqual(ran.stdout.decode().strip(), self.start)
+        for name in ("run", "workloads.txt"):
+            path = "%s/bench/" + name
+            self.assertEqual(self.read(path % self.old), self.read(path % self.new))
+
+    def test_each_crate_of_its_list_is_there(self):
+        listed = dict(CRATE.findall(self.read(self.old + "/crates.txt")))
+        self.assertIn("workloads", listed)
+        self.assertGreater(len(listed), 10)
+        for name in listed:
+            self.assertTrue(os.path.isdir("%s/crates/%s/src" % (self.old, name)), name)
+        used = {it for name, uses in listed.items() if name != "workloads" for it in uses.split()}
+        self.assertLessEqual(set(listed["workloads"].split()), used | set(listed))
+
+    def lacking(self, names):
+        """Those of the pairs of a crate and a name that the start does not have at its root."""
+        roots = {crate: shown(self.read("%s/crates/%s/src/lib.rt" % (self.old, crate)))
+                 for crate in {it for it, _ in names}}
+        return [it for it in names if it[1] not in roots[it[0]]]
+
+    def test_the_jobs_call_nothing_that_it_lacks(self):
+        uses = dict(CRATE.findall(self.read(ROOT + "/crates.txt")))["workloads"].split()
+        libraries = [it for it in uses if os.path.isdir("%s/crates/%s" % (ROOT, it))]
+        folder = ROOT + "/crates/workloads/src"
+        names = sorted({it for file in os.listdir(folder)
+                        for it in imported(self.read(os.path.join(folder, file)))
+                        if it[0] in libraries})
+        self.assertGreater(len(names), 15)
+        self.assertEqual({crate for crate, _ in names}, set(libraries))
+        self.assertEqual(self.lacking(names), [])
+        # what came later, and a name that nothing has
+        later = [("chess_text", "read_uci"), ("pgn_game", "Convert")]
+        self.assertEqual(self.lacking([*later, *names]), later)
+
+    def test_the_builds(self):
+        """The lines behind: a build in each of the two checkouts, and one comparison."""
+        *builds, last = self.block[self.build:]
+        self.assertEqual(last, "bench/run ../old . 1")
+        found = [re.match(r"\(cd (\S+) && rt run -- [\w ]+ <(\S+)\)$", it) for it in builds]
+        self.assertEqual([it and it[1] for it in found],
+                         ["../old/crates/workloads", "crates/workloads"])
+        for it in found:
+            self.assertTrue(os.path.exists(os.path.join(self.new, it[1], it[2])), it[0])
 
 
 class Words(unittest.TestCase):
