@@ -77,10 +77,8 @@ pub fn in_check(position: &Position) -> bool
 /// the count must have room for as many. If no move is legal, it counts one for each kind, each
 /// target and each square that `origins` lists for them.
 ///
-/// The king's steps to the squares next to it come first, then the other pairs, target by target.
-/// In check, the squares of the attackers, and those between the king and the first attacker, are
-/// the first targets. Each group of targets goes from a1 to h1, from a2 to h2 and so on, and so do
-/// the origins of one target. In check, with no en passant target, the other targets come together.
+/// If a move is legal, it counts at least one pair. How many more depends on the order in which it
+/// tries them, which may change.
 ///
 /// # Examples
 ///

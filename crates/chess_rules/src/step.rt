@@ -191,9 +191,8 @@ fn is_plain_step(position: &Position, mv: &Move) -> bool
 /// Returns whether a move that is not legal is a step (pseudo-legal move). (FIDE Laws 3.1 to 3.8)
 ///
 /// It explains why [`try_pair`](crate::try_pair) returned `None`: a step then leaves its king in
-/// check. The move must not be legal: this does not test it, and counts no pair. So
-/// [`try_pair`](crate::try_pair) and [`has_legal_move`](crate::has_legal_move) alone tell what is
-/// legal.
+/// check. The move must not be legal: this does not test it, and counts no pair. So of the calls
+/// that take a move, [`try_pair`](crate::try_pair) alone tells whether it is legal.
 ///
 /// A piece of the side to move is on the origin, and the rules of movement let it go to the target,
 /// with this promotion or without one. Castling is a step only if the other side attacks none of

@@ -72,7 +72,7 @@ pub enum ParseFault {
     Help(String),
     /// They have a mistake: the text that says so.
     Bad(String),
-    /// An allocation failed before the arguments were read.
+    /// An allocation failed. This says nothing of the arguments.
     NoMemory,
 }
 
