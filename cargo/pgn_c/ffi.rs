@@ -2,37 +2,43 @@
 //!
 //! Each makes slices of pointers and lengths, and calls the function of the same name in this crate.
 //! This is the only file of the workspace with unsafe code. A pointer may be null here where its
-//! length is 0.
+//! length is 0. With another length, or for a struct, the status is then `NO_MODE`, and nothing is
+//! read or written.
 #![allow(unsafe_code)]
 
+use crate::explanation::no_explanation;
+use crate::game_result::no_game;
+use crate::line_of_play::no_line_in_format;
+use crate::pgn_result::{no_mode, NO_MODE};
+use crate::san::no_notation;
 use crate::{
     PgnBadGame, PgnExplanation, PgnGame, PgnMove, PgnPlies, PgnResult, PgnSection, PgnTag, PgnText,
 };
 use std::slice;
 
-/// The bytes that C passes.
+/// The bytes that C passes. `None` if the pointer is null, and the length is not 0.
 ///
 /// # Safety
 ///
-/// The pointer points to so many bytes of one object, at most 2^63 - 1. No one writes them while
-/// the slice lives. It may be null where the length is 0.
-unsafe fn text_of<'a>(text: *const u8, length: usize) -> &'a [u8] {
+/// The pointer is null, or it points to so many bytes of one object, at most 2^63 - 1. No one
+/// writes them while the slice lives.
+unsafe fn text_of<'a>(text: *const u8, length: usize) -> Option<&'a [u8]> {
     if text.is_null() {
-        return &[];
+        return (length == 0).then_some(&[]);
     }
-    unsafe { slice::from_raw_parts(text, length) }
+    Some(unsafe { slice::from_raw_parts(text, length) })
 }
 
-/// The buffer that C passes.
+/// The buffer that C passes. `None` if the pointer is null, and the capacity is not 0.
 ///
 /// # Safety
 ///
 /// As for `text_of`, and no one reads the bytes either while the slice lives.
-unsafe fn buffer_of<'a>(buffer: *mut u8, capacity: usize) -> &'a mut [u8] {
+unsafe fn buffer_of<'a>(buffer: *mut u8, capacity: usize) -> Option<&'a mut [u8]> {
     if buffer.is_null() {
-        return &mut [];
+        return (capacity == 0).then_some(&mut []);
     }
-    unsafe { slice::from_raw_parts_mut(buffer, capacity) }
+    Some(unsafe { slice::from_raw_parts_mut(buffer, capacity) })
 }
 
 /// # Safety
@@ -40,7 +46,10 @@ unsafe fn buffer_of<'a>(buffer: *mut u8, capacity: usize) -> &'a mut [u8] {
 /// The conditions of `pgn.h` hold.
 #[no_mangle]
 unsafe extern "C" fn pgn_check(text: *const u8, length: usize) -> PgnResult {
-    crate::pgn_check(unsafe { text_of(text, length) })
+    match unsafe { text_of(text, length) } {
+        Some(text) => crate::pgn_check(text),
+        None => no_mode(),
+    }
 }
 
 /// # Safety
@@ -54,8 +63,10 @@ unsafe extern "C" fn pgn_convert(
     capacity: usize,
     mode: u32,
 ) -> PgnResult {
-    let (text, buffer) = unsafe { (text_of(text, length), buffer_of(buffer, capacity)) };
-    crate::pgn_convert(text, buffer, mode)
+    match unsafe { (text_of(text, length), buffer_of(buffer, capacity)) } {
+        (Some(text), Some(buffer)) => crate::pgn_convert(text, buffer, mode),
+        _ => no_mode(),
+    }
 }
 
 /// # Safety
@@ -68,8 +79,14 @@ unsafe extern "C" fn pgn_fen_normalize(
     buffer: *mut u8,
     capacity: usize,
 ) -> PgnText {
-    let (fen, buffer) = unsafe { (text_of(fen, length), buffer_of(buffer, capacity)) };
-    crate::pgn_fen_normalize(fen, buffer)
+    match unsafe { (text_of(fen, length), buffer_of(buffer, capacity)) } {
+        (Some(fen), Some(buffer)) => crate::pgn_fen_normalize(fen, buffer),
+        _ => PgnText {
+            status: NO_MODE,
+            field: 0,
+            length: 0,
+        },
+    }
 }
 
 /// # Safety
@@ -83,8 +100,10 @@ unsafe extern "C" fn pgn_san(
     length: usize,
     notation: u32,
 ) -> PgnMove {
-    let (fen, text) = unsafe { (text_of(fen, fen_length), text_of(text, length)) };
-    crate::pgn_san(fen, text, notation)
+    match unsafe { (text_of(fen, fen_length), text_of(text, length)) } {
+        (Some(fen), Some(text)) => crate::pgn_san(fen, text, notation),
+        _ => no_notation(),
+    }
 }
 
 /// # Safety
@@ -100,8 +119,11 @@ unsafe extern "C" fn pgn_line(
     buffer: *mut u8,
     capacity: usize,
 ) -> PgnPlies {
-    let (fen, text) = unsafe { (text_of(fen, fen_length), text_of(text, length)) };
-    crate::pgn_line(fen, text, format, unsafe { buffer_of(buffer, capacity) })
+    let texts = unsafe { (text_of(fen, fen_length), text_of(text, length)) };
+    match (texts, unsafe { buffer_of(buffer, capacity) }) {
+        ((Some(fen), Some(text)), Some(buffer)) => crate::pgn_line(fen, text, format, buffer),
+        _ => no_line_in_format(),
+    }
 }
 
 /// # Safety
@@ -117,8 +139,12 @@ unsafe extern "C" fn pgn_next_game(
     buffer: *mut u8,
     capacity: usize,
 ) -> PgnGame {
-    let (text, buffer) = unsafe { (text_of(text, length), buffer_of(buffer, capacity)) };
-    crate::pgn_next_game(text, from, mode, missing_result, buffer)
+    match unsafe { (text_of(text, length), buffer_of(buffer, capacity)) } {
+        (Some(text), Some(buffer)) => {
+            crate::pgn_next_game(text, from, mode, missing_result, buffer)
+        }
+        _ => no_game(NO_MODE),
+    }
 }
 
 /// # Safety
@@ -134,8 +160,12 @@ unsafe extern "C" fn pgn_read_game(
     buffer: *mut u8,
     capacity: usize,
 ) -> PgnGame {
-    let (text, buffer) = unsafe { (text_of(text, length), buffer_of(buffer, capacity)) };
-    crate::pgn_read_game(text, from, mode, missing_result, buffer)
+    match unsafe { (text_of(text, length), buffer_of(buffer, capacity)) } {
+        (Some(text), Some(buffer)) => {
+            crate::pgn_read_game(text, from, mode, missing_result, buffer)
+        }
+        _ => no_game(NO_MODE),
+    }
 }
 
 /// # Safety
@@ -143,12 +173,22 @@ unsafe extern "C" fn pgn_read_game(
 /// The conditions of `pgn.h` hold.
 #[no_mangle]
 unsafe extern "C" fn pgn_tag_at(text: *const u8, length: usize, at: usize) -> PgnTag {
-    crate::pgn_tag_at(unsafe { text_of(text, length) }, at)
+    match unsafe { text_of(text, length) } {
+        Some(text) => crate::pgn_tag_at(text, at),
+        None => PgnTag {
+            status: NO_MODE,
+            name_at: 0,
+            name_length: 0,
+            value_at: 0,
+            value_length: 0,
+            next: 0,
+        },
+    }
 }
 
 /// # Safety
 ///
-/// The conditions of `pgn.h` hold. The game is not null, and no one else uses it during the call.
+/// The conditions of `pgn.h` hold. No one else uses the game during the call.
 #[no_mangle]
 unsafe extern "C" fn pgn_next_section(
     game: *mut PgnBadGame,
@@ -156,8 +196,13 @@ unsafe extern "C" fn pgn_next_section(
     length: usize,
     is_last: u32,
 ) -> PgnSection {
-    let (game, piece) = unsafe { (&mut *game, text_of(piece, length)) };
-    crate::pgn_next_section(game, piece, is_last)
+    match unsafe { (game.as_mut(), text_of(piece, length)) } {
+        (Some(game), Some(piece)) => crate::pgn_next_section(game, piece, is_last),
+        _ => PgnSection {
+            status: NO_MODE,
+            place: 0,
+        },
+    }
 }
 
 /// # Safety
@@ -170,6 +215,11 @@ unsafe extern "C" fn pgn_explain(
     text: *const u8,
     length: usize,
 ) -> PgnExplanation {
-    let (fen, text) = unsafe { (text_of(fen, fen_length), text_of(text, length)) };
-    crate::pgn_explain(fen, text)
+    match unsafe { (text_of(fen, fen_length), text_of(text, length)) } {
+        (Some(fen), Some(text)) => crate::pgn_explain(fen, text),
+        _ => PgnExplanation {
+            status: NO_MODE,
+            ..no_explanation(0, 0)
+        },
+    }
 }

@@ -8,7 +8,7 @@
  * buffer or its struct. Several threads may call at once, with buffers of their own; they may share
  * what is only read.
  *
- * Conditions on a caller. Nothing checks them, and all that is proved rests on them:
+ * Conditions on a caller. All that is proved rests on them:
  *
  *  1. A pointer with a length or a capacity points to that many bytes of one object, at most
  *     2^63 - 1, for the whole call. It is not null, also where the length is 0. A pointer to a
@@ -16,6 +16,10 @@
  *  2. A buffer or a struct shares no byte with a text of the same call.
  *  3. No other thread writes a text during the call, or reads or writes the buffer or the struct.
  *  4. The stack has 256 KiB left. A call takes less than half of that.
+ *
+ * The library that rt builds, which is the proved one, checks none of them. The one that Cargo
+ * builds takes a null pointer with length 0. For any other null pointer its status is PGN_NO_MODE,
+ * the other fields of the result are 0, and nothing is read or written.
  *
  * A text need not end with a zero, and may have any bytes.
  */
@@ -34,7 +38,7 @@ enum {
     PGN_OK = 0,     /* done */
     PGN_FAULT = 1,  /* the text has a fault */
     PGN_FULL = 2,   /* the buffer is too short */
-    PGN_NO_MODE = 3, /* an argument has no such value; nothing was written */
+    PGN_NO_MODE = 3, /* an argument has no such value, or is null; nothing was written */
     PGN_NO_GAME = 4, /* no game is left in the text */
     PGN_MORE = 5,    /* a fault if the text ends here: a caller who reads in chunks gives more */
     PGN_BAD_PLACE = 6 /* the place is behind the text or above 2^62; nothing was written */
@@ -78,7 +82,7 @@ typedef struct pgn_result {
 
 /* The result of pgn_fen_normalize. */
 typedef struct pgn_text {
-    uint32_t status; /* PGN_OK, PGN_FAULT or PGN_FULL */
+    uint32_t status; /* PGN_OK, PGN_FAULT, PGN_FULL, or PGN_NO_MODE for a null pointer */
     uint32_t field;  /* the field at fault, 1 to 6; 7: the six break a rule together; 0: none */
     size_t length;   /* the length of the text, also with PGN_FULL; 0 with PGN_FAULT */
 } pgn_text;
@@ -122,7 +126,8 @@ typedef struct pgn_game {
 
 /* The result of pgn_tag_at. */
 typedef struct pgn_tag {
-    uint32_t status;     /* PGN_OK, or PGN_FAULT: the line is no tag pair, and all else is 0 */
+    uint32_t status;     /* PGN_OK, or PGN_FAULT: the line is no tag pair, and all else is 0. Or
+                            PGN_NO_MODE for a null pointer */
     size_t name_at;      /* where the name begins in the text */
     size_t name_length;  /* how many bytes it has, 1 to 255 */
     size_t value_at;     /* where the value begins, behind its quote */
@@ -161,7 +166,8 @@ typedef struct pgn_section {
 
 /* The result of pgn_explain. */
 typedef struct pgn_explanation {
-    uint32_t status;     /* PGN_OK: the text is a form of a move. PGN_FAULT: see `fault` */
+    uint32_t status;     /* PGN_OK: the text is a form of a move. PGN_FAULT: see `fault`. Or
+                            PGN_NO_MODE for a null pointer */
     uint32_t fault;      /* 26: the FEN is no position; 33: the text is no move; 0: none */
     uint32_t field;      /* with fault 26 the field of the FEN that is at fault, 1 to 7; else 0 */
     uint32_t form;       /* 1: a piece or a pawn; 2: castling king's side; 3: queen's side */

@@ -50,6 +50,26 @@ class Game(ctypes.Structure):
                 ("message", c_char * 104), ("fen", c_char * 96)]
 
 
+class Text(ctypes.Structure):
+    """struct pgn_text of pgn.h"""
+
+    _fields_ = [("status", c_uint32), ("field", c_uint32), ("length", c_size_t)]
+
+
+class BadGame(ctypes.Structure):
+    """struct pgn_bad_game of pgn.h"""
+
+    _fields_ = [*((name, c_size_t) for name in ("begin", "fault", "at", "comment_at", "escapes_at")),
+                *((name, c_uint32) for name in ("ends", "has_tags", "has_movetext", "is_behind_text",
+                                                "has_comment", "has_escapes"))]
+
+
+class Section(ctypes.Structure):
+    """struct pgn_section of pgn.h"""
+
+    _fields_ = [("status", c_uint32), ("place", c_size_t)]
+
+
 class Tag(ctypes.Structure):
     """struct pgn_tag of pgn.h"""
 
@@ -76,6 +96,8 @@ class Library:
                 ("pgn_read_game", Game, (*text, size, mode, mode, *text)),
                 ("pgn_san", Move, (*text, *text, mode)),
                 ("pgn_line", Plies, (*text, *text, mode, *text)),
+                ("pgn_fen_normalize", Text, text + text),
+                ("pgn_next_section", Section, (c_void_p, *text, mode)),
                 ("pgn_tag_at", Tag, (*text, size)), ("pgn_explain", Explanation, text + text)):
             function = getattr(self.calls, name)
             function.restype, function.argtypes = result, words
@@ -610,6 +632,40 @@ class InstalledByCargo(Installed, unittest.TestCase):
         self.assertEqual(calls.pgn_line(None, 0, None, 0, 0, None, 0).fault, 26)
         self.assertEqual(calls.pgn_line(INITIAL, len(INITIAL), None, 0, 0, None, 0).status, OK)
         self.assertEqual(calls.pgn_explain(None, 0, None, 0).fault, 26)
+        self.assertEqual(calls.pgn_fen_normalize(None, 0, None, 0).field, 1)
+        self.assertEqual(calls.pgn_fen_normalize(INITIAL, len(INITIAL), None, 0).status, FULL)
+        bad = BadGame()
+        self.assertEqual(calls.pgn_next_section(ctypes.addressof(bad), None, 0, 1).status, NO_GAME)
+
+    def test_null_pointers_with_a_length(self):
+        """Each pointer of each call in turn: `PGN_NO_MODE`, and nothing is written."""
+        text = b'[A "b"]\n\n1. e4 *\n\n[A "b"]\n\n1. d4 *\n'
+        fen, move = (INITIAL, len(INITIAL)), (b"e4", 2)
+        buffer, bad = ctypes.create_string_buffer(b"\xAA" * 999, 999), BadGame(fault=9)
+        room, game, text = (ctypes.addressof(buffer), 999), ctypes.addressof(bad), (text, len(text))
+        pointers = (INITIAL, move[0], text[0], room[0], game)
+        calls = {"pgn_check": text, "pgn_convert": (*text, *room, 0),
+                 "pgn_fen_normalize": (*fen, *room), "pgn_san": (*fen, *move, 0),
+                 "pgn_line": (*fen, *move, 0, *room), "pgn_next_game": (*text, 0, 0, 0, *room),
+                 "pgn_read_game": (*text, 0, 0, 0, *room), "pgn_tag_at": (*text, 0),
+                 "pgn_explain": fen + move, "pgn_next_section": (game, *text, 1)}
+        with open(ROOT + "/crates/pgn_c/pgn.h", encoding="utf-8") as header:
+            self.assertEqual(set(calls), set(re.findall(r"(?m)^\w+ (\w+)\(", header.read())))
+        before, tried = (buffer.raw, bytes(bad)), 0
+        for name, words in calls.items():
+            call = getattr(self.library.calls, name)
+            for at in (it for it, word in enumerate(words) if word in pointers):
+                result = call(*words[:at], None, *words[at + 1:])
+                status, *others = fields(result)
+                self.assertEqual(status, NO_MODE, (name, at))
+                # an array of numbers is bytes here
+                self.assertFalse(any(it if isinstance(it, int) else any(bytes(it)) for it in others),
+                                 (name, at, others))
+                tried += 1
+        self.assertEqual((buffer.raw, bytes(bad)), before)
+        self.assertEqual(tried, 19)
+        for name, words in calls.items():
+            self.assertEqual(getattr(self.library.calls, name)(*words).status, OK, name)
 
 
 class InstalledByRt(Installed, unittest.TestCase):
