@@ -134,6 +134,11 @@ def open_text(path, advice=""):
         close()
 
 
+def other_kind(file):
+    """What is said of an open file that is no text of games, or nothing."""
+    return kinds.other_kind(os.pread(file.fileno(), kinds.BEGINNING, 0))
+
+
 @contextlib.contextmanager
 def held_input():
     """A named temporary file with standard input; of one that is compressed, with its text."""
@@ -281,7 +286,7 @@ def _module(name):
     return module
 
 
-replacement, packed = _module("_replacement"), _module("_packed")
+replacement, packed, kinds = _module("_replacement"), _module("_packed"), _module("_kinds")
 Replacement, STOPPING = replacement.Replacement, replacement.STOPPING
 
 

@@ -5,17 +5,67 @@ A file is replaced whole, by a temporary file beside it. Without an edit nothing
 import errno
 import os
 import sys
-from typing import IO, Callable, List, NamedTuple, Optional
+from typing import IO, Any, Callable, Iterator, List, NamedTuple, Optional
 
 from ._edits import Choice, Edit, Mender
-from ._replacement import Replacement, check_writable, note_of_links
+from ._games import Game, OnFault
+from ._kinds import BEGINNING, other_kind
+from ._replacement import Replacement, check_writable, left_as_it_is, note_of_links
 from ._sources import CHUNK, Opened, Source, is_compressed
+from ._warnings import Watcher
 
 Step = Callable[[int], None]
+# How many bytes of held edits are in memory.
+MOST_HELD = 1 << 20
+
+
+class HeldEdits:
+    """The edits of a text until its file is replaced: the first `most` of them, or all.
+
+    What is long is in a temporary file, so that memory does not grow with their number.
+    """
+
+    def __init__(self, most: Optional[int]) -> None:
+        self._most, self._count, self._held = most, 0, 0
+        self._file: Any = None
+
+    def add(self, edit: Edit) -> None:
+        """Holds an edit, or counts it."""
+        import pickle
+        import tempfile
+        self._count += 1
+        if self._most is None or self._held < self._most:
+            self._file = self._file or tempfile.SpooledTemporaryFile(MOST_HELD)
+            pickle.dump(edit, self._file)
+            self._held += 1
+
+    def __iter__(self) -> Iterator[Edit]:
+        import pickle
+        if self._file:
+            self._file.seek(0)
+        for _ in range(self._held):
+            yield pickle.load(self._file)
+
+    @property
+    def more(self) -> int:
+        """How many are counted alone."""
+        return self._count - self._held
+
+
+class Task(NamedTuple):
+    """How a text is mended."""
+
+    checked: bool
+    chosen: Choice
+    counts_warnings: bool
+    held: HeldEdits
+    """Where the edits go."""
+    step: Step
+    """It is called now and then with the number of a game."""
 
 
 class Mended(NamedTuple):
-    """What became of a file."""
+    """What became of a text."""
 
     text: Optional[IO[bytes]]
     """The text after the edits, open for reading; None if there was no edit."""
@@ -25,6 +75,8 @@ class Mended(NamedTuple):
     edits: int
     more: int
     """How many edits the unsafe fixes would make."""
+    warnings: int
+    """How many warnings the text before the edits has, if they are counted."""
 
     def again(self) -> Optional[IO[bytes]]:
         """The text from its start, or None."""
@@ -33,23 +85,46 @@ class Mended(NamedTuple):
         return self.text
 
 
-def mend(opened: Opened, checked: bool, chosen: Choice, out: Callable[[], IO[bytes]],
-         on_edit: Callable[[Edit], None], step: Step) -> Mended:
+LookAt = Callable[[Opened, Mended], None]
+
+
+class _WatchingMender(Mender):
+    """A Mender that counts the warnings."""
+
+    def __init__(self, opened: Opened, task: Task) -> None:
+        super().__init__(opened, task.checked, task.chosen)
+        self.warnings = 0
+        self._watcher = Watcher() if task.counts_warnings else None
+
+    def games(self, on_fault: Optional[OnFault]) -> Iterator[Game]:
+        """The games in turn, as a Reader gives them."""
+        window, watcher = self.window, self._watcher
+        for game in super().games(on_fault):
+            if watcher:
+                text = window.data[game.offset - window.base:game.end - window.base]
+                self.warnings += sum(1 for _ in watcher.game(game, text))
+            yield game
+        if watcher:
+            rest = window.data[max(self.at - window.base, 0):]
+            self.warnings += sum(1 for _ in watcher.file(self.number > 1, rest, self.at))
+
+
+def mend(opened: Opened, task: Task, out: Callable[[], IO[bytes]]) -> Mended:
     """Writes the text after the edits to a file that `out` opens, if there is an edit."""
-    mender = Mender(opened, checked, chosen)
+    mender = _WatchingMender(opened, task)
     file, at, edits, more, faults = None, 0, 0, 0, 0
-    for faults, section in enumerate(mender.sections(step), 1):
+    for faults, section in enumerate(mender.sections(task.step), 1):
         more += section.more
         for edits, edit in enumerate(section.edits, edits + 1):
             file = file or out()
             _copy(opened, at, edit.offset, file)
             file.write(edit.new)
             at = edit.offset + len(edit.old)
-            on_edit(edit)
+            task.held.add(edit)
     if file:
         _copy(opened, at, opened.size, file)
         file.flush()
-    return Mended(file, mender.number - 1, faults, edits, more)
+    return Mended(file, mender.number - 1, faults, edits, more, mender.warnings)
 
 
 def _copy(opened: Opened, begin: int, end: int, out: IO[bytes]) -> None:
@@ -64,52 +139,66 @@ def _copy(opened: Opened, begin: int, end: int, out: IO[bytes]) -> None:
 # ---- what is done with the text
 
 
-def mend_in_place(path: str, checked: bool, chosen: Choice, on_edit: Callable[[Edit], None],
-                  look_at: Callable[[Opened, Mended], None], step: Step) -> str:
+def mend_in_place(path: str, task: Task, look_at: LookAt) -> str:
     """Puts the text after the edits in the place of a file. Gives what to say of its links.
 
-    `look_at` is called with the source and the result while both are open.
+    `look_at` is called once it is there, with the source and the result, both open.
     """
     if is_compressed(path):
         raise OSError(errno.EINVAL, "is compressed: unpack it, or give it to --fix -", path)
-    opened, before = Opened(path), os.stat(path)
-    replacements: List[Replacement] = []
+    opened, before = _opened_games(path), os.stat(path)
+    made: List[Replacement] = []
 
     def out() -> IO[bytes]:
-        replacements.append(Replacement(path))
-        return replacements[0].file
-
-    def first_checked(edit: Edit) -> None:
         check_writable(path, before)
-        on_edit(edit)
+        made.append(Replacement(path))
+        return made[0].file
 
     try:
-        mended = mend(opened, checked, chosen, out, first_checked, step)
+        try:
+            mended = mend(opened, task, out)
+            if made:
+                mended = mended._replace(text=_copy_of_handle(made[0].file))
+                check_writable(path, before)
+                made[0].take_place()
+        except OSError as error:
+            raise left_as_it_is(error, path) from None
         look_at(opened, mended)
-        if mended.edits:
-            check_writable(path, before)
-            replacements[0].take_place()
-        return note_of_links(before) if mended.edits else ""
+        return note_of_links(before) if made else ""
     finally:
-        for it in replacements:
+        for it in made:
             it.discard()
         opened.close()
 
 
-def mend_copy(source: Source, checked: bool, chosen: Choice, on_edit: Callable[[Edit], None],
-              look_at: Callable[[Opened, Mended], None], step: Step) -> None:
+def _copy_of_handle(file: IO[bytes]) -> IO[bytes]:
+    """The same open file, which stays open when the other is closed."""
+    return os.fdopen(os.dup(file.fileno()), "rb")
+
+
+def _opened_games(source: Source) -> Opened:
+    """A source whose text can be read again; an OSError if it is no text of games."""
+    opened = Opened(source)
+    kind = other_kind(opened.fetch(0, BEGINNING))
+    if kind:
+        opened.close()
+        raise OSError(errno.EINVAL, kind)
+    return opened
+
+
+def mend_copy(source: Source, task: Task, look_at: LookAt) -> None:
     """Mends a source into a temporary file, for `look_at`."""
     import tempfile
-    opened = Opened(source)
+    opened = _opened_games(source)
     try:
         with tempfile.TemporaryFile() as held:
-            look_at(opened, mend(opened, checked, chosen, lambda: held, on_edit, step))
+            look_at(opened, mend(opened, task, lambda: held))
     finally:
         opened.close()
 
 
-def write_all(source: Opened, mended: Mended) -> None:
-    """Writes the text after the edits to standard output."""
+def write_all(source: Opened, mended: Mended, end: bytes) -> None:
+    """Writes the text after the edits to standard output, and what comes behind it."""
     out = sys.stdout.buffer
     if mended.text is None:
         _copy(source, 0, source.size, out)
@@ -117,6 +206,7 @@ def write_all(source: Opened, mended: Mended) -> None:
         mended.text.seek(0)
         for piece in iter(lambda: mended.text.read(CHUNK) if mended.text else b"", b""):
             out.write(piece)
+    out.write(end)
     out.flush()
 
 

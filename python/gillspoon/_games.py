@@ -218,8 +218,9 @@ class Reader:
 
     def games(self, on_fault: Optional[OnFault]) -> Iterator[Game]:
         """The games in turn; a fault is raised, or given to `on_fault`."""
-        window, call, length, size = self.window, _library.read_game, 0, _CAPACITY
+        window, call, size = self.window, _library.read_game, _CAPACITY
         buffer, base, data = ctypes.create_string_buffer(size), window.base, window.data
+        length = len(data)
         # arguments that stay the same are made once
         mode, missing = ctypes.c_uint32(self.mode), ctypes.c_uint32(self.missing)
         limit, room = ctypes.c_size_t(length), ctypes.c_size_t(size)
@@ -245,11 +246,11 @@ class Reader:
                 continue
             if status == _library.FAULT or status == _library.MORE and window.is_whole:
                 self._go_on(self._fault(found), on_fault)
-            elif window.is_whole:
-                return
             else:
                 if status == _library.NO_GAME:
                     self._skip_empty_lines()
+                if window.is_whole:
+                    return
                 window.more(self.at)
             base, data = window.base, window.data
             length = len(data)

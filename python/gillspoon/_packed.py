@@ -4,6 +4,7 @@ The scripts load this file by its path too, so it takes nothing from the package
 of file needs is imported when there is one, so that a script starts fast.
 """
 import contextlib
+import errno
 import os
 from functools import partial
 from typing import Any, BinaryIO, Callable, Iterator, Optional, Tuple
@@ -15,12 +16,22 @@ Opener = Callable[[str], Calls]
 
 
 def opener_of(path: str) -> Optional[Opener]:
-    """How a compressed file is opened: by its first bytes, else by its name. None: it is plain."""
+    """How a compressed file is opened: by its first bytes, else by its name. None: it is plain.
+
+    A file in a zip is opened by its own name behind that of the zip: `games.zip:a.pgn`.
+    """
     begin = b""
     if os.path.isfile(path):
         with open(path, "rb", buffering=0) as file:
             begin = file.read(LONGEST_MARK)
+    elif not os.path.exists(path) and _place_in_zip(path):
+        return _open_member
     return _opener_of_mark(begin) or _NAMES.get(os.path.splitext(path)[1].lower())
+
+
+def is_zip(path: str) -> bool:
+    """Whether a path is that of a zip, by its first bytes or its name."""
+    return os.path.isfile(path) and opener_of(path) is _open_zip
 
 
 def _opener_of_mark(begin: bytes) -> Optional[Opener]:
@@ -30,6 +41,44 @@ def _opener_of_mark(begin: bytes) -> Optional[Opener]:
 def is_packed(begin: bytes) -> bool:
     """Whether a text is compressed that begins with these bytes: LONGEST_MARK, or all it has."""
     return begin.startswith(_ALL_MARKS)
+
+
+class Stream:
+    """A stream that can be read once alone, and the first bytes of it."""
+
+    def __init__(self, read: Callable[[int], bytes]) -> None:
+        self._read, self._begin = read, b""
+        # no more is waited for than what decides
+        while any(mark.startswith(self._begin) for mark in _ALL_MARKS):
+            piece = read(LONGEST_MARK - len(self._begin))
+            self._begin += piece
+            if not piece:
+                break
+        self.opener = _opener_of_mark(self._begin)
+        """How a file with these first bytes is opened, if they are those of a compressed one."""
+
+    @property
+    def is_zip(self) -> bool:
+        """Whether it is a zip."""
+        return self.opener is _open_zip
+
+    def read(self, size: int) -> bytes:
+        """The next bytes, at most so many; none at the end."""
+        piece, self._begin = self._begin[:size], self._begin[size:]
+        return piece or self._read(size)
+
+    def held(self) -> Any:
+        """A named temporary file with all that it has."""
+        import tempfile
+        held = tempfile.NamedTemporaryFile(prefix="pgn.")
+        try:
+            for piece in iter(lambda: self.read(CHUNK), b""):
+                held.write(piece)
+            held.flush()
+        except BaseException:
+            held.close()
+            raise
+        return held
 
 
 def unpacked(read: Callable[[int], bytes]) -> Calls:
@@ -44,7 +93,9 @@ def unpacked(read: Callable[[int], bytes]) -> Calls:
     def read_text(size: int) -> bytes:
         nonlocal opened
         if opened is None:
-            opened = _open_stream(read)
+            stream = Stream(read)
+            opened = _open_held(stream, stream.opener) if stream.opener else (
+                stream.read, lambda: None)
         return opened[0](size)
 
     def close() -> None:
@@ -54,35 +105,10 @@ def unpacked(read: Callable[[int], bytes]) -> Calls:
     return read_text, close
 
 
-def _open_stream(read: Callable[[int], bytes]) -> Calls:
-    begin = b""
-    # no more is waited for than what decides
-    while any(mark.startswith(begin) for mark in _ALL_MARKS):
-        piece = read(LONGEST_MARK - len(begin))
-        begin += piece
-        if not piece:
-            break
-    opener = _opener_of_mark(begin)
-    if opener:
-        return _open_held(opener, begin, read)
-
-    def read_on(size: int) -> bytes:
-        nonlocal begin
-        piece, begin = begin[:size], begin[size:]
-        return piece or read(size)
-
-    return read_on, lambda: None
-
-
-def _open_held(opener: Opener, begin: bytes, read: Callable[[int], bytes]) -> Calls:
+def _open_held(stream: Stream, opener: Opener) -> Calls:
     """Holds a stream in a temporary file, and opens that."""
-    import tempfile
-    held = tempfile.NamedTemporaryFile(prefix="pgn.")
+    held = stream.held()
     try:
-        held.write(begin)
-        for piece in iter(lambda: read(CHUNK), b""):
-            held.write(piece)
-        held.flush()
         with _without_name(held.name):
             read_text, close_text = opener(held.name)
     except BaseException:
@@ -108,7 +134,7 @@ def _without_name(name: str) -> Iterator[None]:
     except OSError as error:
         if error.errno is not None:
             raise
-        raise OSError(str(error).replace(name + ": ", "")) from None
+        raise OSError(str(error).replace(name + ": ", "").replace(name + ":", "")) from None
 
 
 def _open_gzip(path: str) -> Calls:
@@ -212,32 +238,99 @@ def _open_xz(path: str) -> Calls:
     return read, file.close
 
 
+class Zip:
+    """A zip. In errors it has the name that is given."""
+
+    def __init__(self, path: str, name: str) -> None:
+        import zipfile
+        self.name = name
+        try:
+            self._file = zipfile.ZipFile(path)
+        except zipfile.BadZipFile as error:
+            raise OSError("%s: %s" % (name, error)) from error
+        self._games = [it for it in self._file.infolist() if it.filename.lower().endswith(".pgn")]
+
+    def has_games(self) -> bool:
+        """Whether there is a file *.pgn in it."""
+        return bool(self._games)
+
+    def games(self) -> "list[Member]":
+        """The files *.pgn, in their order; an OSError if there are none."""
+        if not self._games:
+            raise OSError("%s: has no file *.pgn inside" % self.name)
+        return [Member(self, it.filename, partial(self._file.open, it)) for it in self._games]
+
+    def member(self, name: str) -> "Member":
+        """The file of a name in it."""
+        return Member(self, name, partial(self._file.open, name))
+
+    def close(self) -> None:
+        """Closes the zip."""
+        self._file.close()
+
+
+class Member:
+    """A file in a zip: a source whose bytes are taken as they are."""
+
+    is_unpacked = True
+
+    def __init__(self, archive: Zip, name: str, opened: Callable[[], Any]) -> None:
+        self.name = "%s:%s" % (archive.name, name)
+        self.close = archive.close
+        self._opened, self._file = opened, None  # type: Callable[[], Any], Any
+
+    def read(self, size: int) -> bytes:
+        """The next bytes, at most so many; none at the end."""
+        import zipfile
+        import zlib
+        try:
+            if self._file is None:
+                self._file = self._opened()
+            return bytes(self._file.read(size))
+        except (EOFError, KeyError, RuntimeError, zipfile.BadZipFile, zlib.error) as error:
+            raise OSError("%s: %s" % (self.name, error.args[0] if error.args else error)) from error
+
+
 def _open_zip(path: str) -> Calls:
     """How a file of ZIP is read: all files *.pgn in it, in turn."""
-    import zipfile
+    archive = Zip(path, path)
     try:
-        archive = zipfile.ZipFile(path)
-    except zipfile.BadZipFile as error:
-        raise OSError("%s: %s" % (path, error)) from error
-    names = [it for it in archive.namelist() if it.lower().endswith(".pgn")]
-    if not names:
+        pieces = _pieces_of_zip(archive.games())
+    except OSError:
         archive.close()
-        raise OSError("%s: has no file *.pgn inside" % path)
-    pieces = _pieces_of_zip(archive, names, path)
+        raise
     return lambda size: next(pieces, b""), archive.close
 
 
-def _pieces_of_zip(archive: Any, names: "list[str]", path: str) -> Iterator[bytes]:
-    import zipfile
-    import zlib
-    try:
-        for name in names:
-            with archive.open(name) as file:
-                yield from iter(partial(file.read, CHUNK), b"")
-            # the last line of a file may have no end
-            yield b"\n\n"
-    except (EOFError, RuntimeError, zipfile.BadZipFile, zlib.error) as error:
-        raise OSError("%s: %s" % (path, error)) from error
+def _pieces_of_zip(members: "list[Member]") -> Iterator[bytes]:
+    for member in members:
+        yield from iter(partial(member.read, CHUNK), b"")
+        # the last line of a file may have no end
+        yield b"\n\n"
+
+
+def _place_in_zip(path: str) -> "Optional[tuple[str, str]]":
+    """The path of a zip and the name of a file in it, if a path is both with a colon between."""
+    at = path.find(":")
+    while at > 0:
+        if is_zip(path[:at]):
+            return path[:at], path[at + 1:]
+        at = path.find(":", at + 1)
+    return None
+
+
+def member_of(path: str) -> Optional[Member]:
+    """The file in a zip that a path names, such as games.zip:a.pgn; None: it names no such file."""
+    place = None if os.path.exists(path) else _place_in_zip(path)
+    return Zip(place[0], place[0]).member(place[1]) if place else None
+
+
+def _open_member(path: str) -> Calls:
+    """How a file in a zip is read."""
+    member = member_of(path)
+    if not member:
+        raise FileNotFoundError(errno.ENOENT, os.strerror(errno.ENOENT), path)
+    return member.read, member.close
 
 
 _MARKS: "tuple[tuple[bytes, Opener], ...]" = (

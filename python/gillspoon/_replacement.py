@@ -72,7 +72,9 @@ class Replacement:
         """Removes the temporary file, if it has not taken its place."""
         with signals_wait():
             if self.temporary:
-                self.file.close()
+                # on a full disk the last bytes cannot be written, and nobody needs them
+                with contextlib.suppress(OSError):
+                    self.file.close()
                 os.unlink(self.temporary)
                 self.temporary = None
 
@@ -80,13 +82,20 @@ class Replacement:
 def check_writable(path: str, before: os.stat_result) -> None:
     """Raises OSError if a file is read-only, or is no more as it was before it was read."""
     if not os.access(path, os.W_OK) or not stat.S_IMODE(before.st_mode) & 0o222:
-        raise OSError(errno.EACCES, "is read-only; it is left as it is", path)
+        raise OSError(errno.EACCES, "is read-only; " + LEFT, path)
     after = os.stat(path)
     if (after.st_mtime_ns, after.st_size) != (before.st_mtime_ns, before.st_size):
         raise OSError(errno.EIO, CHANGED, path)
 
 
-CHANGED = "changed while it was read; it is left as it is"
+def left_as_it_is(error: OSError, path: str) -> OSError:
+    """An error that kept a file from being replaced, which says that the file is left as it is."""
+    reason = error.strerror or str(error)
+    return error if reason.endswith(LEFT) else OSError(error.errno, reason + "; " + LEFT, path)
+
+
+LEFT = "it is left as it is"
+CHANGED = "changed while it was read; " + LEFT
 
 
 def note_of_links(before: os.stat_result) -> str:

@@ -148,6 +148,11 @@ class Report:
             "added " + new if new else "taken out: " + old
         self._put("%s %s: %s: %s" % (self._in(BOLD, place), self._in(GREEN, word), it.name, change))
 
+    def more_edits(self, file: str, count: int) -> None:
+        """Writes how many further edits of a file there are."""
+        self._put("%s ... and %s (--verbose shows all)" % (
+            self._in(BOLD, in_a_line(file) + ":"), _count(count, "more edit")))
+
     def _explanation(self, it: Finding) -> List[str]:
         """The line with a caret; of a move also the board, its FEN and a sentence."""
         caret = "".join(map(blank, it.text[:it.before])) + "^"
@@ -209,6 +214,9 @@ class JsonReport:
         """Writes the record of an edit."""
         self._put(dict({"kind": "fix", "file": file}, **edit_record(it)))
 
+    def more_edits(self, file: str, count: int) -> None:
+        """Nothing: each edit is a record."""
+
     def end(self, summary: Summary, unread: List[Unread]) -> None:
         """Writes the record of the summary."""
         if not self.is_quiet:
@@ -262,6 +270,9 @@ class SarifReport:
 
     def edit(self, file: str, it: Edit, is_done: bool) -> None:
         """Nothing: the log has the fixes of each fault."""
+
+    def more_edits(self, file: str, count: int) -> None:
+        """Nothing, for the same reason."""
 
     def end(self, summary: Summary, unread: List[Unread]) -> None:
         """Writes the log."""

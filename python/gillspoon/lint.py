@@ -3,7 +3,6 @@
     python3 -m gillspoon.lint [OPTION]... [FILE or FOLDER or -]...
 """
 import argparse
-import errno
 import os
 import signal
 import sys
@@ -12,10 +11,12 @@ from typing import (TYPE_CHECKING, Dict, Iterator, List, NamedTuple, NoReturn, O
 
 from ._edits import BadGames, Choice, Edit
 from ._findings import Finding, Linter, Warned
+from ._inputs import (STANDARD_INPUT, AnyFile, FilePath, PassedOver, Text, files_of,
+                      refuse_other_kinds, texts_of)
 from ._replacement import STOPPING, Replacement
 from ._reports import (AnyReport, JsonReport, Output, OutputFault, Progress, Report, SarifReport,
                        Summary, Unread, has_colours, message)
-from ._sources import Opened, Source
+from ._sources import Opened
 from ._version import add_version
 
 if TYPE_CHECKING:
@@ -59,9 +60,9 @@ environment:
   GILLSPOON_LIBRARY  the shared library to use [default: the one that is installed or built]
   NO_COLOR           if it is set, there are no colours on a terminal
 """
-SUFFIXES = (".pgn", ".pgn.gz", ".pgn.zst", ".pgn.bz2", ".pgn.xz", ".pgn.zip")
-STANDARD_INPUT = "<stdin>"
 SOUND, FAULTY, WRONG_WORDS, UNREADABLE = range(4)
+# How many edits of a file are written; of more their number.
+MOST_EDITS = 200
 
 
 class Parser(argparse.ArgumentParser):
@@ -83,9 +84,12 @@ def arguments(words: Optional[List[str]]) -> argparse.Namespace:
     forms = parser.add_mutually_exclusive_group()
     forms.add_argument("--json", action="store_true", help="write a record of JSON a line")
     forms.add_argument("--sarif", action="store_true", help="write a log of SARIF 2.1.0")
-    parser.add_argument("--quiet", action="store_true",
-                        help="write faults alone: no summary, no progress, and warnings only "
-                        "with --strict")
+    amount = parser.add_mutually_exclusive_group()
+    amount.add_argument("--quiet", action="store_true",
+                        help="write faults alone: no summary, no progress, no edits, and warnings "
+                        "only with --strict")
+    amount.add_argument("--verbose", action="store_true",
+                        help="write all edits of a file, and not the first 200 alone")
     parser.add_argument("--strict", action="store_true", help="the status is 1 with a warning too")
     parser.add_argument("--checked", action="store_true",
                         help="a missing Result tag takes the result at the end of its game")
@@ -132,7 +136,9 @@ def _wrong_fixing(given: argparse.Namespace) -> str:
     if (given.unsafe_fixes or given.language) and not (is_fixing or given.json or given.sarif):
         return "--unsafe-fixes and --language go with --fix, --diff, --json or --sarif"
     if given.strict and is_fixing:
-        return "--strict goes with neither --fix nor --diff, which do not warn"
+        return "--strict goes with neither --fix nor --diff, which count warnings alone"
+    if given.verbose and not is_fixing:
+        return "--verbose goes with --fix or --diff"
     if given.fix and "-" in given.paths and len(given.paths) > 1:
         return "--fix - goes with no other FILE"
     return ""
@@ -153,77 +159,36 @@ def _number(text: str) -> int:
     return int(text)
 
 
-# ---- which files
-
-
-def files_of(paths: List[str]) -> Iterator[Union[str, Unread]]:
-    """The files that paths name, in their order; those of a folder by their names."""
-    for path in paths:
-        if path == "-" or not os.path.isdir(path):
-            yield path
-            continue
-        count = 0
-        for count, found in enumerate(files_below(path), 1):
-            yield found
-        if not count:
-            yield Unread(path, "has no file *.pgn, also with .gz, .bz2, .xz, .zst or .zip behind")
-
-
-def files_below(folder: str) -> Iterator[Union[str, Unread]]:
-    """The files of a folder that are checked, in the order of their names; hidden ones are not."""
-    try:
-        names = sorted(os.listdir(folder))
-    except OSError as error:
-        yield Unread(folder, error.strerror or str(error))
-        return
-    for name in names:
-        path = os.path.join(folder, name)
-        if name.startswith("."):
-            continue
-        if name.lower().endswith(SUFFIXES) and not os.path.isdir(path):
-            yield path
-        elif os.path.isdir(path) and not os.path.islink(path):
-            yield from files_below(path)
-
-
 # ---- one file
+
+
+class MoreEdits(NamedTuple):
+    """How many further edits a text has, whose lines are not written."""
+
+    number: int
+
+
+Written = Union[Finding, Warned, Tuple[str, Union[Edit, MoreEdits]], str, bytes]
 
 
 class Checked(NamedTuple):
     """What another process did with a file: what it would have written, in order, and its counts."""
 
-    written: "List[Union[Finding, Warned, Edit, str, bytes]]"
-    """Of the faults the first ones; messages; and diffs, as bytes."""
+    written: List[Written]
+    """Of the faults the first ones; edits with their file; messages; and diffs, as bytes."""
+    read: int
     faults: int
+    bad_files: int
     warnings: int
     games: int
     fixed: int
     more: int
-    unread: Optional[Unread]
+    unread: List[Unread]
 
 
-class FilePath(os.PathLike[str]):
-    """The name of a file, which may have line ends: as a str it would be taken for a text."""
-
-    def __init__(self, name: str) -> None:
-        self.name = name
-
-    def __fspath__(self) -> str:
-        return self.name
-
-
-def source_of(path: str) -> Source:
-    """What is read for a path, or for standard input."""
-    if path != "-":
-        return FilePath(path)
-    if sys.stdin is None:
-        raise OSError(errno.EBADF, os.strerror(errno.EBADF))
-    return sys.stdin.buffer
-
-
-def linter_of(path: str, given: argparse.Namespace) -> Linter:
-    """The reader of a file, or of standard input. Its records have fixes, if they are written."""
-    linter = _linter_of(path, given)
+def linter_of(text: Text, given: argparse.Namespace) -> Linter:
+    """The reader of a text. Its records have fixes, if they are written."""
+    linter = _linter_of(text, given)
     return linter.watched() if watches(given) else linter
 
 
@@ -232,12 +197,12 @@ def watches(given: argparse.Namespace) -> bool:
     return bool(given.strict or not given.quiet)
 
 
-def _linter_of(path: str, given: argparse.Namespace) -> Linter:
-    name = STANDARD_INPUT if path == "-" else path
+def _linter_of(text: Text, given: argparse.Namespace) -> Linter:
     if not given.json and not given.sarif:
-        return Linter(source_of(path), name, given.checked)
-    opened = Opened(source_of(path))
-    return Linter(opened, name, given.checked, BadGames(opened, given.checked, choice_of(given)))
+        return Linter(text.source, text.name, given.checked)
+    opened = Opened(text.source)
+    bad_games = BadGames(opened, given.checked, choice_of(given))
+    return Linter(opened, text.name, given.checked, bad_games)
 
 
 def choice_of(given: argparse.Namespace) -> Choice:
@@ -246,13 +211,20 @@ def choice_of(given: argparse.Namespace) -> Choice:
                   given.fix or given.diff)
 
 
+def most_edits(given: argparse.Namespace) -> Optional[int]:
+    """How many edits of a text are written; None: all."""
+    if given.json or given.verbose:
+        return None
+    return 0 if given.quiet else MOST_EDITS
+
+
 def check_file(path: str, given: argparse.Namespace) -> Checked:
     """Checks or mends a file in a process of a pool."""
     record = Record()
     run = Run(given, record, [path])
     run.check()
-    return Checked(record.written, run.faults, run.warnings, run.games, run.fixed, run.more,
-                   run.unread[0] if run.unread else None)
+    return Checked(record.written, run.read, run.faults, run.bad_files, run.warnings, run.games,
+                   run.fixed, run.more, run.unread)
 
 
 class Writer:
@@ -268,9 +240,12 @@ class Writer:
         else:
             self.report.warning(finding)
 
-    def edit(self, name: str, edit: Edit, is_done: bool) -> None:
-        """Writes an edit."""
-        self.report.edit(name, edit, is_done)
+    def edit(self, name: str, edit: Union[Edit, MoreEdits], is_done: bool) -> None:
+        """Writes an edit, or how many more there are."""
+        if isinstance(edit, Edit):
+            self.report.edit(name, edit, is_done)
+        else:
+            self.report.more_edits(name, edit.number)
 
     def message(self, text: str) -> None:
         """Writes a message, behind what was written before."""
@@ -296,13 +271,13 @@ class Record(Writer):
     """What a run in another process would write."""
 
     def __init__(self) -> None:
-        self.written: "List[Union[Finding, Warned, Edit, str, bytes]]" = []
+        self.written: List[Written] = []
 
     def found(self, finding: Union[Finding, Warned]) -> None:
         self.written.append(finding)
 
-    def edit(self, name: str, edit: Edit, is_done: bool) -> None:
-        self.written.append(edit)
+    def edit(self, name: str, edit: Union[Edit, MoreEdits], is_done: bool) -> None:
+        self.written.append((name, edit))
 
     def message(self, text: str) -> None:
         self.written.append(text)
@@ -334,7 +309,7 @@ class Run:
     """A run over files, which writes what it finds in their order."""
 
     def __init__(self, given: argparse.Namespace, writer: Writer,
-                 files: "List[Union[str, Unread]]") -> None:
+                 files: List[AnyFile]) -> None:
         self.given, self.writer, self.files = given, writer, files
         is_shown = not given.quiet and not isinstance(writer, Record)
         self.progress = Progress(len(self.files), is_shown)
@@ -363,24 +338,38 @@ class Run:
                        *((self.fixed, self.more) if self.is_fixing else (None, None)),
                        self.warnings or None)
 
-    def _check_here(self, file: Union[str, Unread]) -> None:
+    def _check_here(self, file: AnyFile) -> None:
         """Checks a file in this process, and writes each fault when it is found."""
+        if isinstance(file, PassedOver):
+            self._pass_over(file)
+            return
         if isinstance(file, Unread):
             self._cannot_read(file)
             return
+        try:
+            # in place a zip is not mended
+            is_one = self.given.fix and file != "-"
+            for text in [Text(file, FilePath(file))] if is_one else texts_of(file):
+                self._check_text(text)
+        except OSError as error:
+            name = STANDARD_INPUT if file == "-" else file
+            self._cannot_read(Unread(name, reason_of(error, name)))
+
+    def _check_text(self, text: Text) -> None:
+        """Checks or mends a text, and counts it if it can be read."""
         faults = self.faults
         try:
             if self.is_fixing:
-                self._mend(file)
+                self._mend(text)
             else:
-                self._lint(linter_of(file, self.given))
+                self._lint(linter_of(text, self.given))
             self.read += 1
         except OSError as error:
-            name = STANDARD_INPUT if file == "-" else file
-            self._cannot_read(Unread(name, reason_of(error, file)))
+            self._cannot_read(Unread(text.name, reason_of(error, text.name)))
         self.bad_files += self.faults > faults
 
     def _lint(self, linter: Linter) -> None:
+        refuse_other_kinds(linter.window)
         before = self.games
         try:
             for finding in linter.findings(lambda number: self._show(before + number)):
@@ -388,38 +377,47 @@ class Run:
         finally:
             self.games = before + linter.number - 1
 
-    def _mend(self, file: str) -> None:
-        """Mends a file in place, or shows what that would change; reports what is left."""
+    def _mend(self, text: Text) -> None:
+        """Mends a text in place, or shows what that would change; reports what is left."""
         from . import _fixing
-        given, name = self.given, STANDARD_INPUT if file == "-" else file
-
-        def on_edit(edit: Edit) -> None:
-            self.progress.clear()
-            self.writer.edit(name, edit, given.fix)
+        given, before = self.given, self.games
+        task = _fixing.Task(given.checked, choice_of(given), watches(given),
+                            _fixing.HeldEdits(most_edits(given)),
+                            lambda number: self._show(before + number))
 
         def look_at(source: Opened, mended: _fixing.Mended) -> None:
-            if mended.faults:
-                self._lint(Linter(mended.again() or source.again(), name, given.checked))
-            else:
-                self.games += mended.games
-            if given.diff:
-                self.writer.diff(source, name, mended)
-            elif file == "-":
-                _fixing.write_all(source, mended)
-            self.fixed, self.more = self.fixed + mended.edits, self.more + mended.more
+            self._look_at(text, task, source, mended)
 
-        before = self.games
-
-        def step(number: int) -> None:
-            self._show(before + number)
-
-        task = given.checked, choice_of(given), on_edit, look_at, step
-        if given.fix and file != "-":
-            note = _fixing.mend_in_place(file, *task)
+        if given.fix and isinstance(text.source, FilePath):
+            note = _fixing.mend_in_place(text.name, task, look_at)
             if note:
-                self.writer.message("%s: %s" % (file, note))
+                self.writer.message("%s: %s" % (text.name, note))
         else:
-            _fixing.mend_copy(source_of(file), *task)
+            _fixing.mend_copy(text.source, task, look_at)
+
+    def _look_at(self, text: Text, task: "_fixing.Task", source: Opened,
+                 mended: "_fixing.Mended") -> None:
+        """Writes what is to be said of a text that was mended, and what is left of its faults."""
+        from . import _fixing
+        given = self.given
+        if given.fix and not isinstance(text.source, FilePath):
+            _fixing.write_all(source, mended, text.end)
+        self._write_edits(text, task.held)
+        self.fixed, self.more = self.fixed + mended.edits, self.more + mended.more
+        if mended.faults:
+            linter = Linter(mended.again() or source.again(), text.name, given.checked)
+            self._lint(linter.watched() if task.counts_warnings else linter)
+        else:
+            self.games, self.warnings = self.games + mended.games, self.warnings + mended.warnings
+        if given.diff:
+            self.writer.diff(source, text.name, mended)
+
+    def _write_edits(self, text: Text, held: "_fixing.HeldEdits") -> None:
+        self.progress.clear()
+        for edit in held:
+            self.writer.edit(text.name, edit, self.given.fix)
+        if held.more and not self.given.quiet:
+            self.writer.edit(text.name, MoreEdits(held.more), self.given.fix)
 
     def _check_by_processes(self) -> None:
         """Checks the files by several processes, and writes what they found in their order.
@@ -437,8 +435,7 @@ class Run:
                 for at, file in self._first_ones() if file != "-"}
             for at, file in enumerate(self.files):
                 if at in asked:
-                    assert isinstance(file, str)
-                    self._take(file, asked.pop(at).result())
+                    self._take(asked.pop(at).result())
                     self._show(self.games)
                 else:
                     self._check_here(file)
@@ -471,32 +468,38 @@ class Run:
                     yield at, file
                 seen.add(key)
 
-    def _take(self, file: str, checked: Checked) -> None:
+    def _take(self, checked: Checked) -> None:
         faults, warnings = self.faults, self.warnings
         for it in checked.written:
             self.progress.clear()
             if isinstance(it, (Finding, Warned)):
                 self._found(it)
-            elif isinstance(it, Edit):
-                self.writer.edit(file, it, self.given.fix)
             elif isinstance(it, str):
                 self.writer.message(it)
-            else:
+            elif isinstance(it, bytes):
                 self.writer.copy(it)
+            else:
+                self.writer.edit(*it, self.given.fix)
         self.faults, self.warnings = faults + checked.faults, warnings + checked.warnings
-        self.bad_files += checked.faults > 0
+        self.bad_files += checked.bad_files
         self.games += checked.games
         self.fixed, self.more = self.fixed + checked.fixed, self.more + checked.more
-        self.read += not checked.unread
-        if checked.unread:
-            self.unread.append(checked.unread)
+        self.read += checked.read
+        self.unread += checked.unread
 
     def _found(self, finding: Union[Finding, Warned]) -> None:
         self.faults += isinstance(finding, Finding)
         self.warnings += isinstance(finding, Warned)
+        if self.is_fixing and isinstance(finding, Warned):
+            return
         if self.given.max is None or self.faults <= self.given.max:
             self.progress.clear()
             self.writer.found(finding)
+
+    def _pass_over(self, file: PassedOver) -> None:
+        if not self.given.quiet:
+            self.progress.clear()
+            self.writer.message("%s: %s" % file)
 
     def _cannot_read(self, unread: Unread) -> None:
         self.unread.append(unread)

@@ -11,6 +11,8 @@ SOUND = b'[White "Ada"]\n\n1. e4 e5 *\n\n'
 TEXT = SOUND + b'[White "Bob"]\n\n1. e2-e4 e5 *\n\n' + SOUND
 MENDED = TEXT.replace(b"e2-e4", b"e2e4")
 PLACE = 45
+# How pgn_lint names the file in a zip, and what it is called otherwise.
+MEMBER = b"<stdin>:games.pgn:", b"<stdin>:"
 
 
 class Compressed(Folder, unittest.TestCase):
@@ -34,17 +36,21 @@ class Compressed(Folder, unittest.TestCase):
             yield name, pack(text)
 
     def test_each_script_reads_standard_input(self):
-        """It gives what it gives for the plain text; a zip ends its file with an empty line."""
+        """It gives what it gives for the plain text.
+
+        pgn_lint names the file in a zip, and --fix writes an empty line behind it.
+        """
         need("diff")
         sound, head = SOUND * 2, b"<stdin>:7:4: "
+        edit = head + (b"fixed: long notation: e2-e4 \xe2\x86\x92 e2e4\n"
+                       b"1 file, 3 games, 0 faults, 1 edit\n")
         wanted = {
             ("pgn_lint", "--quiet"): (1, head + b"not a move (game 2, Bob \xe2\x80\x93 ?)\n", b""),
             ("pgn_lint", "--quiet", "-"): (
                 1, head + b"not a move (game 2, Bob \xe2\x80\x93 ?)\n", b""),
-            ("pgn_lint", "--quiet", "--fix", "-"): (
-                0, MENDED, head + b"fixed: long notation: e2-e4 \xe2\x86\x92 e2e4\n"),
-            ("pgn_lint", "--quiet", "--fix"): (
-                0, MENDED, head + b"fixed: long notation: e2-e4 \xe2\x86\x92 e2e4\n"),
+            ("pgn_lint", "--fix", "-"): (0, MENDED, edit),
+            ("pgn_lint", "--fix"): (0, MENDED, edit),
+            ("pgn_lint", "--quiet", "--fix"): (0, MENDED, b""),
             ("pgn_where", "-", str(PLACE)): (
                 0, b'<stdin>: line 7, column 4 (byte %d)\n1. e2-e4 e5 *\n   ^\n'
                 b'game 2: White "Bob", Black "?", Event "?"\n' % PLACE, b""),
@@ -58,12 +64,15 @@ class Compressed(Folder, unittest.TestCase):
             for (script, *words), said in wanted.items():
                 with self.subTest(kind=kind, script=script, words=words):
                     status, out, told = self.call(script, *words, data=data)
-                    if kind == "zip" and "--fix" in words:
-                        out = out[:-2]
+                    if kind == "zip":
+                        out = out[:-2] if "--fix" in words else out.replace(*MEMBER)
+                        told = told.replace(*MEMBER)
                     self.assertEqual((status, out, told), said)
             self.assertIn(b"% byte 45: not a move; line 7\n", self.get("bad"))
             status, out, told = self.call("pgn_lint", "--diff", "-", data=data)
-            self.assertEqual((status, out[:31]), (1, b"--- <stdin>\n+++ <stdin> mended\n"), told)
+            name = b"<stdin>" + MEMBER[0][7:-1] * (kind == "zip")
+            self.assertEqual((status, out.splitlines()[:2]), (
+                1, [b"--- " + name, b"+++ " + name + b" mended"]), told)
             self.assertIn(b"\n-1. e2-e4 e5 *\n+1. e2e4 e5 *\n", out)
         for kind, data in self.texts(sound):
             exported = self.call("pgn_fmt", data=sound)
@@ -86,7 +95,9 @@ class Compressed(Folder, unittest.TestCase):
                     ("pgn_sieve", [name, "good", "bad"], 1, b"1 bad game set aside")):
                 found, out, told = self.call(script, *words)
                 self.assertEqual(found, status, (kind, script, told))
-                self.assertIn(said.replace(b"%s", name.encode()), out + told)
+                is_named = kind == "zip" and script in ("pgn_lint", "pgn_fmt")
+                member = b":games.pgn" * is_named
+                self.assertIn(said.replace(b"%s", name.encode() + member), out + told)
             self.assertIn(b"% byte 45: not a move; line 7\n", self.get("bad"))
 
     def test_what_is_cut_off_is_told_without_a_temporary_name(self):

@@ -11,7 +11,7 @@ import sys
 import time
 import unittest
 
-from programs import ROOT, need
+from programs import ROOT, need, not_tried, run
 from spellings import LEFT, SAFE, UNSAFE
 from test_lint import LINT, Lint, setUpModule as _set_up_lint
 from test_python import PACKAGE
@@ -281,7 +281,7 @@ class Warnings(Lint):
         wanted = SWALLOWED.replace(b"resigns\n", b"resigns} *\n")
         said = self.lint("--fix", input=SWALLOWED)
         self.assertEqual(said, (0, SWALLOWED.decode(), (
-            "1 file, 1 game, 0 faults, 0 edits, 1 more with --unsafe-fixes\n")))
+            "1 file, 1 game, 0 faults, 1 warning, 0 edits, 1 more with --unsafe-fixes\n")))
         self.assertEqual(self.lint("--fix", "--unsafe-fixes", input=SWALLOWED), (
             0, wanted.decode(), "<stdin>:3:21: fixed (unsafe): comment never closed, no marker: "
             "added } *\n1 file, 2 games, 0 faults, 1 edit\n"))
@@ -359,6 +359,46 @@ class Warnings(Lint):
         self.assertEqual(summary["warnings"], 1)
         log = json.loads(self.lint("--sarif", "a.pgn")[1])
         self.assertEqual([it["level"] for it in log["runs"][0]["results"]], ["warning"])
+
+
+class CountedWarnings(Lint):
+    """With --fix and --diff the warnings that are left are counted."""
+
+    def count(self, text, *words):
+        """How many warnings the summary has, in words and in its record, and the lines before."""
+        self.put("a.pgn", text)
+        said = self.lint(*words, "a.pgn")
+        *lines, summary = (said[2] if "--diff" in words else said[1]).splitlines()
+        found = re.search(r"(\d+) warnings?\b", summary)
+        self.put("a.pgn", text)
+        record = json.loads(self.lint(*words, "--json", "a.pgn")[2 if "--diff" in words else 1]
+                            .splitlines()[-1])
+        self.assertEqual(record.get("warnings", 0), int(found[1]) if found else 0)
+        return record.get("warnings", 0), [it for it in lines if "warning" in it]
+
+    def test_they_are_those_without_fix(self):
+        need("diff")
+        bad_round = MENDED.replace(b"\n\n", b'\n[Round "one"]\n\n')
+        for text, count in (
+                (MENDED, 0), (bad_round, 1), (b"%a\n", 1), (bad_round + b"\n;x\n", 2),
+                (BAD + b"\n" + bad_round * 3, 3), (bad_round + b"\n1. e4 -- *\n", 1),
+                # the game that was mended has one too
+                (BAD.replace(b"\n\n", b'\n[Date "today"]\n\n') + b"\n" + bad_round, 2),
+                (b"{a} 1. e4 *\n" + SWALLOWED, 2)):
+            for words in (["--fix"], ["--diff"], ["--fix", "--verbose"]):
+                self.assertEqual(self.count(text, *words), (count, []), (text, words))
+        self.assertEqual(self.count(bad_round)[0], 1)
+
+    def test_one_that_a_fix_takes_away(self):
+        self.assertEqual(self.count(SWALLOWED, "--fix")[0], 1)
+        self.assertEqual(self.count(SWALLOWED, "--fix", "--unsafe-fixes")[0], 0)
+
+    def test_in_several_files(self):
+        for name in "abc":
+            self.put("all/%s.pgn" % name, b'{x}[Round "one"]\n\n1. e4 *\n' + BAD)
+        for words in (["-j", "2"], []):
+            self.assertEqual(self.lint("--diff", "all", *words)[2].splitlines()[-1],
+                             "3 files, 6 games, 0 faults, 6 warnings, 3 edits")
 
 
 class Command(Lint):
@@ -514,25 +554,151 @@ class Command(Lint):
             signal.signal(signal.SIGXFSZ, signal.SIG_IGN)
             resource.setrlimit(resource.RLIMIT_FSIZE, (1 << 16, 1 << 16))
 
-        status, _, told = self.lint("--fix", "a.pgn", preexec_fn=limit)
-        self.assertEqual(status, 3, told)
-        self.assertEqual((self.get("a.pgn"), os.listdir(self.folder)), (text, ["a.pgn"]))
+        for words in ([], ["--verbose"], ["--json"]):
+            status, out, told = self.lint("--fix", *words, "a.pgn", preexec_fn=limit)
+            self.assertEqual((status, told), (
+                3, "pgn_lint: a.pgn: File too large; it is left as it is\n"))
+            self.assertNotIn("fix", out.replace("fixed\": 0", ""))
+            self.assertEqual((self.get("a.pgn"), os.listdir(self.folder)), (text, ["a.pgn"]))
+
+    def test_a_full_file_system(self):
+        """Files that have room are mended all the same."""
+        need("unshare", "mount")
+        text = BAD * 900
+        self.put("text", text)
+        self.put("small", BAD)
+        os.mkdir(self.folder + "/disk")
+        # 64 KiB, of which the first file has 40 and the second one 4
+        script = ('mount -t tmpfs -o size=64k none disk || exit 77; cp text disk/a.pgn; '
+                  'cp small disk/b.pgn; "$@" --fix disk/a.pgn disk/b.pgn; echo "status $?"; '
+                  'ls -A disk; cmp text disk/a.pgn && cat disk/b.pgn')
+        unshare = ["unshare", "-m" if os.geteuid() == 0 else "-rm"]
+        for words in ([], ["-j", "2"], ["--unsafe-fixes", "--verbose"]):
+            ran = run([*unshare, "sh", "-c", script, "sh", LINT, *words], cwd=self.folder,
+                      env=self.env)
+            if ran.returncode == 77 or b"unshare" in ran.stderr:
+                not_tried("no file system can be mounted here")
+            self.assertEqual(ran.stdout.decode(), (
+                "disk/b.pgn:4:4: fixed: long notation: e2-e4 \u2192 e2e4\n"
+                "1 file, 1 game, 0 faults, 1 edit\nstatus 3\na.pgn\nb.pgn\n" + MENDED.decode()))
+            self.assertEqual(ran.stderr.decode(), (
+                "pgn_lint: disk/a.pgn: No space left on device; it is left as it is\n"))
 
     def test_a_kill(self):
         text = BAD * 20000
         self.put("a.pgn", text)
-        words = [LINT, "--fix", "a.pgn"]
+        words = ["env", "--default-signal=INT", LINT, "--fix", "a.pgn"]
         for number in (signal.SIGTERM, signal.SIGHUP, signal.SIGINT, signal.SIGKILL):
             with subprocess.Popen(words, cwd=self.folder, stdout=subprocess.PIPE,
                                   stderr=subprocess.DEVNULL, env=self.env) as running:
-                running.stdout.read(1 << 12)
+                # a temporary file shows that an edit was made
+                while len(os.listdir(self.folder)) == 1 and running.poll() is None:
+                    time.sleep(0.01)
                 running.send_signal(number)
-                running.stdout.read()
-            self.assertEqual(running.returncode, -number)
+                out = running.stdout.read()
+            self.assertEqual((running.returncode, out), (-number, b""))
             left = sorted(os.listdir(self.folder))
             self.assertEqual(self.get("a.pgn"), text)
             if number != signal.SIGKILL:
                 self.assertEqual(left, ["a.pgn"])
+
+
+class ManyEdits(Lint):
+    """Of a file with many edits 200 are written, and the number of the others."""
+
+    def fill(self, count, name="a.pgn"):
+        """A file with so many edits, and the lines about them: each game has five lines."""
+        self.put(name, b"\n".join([BAD] * count))
+        return ["%s:%d:4: fixed: long notation: e2-e4 \u2192 e2e4" % (name, 5 * it + 4)
+                for it in range(count)]
+
+    def summary(self, count):
+        return "1 file, %d games, 0 faults, %d edits" % (count, count)
+
+    def test_the_rest_is_a_count(self):
+        for count, more in ((200, []), (201, ["a.pgn: ... and 1 more edit (--verbose shows all)"]),
+                            (1500, ["a.pgn: ... and 1,300 more edits (--verbose shows all)"])):
+            lines = self.fill(count)
+            status, out, told = self.lint("--fix", "a.pgn")
+            end = self.summary(count).replace("1500", "1,500")
+            self.assertEqual((status, out.splitlines(), told),
+                             (0, lines[:200] + more + [end], ""))
+            self.assertEqual(self.get("a.pgn"), b"\n".join([MENDED] * count))
+
+    def test_verbose_and_json_have_all(self):
+        lines = self.fill(250)
+        self.assertEqual(self.lint("--fix", "--verbose", "a.pgn"),
+                         (0, "\n".join([*lines, self.summary(250), ""]), ""))
+        for words in ([], ["--quiet"], ["--verbose"]):
+            self.fill(250)
+            found = [it for it in self.records("--fix", *words, "a.pgn") if it["kind"] == "fix"]
+            self.assertEqual([it["line"] for it in found], [5 * it + 4 for it in range(250)])
+
+    def test_quiet_has_none(self):
+        need("diff")
+        for count in (1, 250):
+            lines = self.fill(count)
+            self.assertEqual(self.lint("--diff", "--quiet", "a.pgn")[2], "")
+            self.assertEqual(self.lint("--fix", "--quiet", "a.pgn"), (0, "", ""))
+            self.assertEqual(self.get("a.pgn"), b"\n".join([MENDED] * count))
+            self.fill(count)
+            self.assertEqual(len(self.lint("--fix", "a.pgn")[1].splitlines()),
+                             min(len(lines), 201) + 1)
+        # what is left is written all the same
+        self.put("a.pgn", BAD.replace(b"e5", b"e9"))
+        self.assertEqual(self.lint("--fix", "--quiet", "a.pgn"), (
+            1, "a.pgn:4:9: not a move (game 1, Ada \u2013 Bob)\n", ""))
+
+    def test_standard_input_and_processes(self):
+        lines = self.fill(202)
+        more = "<stdin>: ... and 2 more edits (--verbose shows all)"
+        said = [it.replace("a.pgn", "<stdin>") for it in lines[:200]] + [more, self.summary(202)]
+        status, out, told = self.lint("--fix", input=self.get("a.pgn"))
+        self.assertEqual((status, out, told.splitlines()),
+                         (0, "\n".join([MENDED.decode()] * 202), said))
+        for jobs in ("1", "2"):
+            wanted = []
+            for name in ("a.pgn", "b.pgn"):
+                wanted += self.fill(202, name)[:200]
+                wanted.append("%s: ... and 2 more edits (--verbose shows all)" % name)
+            wanted.append("2 files, 404 games, 0 faults, 404 edits")
+            self.assertEqual(self.lint("--fix", "-j", jobs, "a.pgn", "b.pgn")[1].splitlines(),
+                             wanted)
+
+    def test_lines_come_behind_the_file(self):
+        """Whoever reads a line of an edit finds the new text."""
+        self.fill(3)
+        os.mkfifo(self.folder + "/out")
+        with subprocess.Popen([LINT, "--fix", "a.pgn"], cwd=self.folder, env=self.env,
+                              stdout=subprocess.PIPE) as running:
+            running.stdout.read(1)
+            self.assertEqual(self.get("a.pgn"), b"\n".join([MENDED] * 3))
+            running.stdout.read()
+
+    def test_wrong_words(self):
+        for words in (["--quiet", "--verbose", "--fix", "a"], ["--verbose", "a"]):
+            status, out, told = self.lint(*words)
+            self.assertEqual((status, out, told.count("\n")), (2, "", 1), words)
+
+    def test_memory(self):
+        """What is held until the file is replaced does not grow with the number of edits."""
+        import tracemalloc
+        from gillspoon._edits import Edit
+        from gillspoon._fixing import HeldEdits
+        for most, count in ((None, 20000), (200, 20000), (0, 20000), (200, 7)):
+            tracemalloc.start()
+            try:
+                held = HeldEdits(most)
+                edits = (Edit(it, it, 4, it, b"e2-e4", b"e2e4", "long notation", True)
+                         for it in range(count))
+                for edit in edits:
+                    held.add(edit)
+                shown = count if most is None else min(most, count)
+                self.assertEqual(([it.game for it in held], held.more),
+                                 (list(range(shown)), count - shown))
+                self.assertLess(tracemalloc.get_traced_memory()[1], 4 << 20)
+            finally:
+                tracemalloc.stop()
 
 
 class Processes(Lint):

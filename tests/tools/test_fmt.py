@@ -7,6 +7,7 @@ import subprocess
 import sys
 import time
 import unittest
+import zipfile
 
 from programs import ROOT, Folder, need, need_program, run, vectors
 from test_python import PACKAGE, library
@@ -53,6 +54,27 @@ class FmtTest(Folder, unittest.TestCase):
         self.assertIn(b"\n+1. e4 e5 *\n", self.call("--diff", "packed.pgn").stdout)
         self.put("packed.pgn", gzip.compress(TIDY))
         self.check(self.call("--check", "packed.pgn"), 0, b"")
+
+    def test_files_of_a_zip(self):
+        """Each is named, and --write leaves the zip as it is."""
+        with zipfile.ZipFile(self.folder + "/all.zip", "w") as archive:
+            for name in ("loose.pgn", "bad.pgn", "tidy.pgn"):
+                archive.write(os.path.join(self.folder, name), "sub/" + name)
+        told = b"pgn_fmt: all.zip:sub/bad.pgn: byte 15: not a move\n"
+        self.check(self.call("all.zip"), 1, TIDY * 2, told)
+        self.check(self.call("--check", "all.zip"), 1, b"all.zip:sub/loose.pgn\n", told)
+        self.check(self.call("--check", "all.zip:sub/tidy.pgn"), 0, b"")
+        self.check(self.call("tidy.pgn", "-", "all.zip", input=LOOSE), 1, TIDY * 4, told)
+        self.check(self.call("--write", "all.zip"), 3, b"", (
+            b"pgn_fmt: all.zip: is compressed, and left as it is: unpack it first\n"))
+        self.check(self.call("-o", "out", "all.zip"), 1, b"", told)
+        need("diff")
+        ran = self.call("--diff", "all.zip")
+        self.assertEqual((ran.returncode, ran.stderr), (1, told))
+        self.assertTrue(ran.stdout.startswith(b"--- all.zip:sub/loose.pgn\n"), ran.stdout)
+        self.put("none.zip", b"PK\3\4 is cut off")
+        self.check(self.call("none.zip", "tidy.pgn"), 3, TIDY,
+                   b"pgn_fmt: none.zip: File is not a zip file\n")
 
     def test_merge(self):
         # a byte order mark, and no LF at the end

@@ -4,6 +4,7 @@ import doctest
 import glob
 import gzip
 import importlib
+import io
 import json
 import os
 import re
@@ -13,6 +14,7 @@ import subprocess
 import sys
 import time
 import unittest
+import zipfile
 
 import programs
 from documents import blocks_of, lines_of, table
@@ -411,7 +413,7 @@ class Faults(Lint):
 
     def test_doctests(self):
         sys.path.insert(0, PACKAGE)
-        for name in ("_findings", "_reports", "lint"):
+        for name in ("_findings", "_kinds", "_reports", "lint"):
             module = importlib.import_module("gillspoon." + name)
             self.assertEqual(doctest.testmod(module).failed, 0, name)
 
@@ -558,6 +560,207 @@ class Files(Lint):
         status, out, told = self.lint("a.pgn")
         self.assertEqual((status, out), (127, ""))
         self.assertIn("/missing.so cannot be used", told)
+
+
+NO_TEXT = "is not a text of games: UTF-16 has to be converted, and another archive unpacked"
+PAGE = "is a page of HTML or XML, and no text of games"
+PDF = "is a PDF, and no text of games"
+# Texts of other kinds by a name, with what is said of them.
+OTHERS = {
+    "mark.pgn": (GOOD.decode().encode("utf-16"), NO_TEXT),
+    "big-endian.pgn": (("\ufeff" + GOOD.decode()).encode("utf-16-be"), NO_TEXT),
+    "no-mark.pgn": (GOOD.decode().encode("utf-16-le"), NO_TEXT),
+    "no-mark-big-endian.pgn": (GOOD.decode().encode("utf-16-be"), NO_TEXT),
+    "no-latin-letter.pgn": ("\u4e16\u754c".encode("utf-16"), NO_TEXT),
+    "seven.pgn": (b"7z\xbc\xaf\x27\x1c\0\4" + bytes(range(256)), NO_TEXT),
+    "tape.pgn": (b"2026.pgn".ljust(257, b"\0") + b"ustar\0" + GOOD, NO_TEXT),
+    "tape.pgn.gz": (gzip.compress(b"[1].pgn".ljust(257, b"\0") + b"ustar\0" + GOOD), NO_TEXT),
+    "picture.pgn": (b"\x89PNG\r\n\x1a\n\0\0\0\rIHDR\0\0\1\0", NO_TEXT),
+    "nothing.pgn": (b"\0" * 2000, NO_TEXT),
+    "page.pgn": (b"\xef\xbb\xbf\r\n<!DOCTYPE html>\n<html>404 Not Found</html>\n", PAGE),
+    "tag.pgn": (b"<HTML><BODY>Too many requests\n", PAGE),
+    "feed.pgn": (b"<?xml version='1.0'?>\n<games/>\n", PAGE),
+    "guide.pgn": (b"%PDF-1.4\n%\xe2\xe3\xcf\xd3\n1 0 obj\n<</Type/Catalog>>\nendobj\n", PDF),
+}
+
+
+def zip_of(*members):
+    """A zip with files: their names and texts."""
+    held = io.BytesIO()
+    with zipfile.ZipFile(held, "w", zipfile.ZIP_DEFLATED) as archive:
+        for name, text in members:
+            archive.writestr(name, text)
+    return held.getvalue()
+
+
+class OtherKinds(Lint):
+    """Files that are no text of games are refused, and stay as they are."""
+
+    def test_each_kind(self):
+        for name, (text, _) in OTHERS.items():
+            self.put("all/" + name, text)
+        for words in ([], ["--board"], ["--json"], ["--sarif"], ["--quiet"], ["--checked"],
+                      ["--fix"], ["--fix", "--unsafe-fixes"], ["--diff", "--unsafe-fixes"]):
+            reasons = {name: reason for name, (_, reason) in OTHERS.items()}
+            if "--fix" in words:
+                reasons["tape.pgn.gz"] = "is compressed: unpack it, or give it to --fix -"
+            status, out, told = self.lint(*words, "all")
+            lines = [it for it in told.splitlines() if it.startswith("pgn_lint: ")]
+            with self.subTest(words):
+                self.assertEqual((status, lines), (
+                    3, ["pgn_lint: all/%s: %s" % it for it in sorted(reasons.items())]))
+                self.assertNotIn("move", out)
+                self.assertEqual({it: self.get("all/" + it) for it in os.listdir(
+                    self.folder + "/all")}, {name: text for name, (text, _) in OTHERS.items()})
+
+    def test_standard_input(self):
+        for name in ("mark.pgn", "tape.pgn", "tape.pgn.gz", "page.pgn", "guide.pgn"):
+            text, reason = OTHERS[name]
+            for words in (["-"], ["--json"], ["--fix", "--unsafe-fixes"], ["--diff", "-"]):
+                status, out, told = self.lint(*words, "--quiet", input=text)
+                self.assertEqual((status, out, told), (3, "", "pgn_lint: <stdin>: %s\n" % reason))
+
+    def test_the_other_files_are_read(self):
+        self.put("all/a.pgn", BAD)
+        self.put("all/z.pgn", BAD)
+        for name, (text, _) in OTHERS.items():
+            self.put("all/" + name, text)
+        told = "".join("pgn_lint: all/%s: %s\n" % (it, OTHERS[it][1]) for it in sorted(OTHERS))
+        for words in ([], ["-j", "2"]):
+            self.assertEqual(self.lint("all", *words), (
+                3, "all/a.pgn:%s\nall/z.pgn:%s\n2 files, 2 games, 2 faults in 2 files\n" % (
+                    BAD_LINE, BAD_LINE), told))
+
+    def test_damaged_games_are_no_other_kind(self):
+        """They have their faults, as ever."""
+        for text, reason in (
+                (b'[White "A\0"]\n\n*\n', "1:10: control byte"),
+                (b'\xef\xbb\xbf\n[ White "A"]\n\n1. e4 \0\0 *\n', "4:7: control byte"),
+                (b"<1> *\n", "1:1: reserved character"), (b"<", "1:1: reserved character"),
+                (b"%PDF is an escape line\n1. e9 *\n", "2:4: not a move")):
+            self.put("a.pgn", text)
+            status, out, told = self.lint("--quiet", "a.pgn")
+            self.assertEqual((status, told), (1, ""))
+            self.assertTrue(out.startswith("a.pgn:%s" % reason), out)
+
+    def test_what_comes_in_pieces(self):
+        """A pipe may give fewer bytes than the kind is known by."""
+        for text, status in ((GOOD, 0), (BAD, 1), (OTHERS["no-mark.pgn"][0], 3),
+                             (b" " * 400 + OTHERS["tag.pgn"][0], 3)):
+            with subprocess.Popen([LINT, "-"], env=self.env, stdin=subprocess.PIPE, bufsize=0,
+                                  stdout=subprocess.DEVNULL, stderr=subprocess.DEVNULL) as child:
+                for at in range(len(text)):
+                    try:
+                        child.stdin.write(text[at:at + 1])
+                    except BrokenPipeError:
+                        break
+                child.stdin.close()
+                self.assertEqual(child.wait(timeout=20), status)
+
+
+class Zips(Lint):
+    """Each file *.pgn of a zip is one of its own."""
+
+    def setUp(self):
+        super().setUp()
+        self.put("a.zip", zip_of(("sub/x.pgn", GOOD), ("y.PGN", b"\n" + BAD), ("readme", b"none"),
+                                 ("b\n: 1:2.pgn", GOOD + BAD)))
+        lines = BAD_LINE.replace("4:", "5:"), BAD_LINE.replace("4:", "8:").replace("1,", "2,")
+        self.lines = [":y.PGN:" + lines[0], ":b\\n: 1:2.pgn:" + lines[1]]
+
+    def test_members_are_named(self):
+        wanted = ["a.zip" + it for it in self.lines]
+        for words in ([], ["-j", "2", "a.zip"]):
+            status, out, told = self.lint("--quiet", "a.zip", *words)
+            self.assertEqual((status, out.splitlines(), told), (
+                1, wanted * (1 + len(words) // 3), ""))
+        self.assertEqual(self.lint("a.zip")[1].splitlines()[-1],
+                         "3 files, 4 games, 2 faults in 2 files")
+        first, second, summary = self.records("a.zip")
+        self.assertEqual([(it["file"], it["line"], it["offset"], it["game"])
+                          for it in (first, second)],
+                         [("a.zip:y.PGN", 5, 42, 1), ("a.zip:b\n: 1:2.pgn", 8, 81, 2)])
+        self.assertEqual((summary["files"], summary["bad_files"]), (3, 2))
+        self.assertIn('"a.zip%3Ay.PGN"', self.lint("--sarif", "a.zip")[1])
+
+    def test_standard_input(self):
+        for words in (["-"], []):
+            status, out, told = self.lint("--quiet", *words, input=self.get("a.zip"))
+            self.assertEqual((status, out.splitlines(), told),
+                             (1, ["<stdin>" + it for it in self.lines], ""))
+
+    def test_a_member_is_given_by_its_name(self):
+        self.assertEqual(self.lint("--quiet", "a.zip:sub/x.pgn", "a.zip:y.PGN"),
+                         (1, "a.zip%s\n" % self.lines[0], ""))
+        self.assertEqual(self.lint("--quiet", "a.zip:none.pgn"), (3, "", (
+            "pgn_lint: a.zip:none.pgn: There is no item named 'none.pgn' in the archive\n")))
+        self.assertEqual(self.lint("--quiet", "none.zip:a.pgn"), (
+            3, "", "pgn_lint: none.zip:a.pgn: No such file or directory\n"))
+        # the name of a file comes first
+        self.put("a.zip:y.PGN", GOOD)
+        self.assertEqual(self.lint("--quiet", "a.zip:y.PGN"), (0, "", ""))
+
+    def test_a_member_of_another_kind(self):
+        self.put("b.zip", zip_of(("u.pgn", OTHERS["mark.pgn"][0]), ("y.pgn", BAD)))
+        said = (3, "b.zip:y.pgn:%s\n" % BAD_LINE, "pgn_lint: b.zip:u.pgn: %s\n" % NO_TEXT)
+        self.assertEqual(self.lint("--quiet", "b.zip"), said)
+        self.assertEqual(self.lint("--quiet", "-j2", "b.zip", "a.zip:sub/x.pgn"), said)
+
+    def test_a_damaged_member(self):
+        data = bytearray(zip_of(("x.pgn", GOOD * 50), ("y.pgn", BAD)))
+        data[60] ^= 255
+        self.put("b.zip", bytes(data))
+        status, out, told = self.lint("--quiet", "b.zip")
+        self.assertEqual((status, out), (3, "b.zip:y.pgn:%s\n" % BAD_LINE))
+        self.assertRegex(told, r"\Apgn_lint: b\.zip:x\.pgn: (?!b\.zip).+\n\Z")
+
+    def test_fix(self):
+        need("diff")
+        old = BAD.replace(b"e4 e5 2. Ke3", b"e2-e4 e5")
+        new = old.replace(b"e2-e4", b"e2e4").decode()
+        packed = zip_of(("x.pgn", GOOD), ("y.pgn", old))
+        self.put("b.zip", packed)
+        line = "b.zip:y.pgn:4:4: fixed: long notation: e2-e4 \u2192 e2e4\n"
+        self.assertEqual(self.lint("--fix", "-", input=packed), (
+            0, GOOD.decode() + "\n\n" + new + "\n\n",
+            line.replace("b.zip", "<stdin>") + "2 files, 2 games, 0 faults, 1 edit\n"))
+        status, out, told = self.lint("--diff", "b.zip")
+        self.assertEqual((status, out.splitlines()[:2], told.splitlines()[0] + "\n"), (
+            1, ["--- b.zip:y.pgn", "+++ b.zip:y.pgn mended"], line.replace("fixed", "would fix")))
+        for words in (["b.zip"], ["-j2", "b.zip", "b.zip:x.pgn"]):
+            status, out, told = self.lint("--fix", *words)
+            self.assertEqual((status, told.splitlines()[0]), (
+                3, "pgn_lint: b.zip: is compressed: unpack it, or give it to --fix -"))
+        self.assertEqual(self.get("b.zip"), packed)
+
+    def test_in_a_folder(self):
+        """A zip with games is read whatever its name is, and one without is named."""
+        self.put("all/a.pgn", GOOD)
+        self.put("all/games.ZIP", zip_of(("y.pgn", BAD)))
+        self.put("all/photos.zip", zip_of(("readme", b"none")))
+        self.put("all/.hidden.zip", zip_of(("y.pgn", BAD)))
+        said = (1, "all/games.ZIP:y.pgn:%s\n2 files, 2 games, 1 fault in 1 file\n" % BAD_LINE,
+                "pgn_lint: all/photos.zip: is passed over: it has no file *.pgn inside\n")
+        for words in ([], ["-j", "2"]):
+            self.assertEqual(self.lint("all", *words), said)
+        self.assertEqual(self.lint("--quiet", "all"), (1, said[1].splitlines()[0] + "\n", ""))
+        # one that is given, or is said to have games, cannot be read
+        self.assertEqual(self.lint("--quiet", "all/photos.zip"), (
+            3, "", "pgn_lint: all/photos.zip: has no file *.pgn inside\n"))
+        self.put("all/b.pgn.zip", zip_of(("readme", b"none")))
+        self.put("all/c.zip", b"none")
+        status, _, told = self.lint("all")
+        self.assertEqual((status, told.splitlines()), (3, [
+            "pgn_lint: all/b.pgn.zip: has no file *.pgn inside",
+            "pgn_lint: all/c.zip: File is not a zip file",
+            "pgn_lint: all/photos.zip: is passed over: it has no file *.pgn inside"]))
+
+    def test_a_folder_of_such_a_zip_alone(self):
+        self.put("all/photos.zip", zip_of(("readme", b"none")))
+        status, _, told = self.lint("all")
+        self.assertEqual((status, told.splitlines()), (3, [
+            "pgn_lint: all/photos.zip: is passed over: it has no file *.pgn inside",
+            "pgn_lint: all: has no file *.pgn, also with .gz, .bz2, .xz, .zst or .zip behind"]))
 
 
 class Options(Lint):

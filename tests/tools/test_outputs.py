@@ -19,8 +19,14 @@ OTHERS = {
     "picture.png": b"\x89PNG\r\n\x1a\n\0\0\0\rIHDR\0\0\1\0",
     "games.7z": b"7z\xbc\xaf\x27\x1c\0\4" + bytes(range(256)),
     "games.tar": b"games.pgn".ljust(257, b"\0") + b"ustar\0" + SOUND,
+    "guide.pdf": b"%PDF-1.4\n%\xe2\xe3\xcf\xd3\n1 0 obj\n<</Type/Catalog>>\nendobj\n",
     "page.html": b"\xef\xbb\xbf\r\n<!DOCTYPE html>\n<html><body>404 Not Found</body></html>\n",
 }
+
+
+NO_TEXT = b"is not a text of games: UTF-16 has to be converted, and another archive unpacked"
+PAGE = b"is a page of HTML or XML, and no text of games"
+PDF = b"is a PDF, and no text of games"
 
 
 class Kept(Folder, unittest.TestCase):
@@ -79,9 +85,10 @@ class Format(Kept):
                 self.stays(3, ["out"], "pgn_fmt", "-o", "out", "-",
                            input=self.standard_input(name))
         for name in [*OTHERS, "bad.pgn"]:
-            self.stays(1, ["out"], "pgn_fmt", "-o", "out", name)
-            self.stays(1, ["out"], "pgn_fmt", "-o", "out", "sound.pgn", name)
-            self.stays(1, ["out"], "pgn_fmt", "-o", "out", input=self.get(name))
+            status = 3 if name in OTHERS else 1
+            self.stays(status, ["out"], "pgn_fmt", "-o", "out", name)
+            self.stays(status, ["out"], "pgn_fmt", "-o", "out", "sound.pgn", name)
+            self.stays(status, ["out"], "pgn_fmt", "-o", "out", input=self.get(name))
 
     def test_output_of_no_game(self):
         """A filter that failed gives none. An output that is not there is made."""
@@ -103,7 +110,8 @@ class Format(Kept):
         for name in [*OTHERS, "bad.pgn"]:
             self.put("copy", self.get(name))
             ran = self.call("pgn_fmt", "--write", "--drop", "copy")
-            self.assertEqual((ran.returncode, self.get("copy")), (1, self.get(name)))
+            self.assertEqual((ran.returncode, self.get("copy")), (
+                3 if name in OTHERS else 1, self.get(name)))
         for name in [it for it in os.listdir(self.folder) if it.startswith("cut")] + ["not.pgn.gz"]:
             before = self.get(name)
             ran = self.call("pgn_fmt", "--write", "--drop", name)
@@ -115,6 +123,24 @@ class Format(Kept):
         for program in ("/none", "/bin/false"):
             self.call("pgn_fmt", "--write", "sound.pgn", env={"PGN_TOOL": program})
             self.assertEqual(self.get("sound.pgn"), SOUND)
+
+
+    def test_what_is_said_of_other_kinds(self):
+        """In the words of pgn_sieve, whatever is asked for."""
+        for name, said in (("utf-16.pgn", NO_TEXT), ("games.7z", NO_TEXT), ("games.tar", NO_TEXT),
+                           ("page.html", PAGE), ("guide.pdf", PDF)):
+            for words in ([], ["--check"], ["--write"], ["--diff"], ["--checked"]):
+                ran = self.call("pgn_fmt", *words, "sound.pgn", name)
+                self.assertIn(b"pgn_fmt: %s: %s\n" % (name.encode(), said), ran.stderr)
+                self.assertEqual(ran.returncode, 3)
+            ran = self.call("pgn_fmt", "--check", "-", input=self.get(name))
+            self.assertEqual((ran.returncode, ran.stdout, ran.stderr),
+                             (3, b"", b"pgn_fmt: standard input: %s\n" % said))
+
+    def test_the_name_of_a_packed_file_is_said_once(self):
+        ran = self.call("pgn_fmt", "--check", "not.pgn.gz")
+        self.assertEqual((ran.returncode, ran.stderr), (
+            3, b"pgn_fmt: not.pgn.gz: Not a gzipped file (b'[W')\n"))
 
 
 class Sieve(Kept):
@@ -135,12 +161,10 @@ class Sieve(Kept):
             self.stays(3, ["g", "b"], "pgn_sieve", "--checked", name, "g", "b")
             self.stays(3, ["g", "b"], "pgn_sieve", "-", "g", "b", input=self.get(name))
             self.stays(3, [], "pgn_sieve", name, "g2", "b2")
-        self.assertEqual(self.call("pgn_sieve", "utf-16.pgn", "g", "b").stderr, (
-            b"pgn_sieve: utf-16.pgn: is not a text of games: UTF-16 has to be converted, and "
-            b"another archive unpacked; nothing was written\n"))
-        self.assertEqual(self.call("pgn_sieve", "page.html", "g", "b").stderr, (
-            b"pgn_sieve: page.html: is a page of HTML or XML, and no text of games; nothing was "
-            b"written\n"))
+        for name, said in (("utf-16.pgn", NO_TEXT), ("page.html", PAGE), ("guide.pdf", PDF)):
+            self.assertEqual(
+                self.call("pgn_sieve", name, "g", "b").stderr,
+                b"pgn_sieve: %s: %s; nothing was written\n" % (name.encode(), said))
         # a file that is damaged further down has games
         self.put("torn.pgn", SOUND + b"\0" * 600 + b"\n\n" + SOUND)
         ran = self.call("pgn_sieve", "torn.pgn", "g", "b")
@@ -180,13 +204,9 @@ class Lint(Kept):
                 continue
             before = self.get(name)
             status = 0 if name in ("empty.pgn", "words.pgn", "sound.pgn") else \
-                3 if name.startswith(("cut", "not")) else 1
+                3 if name in OTHERS or name.startswith(("cut", "not")) else 1
             for words in (["--fix"], ["--fix", "--unsafe-fixes", "--ignore", "trailing text"]):
                 ran = self.call("pgn_lint", "--quiet", *words, name)
-                if name in OTHERS and "--unsafe-fixes" in words:
-                    # what it would mend is still no game
-                    self.assertEqual(ran.returncode, 1)
-                    continue
                 self.assertEqual((ran.returncode, self.get(name)), (status, before), name)
 
     def test_without_a_library(self):
@@ -199,9 +219,10 @@ class Split(Kept):
 
     def test_split(self):
         os.mkdir(self.folder + "/out")
-        # it takes a name for nothing: what is compressed is another text to it
-        for name in [it for it in self.unreadable() if it != "not.pgn.gz"] + [
-                *OTHERS, "empty.pgn", "words.pgn"]:
+        # it takes a name for nothing: what is compressed is another text to it, and a PDF begins
+        # with escape lines and a number
+        for name in [it for it in [*self.unreadable(), *OTHERS, "empty.pgn", "words.pgn"]
+                     if it not in ("not.pgn.gz", "guide.pdf")]:
             self.put("out/000001.pgn", OLD)
             run([self.env["PGN_TOOL"], "split", "out", name], cwd=self.folder)
             self.assertEqual((self.get("out/000001.pgn"), os.listdir(self.folder + "/out")),

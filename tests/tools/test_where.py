@@ -5,6 +5,7 @@ import os
 import subprocess
 import sys
 import unittest
+import zipfile
 
 from programs import ROOT, Folder, need, need_program, run
 
@@ -277,6 +278,33 @@ class WhereTest(Folder, unittest.TestCase):
             self.assertEqual(ran.stdout.decode().split("\n")[1:3], shown[1:3])
         self.put("b.pgn.gz", gzip.compress(text)[:-9])
         self.assertEqual(self.call([self.folder + "/b.pgn.gz", "55"]).returncode, 3)
+
+    def test_files_in_a_zip(self):
+        """They are named by pgn_lint and pgn_fmt, and found by these names."""
+        bad = TAGS + b"1. e4 e5 2. Ke3 *\n"
+        with zipfile.ZipFile(self.folder + "/a: 1.zip", "w") as archive:
+            archive.writestr("x.pgn", TAGS + b"1. e4 *\n")
+            archive.writestr("sub/y\n:1:2.pgn", bad)
+        shown = "%s:sub/y\\n:1:2.pgn: line 5, column 13 (byte 55): move is not legal"
+        lines = "1. e4 e5 2. Ke3 *\n            ^\n"
+        name = shown % "a: 1.zip"
+        self.assertEqual(self.messages(["pgn_lint", "--quiet", "a: 1.zip"]),
+                         name + " (game 1, Ann \u2013 Bob)\n" + lines)
+        self.assertTrue(self.messages(["pgn_lint", "--json", "a: 1.zip"]).startswith(
+            name + " (game 1, Ann \u2013 Bob)\n" + lines))
+        ran = self.call([self.folder + "/a: 1.zip:sub/y\n:1:2.pgn", "55"])
+        self.assertEqual((ran.returncode, ran.stdout.decode().split("\n", 1)[1]), (0, lines + GAME))
+        with open(self.folder + "/a: 1.zip", "rb") as packed:
+            env = dict(os.environ, LC_ALL="C.UTF-8", COLUMNS="80")
+            told = run([ROOT + "/bin/pgn_lint", "--quiet"], stdin=packed, env=env).stdout
+        ran = run([sys.executable, WHERE, "a: 1.zip"], cwd=self.folder, input=told, env=env)
+        self.assertEqual((ran.returncode, ran.stdout.decode()),
+                         (1, name + " (game 1, Ann \u2013 Bob)\n" + lines))
+        ran = self.call([], input=told)
+        self.assertEqual((ran.returncode, ran.stdout, ran.stderr), (
+            2, told, b"pgn_where: give FILE: this message names no file\n"))
+        ran = self.call([self.folder + "/a: 1.zip:none.pgn", "3"])
+        self.assertEqual((ran.returncode, ran.stdout, ran.stderr.count(b"\n")), (3, b"", 1))
 
     def test_standard_input(self):
         for pack in (bytes, gzip.compress, bz2.compress):
