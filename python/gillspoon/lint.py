@@ -37,14 +37,18 @@ HELP = """examples:
   vim -q <(pgn_lint games.pgn)        with :set errorformat=%f:%l:%v:\\ %m
 
 In a folder *.pgn are checked, also with .gz, .bz2, .xz, .zst or .zip behind, in small letters or
-not. Compressed files are known by their first bytes too, and so is standard input: --fix - then
-writes the text plain. A column is a character. Where a bad game ends is a guess: before the next
-line that begins a tag section.
+not, and each *.zip with *.pgn inside. Compressed files are known by their first bytes too, and so
+is standard input: --fix - then writes the text plain. Each *.pgn in a zip is a file of its own,
+such as games.zip:a.pgn, in messages and as a FILE. A file of another kind, such as UTF-16, HTML,
+PDF, tar or 7z, is known by its first bytes and refused.
+
+A column is a character. Where a bad game ends is a guess: before the next line that begins a tag
+section.
 
 A fix changes text at a fault, and only if the library then reads on behind it. It is safe if the
 text has one reading and nothing is lost; --unsafe-fixes adds the others. What no fix mends stays as
 it is, byte for byte. --fix replaces a file whole, and leaves read-only files alone. What is left is
-reported by the lines of the text after the edits.
+reported by the lines of the text after the edits, and warnings are counted alone.
 
 A warning is about a sound game: a comment in which a game may be, text that export drops, a value
 whose form the standard does not know, a mix of encodings, a Variant tag, or a file without games.
@@ -53,7 +57,7 @@ status:
   0  no fault is left, and with --diff nothing would change
   1  there are faults; or with --diff something would change; or with --strict a warning
   2  wrong arguments
-  3  a file cannot be read or written, or the output cannot be written
+  3  a file cannot be read or written, or is no text of games; or the output cannot be written
   127  there is no shared library
 
 environment:
