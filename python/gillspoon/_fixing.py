@@ -2,6 +2,7 @@
 
 A file is replaced whole, by a temporary file beside it. Without an edit nothing is written.
 """
+import contextlib
 import errno
 import os
 import sys
@@ -139,36 +140,36 @@ def _copy(opened: Opened, begin: int, end: int, out: IO[bytes]) -> None:
 # ---- what is done with the text
 
 
-def mend_in_place(path: str, task: Task, look_at: LookAt) -> str:
+def mend_in_place(file: "os.PathLike[str]", task: Task, look_at: LookAt) -> str:
     """Puts the text after the edits in the place of a file. Gives what to say of its links.
 
     `look_at` is called once it is there, with the source and the result, both open.
     """
+    path = os.fspath(file)
     if is_compressed(path):
         raise OSError(errno.EINVAL, "is compressed: unpack it, or give it to --fix -", path)
-    opened, before = _opened_games(path), os.stat(path)
     made: List[Replacement] = []
+    with contextlib.ExitStack() as opened_files:
+        opened, before = _opened_games(file), os.stat(path)
+        opened_files.callback(opened.close)
 
-    def out() -> IO[bytes]:
-        check_writable(path, before)
-        made.append(Replacement(path))
-        return made[0].file
+        def out() -> IO[bytes]:
+            check_writable(path, before)
+            made.append(Replacement(path))
+            opened_files.callback(made[0].discard)
+            return made[0].file
 
-    try:
         try:
             mended = mend(opened, task, out)
             if made:
-                mended = mended._replace(text=_copy_of_handle(made[0].file))
+                text = opened_files.enter_context(_copy_of_handle(made[0].file))
+                mended = mended._replace(text=text)
                 check_writable(path, before)
                 made[0].take_place()
         except OSError as error:
             raise left_as_it_is(error, path) from None
         look_at(opened, mended)
-        return note_of_links(before) if made else ""
-    finally:
-        for it in made:
-            it.discard()
-        opened.close()
+    return note_of_links(before) if made else ""
 
 
 def _copy_of_handle(file: IO[bytes]) -> IO[bytes]:

@@ -50,12 +50,13 @@ def files_below(folder: str) -> Iterator[AnyFile]:
         yield Unread(folder, error.strerror or str(error))
         return
     for name in names:
-        path = os.path.join(folder, name)
+        path, end = os.path.join(folder, name), name.lower()
         if name.startswith("."):
             continue
-        if name.lower().endswith((*SUFFIXES, ".zip")) and not os.path.isdir(path):
-            yield path if name.lower().endswith(SUFFIXES) or _may_have_games(path) else PassedOver(
-                path, NO_GAMES)
+        if end.endswith(SUFFIXES) and not os.path.isdir(path):
+            yield path
+        elif end.endswith(".zip") and os.path.isfile(path):
+            yield path if _may_have_games(path) else PassedOver(path, NO_GAMES)
         elif os.path.isdir(path) and not os.path.islink(path):
             yield from files_below(path)
 

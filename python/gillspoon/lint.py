@@ -393,7 +393,7 @@ class Run:
             self._look_at(text, task, source, mended)
 
         if given.fix and isinstance(text.source, FilePath):
-            note = _fixing.mend_in_place(text.name, task, look_at)
+            note = _fixing.mend_in_place(text.source, task, look_at)
             if note:
                 self.writer.message("%s: %s" % (text.name, note))
         else:

@@ -544,6 +544,12 @@ class Command(Lint):
         self.assertEqual((self.get("b.pgn"), sorted(os.listdir(self.folder))),
                          (BAD, ["a.pgn", "b.pgn", "hard.txt", "link.pgn"]))
 
+    def test_names_with_line_ends(self):
+        self.put("a\nb.pgn", BAD)
+        self.assertEqual(self.lint("--fix", "--quiet", "a\nb.pgn", "none\nx.pgn"), (
+            3, "", "pgn_lint: none\\nx.pgn: No such file or directory\n"))
+        self.assertEqual(self.get("a\nb.pgn"), MENDED)
+
     def test_a_full_disk(self):
         """A limit on the size of files stands for it."""
         import resource
