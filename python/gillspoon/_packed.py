@@ -277,7 +277,8 @@ class Member:
     def __init__(self, archive: Zip, name: str, opened: Callable[[], Any]) -> None:
         self.name = "%s:%s" % (archive.name, name)
         self.close = archive.close
-        self._opened, self._file = opened, None  # type: Callable[[], Any], Any
+        self._opened = opened
+        self._file: Any = None
 
     def read(self, size: int) -> bytes:
         """The next bytes, at most so many; none at the end."""
