@@ -232,7 +232,8 @@ class Mended(Recipe):
         wanted = game("1. e4 { e2-e4 } 1... d5 2. exd5 Nf6 1/2-1/2", "1/2-1/2",
                       Event=r"The \"Open\"", Round="1/2")
         said = self.mend("Mend what is rejected", text, "byte 13: closing bracket expected", wanted)
-        self.assertEqual(said.splitlines()[-1], "1 file, 1 game, 0 faults, 7 edits")
+        # the warning is of the Round
+        self.assertEqual(said.splitlines()[-1], "1 file, 1 game, 0 faults, 1 warning, 7 edits")
 
     def test_missing_result_tag(self):
         text = '[Event "a"]\n\n1. e4 {1-0} e5 1-0\n\n[Event "b"]\n[Result "0-1"]\n\n1. d4 0-1\n\n' \
