@@ -11,6 +11,7 @@ import tempfile
 import threading
 import unittest
 
+from edit_names import missing_names
 from programs import ROOT, load
 
 SCRIPT = os.path.join(ROOT, "bin", "try_edits")
@@ -157,6 +158,58 @@ class Edits(unittest.TestCase):
         self.assertEqual(listed[: len(each)], each)
         self.assertRegex(listed[len(each)], r"^\d+ edits, ")
         self.assertTrue(each)
+
+
+class Names(unittest.TestCase):
+    """The names that an edit uses are in the sources."""
+
+    def missing(self, edit):
+        used = loaded().uses_of(edit.crate, ROOT)
+        crates = (it for it in used if os.path.isdir(os.path.join(ROOT, "crates", it)))
+        return missing_names(edit, tuple(sorted(set(crates))))
+
+    def test_each_uses_what_is_there(self):
+        for them in loaded().edits_by_crate().values():
+            for it in them:
+                self.assertEqual(self.missing(it), [], it.name)
+
+    def planted(self, crate, path, old, new):
+        edit = loaded().Edit(crate, "a-f-x", "")
+        edit.changes = [("src/" + path, old, new)]
+        self.assertEqual(loaded().edited(edit, os.path.join(ROOT, "crates", crate))[1], None)
+        return self.missing(edit)
+
+    def test_what_is_gone_is_noticed(self):
+        section = "section.rt", "        Mode::Reduced => end_tags(out),"
+        for new, missing in (
+            ("Mode::Reduced => end_tags(out),", []),
+            ("Mode::Reduced => if pairs.len() == 0 { Ok(()) } else { end_tags(out) },", []),
+            # types have a method of this name, but not this one
+            ("Mode::Reduced => if pairs.is_empty() { Ok(()) } else { end_tags(out) },",
+             ["is_empty of OrderedPairs"]),
+            ("Mode::Nothing => end_tags(out),", ["Nothing of Mode"]),
+            ("Mode::Reduced => out.close(),", ["close of Sink"]),
+            ("Mode::Reduced => { pairs.stored.is_full(); end_tags(out) }", []),
+            ("Mode::Reduced => put_token(out),", ["put_token"]),
+            ("Mode::Reduced => crate::number::put_token(out),", ["crate::number::put_token"]),
+            ("Mode::Reduced => pgn_layout::end_tags(out),", []),
+            ("Mode::Reduced => pgn_layout::end_section(out),", ["pgn_layout::end_section"]),
+            ("Mode::Reduced => write(NAMELESS, out),", ["write", "NAMELESS"]),
+            ("Mode::Reduced => { let end = |it| it; end(end_tags(out)) }", []),
+            ('Mode::Reduced => { let _ = b"a.gone()"; end_tags(out) }', []),
+            ("Mode::Reduced => end_tags(out.no_such_word()),",
+             ["no_such_word of Sink", "no_such_word"]),
+        ):
+            self.assertEqual(self.planted("pgn_game", *section, new), missing, new)
+        for old, new, missing in (
+            ("        self.levels.depth()\n", "        self.levels.around()\n",
+             ["around of Levels"]),
+            ("        self.levels.has_own_move()\n", "        self.level.has_own_move()\n",
+             ["level of Movetext"]),
+            ("        self.levels.has_own_move()\n", "        Self::nothing(self.levels)\n",
+             ["nothing of Movetext"]),
+        ):
+            self.assertEqual(self.planted("pgn_game", "movetext.rt", old, new), missing, new)
 
 
 HEAD = "edit: lib-f-is-wrong\nguards: f, text\nfile: src/lib.rt\n"
@@ -385,6 +438,15 @@ class Verdicts(unittest.TestCase):
         self.check("refused", 1, *other, "a line that has no field", "logic=not-proved")
         unread = ("src/a.rt:3:1: error: `f`: the record `a`", "  has no field")
         self.check("BAD EDIT", 1, *unread, "logic=not-proved")
+
+    def test_a_name_that_is_only_printed_is_not_gone(self):
+        """The prover prints a term with a variable that the text binds as `_`."""
+        shown = ("error: `returns`: computed as a goal is, one side reads `a` (expected)",
+                 "  but this has type `b out`",
+                 "  `out` is not in scope here, so what is shown does not paste back as it stands")
+        for path in ("src/a.rt", "./proofs/A.antt"):
+            self.check("refused", 1, "%s:4:2: %s" % (path, shown[0]), *shown[1:],
+                       "logic=not-proved")
 
     def test_not_refused(self):
         self.check("NOT REFUSED", 0, "logic=proved functions=2 sum=1 incremental=trusted")
