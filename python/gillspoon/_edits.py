@@ -4,6 +4,7 @@ from typing import TYPE_CHECKING, Callable, Iterator, List, NamedTuple, Optional
 from ._described import described
 from ._faults import PgnFault
 from ._games import Game, Reader
+from ._own_errors import guarded
 from ._sections import game_in_comment
 from ._sources import Opened, Source, Window
 
@@ -45,6 +46,8 @@ class Choice(NamedTuple):
     language: Optional[str] = None
     counts_more: bool = False
     """Whether the edits are counted that the unsafe fixes would make."""
+    goes_on: bool = False
+    """Whether a game at which a fix raises an error stays as it is."""
 
 
 class Section(NamedTuple):
@@ -69,6 +72,13 @@ class BadGames:
 
         If it `is_sound` all the same, edits are made only if they end with a sound text.
         """
+        if not self._choice.goes_on:
+            return self._section(fault, is_sound)
+        return guarded(lambda: self._section(fault, is_sound),
+                       Section(fault.begin, fault.end or fault.begin, [], 0),
+                       fault.line, fault.column)
+
+    def _section(self, fault: PgnFault, is_sound: bool) -> Section:
         if not self._mender:
             # sound games need none of it
             from ._fixes import chosen_fixes

@@ -11,6 +11,7 @@ from ._bad_games import TAG_IN_MOVETEXT
 from ._edits import BadGames, Edit
 from ._faults import MoveFault, PgnFault
 from ._games import Game, Reader
+from ._own_errors import guarded
 from ._places import LINE_END
 from ._sections import has_movetext
 from ._sources import Source, Window
@@ -162,7 +163,9 @@ class Linter(Reader):
 
     def _fault(self, found: _library.NextGame) -> PgnFault:
         fault = super()._fault(found)
-        self._bad = self._look_at(fault)
+        white, black = printable(fault.white), printable(fault.black)
+        self._bad = guarded(lambda: self._look_at(fault), _BadGame("", 0, white, black, None, ""),
+                            fault.line, fault.column)
         return fault
 
     def _look_at(self, fault: PgnFault) -> "_BadGame":
@@ -209,8 +212,11 @@ class Linter(Reader):
         legal: Tuple[str, ...] = ()
         exposing: Tuple[str, ...] = ()
         sentence = ""
-        if fault.fen and bad.move:
-            legal, exposing, sentence = explained(fault.number, fault.fen, bad.move)
+        fen, move = fault.fen, bad.move
+        if fen and move:
+            legal, exposing, sentence = guarded(
+                lambda: explained(fault.number, fen or "", move or ""), ((), (), ""),
+                fault.line, fault.column)
         assert fault.end is not None
         self.found.append(Finding(
             self.name, fault.line, fault.column, fault.offset, fault.number, fault.reason, bad.note,
@@ -293,8 +299,18 @@ def explained(number: int, fen: str, move: str) -> Tuple[Tuple[str, ...], Tuple[
     return said.legal, said.exposing, sentence
 
 
+# The piece to which a move's text promotes a pawn, with its sign or without.
+PROMOTION = re.compile(r"=?([QRBN])[+#]*\Z")
+
+
+def _promotion(move: str) -> str:
+    """The promotion of a move's text as SAN has it, such as `=Q`, or nothing."""
+    found = PROMOTION.search(move)
+    return "=" + found[1] if found else ""
+
+
 def _many(fen: str, move: str, said: _calls.Explanation) -> str:
-    letter, promotion = said.piece.replace("P", ""), "".join(move.partition("=")[1:])
+    letter, promotion = said.piece.replace("P", ""), _promotion(move)
     ways = [_calls.san(fen, letter + it + said.target + promotion).san for it in said.legal]
     return "%d %ss may go to %s, from %s: write %s." % (
         len(ways), _piece(fen, said), said.target, _joined(said.legal), _joined(ways, "or"))
@@ -343,10 +359,12 @@ def _none(fen: str, move: str, said: _calls.Explanation) -> str:
     """The sentence where no such piece can go there: perhaps one of another file or rank can."""
     if said.piece == "K":
         return "The %s cannot go to %s." % (_piece(fen, said), said.target)
-    letter, promotion = said.piece.replace("P", ""), "".join(move.partition("=")[1:])
-    bare = move.rstrip("+#")
+    letter, promotion = said.piece.replace("P", ""), _promotion(move)
+    bare = PROMOTION.sub("", move) if promotion else move.rstrip("+#")
     if not letter and not promotion and _calls.explain(fen, bare + "=Q").legal:
         return "A %s is promoted on %s: write %s=Q." % (_piece(fen, said), said.target, bare)
+    if promotion and _calls.explain(fen, bare).legal:
+        return "No pawn is promoted on %s: write %s." % (said.target, bare)
     others = _calls.explain(fen, letter + said.target + promotion).legal
     if others:
         return "No %s can go to %s as %s says, but one may from %s." % (

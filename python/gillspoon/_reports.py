@@ -12,6 +12,7 @@ from urllib.parse import quote
 
 from ._edits import Edit
 from ._findings import Finding, Warned, board
+from ._own_errors import guarded
 from ._texts import in_a_line, printable, text_of
 
 VERSION_OF_SARIF = "2.1.0"
@@ -129,7 +130,7 @@ class Report:
         self._put("%s %s (game %d, %s \u2013 %s)" % (
             self._in(BOLD, place), self._in(RED, reason), it.game, it.white, it.black))
         if self.with_board:
-            for line in self._explanation(it):
+            for line in guarded(lambda: self._explanation(it), [], it.line, it.column):
                 self._put("  " + line if line else "")
 
     def warning(self, it: Warned) -> None:

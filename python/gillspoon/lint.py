@@ -13,6 +13,7 @@ from ._edits import BadGames, Choice, Edit
 from ._findings import Finding, Linter, Warned
 from ._inputs import (STANDARD_INPUT, AnyFile, FilePath, PassedOver, Text, files_of,
                       refuse_other_kinds, texts_of)
+from ._own_errors import errors_taken
 from ._replacement import STOPPING, Replacement
 from ._reports import (AnyReport, JsonReport, Output, OutputFault, Progress, Report, SarifReport,
                        Summary, Unread, has_colours, message)
@@ -57,7 +58,8 @@ status:
   0  no fault is left, and with --diff nothing would change
   1  there are faults; or with --diff something would change; or with --strict a warning
   2  wrong arguments
-  3  a file cannot be read or written, or is no text of games; or the output cannot be written
+  3  a file cannot be read or written, or is no text of games; or the output cannot be written;
+     or a fault could not be explained or mended, for an error of pgn_lint
   127  there is no shared library
 
 environment:
@@ -188,6 +190,7 @@ class Checked(NamedTuple):
     fixed: int
     more: int
     unread: List[Unread]
+    own_errors: List[Unread]
 
 
 def linter_of(text: Text, given: argparse.Namespace) -> Linter:
@@ -212,7 +215,7 @@ def _linter_of(text: Text, given: argparse.Namespace) -> Linter:
 def choice_of(given: argparse.Namespace) -> Choice:
     """Which fixes are tried; with --fix and --diff the others are counted."""
     return Choice(given.unsafe_fixes, given.select, given.ignore, given.language,
-                  given.fix or given.diff)
+                  given.fix or given.diff, True)
 
 
 def most_edits(given: argparse.Namespace) -> Optional[int]:
@@ -228,7 +231,7 @@ def check_file(path: str, given: argparse.Namespace) -> Checked:
     run = Run(given, record, [path])
     run.check()
     return Checked(record.written, run.read, run.faults, run.bad_files, run.warnings, run.games,
-                   run.fixed, run.more, run.unread)
+                   run.fixed, run.more, run.unread, run.own_errors)
 
 
 class Writer:
@@ -321,6 +324,8 @@ class Run:
         self.warnings = 0
         self.is_fixing: bool = given.fix or given.diff
         self.unread: List[Unread] = []
+        self.own_errors: List[Unread] = []
+        """Errors of pgn_lint itself, each with the name of the file."""
         self.has_ended_processes = False
         """Whether processes were ended: then Python could wait for ever for what they write."""
 
@@ -334,7 +339,7 @@ class Run:
         self.progress.clear()
         is_faulty = self.faults or self.given.diff and self.fixed or \
             self.given.strict and self.warnings
-        return UNREADABLE if self.unread else FAULTY if is_faulty else SOUND
+        return UNREADABLE if self.unread or self.own_errors else FAULTY if is_faulty else SOUND
 
     def summary(self) -> Summary:
         """What all files had."""
@@ -371,6 +376,10 @@ class Run:
         except OSError as error:
             self._cannot_read(Unread(text.name, reason_of(error, text.name)))
         self.bad_files += self.faults > faults
+        self._take_own_errors(text.name)
+
+    def _take_own_errors(self, name: str) -> None:
+        self.own_errors += [Unread(name, str(it)) for it in errors_taken()]
 
     def _lint(self, linter: Linter) -> None:
         refuse_other_kinds(linter.window)
@@ -490,6 +499,8 @@ class Run:
         self.fixed, self.more = self.fixed + checked.fixed, self.more + checked.more
         self.read += checked.read
         self.unread += checked.unread
+        self.own_errors += checked.own_errors
+        self._take_own_errors(file)
 
     def _found(self, finding: Union[Finding, Warned]) -> None:
         self.faults += isinstance(finding, Finding)
@@ -578,8 +589,10 @@ def main(words: Optional[List[str]] = None) -> int:
     run = Run(given, Writer(report), list(files_of(given.paths or ["-"])))
     try:
         status = run.check()
-        report.end(run.summary(), run.unread)
+        report.end(run.summary(), run.unread + run.own_errors)
         out.flush()
+        for it in run.own_errors:
+            message("%s:%s" % it)
     except (KeyboardInterrupt, Stopped) as stopped:
         run.progress.clear()
         for replacement in Replacement.made:

@@ -7,6 +7,7 @@ import importlib
 import io
 import json
 import os
+import random
 import re
 import signal
 import stat
@@ -347,6 +348,21 @@ class Faults(Lint):
                  "Black has no legal move: the game is over before this one.")):
             self.assertEqual(explained(34, fen, move)[2], sentence)
 
+    def test_promotions_that_are_none(self):
+        from gillspoon._findings import explained
+        white = "1r2k3/P1P5/8/8/8/8/8/4K3 w - - 0 1"
+        for fen, move, sentence in (
+                (AFTER_E4_E5, "d4Q", "No pawn is promoted on d4: write d4."),
+                (AFTER_E4_E5, "Nf3=Q+", "No pawn is promoted on f3: write Nf3."),
+                (AFTER_E4_E5, "exd5N", "No white pawn can go to d5."),
+                (AFTER_E4_E5, "a8N", "No white pawn can go to a8."),
+                (white, "Pa8", "A white pawn is promoted on a8: write Pa8=Q."),
+                (white, "xb8R", "2 white pawns may go to b8, from a7 and c7: write axb8=R+ or "
+                                "cxb8=R+."),
+                (white, "xb8=N+", "2 white pawns may go to b8, from a7 and c7: write axb8=N or "
+                                  "cxb8=N.")):
+            self.assertEqual(explained(34, fen, move)[2], sentence)
+
     def test_names_further_down(self):
         for tags in ('[Event "a "b""]\n\n', '{a}\n[A-B "x"]\n', '[Event "\x01"]\n;x\n'):
             self.put("a.pgn", tags.encode() + PLAYERS + b"\n1. e4 *\n")
@@ -416,6 +432,89 @@ class Faults(Lint):
         for name in ("_findings", "_kinds", "_reports", "lint"):
             module = importlib.import_module("gillspoon." + name)
             self.assertEqual(doctest.testmod(module).failed, 0, name)
+
+
+# What stands in the place of a token: texts of moves that are none, and what is near other tokens.
+JUNK = """e4Q e5N exd5N a8N a8Q+ axb8R h1=N Pe4=B K=Q Kxe9 N Nf N3 Nf3N Nf3=Q+ Qa1a1=R# O-O=Q 0-0N O O-
+o-o-o b-c4 bxB3 xx x e e.p. ep ch mate +- -+ = (=) $ $256 $1x 1 9e4 8b6+ 12Nf3N 99999 1) ( ) (( )) [ ]
+[White "x"] [x] " "x { } ; % < > -- Z0 null 1/2 1:0 0-0-0-0 \ufeff \u200b \xa0 \u2655h5 \u265f \xbd
+\x00 \x1a \xff a8=\u2655 N\u200bf3 D RR1d1 e8= exd6e.p. Ng1f3g5 aaa8Q K@e4 * 1-0""".split()
+MODES = ([], ["--board"], ["--json"], ["--sarif"], ["--json", "--unsafe-fixes"], ["--diff"],
+         ["--diff", "--unsafe-fixes"], ["--fix"])
+
+
+class NoTraceback(Lint):
+    """No text ends a run, in no mode."""
+
+    def junk(self, rng):
+        alphabet = "KQRBNPabcdefgh12345678xO0-=+#!?.NQRB"
+        return rng.choice(JUNK) if rng.random() < 0.5 else "".join(
+            rng.choice(alphabet) for _ in range(rng.randint(1, 7)))
+
+    def games(self, count, seed):
+        """Games of bench/games.txt, of which each has one token that is junk."""
+        rng, games = random.Random(seed), []
+        with open(ROOT + "/bench/games.txt", encoding="utf-8") as file:
+            lines = file.read().splitlines()
+        for number in range(count):
+            words = rng.choice(lines).split()[:rng.randint(2, 60)]
+            words[rng.randrange(1, len(words))] = self.junk(rng)
+            games.append('[White "%d"]\n[Result "%s"]\n\n%s %s\n' % (
+                number, words[0], " ".join(words[1:]), words[0]))
+        return "\n".join(games)
+
+    def try_modes(self, *paths):
+        counts = []
+        for words in MODES:
+            status, out, told = self.lint("-j", "2", *words, *paths)
+            self.assertEqual(status, 1, words)
+            self.assertNotIn("Traceback", told)
+            self.assertNotIn("an error of pgn_lint", told)
+            if "--diff" not in words:
+                self.assertEqual(told, "", words)
+            counts.append(len(out))
+        self.assertGreater(min(counts), 100)
+
+    def test_worked_inputs(self):
+        inputs = vectors()
+        for it in inputs:
+            self.put("all/%s.pgn" % it["file"], it["input"].encode())
+        self.assertGreater(len(inputs), 250)
+        self.try_modes("all")
+
+    def test_junk_in_the_place_of_a_token(self):
+        for seed, name in enumerate("ab"):
+            self.put(name + ".pgn", self.games(1200, seed).encode())
+        self.try_modes("a.pgn", "b.pgn")
+
+    def test_an_error_of_its_own(self):
+        """An error that is planted gives the faults without what failed, and status 3."""
+        script = ("import sys; sys.path.insert(0, %r)\nimport gillspoon._findings as findings, "
+                  "gillspoon._reports as reports, gillspoon._mend as mend\n"
+                  "def failing(*words): raise KeyError('planted')\n"
+                  "%s = failing\nfrom gillspoon.lint import main\nsys.exit(main())")
+        self.put("a.pgn", BAD)
+        self.put("b.pgn", BAD.replace(b"Ke3", b"Ke4") + GOOD)
+        said = "an error of pgn_lint, please report it: KeyError: 'planted'"
+        first = "a.pgn:%s\n" % BAD_LINE
+        for planted, words in (
+                ("findings.explained", ["--board"]), ("findings.explained", ["--json"]),
+                ("findings.line_around", []), ("reports.board", ["--board"]),
+                ("mend.SectionMender.section", ["--json"]),
+                ("mend.SectionMender.section", ["--diff"]),
+                ("mend.SectionMender.section", ["--sarif"])):
+            for jobs in ("1", "2"):
+                ran = run([sys.executable, "-c", script % (PACKAGE, planted), *words, "-j", jobs,
+                           "a.pgn", "b.pgn"], cwd=self.folder, env=self.env)
+                with self.subTest(planted, words=words, jobs=jobs):
+                    told = ran.stderr.decode().splitlines()
+                    own = [it for it in told if said in it]
+                    self.assertEqual((ran.returncode, told[-2:]), (3, own))
+                    self.assertEqual(own, ["pgn_lint: %s.pgn:4:13: %s" % (name, said)
+                                           for name in "ab"])
+                    if words == ["--board"]:
+                        self.assertTrue(ran.stdout.decode().startswith(first))
+                        self.assertIn("2 files, 3 games, 2 faults in 2 files", ran.stdout.decode())
 
 
 class Files(Lint):
