@@ -3,6 +3,7 @@
 An edit is kept if the game is then sound, or if fewer bytes are behind its first fault than before.
 The moves before the edit have to be the same. What no fix mends stays as it is, byte for byte.
 """
+from copy import copy
 from typing import List, NamedTuple, Optional, Sequence, Tuple, Union
 
 from . import _library
@@ -14,12 +15,13 @@ from ._places import BYTE_ORDER_MARK, NEAR, LineCounter
 from ._reading import GameReader
 from ._sections import end_of_bad_game
 from ._sources import CHUNK, Opened
-from ._spellings import Spelling, like_tokens, respelled
+from ._spellings import Spelling, has_doubtful_pawn, like_tokens, respelled
 
 RESULT_DIFFERS = 41
 # The most variations that can be open, and one more.
 MOST_OPEN = 33
 MARKERS = (b" *", b" 1-0", b" 0-1", b" 1/2-1/2")
+SMALL_LETTER = "small letter"
 
 
 class Applied(NamedTuple):
@@ -81,6 +83,7 @@ class Mending:
             (at for at, it in enumerate(fixes) if isinstance(it, Spelling)), 0)
         self.missing = _library.RESULT_FROM_MARKER if checked else _library.RESULT_UNKNOWN
         self.is_first, self.is_last, self.begin = is_first, is_last, 0
+        self.with_small_letters = True
         self.is_sound = False
         # of a text that is not sound the first fault that no fix mends
         self.fault = self.place = 0
@@ -88,20 +91,43 @@ class Mending:
     def run(self) -> "Mending":
         """Mends the text game by game, until it is sound or no fix applies."""
         while True:
-            found, _ = self.reader.read(self.changes.text, self.begin, self.missing)
+            found = self._mend_game()
             if found.status == _library.OK:
                 self.begin, self.is_first = found.end, False
             elif found.status == _library.NO_GAME:
                 self.is_sound = True
                 return self
-            elif not self._mend_fault(found):
+            else:
                 self.fault, self.place = found.fault, found.place
                 return self
 
+    def _mend_game(self) -> _library.NextGame:
+        """Mends a game, and gives the answer for it: without small letters, if a b is in doubt."""
+        before, self.with_small_letters = copy(self.changes), True
+        found = self._mend_faults()
+        names = [it.names for it in self.changes.applied if it not in before.applied]
+        if any(SMALL_LETTER in it for it in names):
+            is_sound = found.status == _library.OK
+            end = found.end if is_sound else found.place
+            if has_doubtful_pawn(self._here(found), end):
+                self.changes, self.with_small_letters = before, False
+                found = self._mend_faults()
+        return found
+
+    def _mend_faults(self) -> _library.NextGame:
+        """Mends the faults of a game in turn, until it has none, or one that no fix mends."""
+        while True:
+            found, _ = self.reader.read(self.changes.text, self.begin, self.missing)
+            if found.status in (_library.OK, _library.NO_GAME) or not self._mend_fault(found):
+                return found
+
+    def _here(self, found: _library.NextGame) -> Here:
+        return Here(self.changes.text, self.begin, found.fault, found.place,
+                    found.fen.decode("ascii"), self.reader, self.is_first, self.is_last)
+
     def _mend_fault(self, found: _library.NextGame) -> bool:
         """Tries the fixes at a fault: whether one was kept."""
-        here = Here(self.changes.text, self.begin, found.fault, found.place,
-                    found.fen.decode("ascii"), self.reader, self.is_first, self.is_last)
+        here = self._here(found)
         # a missing Result is mended last, when all else is sound
         missing = self.missing if here.number == RESULT_DIFFERS else _library.RESULT_FROM_MARKER
         return any(self._try(here, fix, missing) for fix in self.fixes_of(here.number))
@@ -126,11 +152,11 @@ class Mending:
 
     def _try_spellings(self, here: Here, missing: int) -> bool:
         """Tries all spellings of a move together, and what was kept on like tokens too."""
-        found = respelled(here, self.spellings)
+        found = respelled(here, self.spellings, self.with_small_letters)
         if not found or not self._is_better(here, found.change, missing):
             return False
         names = tuple(it.name for it in found.spellings)
-        self.changes.apply(found.change, names, True)
+        self.changes.apply(found.change, names, all(it.is_safe for it in found.spellings))
         self._try_like_tokens(found.change.start + len(found.change.new), found.spellings, missing)
         return True
 
@@ -152,7 +178,8 @@ class Mending:
         for change, start in zip(changes, ends):
             if start < last:
                 stop = start + change.stop - change.start
-                self.changes.apply(Change(start, stop, change.new), names, True)
+                self.changes.apply(Change(start, stop, change.new), names,
+                                   all(it.is_safe for it in spellings))
 
     def _is_better(self, here: Here, change: Change, missing: int) -> bool:
         """Whether a change is kept: the library reads on, and the moves before it are the same."""
@@ -177,12 +204,16 @@ class Mending:
         return before is None or before == self._moves(new[here.begin:here.place + shift])
 
     def _moves(self, text: bytes) -> Optional[List[bytes]]:
-        """The words of the movetext of a text that may break off, and its last position, or None."""
+        """The words of a text's movetext but its glyphs, and its last position; None if it has none.
+
+        The text may break off.
+        """
         for closed in range(MOST_OPEN):
             for marker in MARKERS:
                 found, export = self.reader.read(text + b" " + b")" * closed + marker, 0)
                 if found.status == _library.OK:
-                    return export.partition(b"\n\n")[2].split()[:-1] + [found.fen]
+                    words = export.partition(b"\n\n")[2].split()[:-1]
+                    return [it for it in words if not it.startswith(b"$")] + [found.fen]
                 if found.fault != RESULT_DIFFERS:
                     break
         return None

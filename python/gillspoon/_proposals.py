@@ -1,6 +1,6 @@
 """Edits of tags, results, glyphs and comments: each function proposes one for a fault, or none."""
 import re
-from typing import Callable, List, Optional
+from typing import Callable, List, Optional, Tuple
 
 from . import _calls
 from ._faults import FenFault, MoveFault
@@ -63,19 +63,59 @@ CONDITIONS = {"": _always, "move": _is_behind_move, "end": _is_at_end, "last": _
 
 
 def quotes_in_value(here: Here) -> Optional[Change]:
-    """Escapes the quotes of a value, on a line that is one tag pair."""
+    """Escapes the quotes of a value, on a line that is one tag pair: they come in pairs."""
+    return _escaped_quotes(here, 0)
+
+
+def odd_quotes_in_value(here: Here) -> Optional[Change]:
+    """Escapes the quotes of a value, of which one may be there by mistake."""
+    return _escaped_quotes(here, 1)
+
+
+def _escaped_quotes(here: Here, parity: int) -> Optional[Change]:
     pair = here.match_at_place(PATTERNS["quotes in a value"])
-    if not pair:
+    quotes = [it for it in QUOTE.finditer(pair[2]) if not it[1]] if pair else []
+    if not pair or len(quotes) % 2 != parity:
         return None
-    value = re.sub(rb'(\\["\\])|"', lambda it: it[1] or rb'\"', pair[2])
-    return Change(pair.start(2), pair.end(2), value)
+    return Change(pair.start(2), pair.end(2),
+                  QUOTE.sub(lambda it: it[1] or rb'\"', pair[2]))
+
+
+# An escaped sign of a value, or a quote.
+QUOTE = re.compile(rb'(\\["\\])|"')
+
+
+def missing_bracket(here: Here) -> Optional[Change]:
+    """Closes a tag pair at the end of its line."""
+    pair = PAIR_WITHOUT_BRACKET.search(here.text, max(here.begin, here.place - NEAR), here.place)
+    return Change(pair.end(1), pair.end(1), b"]") if pair else None
+
+
+PAIR_WITHOUT_BRACKET = re.compile(
+    rb'(\[[ \t]*\w+[ \t]*"(?:[^"\\\r\n]|\\["\\])*")[ \t]*[\r\n]\s*\Z')
 
 
 def _second_pair(here: Here, is_equal: bool) -> Optional[Change]:
-    pair = next((it for it in here.head().pairs if it.start() <= here.place < it.end()), None)
-    if not pair or (here.head().value(pair[1]) == pair[2]) != is_equal:
+    """Takes out a pair whose name alone is twice in one tag section.
+
+    Several such names may be those of two games that were joined, and so may an Event, the first
+    name, and what is behind an empty line.
+    """
+    head = here.head()
+    pair = next((it for it in head.pairs if it.start() <= here.place < it.end()), None)
+    if not pair or (head.value(pair[1]) == pair[2]) != is_equal:
+        return None
+    first, names = head.pairs[0], [it[1] for it in head.pairs]
+    repeated = {it for it in names if names.count(it) > 1}
+    if repeated != {pair[1]} or pair[1] in (b"Event", first[1]) \
+            or EMPTY_LINE.search(here.text, first.start(), pair.start()) \
+            or TAG_LINE.search(here.text, head.end):
         return None
     return _whole_line(here.text, pair.start(), pair.end())
+
+
+EMPTY_LINE = re.compile(rb"(?:\r\n|\r(?!\n)|\n)[ \t]*[\r\n]")
+TAG_LINE = re.compile(rb'[\r\n][ \t]*\[[ \t]*\w+[ \t]*"')
 
 
 def _whole_line(text: bytes, start: int, stop: int) -> Change:
@@ -186,10 +226,19 @@ def _fen_change(value: "re.Match[bytes]", fields: List[bytes]) -> Optional[Chang
 
 
 def missing_result_tag(here: Here) -> Optional[Change]:
-    """Adds a Result tag with the marker, to a game that has moves or tags."""
+    """Adds a Result tag with the marker, to a game that has moves or tags.
+
+    Movetext behind the marker has to begin another game, and so has movetext without tags.
+    """
     head, marker = here.head(), PATTERNS["missing Result tag"].match(here.text, here.place)
     has_moves = not REST.match(here.text[:here.place], here.begin)
     if not marker or head.value(b"Result") is not None or not has_moves:
+        return None
+    is_start = here.is_first and not FIRST_NUMBER.match(here.text, here.begin)
+    if not head.pairs and not is_start and not _begins_game(here.text, here.begin):
+        return None
+    if not BEHIND_GAME.match(here.text, marker.end()) \
+            and not _begins_game(here.text, marker.end()):
         return None
     tag = b'[Result "' + marker[0] + b'"]'
     if not head.pairs:
@@ -199,6 +248,16 @@ def missing_result_tag(here: Here) -> Optional[Change]:
     end = head.pairs[-1].end()
     line = b"\r\n" if here.text[end:end + 2] == b"\r\n" else b"\n"
     return Change(end, end, line + tag)
+
+
+def _begins_game(text: bytes, at: int) -> bool:
+    """Whether movetext begins with the number 1."""
+    number = FIRST_NUMBER.match(text, at)
+    return bool(number) and int(number[1]) == 1 if number else False
+
+
+# What is no movetext behind a marker: signs, and the end of the text or a tag.
+BEHIND_GAME = pattern_of(r"(?:SPACE(?:[.!?]+|\$[0-9]+))*SPACE(?:\[|\Z)")
 
 
 def unknown_result_tag(here: Here) -> Optional[Change]:
@@ -262,8 +321,21 @@ def second_marker(here: Here) -> Optional[Change]:
     return Change(marker.start(), marker.end(), b"")
 
 
+def sign_behind_marker(here: Here) -> Optional[Change]:
+    """Takes out the signs behind a marker, which would begin another game."""
+    signs = SIGNS_ALONE.match(here.text[:here.place], here.begin)
+    if not signs or here.is_first:
+        return None
+    return Change(signs.start(1), signs.end(1), b"")
+
+
+SIGNS_ALONE = pattern_of(r"SPACE((?:[.!?]+|\$[0-9]+)(?:[ \t]*(?:[.!?]+|\$[0-9]+))*)SPACE\Z")
+
+
 def no_marker(here: Here) -> Optional[Change]:
     """Adds the value of the Result tag, or `*`, behind the last word of a game."""
+    if SIGNS_ALONE.match(here.text[:here.place], here.begin):
+        return None
     value = here.head().value(b"Result")
     marker = value if value and MARKER.fullmatch(value) else b"*"
     end = len(here.text.rstrip())
@@ -278,18 +350,34 @@ LINE_COMMENT_AT_END = re.compile(rb";[^\r\n}]*\Z")
 
 
 def novelty(here: Here) -> Optional[Change]:
-    """Writes a novelty's N as the glyph that programs have for it."""
+    """Writes a novelty's N as the glyph that programs have for it, if it is no knight's letter."""
     found = here.match_at_place(PATTERNS["novelty"])
     if not found or not _is_behind_move(here, found):
         return None
-    fen = here.position(found.start())
-    if not fen:
+    is_knight, _ = _readings(here, found)
+    return None if is_knight else Change(found.start(), found.start() + 1, b"$146")
+
+
+def letter_apart(here: Here) -> Optional[Change]:
+    """Joins a knight's letter with the rest of its move, which is no move alone."""
+    found = here.match_at_place(PATTERNS["novelty"])
+    is_knight, is_pawn = _readings(here, found) if found else (False, False)
+    if not found or not is_knight or is_pawn:
         return None
+    return Change(found.start(), found.end(), b"N" + found[1])
+
+
+def _readings(here: Here, found: "re.Match[bytes]") -> Tuple[bool, bool]:
+    """Whether the word behind an N is legal as a knight's move, and as it is."""
+    fen, word = here.position(found.start()), found[1] or b""
+    return _is_legal(fen, b"N" + word), _is_legal(fen, word)
+
+
+def _is_legal(fen: Optional[str], move: bytes) -> bool:
     try:
-        _calls.san(fen, "N" + (found[1] or b"").decode("ascii"))
+        return bool(fen and _calls.san(fen, move.decode("ascii")))
     except MoveFault:
-        return Change(found.start(), found.start() + 1, b"$146")
-    return None
+        return False
 
 
 def long_suffix(here: Here) -> Optional[Change]:

@@ -9,7 +9,7 @@ from typing import FrozenSet, Iterable, List, NamedTuple, Optional, Tuple
 from . import _calls
 from ._faults import FenFault, MoveFault
 from ._findings import piece_on
-from ._here import DATA, MOVE, NEAR, Change, Here, Steps, expanded, pattern_of, steps_of
+from ._here import DATA, MOVE, NEAR, REST, Change, Here, Steps, expanded, pattern_of, steps_of
 from ._left_out import PART
 
 # The reasons at which the spelling of a move can be at fault.
@@ -17,8 +17,10 @@ REASONS = frozenset((1, 33, 34, 37, 39))
 NUMBER = re.compile(rb"[0-9]+\. \Z")
 # A move or a number just before a place, perhaps with a parenthesis between.
 BEFORE = pattern_of(r"(?:MOVE[+#]*|(?<![0-9])[0-9O]{1,5})[!?]*\s*\(?[ \t]*\Z")
-# A word of movetext that is no string, no comment and no escape line.
-WORD = re.compile(PART.pattern + rb'|([^\s{}();\[\]"$.!?]+)', re.DOTALL)
+# A word of movetext that is no string, no comment, no escape line and no glyph.
+WORD = re.compile(PART.pattern + rb'|\$[0-9]*|([^\s{}();\[\]"$.!?]+)', re.DOTALL)
+# What may be a piece's letter in small, of which a b may be a pawn too.
+SMALL_LETTER = re.compile(rb"[kqrnb]")
 
 
 class Spelling(NamedTuple):
@@ -33,7 +35,8 @@ class Spelling(NamedTuple):
 
 
 SPELLINGS = tuple(Spelling(row["name"], steps_of(row), row.get("needs", ""),
-                           (row["example"][0], row["example"][1]))
+                           (row["example"][0], row["example"][1]),
+                           is_safe=row.get("safe", True))
                   for row in DATA["moves"])
 
 
@@ -44,27 +47,30 @@ class Respelled(NamedTuple):
     spellings: Tuple[Spelling, ...]
 
 
-def respelled(here: Here, spellings: Iterable[Spelling]) -> Optional[Respelled]:
+def respelled(here: Here, spellings: Iterable[Spelling],
+              with_small_letters: bool = True) -> Optional[Respelled]:
     """The change that makes a legal move of the text at the fault, or at the word before it."""
     wanted = tuple(spellings)
     before = BEFORE.search(here.text, max(here.begin, here.place - NEAR), here.place)
     starts = [here.place] + ([before.start()] if before else [])
     for start in starts:
+        if SMALL_LETTER.match(here.text, start) and not with_small_letters:
+            continue
         fen = here.position(start)
-        found = _respelled_at(here.text, start, fen, wanted) if fen else None
+        found = _respelled_at(here, start, fen, wanted) if fen else None
         if found and found.change.stop > here.place:
             return found
     return None
 
 
-def _respelled_at(text: bytes, start: int, fen: str,
+def _respelled_at(here: Here, start: int, fen: str,
                   wanted: Tuple[Spelling, ...]) -> Optional[Respelled]:
     """Applies all spellings in turn: one token can have several. The move has to be legal."""
-    lead, rest = b"", text[start:start + NEAR]
+    lead, rest = b"", here.text[start:start + NEAR]
     used: List[Spelling] = []
     size = kept = len(rest)
     for spelling in wanted:
-        found = _step(spelling, rest, fen)
+        found = _step(spelling, rest, fen, _Place(here, start, start + size - len(rest)))
         if found:
             made, tail = found
             kept = min(kept, len(tail))
@@ -79,13 +85,22 @@ def _respelled_at(text: bytes, start: int, fen: str,
     return Respelled(change, tuple(used))
 
 
-def _step(spelling: Spelling, text: bytes, fen: str) -> Optional[Tuple[bytes, bytes]]:
+class _Place(NamedTuple):
+    """Where a token begins, and where its part begins at which a spelling is tried."""
+
+    here: Here
+    start: int
+    part: int
+
+
+def _step(spelling: Spelling, text: bytes, fen: str,
+          place: _Place) -> Optional[Tuple[bytes, bytes]]:
     """What a spelling makes of the begin of a text, and the rest behind it."""
     for pattern, new in spelling.steps:
         match = pattern.match(text)
         if match:
             made, tail = expanded(match, new) + _letter(spelling, match, fen), text[match.end():]
-            if made != match[0] and _holds(spelling.needs, made + tail, fen):
+            if made != match[0] and _holds(spelling.needs, match, made + tail, fen, place):
                 return made, tail
     return None
 
@@ -98,18 +113,47 @@ def _letter(spelling: Spelling, match: "re.Match[bytes]", fen: str) -> bytes:
     return b"" if piece in ".P" else piece.encode("ascii")
 
 
-def _holds(needs: str, text: bytes, fen: str) -> bool:
-    """Whether the move that a text begins with is what the sign behind it says."""
+def _holds(needs: str, match: "re.Match[bytes]", text: bytes, fen: str, place: _Place) -> bool:
+    """Whether a text is what its spelling says: the number that is due, or a move of some kind."""
     if needs in ("", "piece"):
         return True
+    if needs in ("due", "out of turn"):
+        return _numbering(place, fen, int(match[1])) == needs
     move = MOVE.match(text)
     played = _played(fen, move[0]) if move else None
     if not played:
         return False
     mark = played.san[-1]
-    return (needs == "legal" or needs == "check" and mark in "+#" or needs == "mate" and mark == "#"
+    return (needs == "castling" and not _may_be_result(match[0], place)
+            or needs == "check" and mark in "+#" or needs == "mate" and mark == "#"
             or needs == "quiet" and mark not in "+#"
             or needs == "en passant" and _is_en_passant(fen, played.san))
+
+
+def _may_be_result(token: bytes, place: _Place) -> bool:
+    """Whether castling is written with zeros as the last word of a section: `0 - 0`."""
+    is_last = REST.match(place.here.text, place.part + len(token))
+    return bool(is_last) and not re.search(rb"[A-Za-z]", token)
+
+
+def _numbering(place: _Place, fen: str, number: int) -> str:
+    """Whether a move number joined to a move is `due`, or `out of turn` where none is counted on.
+
+    No number may be just before it. If the last number is that of its move, the next one has to be
+    that of the position, with White to move.
+    """
+    here = place.here
+    words = [it for it in WORD.finditer(here.text, here.head().end, place.start) if it[3]]
+    if words and words[-1][3].isdigit():
+        return ""
+    last = next((it for it in reversed(words) if it[3].isdigit()), None)
+    _, side, _, _, _, due = fen.split()
+    if last:
+        before = here.position(last.start(3))
+        if not before or before.split()[5] != last[3].decode("ascii").lstrip("0"):
+            return "out of turn"
+        return "due" if side == "w" and number == int(due) <= int(last[3]) + 1 else ""
+    return "out of turn" if words else "due" if side == "w" and number == int(due) else ""
 
 
 def _played(fen: str, move: bytes) -> Optional[_calls.Played]:
@@ -122,6 +166,16 @@ def _played(fen: str, move: bytes) -> Optional[_calls.Played]:
 def _is_en_passant(fen: str, san: str) -> bool:
     target = fen.split()[3]
     return san[0] in "abcdefgh" and san[1:4] == "x" + target
+
+
+def has_doubtful_pawn(here: Here, end: int) -> bool:
+    """Whether a move of a game up to `end` begins with b, and is legal as a bishop's move too."""
+    for token in WORD.finditer(here.text, here.begin, end):
+        if token[3] and token[3][:1] == b"b" and MOVE.fullmatch(token[3]):
+            fen = here.position(token.start(3))
+            if fen and _played(fen, token[3]) and _played(fen, b"B" + token[3][1:]):
+                return True
+    return False
 
 
 def like_tokens(text: bytes, begin: int, spellings: Tuple[Spelling, ...]) -> List[Change]:

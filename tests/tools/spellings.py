@@ -112,6 +112,10 @@ SAFE = [
     # numbers and commas
     _move("", "1e4", "1. e4", NUMBER, " e5 *"),
     _move("1. e4 e5 ", "2Nf3", "2. Nf3", NUMBER),
+    _move("1. e4 {8.} e5 ", "2Nf3", "2. Nf3", NUMBER),
+    _move("1. e4 e5 2. Nf3 Nc6 (2... d6 ", "3d4", "3. d4", NUMBER, ") *"),
+    _move("1. e4 (", "1d4", "1. d4", NUMBER, " d5) *"),
+    _move('[FEN "4k3/8/8/8/8/8/8/4K2R w K - 0 30"]\n\n', "30Rh2", "30. Rh2", NUMBER),
     _move("", "1) e4", "1. e4", NUMBER),
     _move("", "1)e4", "1. e4", NUMBER),
     _move("1. ", "e4,", "e4", COMMA, " e5 *"),
@@ -137,6 +141,10 @@ SAFE = [
     _move("1. e4 ", "(=)", "{(=)}", "offer of a draw", " e5 *"),
     _move("1. e4 ", "( = )", "{(=)}", "offer of a draw", " e5 *"),
     _move("1. e4 ", "N", "$146", "novelty", " e5 *"),
+    _move("1. e4 e5 2. Nf3 ", "N", "$146", "novelty", "\nd5 *"),
+    _move("1. e4 e5 2. Nf3 ", "N", "$146", "novelty", " {Nc6} d6 *"),
+    _move("1. e4 e5 2. Nf3 ", "N", "$146", "novelty", " (2. Nc3) Nc6 *"),
+    _move("1. e4 e5 2. Nf3 ", "N", "$146", "novelty", " 2... Nc6 *"),
     # results
     ("1. e4 1/2\n", [("", DRAW, TAG), ("1/2", "1/2-1/2", RESULT)], DRAW + "1. e4 1/2-1/2\n"),
     _move('[Result "1/2-1/2"]\n\n1. e4 ', "1/2", "1/2-1/2", RESULT, "\n"),
@@ -157,13 +165,18 @@ SAFE = [
      WON + "1. e4 1-0\n"),
     ('[Result "?"]\n\n1. e4 1-0\n', [("?", "1-0", "Result tag from the marker")],
      WON + "1. e4 1-0\n"),
+    ("1. e4 e5 1-0 1. d4 *\n", [("", WON, TAG)], WON + "1. e4 e5 1-0 1. d4 *\n"),
     ('[Result "1/2"]\n\n1. e4 1/2-1/2\n',
      [('[Result "1/2"', '[Result "1/2-1/2"', "spelling of the Result tag")],
      DRAW + "1. e4 1/2-1/2\n"),
     # tags
     _tags('[Event "OLD"]', 'The "Open"', r"The \"Open\"", "quotes in a value"),
-    ('[Site "a"]\n[Site "a"]\n\n*\n', [('[Site "a"]\n', "", "pair given twice")],
-     '[Site "a"]\n\n*\n'),
+    _tags('[Event "OLD"]', '"Rapid" Cup', r"\"Rapid\" Cup", "quotes in a value"),
+    ('[White "x"]\n[Site "a"]\n[Site "a"]\n\n*\n', [('[Site "a"]\n', "", "pair given twice")],
+     '[White "x"]\n[Site "a"]\n\n*\n'),
+    ('[White "x"]\r\n[Site "a"]\r\n[Round "1"]\r\n[Site "a"]\r\n[Site "a"]\r\n\r\n*\n',
+     [('[Site "a"]\r\n[Site "a"]\r\n', "", "pair given twice")],
+     '[White "x"]\r\n[Site "a"]\r\n[Round "1"]\r\n\r\n*\n'),
     ('[Event "a\tb"]\n\n*\n', [("\t", " ", "white space")], '[Event "a b"]\n\n*\n'),
     _move("1. e4", "\u00a0", " ", "white space", "e5 *"),
     ("1. e4 *\n\x1a", [("\x1a", "", "end of a DOS file")], "1. e4 *\n"),
@@ -186,6 +199,8 @@ SAFE = [
 ]
 
 CUT, NULL, CLOSED = "marker cut short", "null move", "comment never closed"
+APART, OUT_OF_TURN = "letter apart", "joined number out of turn"
+BRACKET, BEHIND = "missing bracket", "sign behind the marker"
 UNSAFE = [
     ("1. e4 e5 (1... c5 2. -- Nf6) 2. Nf3 *", [("-- Nf6", "{-- Nf6}", NULL)],
      "1. e4 e5 (1... c5 2. {-- Nf6}) 2. Nf3 *"),
@@ -208,8 +223,8 @@ UNSAFE = [
     ('[Result "0-1"]\n\n1. e4 1-0\n', [("0-1", "1-0", "other Result tag")], WON + "1. e4 1-0\n"),
     ('[Result "won"]\n\n1. e4 1-0\n', [("won", "1-0", "bad Result tag")], WON + "1. e4 1-0\n"),
     (WON + "1. e4 1-0 1-0\n", [("1-0", "", "second marker")], WON + "1. e4 1-0 \n"),
-    ('[Site "a"]\n[Site "b"]\n\n*\n', [('[Site "b"]\n', "", "other pair of one name")],
-     '[Site "a"]\n\n*\n'),
+    ('[White "x"]\n[Site "a"]\n[Site "b"]\n\n*\n',
+     [('[Site "b"]\n', "", "other pair of one name")], '[White "x"]\n[Site "a"]\n\n*\n'),
     ("".join('[T%d ""]\n' % it for it in range(65)) + "\n*\n",
      [('[T64 ""]\n', "", "pair too many")],
      "".join('[T%d ""]\n' % it for it in range(64)) + "\n*\n"),
@@ -240,6 +255,28 @@ UNSAFE = [
      '[White "Ada"]\n\n1. e4 {Black resigns } *\n\n[White "Bob"]\n\n1. d4 {\n} *\n'),
     ("1. e4 {Black resigns\n", [("", "} *", "comment never closed, no marker")],
      "1. e4 {Black resigns} *\n"),
+    # a knight's letter, if the rest is no move alone
+    _move("1. e4 d6 2. Nf3 ", "N\nbd7", "Nbd7", APART),
+    _move("1. e4 d6 2. Nf3 ", "N\u200bbd7", "Nbd7", APART),
+    _move("1. e4 d6 2. Nf3 ", "N {a} bd7", "Nbd7", APART),
+    _move("1. e4 e5 2. Nf3 Nc6 3. d4 exd4 4. ", "N xd4", "Nxd4", APART),
+    # numbers, where those of the game do not run
+    _move("1. e4 e5 3. d4 d6 ", "3Nf3", "3. Nf3", OUT_OF_TURN),
+    _move("1. e4 e5 3. d4 d6 ", "4Nf3", "4. Nf3", OUT_OF_TURN),
+    _move("e4 e5 ", "2Nf3", "2. Nf3", OUT_OF_TURN),
+    _move("11. e4 e5 ", "12Nf3", "12. Nf3", OUT_OF_TURN),
+    # a quote too many, and a bracket too few
+    _tags('[WhiteElo "OLD"]', '"2500', r"\"2500", "odd quotes in a value"),
+    _tags('[Event "OLD"]', 'The "Open', r"The \"Open", "odd quotes in a value"),
+    ('[White "Smith, J"\n[Black "Jones, P"]\n\n1. e4 *\n', [("", "]", BRACKET)],
+     '[White "Smith, J"]\n[Black "Jones, P"]\n\n1. e4 *\n'),
+    ('[White "Smith, J" \r\n\r\n1. e4 *\r\n', [("", "]", BRACKET)],
+     '[White "Smith, J"] \r\n\r\n1. e4 *\r\n'),
+    # what is behind a marker and begins no game
+    *((WON + "1. e4 1-0" + sign + behind, [(sign.strip(), "", BEHIND)],
+       WON + "1. e4 1-0" + sign.replace(sign.strip(), "") + behind)
+      for sign in (".", "!", "??", " $10", " . $1") for behind in ("\n", '\n\n[White "a"]\n\n*\n')),
+    (DRAW + "1. e4 1/2-1/2.\n", [(".", "", BEHIND)], DRAW + "1. e4 1/2-1/2\n"),
 ]
 
 # Texts that have no single reading, or none that the rules allow: no fix touches them.
@@ -256,4 +293,58 @@ LEFT = [
     "1. N f3 *",
     '[Result "0-1"]\n\n1. e4 1/2',
     '[FEN "4k3/8/8/8/8/8/8/4K3 w - - x y"]\n\n*\n',
+    # it may be a result that no game has
+    *("1. e4 e5 2. Nf3 Nf6 3. Be2 Be7 %s" % it for it in (
+        "0 - 0", "0 - 0\n", "0 -0 {drawn}\n", "0\u20130\n", '0 - 0\n\n[White "Ada"]\n\n*\n')),
+]
+
+BOTH = "1. e4 e5 2. Nf3 "
+ITALIAN = "1. e4 e5 2. Nf3 Nc6 3. Bc4 "
+PAIRS = '[Event "a"]\n[White "b"]\n[Black "c"]\n[Result "*"]\n'
+# A pawn on b3 and a bishop on f1 can both take on c4.
+TAKES_C4 = "1. e4 c5 2. b3 c4 "
+
+# Texts with two readings: no fix touches them, a safe one or another.
+DOUBTFUL = [
+    # two games, or two heads of one
+    PAIRS + PAIRS + "\n1. e4 *\n",
+    (PAIRS + PAIRS + "\n1. e4 *\n").replace("\n", "\r\n"),
+    PAIRS + PAIRS.replace("b", "d") + "\n1. e4 *\n",
+    PAIRS + "\n" + PAIRS.partition("\n")[2] + "\n1. e4 *\n",
+    PAIRS + "\n" + PAIRS.partition("\n")[2].replace("b", "d") + "\n1. e4 *\n",
+    PAIRS + '[Event "a"]\n\n1. e4 *\n',
+    PAIRS + '[Event "d"]\n\n1. e4 *\n',
+    PAIRS + '\n[White "b"]\n\n1. e4 *\n',
+    PAIRS + ' \t\n[White "d"]\n\n1. e4 *\n',
+    PAIRS + '[White "b"]\n[Black "c"]\n\n1. e4 *\n',
+    '[White "b"]\n[Black "c"]\n[White "b"]\n\n1. e4 *\n',
+    # the letter of a knight, or a novelty before a pawn's move
+    *(BOTH + it + " *" for it in (
+        "N\nc6", "N\r\nc6", "N\u00a0c6", "N\u200bc6", "N\tc6", "N {a} c6", "N ;a\nc6", "N.c6",
+        "N -c6", "N \u2013 c6", "N c6", "N\ufeffc6", "N {a} \u00a0 c6", "N! c6")),
+    # a piece's letter that was read as a digit
+    ITALIAN[:-4] + "8c4 *",
+    ITALIAN + "Be7 4. O-O d6 5. d3 a6 6. 7Nc3 *",
+    "1. e4 e5 2. 7Nf3 *",
+    "1. e4 e5 2. {a} 2Nf3 *",
+    "1. e4 e5 2... 2Nf3 *",
+    "1. e4 e5 2 2Nf3 *",
+    "1. d4 e6 2. c4 8b4 *",
+    "1. d4 e6 2. c4 2Nf6 *",
+    "1. e4 e5 7Nf3 *",
+    # two pairs on a line
+    '[White "Smith, J"[Black "Jones, P"]\n\n1. e4 *\n',
+    '[White "Smith, J" [Black "Jones, P"]\n\n1. e4 *\n',
+    '[White "Smith, J"] [Black "Jones, P"[Site "a"]\n\n1. e4 *\n',
+    # a pawn's move, or a bishop's with a small letter
+    TAKES_C4 + "3. b-c4 n-c6 *",
+    TAKES_C4 + "3. bxc4 nc6 *",
+    TAKES_C4 + "3. Bxc4 (3. bxc4) nc6 *",
+    "1. e4 c5 2. n-f3 c4 3. b3 n-c6 4. b:c4 *",
+    # a game goes on behind a marker
+    "1. e4 e5 2. Nf3 Nc6 1-0 3. Nc3 Nf6 1-0\n",
+    WON + "1. e4 e5 2. Nf3 Nc6 1-0 3. Nc3 Nf6 1-0\n",
+    WON + "1. e4 e5 2. Nf3 Nc6 1-0\n3. Nc3 Nf6 1-0\n\n" + LOST + "1. d4 0-1\n",
+    WON + "1. e4 e5 2. Nf3 Nc6 1-0\nNc6 1-0\n",
+    "1. e4 e5 1-0 Nf3 *\n",
 ]

@@ -1,4 +1,5 @@
 """Tests of the fixes: pgn_lint --fix and --diff, gillspoon.fixes, and the table of spellings."""
+import contextlib
 import glob
 import json
 import os
@@ -12,7 +13,7 @@ import time
 import unittest
 
 from programs import ROOT, need, not_tried, run
-from spellings import LEFT, SAFE, UNSAFE
+from spellings import DOUBTFUL, LEFT, SAFE, UNSAFE
 from test_lint import LINT, Lint, setUpModule as _set_up_lint
 from test_python import PACKAGE
 
@@ -72,6 +73,13 @@ class Spellings(unittest.TestCase):
         for text in LEFT:
             self.assertEqual(list(gillspoon.fixes(text.encode())), [], text)
 
+    def test_doubtful(self):
+        for text in DOUBTFUL:
+            with self.subTest(text):
+                self.assertEqual(list(gillspoon.fixes(text.encode(), unsafe=True)), [])
+                with self.assertRaises(gillspoon.PgnFault):
+                    gillspoon.check(text.encode())
+
     def test_each_fix_has_a_spelling(self):
         from gillspoon._fixes import NAMES
         tried = {name for _, edits, _ in SAFE + UNSAFE for edit in edits
@@ -83,6 +91,7 @@ class Spellings(unittest.TestCase):
         for old, new in ((b"1. e4 \xbd\n", b'[Result "1/2-1/2"]\n\n1. e4 1/2-1/2\n'),
                          (b"1. e4 \xb1 e5 *", b"1. e4 $16 e5 *"),
                          (b"1. e4\xa0e5 *", b"1. e4 e5 *"),
+                         (b"1. e4 e5 2. Nf3 N\xa0c6 *", b"1. e4 e5 2. Nf3 N\xa0c6 *"),
                          (b"1. e4 d5 2. e\xd7d5 *", b"1. e4 d5 2. exd5 *")):
             self.assertEqual(applied(old, gillspoon.fixes(old)), new)
 
@@ -133,6 +142,19 @@ def bench_games(count):
             yield next(gillspoon.games(text)).text.replace(b"\n", b" ").replace(b"]  ", b"]\n\n")
 
 
+def has_doubtful_pawn(line):
+    """Whether a pawn's move of a line begins with b, and is a bishop's move with B."""
+    fen = getattr(line.start, "fen", line.start)
+    for ply in line.plies:
+        if ply.san[0] == "b":
+            with contextlib.suppress(gillspoon.MoveFault):
+                return bool(gillspoon.san(fen, "B" + ply.san[1:]))
+        if any(isinstance(it, gillspoon.Line) and has_doubtful_pawn(it) for it in ply.notes):
+            return True
+        fen = ply.fen
+    return False
+
+
 class Spoilt(unittest.TestCase):
     """Games that are spoilt have the moves of the unspoilt ones after --fix."""
 
@@ -143,6 +165,11 @@ class Spoilt(unittest.TestCase):
             bad, count = spoilt(moves.replace(b"\n", b" "), rng)
             text = head + b"\n\n" + bad
             mended = applied(text, gillspoon.fixes(text))
+            if re.search(rb"[\s.][nqr][a-h1-8x]", bad) and any(
+                    has_doubtful_pawn(it.moves()) for it in gillspoon.games(sound, checked=True)):
+                # small letters of such a game stay
+                self.assertRegex(mended, rb"[\s.][nqr][a-h1-8x]")
+                continue
             with self.subTest(text):
                 self.assertEqual([plain(it) for it in moves_of(mended)],
                                  [plain(it) for it in moves_of(sound)])
