@@ -47,8 +47,10 @@ def expanded(match: "re.Match[bytes]", template: Template) -> bytes:
 
 # A move as the reader takes it.
 MOVE = pattern_of("MOVE[+#]*(?![A-Za-z0-9_=:/-])")
-# White space, comments and escape lines, also to the end of a section; and a tag pair.
-SPACE, REST, PAIR = (pattern_of(DATA["parts"][it]) for it in ("space", "rest", "pair"))
+# White space, comments and escape lines, also to the end of a section, also with signs such as ! or
+# $1 among them; and a tag pair.
+SPACE, REST, REST_WITH_SIGNS, PAIR = (pattern_of(DATA["parts"][it]) for it in (
+    "space", "rest", "rest with signs", "pair"))
 
 
 # ---- faults

@@ -4,7 +4,7 @@ An edit is kept if the game is then sound, or if fewer bytes are behind its firs
 The moves before the edit have to be the same. What no fix mends stays as it is, byte for byte.
 """
 from copy import copy
-from typing import List, NamedTuple, Optional, Sequence, Tuple, Union
+from typing import List, NamedTuple, Optional, Sequence, Set, Tuple, Union
 
 from . import _library
 from ._edits import UNCLOSED_COMMENT, Edit, Section
@@ -84,6 +84,8 @@ class Mending:
         self.missing = _library.RESULT_FROM_MARKER if checked else _library.RESULT_UNKNOWN
         self.is_first, self.is_last, self.begin = is_first, is_last, 0
         self.with_small_letters = True
+        # the names of the fixes that the current game has edits of
+        self.used: Set[str] = set()
         self.is_sound = False
         # of a text that is not sound the first fault that no fix mends
         self.fault = self.place = 0
@@ -103,15 +105,12 @@ class Mending:
 
     def _mend_game(self) -> _library.NextGame:
         """Mends a game, and gives the answer for it: without small letters, if a b is in doubt."""
-        before, self.with_small_letters = copy(self.changes), True
+        before, self.used, self.with_small_letters = copy(self.changes), set(), True
         found = self._mend_faults()
-        names = [it.names for it in self.changes.applied if it not in before.applied]
-        if any(SMALL_LETTER in it for it in names):
-            is_sound = found.status == _library.OK
-            end = found.end if is_sound else found.place
-            if has_doubtful_pawn(self._here(found), end):
-                self.changes, self.with_small_letters = before, False
-                found = self._mend_faults()
+        end = found.end if found.status == _library.OK else found.place
+        if SMALL_LETTER in self.used and has_doubtful_pawn(self._here(found), end):
+            self.changes, self.with_small_letters = before, False
+            found = self._mend_faults()
         return found
 
     def _mend_faults(self) -> _library.NextGame:
@@ -148,6 +147,7 @@ class Mending:
         if not change or not self._is_better(here, change, missing):
             return False
         self.changes.apply(change, (fix.name,), fix.is_safe)
+        self.used.add(fix.name)
         return True
 
     def _try_spellings(self, here: Here, missing: int) -> bool:
@@ -157,6 +157,7 @@ class Mending:
             return False
         names = tuple(it.name for it in found.spellings)
         self.changes.apply(found.change, names, all(it.is_safe for it in found.spellings))
+        self.used.update(names)
         self._try_like_tokens(found.change.start + len(found.change.new), found.spellings, missing)
         return True
 

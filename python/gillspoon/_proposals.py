@@ -4,7 +4,7 @@ from typing import Callable, List, Optional, Tuple
 
 from . import _calls
 from ._faults import FenFault, MoveFault
-from ._here import DATA, NEAR, REST, SPACE, Change, Here, expanded, pattern_of, steps_of
+from ._here import BEFORE, DATA, NEAR, REST, SPACE, Change, Here, expanded, pattern_of, steps_of
 from ._left_out import PART
 
 Propose = Callable[[Here], Optional[Change]]
@@ -82,12 +82,12 @@ def _escaped_quotes(here: Here, parity: int) -> Optional[Change]:
 
 
 # An escaped sign of a value, or a quote.
-QUOTE = re.compile(rb'(\\["\\])|"')
+QUOTE = pattern_of(DATA["parts"]["quote"])
 
 
 def missing_bracket(here: Here) -> Optional[Change]:
     """Closes a tag pair at the end of its line."""
-    pair = PAIR_WITHOUT_BRACKET.search(here.text, max(here.begin, here.place - NEAR), here.place)
+    pair = PAIR_WITHOUT_BRACKET.search(here.text, max(here.begin, here.place - BEFORE), here.place)
     return Change(pair.end(1), pair.end(1), b"]") if pair else None
 
 
@@ -114,8 +114,7 @@ def _second_pair(here: Here, is_equal: bool) -> Optional[Change]:
     return _whole_line(here.text, pair.start(), pair.end())
 
 
-EMPTY_LINE = re.compile(rb"(?:\r\n|\r(?!\n)|\n)[ \t]*[\r\n]")
-TAG_LINE = re.compile(rb'[\r\n][ \t]*\[[ \t]*\w+[ \t]*"')
+EMPTY_LINE, TAG_LINE = (pattern_of(DATA["parts"][it]) for it in ("empty line", "tag line"))
 
 
 def _whole_line(text: bytes, start: int, stop: int) -> Change:
@@ -228,16 +227,18 @@ def _fen_change(value: "re.Match[bytes]", fields: List[bytes]) -> Optional[Chang
 def missing_result_tag(here: Here) -> Optional[Change]:
     """Adds a Result tag with the marker, to a game that has moves or tags.
 
-    Movetext behind the marker has to begin another game, and so has movetext without tags.
+    No tag may have a result as its value: its name may be a damaged one. Movetext behind the marker
+    has to begin another game, and so has movetext without tags.
     """
     head, marker = here.head(), PATTERNS["missing Result tag"].match(here.text, here.place)
     has_moves = not REST.match(here.text[:here.place], here.begin)
-    if not marker or head.value(b"Result") is not None or not has_moves:
+    if not marker or not has_moves or any(
+            it[1] == b"Result" or MARKER.fullmatch(it[2].strip()) for it in head.pairs):
         return None
     is_start = here.is_first and not FIRST_NUMBER.match(here.text, here.begin)
     if not head.pairs and not is_start and not _begins_game(here.text, here.begin):
         return None
-    if not BEHIND_GAME.match(here.text, marker.end()) \
+    if not END_OF_MOVETEXT.match(here.text, marker.end()) \
             and not _begins_game(here.text, marker.end()):
         return None
     tag = b'[Result "' + marker[0] + b'"]'
@@ -257,7 +258,7 @@ def _begins_game(text: bytes, at: int) -> bool:
 
 
 # What is no movetext behind a marker: signs, and the end of the text or a tag.
-BEHIND_GAME = pattern_of(r"(?:SPACE(?:[.!?]+|\$[0-9]+))*SPACE(?:\[|\Z)")
+END_OF_MOVETEXT = pattern_of(DATA["parts"]["end of movetext"])
 
 
 def unknown_result_tag(here: Here) -> Optional[Change]:
@@ -329,7 +330,7 @@ def sign_behind_marker(here: Here) -> Optional[Change]:
     return Change(signs.start(1), signs.end(1), b"")
 
 
-SIGNS_ALONE = pattern_of(r"SPACE((?:[.!?]+|\$[0-9]+)(?:[ \t]*(?:[.!?]+|\$[0-9]+))*)SPACE\Z")
+SIGNS_ALONE = pattern_of(DATA["parts"]["signs alone"])
 
 
 def no_marker(here: Here) -> Optional[Change]:
@@ -352,7 +353,7 @@ LINE_COMMENT_AT_END = re.compile(rb";[^\r\n}]*\Z")
 def novelty(here: Here) -> Optional[Change]:
     """Writes a novelty's N as the glyph that programs have for it, if it is no knight's letter."""
     found = here.match_at_place(PATTERNS["novelty"])
-    if not found or not _is_behind_move(here, found):
+    if not found or not _is_behind_move(here, found) or not here.position(found.start()):
         return None
     is_knight, _ = _readings(here, found)
     return None if is_knight else Change(found.start(), found.start() + 1, b"$146")

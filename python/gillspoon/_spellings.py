@@ -9,7 +9,8 @@ from typing import FrozenSet, Iterable, List, NamedTuple, Optional, Tuple
 from . import _calls
 from ._faults import FenFault, MoveFault
 from ._findings import piece_on
-from ._here import DATA, MOVE, NEAR, REST, Change, Here, Steps, expanded, pattern_of, steps_of
+from ._here import (DATA, MOVE, NEAR, REST_WITH_SIGNS, Change, Here, Steps, expanded, pattern_of,
+                    steps_of)
 from ._left_out import PART
 
 # The reasons at which the spelling of a move can be at fault.
@@ -132,7 +133,7 @@ def _holds(needs: str, match: "re.Match[bytes]", text: bytes, fen: str, place: _
 
 def _may_be_result(token: bytes, place: _Place) -> bool:
     """Whether castling is written with zeros as the last word of a section: `0 - 0`."""
-    is_last = REST.match(place.here.text, place.part + len(token))
+    is_last = REST_WITH_SIGNS.match(place.here.text, place.part + len(token))
     return bool(is_last) and not re.search(rb"[A-Za-z]", token)
 
 

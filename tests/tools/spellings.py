@@ -295,7 +295,8 @@ LEFT = [
     '[FEN "4k3/8/8/8/8/8/8/4K3 w - - x y"]\n\n*\n',
     # it may be a result that no game has
     *("1. e4 e5 2. Nf3 Nf6 3. Be2 Be7 %s" % it for it in (
-        "0 - 0", "0 - 0\n", "0 -0 {drawn}\n", "0\u20130\n", '0 - 0\n\n[White "Ada"]\n\n*\n')),
+        "0 - 0", "0 - 0\n", "0 -0 {drawn}\n", "0\u20130\n", "00", "0 - 0! $10\n",
+        '0 - 0\n\n[White "Ada"]\n\n*\n')),
 ]
 
 BOTH = "1. e4 e5 2. Nf3 "
@@ -321,7 +322,8 @@ DOUBTFUL = [
     # the letter of a knight, or a novelty before a pawn's move
     *(BOTH + it + " *" for it in (
         "N\nc6", "N\r\nc6", "N\u00a0c6", "N\u200bc6", "N\tc6", "N {a} c6", "N ;a\nc6", "N.c6",
-        "N -c6", "N \u2013 c6", "N c6", "N\ufeffc6", "N {a} \u00a0 c6", "N! c6")),
+        "N -c6", "N \u2013 c6", "N c6", "N\ufeffc6", "N {a} \u00a0 c6", "N! c6", "N\nc6+-",
+        "N\nc6,")),
     # a piece's letter that was read as a digit
     ITALIAN[:-4] + "8c4 *",
     ITALIAN + "Be7 4. O-O d6 5. d3 a6 6. 7Nc3 *",
