@@ -48,9 +48,9 @@ def expanded(match: "re.Match[bytes]", template: Template) -> bytes:
 # A move as the reader takes it.
 MOVE = pattern_of("MOVE[+#]*(?![A-Za-z0-9_=:/-])")
 # White space, comments and escape lines, also to the end of a section, also with signs such as ! or
-# $1 among them; and a tag pair.
-SPACE, REST, REST_WITH_SIGNS, PAIR = (pattern_of(DATA["parts"][it]) for it in (
-    "space", "rest", "rest with signs", "pair"))
+# $1 among them; a tag pair; and a line end with an empty line behind it.
+SPACE, REST, REST_WITH_SIGNS, PAIR, EMPTY_LINE = (pattern_of(DATA["parts"][it]) for it in (
+    "space", "rest", "rest with signs", "pair", "empty line"))
 
 
 # ---- faults
@@ -73,13 +73,24 @@ class Change(NamedTuple):
         return text[:self.start] + self.new + text[self.stop:]
 
 
+class Around(NamedTuple):
+    """What is around the text of a bad game."""
+
+    is_first: bool
+    """Whether it is the first game of its file."""
+    is_last: bool
+    """Whether nothing is behind it."""
+    is_apart: bool
+    """Whether an empty line is before it, or nothing."""
+
+
 class Here:
     """A fault, and the text in which it is: that of a bad game up to its end, which is a guess."""
 
     def __init__(self, text: bytes, begin: int, number: int, place: int, fen: str,
-                 reader: GameReader, is_first: bool, is_last: bool) -> None:
+                 reader: GameReader, around: "Around") -> None:
         self.text, self.begin, self.number, self.place = text, begin, number, place
-        self.reader, self.is_first, self.is_last = reader, is_first, is_last
+        self.reader, self.around = reader, around
         self._fens: Dict[int, Optional[str]] = {place: fen} if fen else {}
 
     def position(self, at: int) -> Optional[str]:

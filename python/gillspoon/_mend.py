@@ -10,7 +10,7 @@ from . import _library
 from ._edits import UNCLOSED_COMMENT, Edit, Section
 from ._faults import PgnFault
 from ._fixes import AnyFix, Fix
-from ._here import Change, Here
+from ._here import EMPTY_LINE, Around, Change, Here
 from ._places import BYTE_ORDER_MARK, NEAR, LineCounter
 from ._reading import GameReader
 from ._sections import end_of_bad_game
@@ -75,14 +75,14 @@ class Mending:
     """Mends a text, which is that of a bad game up to its end: this is a guess."""
 
     def __init__(self, text: bytes, fixes: Sequence[AnyFix], reader: GameReader, checked: bool,
-                 is_first: bool, is_last: bool) -> None:
+                 around: Around) -> None:
         self.changes = Changes(text)
         self.fixes, self.reader = [it for it in fixes if isinstance(it, Fix)], reader
         self.spellings = tuple(it for it in fixes if isinstance(it, Spelling))
         self.before_spellings = next(
             (at for at, it in enumerate(fixes) if isinstance(it, Spelling)), 0)
         self.missing = _library.RESULT_FROM_MARKER if checked else _library.RESULT_UNKNOWN
-        self.is_first, self.is_last, self.begin = is_first, is_last, 0
+        self.around, self.begin = around, 0
         self.with_small_letters = True
         # the names of the fixes that the current game has edits of
         self.used: Set[str] = set()
@@ -95,7 +95,8 @@ class Mending:
         while True:
             found = self._mend_game()
             if found.status == _library.OK:
-                self.begin, self.is_first = found.end, False
+                self.begin = found.end
+                self.around = self.around._replace(is_first=False, is_apart=False)
             elif found.status == _library.NO_GAME:
                 self.is_sound = True
                 return self
@@ -122,7 +123,7 @@ class Mending:
 
     def _here(self, found: _library.NextGame) -> Here:
         return Here(self.changes.text, self.begin, found.fault, found.place,
-                    found.fen.decode("ascii"), self.reader, self.is_first, self.is_last)
+                    found.fen.decode("ascii"), self.reader, self.around)
 
     def _mend_fault(self, found: _library.NextGame) -> bool:
         """Tries the fixes at a fault: whether one was kept."""
@@ -247,13 +248,17 @@ class SectionMender:
         is_mark = self.opened.fetch(fault.offset, mark_end) == BYTE_ORDER_MARK
         text = self.opened.fetch(begin, max(fault.end, mark_end) if is_mark else fault.end)
         text = b" " + text[1:] if fault.begin and not text[:1].isspace() else text
-        mending = self._mending(text, fault, self.fixes)
+        before = self.opened.fetch(max(fault.begin - NEAR, 0), fault.begin)
+        around = Around(not before.strip() and fault.begin == len(before),
+                        fault.end == self.opened.size,
+                        bool(EMPTY_LINE.search(before[len(before.rstrip()):])))
+        mending = self._mending(text, around, self.fixes)
         is_kept = mending.is_sound or not is_sound and self._ends_as_before(mending, fault.end)
         edits = [self._edit(fault.game, begin, it, text)
                  for it in mending.changes.applied if is_kept]
         more = 0
         if self.others and not mending.is_sound:
-            more = len(self._mending(mending.changes.text, fault, self.others).changes.applied)
+            more = len(self._mending(mending.changes.text, around, self.others).changes.applied)
         return Section(fault.begin, fault.end, edits, more)
 
     def _ends_as_before(self, mending: Mending, end: int) -> bool:
@@ -265,9 +270,8 @@ class SectionMender:
         last = end_of_bad_game(rest + following, mending.place - mending.begin)
         return mending.fault != UNCLOSED_COMMENT and last == len(rest)
 
-    def _mending(self, text: bytes, fault: PgnFault, fixes: Sequence[AnyFix]) -> Mending:
-        return Mending(text, fixes, self._reader, self.checked, not fault.begin,
-                       fault.end == self.opened.size).run()
+    def _mending(self, text: bytes, around: Around, fixes: Sequence[AnyFix]) -> Mending:
+        return Mending(text, fixes, self._reader, self.checked, around).run()
 
     def _edit(self, game: int, begin: int, it: Applied, text: bytes) -> Edit:
         change, offset = it.change, begin + it.change.start

@@ -4,7 +4,8 @@ from typing import Callable, List, Optional, Tuple
 
 from . import _calls
 from ._faults import FenFault, MoveFault
-from ._here import BEFORE, DATA, NEAR, REST, SPACE, Change, Here, expanded, pattern_of, steps_of
+from ._here import (BEFORE, DATA, EMPTY_LINE, NEAR, REST, SPACE, Change, Here, expanded, pattern_of,
+                    steps_of)
 from ._left_out import PART
 
 Propose = Callable[[Here], Optional[Change]]
@@ -53,7 +54,7 @@ def _is_at_end(here: Here, match: "re.Match[bytes]") -> bool:
 
 
 def _is_last(here: Here, match: "re.Match[bytes]") -> bool:
-    return here.is_last
+    return here.around.is_last
 
 
 CONDITIONS = {"": _always, "move": _is_behind_move, "end": _is_at_end, "last": _is_last}
@@ -96,32 +97,36 @@ PAIR_WITHOUT_BRACKET = re.compile(
 
 
 def _second_pair(here: Here, is_equal: bool) -> Optional[Change]:
-    """Takes out a pair whose name alone is twice in one tag section.
+    """Takes out a pair whose name alone is repeated in a tag section.
 
     Several such names may be those of two games that were joined, and so may an Event, the first
-    name, and what is behind an empty line.
+    name, what is behind an empty line, and a Result that is the last pair, if it begins no line.
     """
     head = here.head()
     pair = next((it for it in head.pairs if it.start() <= here.place < it.end()), None)
     if not pair or (head.value(pair[1]) == pair[2]) != is_equal:
         return None
-    first, names = head.pairs[0], [it[1] for it in head.pairs]
+    first, last, names = head.pairs[0], head.pairs[-1], [it[1] for it in head.pairs]
     repeated = {it for it in names if names.count(it) > 1}
     if repeated != {pair[1]} or pair[1] in (b"Event", first[1]) \
+            or pair[1] == last[1] == b"Result" and not _begins_line(here.text, pair.start()) \
             or EMPTY_LINE.search(here.text, first.start(), pair.start()) \
             or TAG_LINE.search(here.text, head.end):
         return None
     return _whole_line(here.text, pair.start(), pair.end())
 
 
-EMPTY_LINE, TAG_LINE = (pattern_of(DATA["parts"][it]) for it in ("empty line", "tag line"))
+TAG_LINE = pattern_of(DATA["parts"]["tag line"])
 
 
 def _whole_line(text: bytes, start: int, stop: int) -> Change:
     """Takes out a text, and its line too if nothing else is on it."""
     line = PATTERNS["pair given twice"].match(text, stop)
-    is_alone = not start or text[start - 1:start] in b"\r\n"
-    return Change(start, line.end() if line and is_alone else stop, b"")
+    return Change(start, line.end() if line and _begins_line(text, start) else stop, b"")
+
+
+def _begins_line(text: bytes, at: int) -> bool:
+    return not at or text[at - 1:at] in b"\r\n"
 
 
 def equal_pair(here: Here) -> Optional[Change]:
@@ -227,19 +232,19 @@ def _fen_change(value: "re.Match[bytes]", fields: List[bytes]) -> Optional[Chang
 def missing_result_tag(here: Here) -> Optional[Change]:
     """Adds a Result tag with the marker, to a game that has moves or tags.
 
-    No tag may have a result as its value: its name may be a damaged one. Movetext behind the marker
+    No tag may have a value like a result: its name may be a damaged one. Movetext behind the marker
     has to begin another game, and so has movetext without tags.
     """
     head, marker = here.head(), PATTERNS["missing Result tag"].match(here.text, here.place)
     has_moves = not REST.match(here.text[:here.place], here.begin)
     if not marker or not has_moves or any(
-            it[1] == b"Result" or MARKER.fullmatch(it[2].strip()) for it in head.pairs):
+            it[1] == b"Result" or LIKE_RESULT.match(it[2]) for it in head.pairs):
         return None
-    is_start = here.is_first and not FIRST_NUMBER.match(here.text, here.begin)
-    if not head.pairs and not is_start and not _begins_game(here.text, here.begin):
+    if not head.pairs and not _begins_game(
+            here.text, here.begin, here.around.is_first or here.around.is_apart):
         return None
     if not END_OF_MOVETEXT.match(here.text, marker.end()) \
-            and not _begins_game(here.text, marker.end()):
+            and not _begins_game(here.text, marker.end(), False):
         return None
     tag = b'[Result "' + marker[0] + b'"]'
     if not head.pairs:
@@ -251,12 +256,15 @@ def missing_result_tag(here: Here) -> Optional[Change]:
     return Change(end, end, line + tag)
 
 
-def _begins_game(text: bytes, at: int) -> bool:
-    """Whether movetext begins with the number 1."""
-    number = FIRST_NUMBER.match(text, at)
-    return bool(number) and int(number[1]) == 1 if number else False
+def _begins_game(text: bytes, at: int, is_apart: bool) -> bool:
+    """Whether movetext begins with the number 1, or without a number behind an empty line."""
+    number, space = FIRST_NUMBER.match(text, at), SPACE.match(text, at)
+    if number:
+        return int(number[1]) == 1
+    return is_apart or bool(space and EMPTY_LINE.search(space[0]))
 
 
+LIKE_RESULT = pattern_of(DATA["parts"]["like a result"])
 # What is no movetext behind a marker: signs, and the end of the text or a tag.
 END_OF_MOVETEXT = pattern_of(DATA["parts"]["end of movetext"])
 
@@ -317,7 +325,7 @@ def second_marker(here: Here) -> Optional[Change]:
     """Takes out a marker that comes right behind a game."""
     marker = MARKER.match(here.text, here.place)
     is_alone = REST.match(here.text[:here.place], here.begin)
-    if not marker or not is_alone or here.is_first:
+    if not marker or not is_alone or here.around.is_first:
         return None
     return Change(marker.start(), marker.end(), b"")
 
@@ -325,7 +333,7 @@ def second_marker(here: Here) -> Optional[Change]:
 def sign_behind_marker(here: Here) -> Optional[Change]:
     """Takes out the signs behind a marker, which would begin another game."""
     signs = SIGNS_ALONE.match(here.text[:here.place], here.begin)
-    if not signs or here.is_first:
+    if not signs or here.around.is_first:
         return None
     return Change(signs.start(1), signs.end(1), b"")
 

@@ -26,8 +26,9 @@ RIGHT, UNMENDED, WRONG, SILENT = "right", "unmended", "wrong", "silent"
 NO_BREAK = ("\u00a0".encode(), b"\xa0")
 ZERO_WIDTH = ("\u200b".encode(), "\ufeff".encode())
 QUOTES = ("\u201c".encode(), "\u201d".encode())
-MOVE = re.compile(rb"(?<![\w+#=:/\[\"-])(?:[KQRBN]?[a-h]?[1-8]?x?[a-h][1-8](?:=[QRBN])?|O-O(?:-O)?)[+#]*"
-                  rb"|(?<!\S)(?:1-0|0-1|1/2-1/2)")
+# A move, or a marker of more than one byte.
+MOVE = re.compile(rb"(?<![\w+#=:/\[\"-])(?:[KQRBN]?[a-h]?[1-8]?x?[a-h][1-8](?:=[QRBN])?|O-O(?:-O)?)"
+                  rb"[+#]*|(?<!\S)(?:1-0|0-1|1/2-1/2)")
 PAIR_LINE = re.compile(rb"(?m)^\[(\w+) \"[^\"\n]*\"\][ \t]*\n")
 LINE = re.compile(rb"[^\n]*\n")
 
@@ -58,7 +59,10 @@ def sound_games():
         for number, line in enumerate(file.read().splitlines()[:200]):
             result, _, moves = line.partition(b" ")
             text = b'[Result "%s"]\n\n%s %s\n' % (result, moves, result)
-            texts.append(next(gillspoon.games(text)).text if number % 2 else text)
+            export = next(gillspoon.games(text)).text
+            # some without move numbers, and all moves on a line
+            head = export.partition(b"\n\n")[0]
+            texts.append(export if number % 10 else b"%s\n\n%s %s\n" % (head, moves, result))
     for path in sorted(glob.glob(ROOT + "/fuzz/corpus/*")):
         with open(path, "rb") as file:
             data = file.read()
@@ -141,18 +145,24 @@ def confused(*letters):
     return damage
 
 
+def byte_of_a_move(rng, text):
+    """The place of a byte: in three cases of four in a move or a marker."""
+    move = one_of(rng, MOVE.finditer(text)) if rng.random() < 0.75 else None
+    return rng.randrange(move.start(), move.end()) if move else rng.randrange(len(text))
+
+
 def byte_dropped(rng, text):
-    at = rng.randrange(*movetext_or_all(rng, text))
+    at = byte_of_a_move(rng, text)
     return [(at, at + 1, b"")]
 
 
 def byte_doubled(rng, text):
-    at = rng.randrange(*movetext_or_all(rng, text))
+    at = byte_of_a_move(rng, text)
     return [(at, at, text[at:at + 1])]
 
 
 def line_dropped(rng, text):
-    line = one_of(rng, LINE.finditer(text))
+    line = one_of(rng, LINE.finditer(text, *movetext_or_all(rng, text)))
     return [(line.start(), line.end(), b"")] if line else []
 
 
@@ -161,20 +171,16 @@ def line_doubled(rng, text):
     return [(line.end(), line.end(), line[0])] if line else []
 
 
-def _pair(rng, text):
-    """A tag pair: in half of the cases one that says how the game is read."""
+def tag_dropped(rng, text):
+    """Three of four say how the game is read: the others are missed by nobody."""
     pairs = list(PAIR_LINE.finditer(text))
     reading = [it for it in pairs if it[1] in (b"Result", b"FEN", b"SetUp")]
-    return one_of(rng, reading if rng.random() < 0.5 else pairs)
-
-
-def tag_dropped(rng, text):
-    pair = _pair(rng, text)
+    pair = one_of(rng, reading if rng.random() < 0.75 else pairs)
     return [(pair.start(), pair.end(), b"")] if pair else []
 
 
 def tag_doubled(rng, text):
-    pair, other = _pair(rng, text), _pair(rng, text)
+    pair, other = (one_of(rng, PAIR_LINE.finditer(text)) for _ in range(2))
     if not pair or not other:
         return []
     # in most cases it is behind its line, in some behind another one or on its line
@@ -193,13 +199,15 @@ def files_joined(rng, text):
 
 
 def file_cut(rng, text):
-    end = len(text.rstrip())
+    """The file ends in its last game: of games behind it nothing would say anything."""
+    import gillspoon
+    begin, end = [it.offset for it in gillspoon.games(text)][-1], len(text.rstrip())
     size = rng.choice((rng.randint(1, 7), rng.randint(1, 80), rng.randrange(1, end)))
-    return [(max(end - size, 1), len(text), b"")]
+    return [(max(end - size, begin + 1), len(text), b"")]
 
 
 def curly_quotes(rng, text):
-    pair = _pair(rng, text)
+    pair = one_of(rng, PAIR_LINE.finditer(text))
     if not pair:
         return []
     first, last = pair[0].index(b'"') + pair.start(), pair[0].rindex(b'"') + pair.start()
@@ -222,17 +230,22 @@ def cr_for_lf(rng, text):
     return ends if rng.random() < 0.3 else [rng.choice(ends)] if ends else []
 
 
-DAMAGES = {
-    "a line wrapped inside a move": wrapped_move, "a no-break space": no_break_space,
-    "a zero-width character": zero_width, "8 and B": confused(b"8", b"B"),
-    "0 and O": confused(b"0", b"O"), "1, l and I": confused(b"1", b"l", b"I"),
-    "a byte dropped": byte_dropped, "a byte doubled": byte_doubled,
-    "a line dropped": line_dropped, "a line doubled": line_doubled,
-    "a tag dropped": tag_dropped, "a tag doubled": tag_doubled,
-    "files joined without an end": files_joined, "a cut file": file_cut,
-    "curly quotes": curly_quotes, "a space put in": space_put_in,
-    "a space taken out": space_taken_out, "CR for LF": cr_for_lf,
-}
+# The kinds of damage, which are equally frequent, and in each its damages.
+KINDS = (
+    {"a line wrapped inside a move": wrapped_move, "CR for LF": cr_for_lf},
+    {"a no-break space": no_break_space, "a zero-width character": zero_width},
+    {"8 and B": confused(b"8", b"B")},
+    {"0 and O": confused(b"0", b"O")},
+    {"1, l and I": confused(b"1", b"l", b"I")},
+    {"a byte dropped": byte_dropped, "a byte doubled": byte_doubled,
+     "a line dropped": line_dropped, "a line doubled": line_doubled,
+     "a tag dropped": tag_dropped, "a tag doubled": tag_doubled},
+    {"files joined without an end": files_joined},
+    {"a cut file": file_cut},
+    {"curly quotes": curly_quotes},
+    {"a space put in": space_put_in, "a space taken out": space_taken_out},
+)
+DAMAGES = [name for kind in KINDS for name in kind]
 # The library reads CR as the end of a line everywhere, so this one is always silent.
 ALWAYS_SILENT = "CR for LF"
 
@@ -265,8 +278,8 @@ def damaged_texts(pool, count, seed):
         wanted, damages, tries = rng.randint(1, 3), [], 0
         while len(damages) < wanted and tries < 20:
             tries += 1
-            name = rng.choice(list(DAMAGES))
-            edits = DAMAGES[name](rng, sound)
+            name, damage = rng.choice(list(rng.choice(KINDS).items()))
+            edits = damage(rng, sound)
             others = [it for _, made_before in damages for it in made_before]
             if edits and are_apart(edits, others) and edited(sound, edits) != sound:
                 damages.append((name, edits))

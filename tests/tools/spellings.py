@@ -166,6 +166,9 @@ SAFE = [
     ('[Result "?"]\n\n1. e4 1-0\n', [("?", "1-0", "Result tag from the marker")],
      WON + "1. e4 1-0\n"),
     ("1. e4 e5 1-0 1. d4 *\n", [("", WON, TAG)], WON + "1. e4 e5 1-0 1. d4 *\n"),
+    ("e4 e5 1-0\n\nd4 *\n", [("", WON, TAG)], WON + "e4 e5 1-0\n\nd4 *\n"),
+    ("e4 *\n\nd4 1-0\n", [("", WON, TAG)], "e4 *\n\n" + WON + "d4 1-0\n"),
+    ("\n e4 1-0\n", [("", WON, TAG)], "\n " + WON + "e4 1-0\n"),
     ('[Result "1/2"]\n\n1. e4 1/2-1/2\n',
      [('[Result "1/2"', '[Result "1/2-1/2"', "spelling of the Result tag")],
      DRAW + "1. e4 1/2-1/2\n"),
@@ -319,6 +322,8 @@ DOUBTFUL = [
     PAIRS + ' \t\n[White "d"]\n\n1. e4 *\n',
     PAIRS + '[White "b"]\n[Black "c"]\n\n1. e4 *\n',
     '[White "b"]\n[Black "c"]\n[White "b"]\n\n1. e4 *\n',
+    '[White "b"]\n[Result "1-0"][Result "1-0"]\n\n1. e4 1-0\n',
+    '[White "b"]\n[Result "1-0"][Result "1-0"]\n[Result "1-0"]\n\n1. e4 1-0\n',
     # the letter of a knight, or a novelty before a pawn's move
     *(BOTH + it + " *" for it in (
         "N\nc6", "N\r\nc6", "N\u00a0c6", "N\u200bc6", "N\tc6", "N {a} c6", "N ;a\nc6", "N.c6",
@@ -349,4 +354,8 @@ DOUBTFUL = [
     WON + "1. e4 e5 2. Nf3 Nc6 1-0\n3. Nc3 Nf6 1-0\n\n" + LOST + "1. d4 0-1\n",
     WON + "1. e4 e5 2. Nf3 Nc6 1-0\nNc6 1-0\n",
     "1. e4 e5 1-0 Nf3 *\n",
+    "24. Nf3 1-0\n",
+    # the name of the Result tag is damaged
+    *('[Event "a"]\n[Resullt "%s"]\n\n1. e4 1-0\n' % it for it in (
+        "1-0", " 1-0 ", "l-0", "1-O", "-0", "1 - 0", "1/2-1/2", "*")),
 ]

@@ -242,10 +242,12 @@ class Kept(unittest.TestCase):
     def mended(self, text, *proposals):
         """A text after fixes that are planted: functions of a fault."""
         from gillspoon._fixes import Fix
+        from gillspoon._here import Around
         from gillspoon._mend import Mending
         from gillspoon._reading import GameReader
         fixes = [Fix("planted", frozenset(range(60)), True, ("", ""), it) for it in proposals]
-        return Mending(text, fixes, GameReader(), False, True, True).run().changes.text
+        around = Around(True, True, True)
+        return Mending(text, fixes, GameReader(), False, around).run().changes.text
 
     def test_a_fix_that_makes_another_game_is_refused(self):
         """Each would mend the fault, and changes a move or the first position before it."""

@@ -435,9 +435,10 @@ class Faults(Lint):
 
 
 # What stands in the place of a token: texts of moves that are none, and what is near other tokens.
-JUNK = """e4Q e5N exd5N a8N a8Q+ axb8R h1=N Pe4=B K=Q Kxe9 N Nf N3 Nf3N Nf3=Q+ Qa1a1=R# O-O=Q 0-0N O O-
-o-o-o b-c4 bxB3 xx x e e.p. ep ch mate +- -+ = (=) $ $256 $1x 1 9e4 8b6+ 12Nf3N 99999 1) ( ) (( )) [ ]
-[White "x"] [x] " "x { } ; % < > -- Z0 null 1/2 1:0 0-0-0-0 \ufeff \u200b \xa0 \u2655h5 \u265f \xbd
+JUNK = """e4Q e5N exd5N a8N a8Q+ axb8R h1=N Pe4=B K=Q Kxe9 N Nf N3 Nf3N Nf3=Q+ Qa1a1=R# O-O=Q O O-
+0-0N o-o-o b-c4 bxB3 xx x e e.p. ep ch mate +- -+ = (=) $ $256 $1x 1 9e4 8b6+ 12Nf3N 99999 1) ( )
+(( )) [ ] [White "x"] [x] " "x { } ; % < > -- Z0 null 1/2 1:0 0-0-0-0
+\ufeff \u200b \xa0 \u2655h5 \u265f \xbd
 \x00 \x1a \xff a8=\u2655 N\u200bf3 D RR1d1 e8= exd6e.p. Ng1f3g5 aaa8Q K@e4 * 1-0""".split()
 MODES = ([], ["--board"], ["--json"], ["--sarif"], ["--json", "--unsafe-fixes"], ["--diff"],
          ["--diff", "--unsafe-fixes"], ["--fix"])
