@@ -12,7 +12,9 @@ const UNSAFE = " pgn_lint --fix --unsafe-fixes does it.";
 const WRITE_MARKER = "It has to end with " + RESULTS + ". The button “" + MARKERS_TOO +
   "” writes what the Result tag says, or * without one.";
 const WRITE_DRAW = "Write a draw as " + DRAW + "." + BUTTON;
-const NUMBER_APART = "Put a period or a blank between the number and the move." + BUTTON;
+const NUMBER_APART = "Put a period or a blank between the number and the move. The button “Mend " +
+  "what is clear” does it if the number is that of the move. Else it may be a letter, as in 8c4 " +
+  "for Bc4.";
 
 // `offer` names a button: "fromMarker" takes missing results from the markers, "results" writes
 // missing markers, "full" converts in full.
@@ -33,7 +35,8 @@ const ADVICE = [
   [(it) => it.number === 34 && /^1[a-h][1-8]/.test(it.symbol), NUMBER_APART],
   [(it) => it.number === 41 && !it.hasResult,
     "The game has no Result tag, which counts as *. A missing Result can take the result at the " +
-    "end of its game instead. The button “Mend what is clear” writes the tag.",
+    "end of its game instead. The button “Mend what is clear” writes the tag, if it is clear where " +
+    "the game begins and ends.",
     "fromMarker"],
   [(it) => it.number === 41, "Correct the Result tag or the result at the end of the game."],
   [(it) => it.number === 32 && !it.hasMovetext,
@@ -42,7 +45,8 @@ const ADVICE = [
     "The game before has no result at its end. " + WRITE_MARKER, "results"],
   [(it) => it.number === 42, "The last game has no result at its end. " + WRITE_MARKER, "results"],
   [(it) => it.number === 28,
-    "Write \\\" for a quote inside a value: \"The \\\"Open\\\"\"." + BUTTON],
+    "Write \\\" for a quote inside a value: \"The \\\"Open\\\"\". The button “Mend what is clear” " +
+    "does it if the quotes come in pairs."],
   [(it) => it.number === 11, "A value ends with a quote on the line where it begins."],
   [(it) => it.number === 1 && it.place === 0 && /^(\u00ff\u00fe|\u00fe\u00ff)/.test(it.near),
     "The file is UTF-16. Save it as UTF-8."],
@@ -65,7 +69,7 @@ const ADVICE = [
     "the moves have numbers."],
   [(it) => it.number === 22,
     "A game has each tag only once: take out the second one. The button “Mend what is clear” does " +
-    "it if both values are equal."],
+    "it if both values are equal, and the tags cannot be those of two games."],
   [(it) => it.number === 25 && it.note,
     "Write 1-0, 0-1 or * alone, and put the reason into a Termination tag."],
   [(it) => it.number === 25,

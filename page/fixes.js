@@ -16,6 +16,8 @@ export const NO_MARKER = "no marker";
 const MARKS = 12;
 // No FEN is longer.
 const LONGEST_FEN = 96;
+// What may be a piece's letter in small, of which a b may be a pawn too.
+const LETTER_IN_SMALL = /[kqrnb]/y;
 // What Python's expressions on bytes have and JavaScript's have in another way.
 const OTHER_SIGNS = { "\\A": "^", "\\Z": "$", "\\s": "[\\t-\\r ]" };
 
@@ -31,20 +33,29 @@ export class Fixes {
     this.module = module;
     const steps = (row, flags) =>
       row.steps.map(([pattern, text]) => [this.pattern(pattern, flags), text]);
-    this.moves = data.moves.map((row) => ({ ...row, steps: steps(row, "") }));
+    this.moves = data.moves.filter((row) => row.safe !== false).map(
+      (row) => ({ ...row, steps: steps(row, "") }));
     this.texts = data.texts.filter((row) => row.safe).map(
       (row) => ({ ...row, steps: steps(row, "g") }));
     this.functions = data.functions.map((row) => ({
-      ...row, pattern: this.pattern(row.pattern, FLAGS[row.name] || "g"),
+      ...row, pattern: this.pattern(row.pattern, FLAGS[row.name] ?? "g"),
       propose: FUNCTIONS[row.name],
     })).concat(OTHERS.filter((it) => others.includes(it.name)));
     const part = (name, flags) => this.pattern(data.parts[name], flags);
     this.space = part("space", "y");
     this.rest = part("rest", "y");
+    this.restWithSigns = part("rest with signs", "y");
+    this.endOfMovetext = part("end of movetext", "y");
+    this.signsAlone = part("signs alone", "y");
     this.pair = part("pair", "y");
+    this.emptyLine = part("empty line", "");
+    this.tagLine = part("tag line", "");
+    this.quote = part("quote", "g");
     this.movetext = part("movetext", "g");
+    this.word = part("word", "g");
     this.firstNumber = part("first number", "y");
     this.move = this.pattern("\\AMOVE[+#]*(?![A-Za-z0-9_=:/-])", "");
+    this.onlyMove = this.pattern("\\AMOVE[+#]*\\Z", "");
     this.wordBefore = this.pattern(
       "(?:MOVE[+#]*|(?<![0-9])[0-9O]{1,5})[!?]*\\s*\\(?[ \\t]*\\Z", "");
     this.moveBefore = this.pattern("(?:MOVE[+#]*[!?]*|\\$[0-9]+|\\})\\s*\\Z", "");
@@ -59,9 +70,9 @@ export class Fixes {
   }
 
   // The edits that may mend a fault, in the order of pgn_lint; each has the names of its fixes.
-  *proposals(here) {
+  *proposals(here, withSmallLetters) {
     if (REASONS_OF_MOVES.includes(here.fault)) {
-      const edit = this.respelled(here);
+      const edit = this.respelled(here, withSmallLetters);
       if (edit) {
         yield edit;
       }
@@ -125,10 +136,26 @@ export class Fixes {
     }
   }
 
+  // Where the tag pairs end that a game begins with.
+  endOfHead(here) {
+    const pairs = this.head(here);
+    return pairs.length ? pairs[pairs.length - 1].end : here.begin;
+  }
+
   // Whether a text has more than tag pairs, comments and white space.
   hasMovetext(text) {
-    const pairs = this.head({ text, begin: 0 });
-    return !this.isRest(text, pairs.length ? pairs[pairs.length - 1].end : 0);
+    return !this.isRest(text, this.endOfHead({ text, begin: 0 }));
+  }
+
+  // Whether the movetext at a place begins with the number 1.
+  beginsGame(text, place) {
+    const number = matchAt(this.firstNumber, text, place);
+    return number !== null && Number(number[1]) === 1;
+  }
+
+  // Whether the text before a fault is signs alone, such as ! or $10.
+  hasSignsAlone(here) {
+    return matchAt(this.signsAlone, here.text.slice(0, here.place), here.begin) !== null;
   }
 
   // The marker that a text ends with, or an empty text.
@@ -149,12 +176,13 @@ export class Fixes {
   // ---- Moves
 
   // The edit that makes a legal move of the text at the fault, or at the word before it.
-  respelled(here) {
+  respelled(here, withSmallLetters) {
     const begin = Math.max(here.begin, here.place - BEHIND_MOVE);
     const before = this.wordBefore.exec(here.text.slice(begin, here.place));
     for (const start of before ? [here.place, begin + before.index] : [here.place]) {
-      const fen = here.position(start);
-      const edit = fen ? this.respelledAt(here.text, start, fen) : null;
+      const isTried = withSmallLetters || !matchAt(LETTER_IN_SMALL, here.text, start);
+      const fen = isTried ? here.position(start) : "";
+      const edit = fen ? this.respelledAt(here, start, fen) : null;
       if (edit && edit.stop > here.place) {
         return edit;
       }
@@ -163,14 +191,14 @@ export class Fixes {
   }
 
   // Applies all spellings in turn: one token can have several. The move has to be legal.
-  respelledAt(text, start, fen) {
+  respelledAt(here, start, fen) {
     let lead = "";
-    let rest = text.slice(start, start + BEHIND_MOVE);
+    let rest = here.text.slice(start, start + BEHIND_MOVE);
     const used = [];
     const size = rest.length;
     let kept = size;
     for (const spelling of this.moves) {
-      const found = this.step(spelling, rest, fen);
+      const found = this.step(spelling, rest, fen, { here, start, end: start + size });
       if (found) {
         kept = Math.min(kept, found.tail.length);
         const isNumber = NUMBER.test(found.made);
@@ -190,15 +218,17 @@ export class Fixes {
     };
   }
 
-  // What a spelling makes of the begin of a text, and the rest behind it.
-  step(spelling, text, fen) {
+  // What a spelling makes of the begin of a text, and the rest behind it. That ends at the `end` of
+  // the place.
+  step(spelling, text, fen, place) {
     for (const [pattern, written] of spelling.steps) {
       const match = pattern.exec(text);
       if (match) {
         const letter = spelling.needs === "piece" ? letterOn(fen, match[1]) : "";
         const made = expanded(match, written) + letter;
         const tail = text.slice(match[0].length);
-        if (made !== match[0] && this.holds(spelling.needs, made + tail, fen)) {
+        const token = { ...place, match, stop: place.end - tail.length };
+        if (made !== match[0] && this.holds(spelling.needs, made + tail, fen, token)) {
           return { made, tail };
         }
       }
@@ -206,23 +236,66 @@ export class Fixes {
     return null;
   }
 
-  // Whether the move that a text begins with is what the sign behind it says.
-  holds(needs, text, fen) {
+  // Whether a text is what its spelling says: the number that is due, or a move of some kind.
+  holds(needs, text, fen, token) {
     if (!needs || needs === "piece") {
       return true;
     }
+    if (needs === "due") {
+      return this.isDue(Number(token.match[1]), fen, token);
+    }
     const move = this.move.exec(text);
     const san = move ? this.played(fen, move[0]) : "";
+    if (san === "" || needs === "castling") {
+      return san !== "" && !this.mayBeResult(token);
+    }
     const isMate = san.endsWith("#");
     const isCheck = isMate || san.endsWith("+");
-    return san !== "" && {
-      "legal": true, "check": isCheck, "mate": isMate, "quiet": !isCheck,
+    return {
+      "check": isCheck, "mate": isMate, "quiet": !isCheck,
       "en passant": /^[a-h]/.test(san) && san.slice(1, 4) === "x" + fen.split(" ")[3],
     }[needs];
   }
 
+  // Whether castling is written with zeros as the last word of a section: `0 - 0`.
+  mayBeResult({ here, match, stop }) {
+    return !/[A-Za-z]/.test(match[0]) && matchAt(this.restWithSigns, here.text, stop) !== null;
+  }
+
+  // Whether a move number joined to a move is due: it is that of the position, with White to move.
+  // No number may be just before it. The last number before it has to be that of its move.
+  isDue(number, fen, { here, start }) {
+    const words = this.words(here.text.slice(0, start), this.endOfHead(here));
+    const last = [...words].reverse().find((it) => /^[0-9]+$/.test(it.text));
+    if (words.length && (!last || last === words[words.length - 1])) {
+      return false;
+    }
+    const [, side, , , , due] = fen.split(" ");
+    const isNext = side === "w" && number === Number(due);
+    return isNext && (!last || number <= Number(last.text) + 1 &&
+      here.position(last.index).split(" ")[5] === last.text.replace(/^0+/, ""));
+  }
+
+  // Whether a move of a game up to `end` begins with b, and is legal as a bishop's move too.
+  hasDoubtfulPawn(here, end) {
+    return this.words(here.text.slice(0, end), here.begin).some(({ text, index }) => {
+      const fen = text[0] === "b" && this.onlyMove.test(text) ? here.position(index) : "";
+      return fen && this.played(fen, text) && this.played(fen, "B" + text.slice(1));
+    });
+  }
+
+  // The words of a text from a place on, with their places: no strings, comments or glyphs.
+  words(text, from) {
+    this.word.lastIndex = from;
+    return [...text.matchAll(this.word)].filter((it) => it[3]).map(
+      (it) => ({ text: it[3], index: it.index }));
+  }
+
   // The SAN of a legal move, or an empty text.
   played(fen, move) {
+    if (move.length > BEHIND_MOVE) {
+      return "";
+    }
     const found = this.module.san(encoded(fen), encoded(move));
     return found.status === OK ? found.san : "";
   }
@@ -252,12 +325,15 @@ const FUNCTIONS = {
       ? { start: pair.valueAt, stop: pair.valueAt + pair.value.length, text: marker } : null;
   },
 
-  // Adds a Result tag with the marker, to a game that has moves or tags.
+  // Adds a Result tag with the marker, to a game that has moves or tags. No tag may have a result as
+  // its value: its name may be a damaged one.
   "missing Result tag"(fixes, here, pattern) {
     const pairs = fixes.head(here);
     const marker = matchAt(pattern, here.text, here.place);
     const isEmpty = fixes.isRest(here.text.slice(0, here.place), here.begin);
-    if (!marker || isEmpty || pairs.some((it) => it.name === "Result")) {
+    const hasResult = pairs.some(({ name, value }) => name === "Result" ||
+      RESULT_VALUES.includes(value.replace(/^[\t-\r ]+|[\t-\r ]+$/g, "")));
+    if (!marker || isEmpty || hasResult || !isWhole(fixes, here, pairs, endOf(marker))) {
       return null;
     }
     const tag = "[Result \"" + marker[0] + "\"]";
@@ -270,13 +346,15 @@ const FUNCTIONS = {
     return { start: end, stop: end, text: lineEnd + tag };
   },
 
+  // Escapes the quotes of a value, on a line that is one tag pair: they come in pairs.
   "quotes in a value"(fixes, here, pattern) {
     const match = matchAtPlace(here, pattern);
-    if (!match) {
+    const quotes = match ? [...match[2].matchAll(fixes.quote)].filter((it) => !it[1]) : [];
+    if (!match || quotes.length % 2) {
       return null;
     }
     const start = match.index + match[1].length;
-    const text = match[2].replace(/(\\["\\])|"/g, (_, escaped) => escaped || "\\\"");
+    const text = match[2].replace(fixes.quote, (_, escaped) => escaped || "\\\"");
     return { start, stop: start + match[2].length, text };
   },
 
@@ -284,7 +362,8 @@ const FUNCTIONS = {
   "pair given twice"(fixes, here, pattern) {
     const pairs = fixes.head(here);
     const pair = pairs.find((it) => it.start <= here.place && here.place < it.end);
-    if (!pair || pairs.find((it) => it.name === pair.name).value !== pair.value) {
+    if (!pair || pairs.find((it) => it.name === pair.name).value !== pair.value ||
+        !isOfOneGame(fixes, here, pairs, pair)) {
       return null;
     }
     const line = matchAt(pattern, here.text, pair.end);
@@ -303,9 +382,7 @@ const FUNCTIONS = {
       fields[2] = [...fields[2]].sort((a, b) => "KQkq".indexOf(a) - "KQkq".indexOf(b)).join("");
     }
     if (fields.length === 4) {
-      const pairs = fixes.head(here);
-      const end = pairs.length ? pairs[pairs.length - 1].end : here.begin;
-      const number = matchAt(fixes.firstNumber, here.text, end);
+      const number = matchAt(fixes.firstNumber, here.text, fixes.endOfHead(here));
       if (!number || Boolean(number[2]) !== (fields[1] === "b")) {
         return null;
       }
@@ -334,6 +411,9 @@ const FUNCTIONS = {
 const OTHERS = [
   // Adds the value of the Result tag, or *, behind the last word of a game.
   { name: NO_MARKER, reasons: [32, 42], propose(fixes, here) {
+    if (fixes.hasSignsAlone(here)) {
+      return null;
+    }
     const pair = fixes.head(here).find((it) => it.name === "Result");
     const end = here.text.replace(/[\t-\r ]+$/, "").length;
     const isInComment = /;[^\r\n}]*$/.test(here.text.slice(0, end));
@@ -341,6 +421,26 @@ const OTHERS = [
     return { start: end, stop: end, text: (isInComment ? "\n" : " ") + marker };
   } },
 ];
+
+// Whether a marker that ends at a place ends a game that begins where it is read from. Movetext
+// behind the marker has to begin another game, and so has movetext without tags.
+function isWhole(fixes, here, pairs, place) {
+  const isStart = pairs.length || fixes.beginsGame(here.text, here.begin) ||
+    here.isFirst && !matchAt(fixes.firstNumber, here.text, here.begin);
+  return isStart &&
+    (matchAt(fixes.endOfMovetext, here.text, place) || fixes.beginsGame(here.text, place));
+}
+
+// Whether the name of a pair alone is twice in one tag section. Several such names may be those of
+// two games that were joined, and so may an Event, the first name, and what is behind an empty line.
+function isOfOneGame(fixes, here, pairs, { name, start }) {
+  const names = pairs.map((it) => it.name);
+  const repeated = names.filter((it, index) => names.indexOf(it) < index);
+  return repeated.length > 0 && repeated.every((it) => it === name) &&
+    name !== "Event" && name !== names[0] &&
+    !fixes.emptyLine.test(here.text.slice(pairs[0].start, start)) &&
+    !fixes.tagLine.test(here.text.slice(fixes.endOfHead(here)));
+}
 
 // The match of a sticky pattern at a place, or null.
 function matchAt(pattern, text, place) {

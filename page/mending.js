@@ -8,6 +8,8 @@ import { endOfBadGame } from "./next_section.js";
 const NOT_LEGAL = 34;
 const RESULT_DIFFERS = 41;
 const NEVER_CLOSED = 12;
+// The fix of which no edit is kept in a game with a b in doubt.
+const SMALL_LETTER = "small letter";
 // A move that no position allows: its fault has the position.
 const NO_MOVE = " Ka1a1 ";
 // How much of the text behind a bad game shows whether it still ends where it did.
@@ -67,8 +69,9 @@ class TextReader {
 
 // A fault, and the text in which it is.
 class Here {
-  constructor(text, begin, found, reader, isLast) {
-    Object.assign(this, { text, begin, reader, isLast, fault: found.fault, place: found.place });
+  constructor(text, begin, found, reader, { isFirst, isLast }) {
+    Object.assign(this, { text, begin, reader, isFirst, isLast });
+    Object.assign(this, { fault: found.fault, place: found.place });
     this.fens = found.fen ? { [found.place]: found.fen } : {};
   }
 
@@ -85,25 +88,26 @@ class Here {
 }
 
 // Mends the text of a bad game up to its end, which is a guess.
+//
+// `isFirst`: the game begins its file. `isLast`: the text ends it.
 class Mending {
-  constructor(text, fixes, reader, missingResult, isLast) {
-    Object.assign(this, { text, fixes, reader, missingResult, isLast });
+  constructor(text, fixes, reader, missingResult, isFirst, isLast) {
+    Object.assign(this, { text, fixes, reader, missingResult, isFirst, isLast });
     this.begin = 0;
     this.isSound = false;
     // the edits that were kept, in order, with the places of the text before all edits
     this.edits = [];
   }
 
-  // Mends until the text is sound or no fix applies.
+  // Mends game by game, until the text is sound or no fix applies.
   run() {
     for (;;) {
-      const found = this.reader.read(this.text, this.begin, this.missingResult);
+      const found = this.mendGame();
       if (found.status === OK) {
         this.begin = found.end;
-      } else if (found.status === NO_GAME) {
-        this.isSound = true;
-        return;
-      } else if (!this.mendFault(found)) {
+        this.isFirst = false;
+      } else {
+        this.isSound = found.status === NO_GAME;
         this.fault = found.fault;
         this.place = found.place;
         return;
@@ -111,15 +115,44 @@ class Mending {
     }
   }
 
+  // Mends a game, and gives the answer for it: without small letters, if a b is in doubt.
+  mendGame() {
+    const { text, edits } = this;
+    this.used = [];
+    this.withSmallLetters = true;
+    const found = this.mendFaults();
+    const end = found.status === OK ? found.end : found.place;
+    if (!this.used.includes(SMALL_LETTER) || !this.fixes.hasDoubtfulPawn(this.here(found), end)) {
+      return found;
+    }
+    Object.assign(this, { text, edits, withSmallLetters: false });
+    return this.mendFaults();
+  }
+
+  // Mends the faults of a game in turn, until it has none, or one that no fix mends.
+  mendFaults() {
+    for (;;) {
+      const found = this.reader.read(this.text, this.begin, this.missingResult);
+      if (found.status === OK || found.status === NO_GAME || !this.mendFault(found)) {
+        return found;
+      }
+    }
+  }
+
+  here(found) {
+    return new Here(this.text, this.begin, found, this.reader, this);
+  }
+
   // Tries the fixes at a fault: whether one was kept.
   mendFault(found) {
-    const here = new Here(this.text, this.begin, found, this.reader, this.isLast);
+    const here = this.here(found);
     // a missing Result is reported last, when all else is sound
     const missing =
       found.fault === RESULT_DIFFERS ? this.missingResult : MISSING_RESULTS.fromMarker;
-    for (const edit of this.fixes.proposals(here)) {
+    for (const edit of this.fixes.proposals(here, this.withSmallLetters)) {
       if (this.isBetter(here, edit, missing)) {
         this.keep(edit);
+        this.used.push(...edit.name.split(", "));
         return true;
       }
     }
@@ -149,7 +182,7 @@ class Mending {
       before === this.moves(text.slice(here.begin, here.place + growth(edit)));
   }
 
-  // The movetext of a text that may break off, and its last position, or null.
+  // The movetext of a text that may break off, without its glyphs, and its last position, or null.
   moves(text) {
     for (let closed = 0; closed < MOST_OPEN; closed++) {
       for (const marker of MARKERS) {
@@ -157,8 +190,9 @@ class Mending {
           text + " " + ")".repeat(closed) + marker, 0, MISSING_RESULTS.fromMarker);
         if (found.status === OK) {
           const exported = found.export();
-          const moves = exported.slice(exported.indexOf("\n\n")).split(/\s+/).filter((it) => it);
-          return [...moves.slice(0, -1), found.fen].join(" ");
+          const words = exported.slice(exported.indexOf("\n\n")).match(/[^\t-\r ]+/g);
+          const moves = words.slice(0, -1).filter((it) => !it.startsWith("$"));
+          return [...moves, found.fen].join(" ");
         }
         if (found.fault !== RESULT_DIFFERS) {
           break;
@@ -241,7 +275,7 @@ export class Mender {
     const given = latin1(bytes.subarray(begin, stop));
     const text = conversion.from ? given.replace(/^[^\t-\r ]/, " ") : given;
     const mending = new Mending(
-      text, this.fixes, this.reader, this.missingResult, end === bytes.length);
+      text, this.fixes, this.reader, this.missingResult, !conversion.inFile, end === bytes.length);
     mending.run();
     const isKept =
       mending.isSound || mending.endsAsBefore(bytes.subarray(end, end + TEXT_BEHIND));

@@ -11,7 +11,6 @@ from ._faults import FenFault, MoveFault
 from ._findings import piece_on
 from ._here import (DATA, MOVE, NEAR, REST_WITH_SIGNS, Change, Here, Steps, expanded, pattern_of,
                     steps_of)
-from ._left_out import PART
 
 # The reasons at which the spelling of a move can be at fault.
 REASONS = frozenset((1, 33, 34, 37, 39))
@@ -19,7 +18,7 @@ NUMBER = re.compile(rb"[0-9]+\. \Z")
 # A move or a number just before a place, perhaps with a parenthesis between.
 BEFORE = pattern_of(r"(?:MOVE[+#]*|(?<![0-9])[0-9O]{1,5})[!?]*\s*\(?[ \t]*\Z")
 # A word of movetext that is no string, no comment, no escape line and no glyph.
-WORD = re.compile(PART.pattern + rb'|\$[0-9]*|([^\s{}();\[\]"$.!?]+)', re.DOTALL)
+WORD = pattern_of(DATA["parts"]["word"])
 # What may be a piece's letter in small, of which a b may be a pawn too.
 SMALL_LETTER = re.compile(rb"[kqrnb]")
 

@@ -11,11 +11,12 @@ import sys
 import tempfile
 import unittest
 
+import damage
 import programs
 from browser import Browser
 from documents import lines_of
 from programs import PACKERS, ROOT, need_program, run
-from spellings import LEFT, SAFE
+from spellings import DOUBTFUL, LEFT, SAFE, UNSAFE
 from test_fix import damaged, setUpModule as _set_up_fix
 from test_library import c_structs
 from test_sieve import BAD, sound
@@ -680,12 +681,13 @@ class Mending(Case):
     def test_what_stays(self):
         """What has no single reading is left as it is."""
         self.page()
-        for text in LEFT:
+        for text in LEFT + DOUBTFUL:
             with self.subTest(text):
-                self.assertEqual(self.paste(text), "refused")
-                self.assertEqual(self.look(), ([], (
-                    "No fix of this page applies. 1 game stays bad. pgn_lint --fix has more "
-                    "fixes.")))
+                self.assertEqual(self.convert(("a.pgn", text.encode())), "refused")
+                listed, told = self.look()
+                self.assertEqual(listed, [])
+                self.assertRegex(told, r"^No fix of this page applies\. (1 game stays|\d games "
+                                       r"stay) bad\. pgn_lint --fix has more fixes\.$")
                 self.assertFalse(self.browser.run(IS_VISIBLE, "apply"))
 
     def test_a_fix_must_go_on(self):
@@ -766,7 +768,8 @@ class Mending(Case):
         games = [b'[Event "a"]\n[Result "%s"]\n\n1. e4 e5 %s' % (it, it)
                  for it in (b"1-0", b"0-1", b"1/2-1/2", b"*")]
         games += [b"1. d4 {one} *", b"1. d4 (1. c4) *", b"1. e4 e5 ;x\n*", b'[White "b"]\n\n*',
-                  b'[Event "c"] {x} [Site "y"]\n\n1. e4 *']
+                  b'[Event "c"] {x} [Site "y"]\n\n1. e4 *', b'[Result "1-0"]\n\n1. e4 1-0!',
+                  b'[Result "*"]\n\n1. e4 * $10 {x}']
         self.page()
         tried = 0
         for _ in range(60):
@@ -809,29 +812,46 @@ class Mending(Case):
             self.assertEqual(self.convert(("a.pgn", text.encode())), "refused", text)
             self.assertEqual(self.look()[0], [], text)
 
-    def test_edits_are_those_of_pgn_lint(self):
-        """For texts with random damage: each edit and its place."""
-        rng = random.Random(80)
-        pool = [row[0].encode() for row in SAFE] + [it.encode() for it in LEFT]
-        texts = [damaged(rng, pool) for _ in range(150)]
+    def count_of_edits(self, texts):
+        """How many edits mend some texts: the page lists those of pgn_lint, and no other."""
+        from gillspoon._texts import text_of
         files = [("%03d.pgn" % number, text) for number, text in enumerate(texts)]
-        bad = [it for it in files if list(gillspoon.fixes(it[1]))]
-        self.assertGreater(len(bad), 60)
-        self.page()
+        count = 0
         for at in range(0, len(files), 50):
             part = files[at:at + 50]
             self.assertEqual(self.convert(*part), "refused")
-            listed, _ = self.look()
-            edits = {name: list(gillspoon.fixes(text)) for name, text in part}
-            wanted = ["%s: line %d, column %d, %s" % (name, it.line, it.column, it.name)
-                      for name, found in edits.items() for it in found]
-            self.assertEqual([re.match("(.*?, column .*?): ", it, re.S)[1] for it in listed],
-                             wanted)
+            wanted = ["%s: line %d, column %d, %s: %s → %s" % (
+                name, it.line, it.column, it.name, shown(text_of(it.old)), shown(text_of(it.new)))
+                      for name, text in part for it in gillspoon.fixes(text)]
+            self.assertEqual(self.look()[0], wanted)
+            count += len(wanted)
+        return count
+
+    def test_edits_are_those_of_pgn_lint(self):
+        """For all rows of spellings.py, and for texts that are made of them with random damage."""
+        rng = random.Random(80)
+        rows = [row[0].encode() for row in SAFE + UNSAFE] + [
+            it.encode() for it in LEFT + DOUBTFUL]
+        self.page()
+        self.assertEqual(self.count_of_edits(rows), sum(len(edits) for _, edits, _ in SAFE))
+        self.assertGreater(self.count_of_edits([damaged(rng, rows) for _ in range(200)]), 60)
+
+    def test_edits_of_damaged_games_are_those_of_pgn_lint(self):
+        """For games that damage.py damages by seed."""
+        texts = [it.text for it in damage.damaged_texts(damage.sound_games(), 400, 81)]
+        self.page()
+        self.assertGreater(self.count_of_edits(texts), 80)
+
+
+# Control characters, which the page shows as signs.
+SIGNS = {it: 0x2400 + it for it in range(32) if it != 9}
+SIGNS[127] = 0x2421
 
 
 def shown(text):
     """A text as the list of edits has it."""
-    return "“%s”" % text.strip("\r\n").replace("\x1a", "\u241a") if text else "nothing"
+    line = re.sub(r"[\r\n]+", " ", text.strip("\r\n"))
+    return "“%s”" % (line or text).translate(SIGNS) if text else "nothing"
 
 
 class Keyboard(Case):
@@ -1319,9 +1339,11 @@ class Rest(Case):
         for text, words in (
                 (b"1. e4 e5 (1... -- 2. d4) *", "null move"), (b"1. e4 (1. Z0) *", "null move"),
                 (b"1. Z0 *", "pgn_lint --fix --unsafe-fixes does it."),
-                (b"1. e2-e4 *", "hyphen"), (b"1e4 *", "“Mend what is clear” does it."),
+                (b"1. e2-e4 *", "hyphen"),
+                (b"1e4 *", "“Mend what is clear” does it if the number is that of the move."),
                 (b"1. e4 1-0", "no Result tag"),
-                (b"1. e4 1-0", "“Mend what is clear” writes the tag."),
+                (b"1. e4 1-0", "“Mend what is clear” writes the tag, if it is clear where the game "
+                 "begins and ends."),
                 (b'[Site "a"][Site "a"] *', "take out the second one"),
                 (b'[Result "?"] 1. e4 1-0', "A Result is one of 1-0, 0-1, 1/2-1/2"),
                 (b'[FEN "4k3/8/8/8/8/8/8/4K3 w - - 0 1 "] *', "the field below"),
@@ -1330,7 +1352,8 @@ class Rest(Case):
                  "writes what the Result tag says, or * without one."),
                 (b'1. e4\n[Event "a"]', "The game before has no result at its end."),
                 (b'[White "a"] {c} [Black "b"] *', "A comment is between two tags."),
-                (b'[Event "The "Open""] *', "quote"), (b"\xff\xfee\x004\x00", "UTF-16"),
+                (b'[Event "The "Open""] *', "does it if the quotes come in pairs."),
+                (b"\xff\xfee\x004\x00", "UTF-16"),
                 (b"1. e4 *\x1a", "byte 26"), (b"g1f3 *", "Ng1f3")):
             with self.subTest(text):
                 self.assertEqual(self.convert(("in.pgn", text)), "refused")
