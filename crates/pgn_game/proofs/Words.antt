@@ -95,7 +95,7 @@ pub use Rattle.pgn_game.specs.declared.conversion.Totals.{Totals}
 pub use Rattle.pgn_lexer.specs.declared.token.LexFault.{LexFault}
 pub use Rattle.pgn_game.specs.laws.GameEnds.{EndsByMarker, GamesEndByMarker, LastGame, TextsEndBehindMarker, TextsEndBetweenGames}
 pub use Rattle.pgn_game.specs.declared.annotation.Annotation.{Annotation}
-pub use Rattle.pgn_lexer.specs.PartialToken.{pending_in, tokens_to_come_in}
+pub use Rattle.pgn_lexer.specs.PartialToken.{tokens_to_come_in}
 pub use Rattle.pgn_lexer.specs.declared.token.LexReason.{LexReason}
 pub use Rattle.pgn_lexer.specs.declared.token.LexReason.TheVariants.{SymbolTooLong, WordTooLong, GlyphRange}
 pub use Rattle.pgn_lexer.specs.Spelling.{gives, stops, Found}

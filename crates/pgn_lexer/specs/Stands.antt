@@ -1,7 +1,7 @@
 -- **Definition**: which tokens a lexer gives and still has to give, and what each call does to it.
 -- Letters: l is a lexer, u the bytes used so far, b the byte known to be next, if one is. `given`
 -- are the tokens given so far, s any bytes that come after.
-use Rattle.std.specs.Prelude.{◌≡◌, ℕ, ◌+◌, ◌-◌, ◌*◌, ◌<◌, ◌⊎◌, List, [], ◌∷◌, ◌++◌, length, take, drop, Option, None, Some, Bool, true, false}
+use Rattle.std.specs.Prelude.{◌≡◌, ℕ, ◌+◌, ◌-◌, ◌*◌, ◌<◌, ◌≤◌, ◌⊎◌, List, [], ◌∷◌, ◌++◌, length, take, drop, Option, None, Some, Bool, true, false}
 use Rattle.std.specs.List.{AllByRecursion}
 use Rattle.std.specs.Borrow.{Fml, MutBor}
 use Rattle.std.specs.Io.BufRead.{Rests}
@@ -79,10 +79,11 @@ Advances old new used (token t) = waiting new < 2 * used + waiting old
 Advances old new used (fault f) = Unit {0}
 
 -- What a call of `next` does. An empty piece changes nothing and gives no token. After an error
--- each call returns it again, uses no byte and changes nothing.
+-- each call returns it again, uses no byte and changes nothing. At most two tokens are waiting.
 pub record Scans (old : Standing) (piece : List ℕ) (new : Standing) (used : ℕ) (seen : Scanned) : Type 0 where
   pub count : new.count ≡ old.count + used
   pub advances : Advances old new used seen
+  pub few : waiting new ≤ 2
   pub reads : Reads old piece new used seen
   pub carries : Carries old piece new used seen
   pub lengths : HasLengthIn seen

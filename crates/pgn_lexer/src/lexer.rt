@@ -50,7 +50,7 @@ impl Lexer {
     ghost use Rattle.pgn_lexer.specs.WholeTokens.{ReadsWhole};
     ghost use Rattle.pgn_lexer.specs.Runs.{IsInside};
     ghost use Rattle.pgn_lexer.specs.Scanned.{kind_of, scanned};
-    ghost use Rattle.pgn_lexer.specs.Standing.{fault_of};
+    ghost use Rattle.pgn_lexer.specs.Standing.{fault_of, waiting};
     ghost use Rattle.pgn_lexer.specs.Stands.{StandsAfter, Scans, Finishes, Leaves};
 
     /// Returns a lexer that has read nothing.
@@ -73,6 +73,7 @@ impl Lexer {
     pub fn begin_at(place: u64, in_first_column: bool) -> Lexer
         ensures stands { StandsAfter result (white_space place in_first_column) None [] }
         ensures count { result.count ≡ place }
+        ensures few { waiting result ≤ 2 }
         ensures no_fault { fault_of result ≡ None }
     {
         Lexer {

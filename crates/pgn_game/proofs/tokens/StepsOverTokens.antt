@@ -5,7 +5,6 @@ use Rattle.pgn_game.proofs.Words.{LexFault, Lexical, Fault, Bool, IsTrue, false,
 use Rattle.pgn_game.proofs.tokens.AcceptedToConverter.{follows_own, now_at, took, took_fault, took_none}
 use Rattle.pgn_game.proofs.tokens.PastNumbers.{passes_count, passes_few, passes_sooner, reads_past}
 use Rattle.pgn_game.proofs.tokens.RunsInPiece.{Runs, between, steps_behind}
-use Rattle.pgn_game.proofs.tokens.SoundAtStart.{few_waiting}
 use Rattle.pgn_game.proofs.tokens.StepsAtEnd.{advances_token, counts_token, keeps_met, kept, ready_in_piece, sound_in_piece}
 use Rattle.pgn_game.proofs.tokens.StepsInPiece.{after_token}
 
@@ -38,7 +37,7 @@ module _ (lexer : Standing) (reading : ReaderState) (games : ℕ) (piece : List 
         }
 
     pub sound_more : Scans lexer piece l used more → IsSound l reading games false false None
-    sound_more scans = grind (arith, common_steps, few_waiting)
+    sound_more scans = grind (arith, common_steps)
 
     -- the text is rejected
     pub steps_fault : (f : LexFault) → Scans lexer piece l used (fault f) → (o : Option (List ℕ)) (failures : ℕ)

@@ -12,7 +12,8 @@ record Settles (tokens : List ℕ → List Token) : Type 0 where
   none : common_of (later []) (later (49 ∷ [])) (later (33 ∷ []))
       (later (34 ∷ 34 ∷ [])) (later (191 ∷ [])) (later (187 ∷ 191 ∷ [])) ≡ []
 
-few : (m : LexMode) → pending_in m ≤ 2
+-- at most two tokens wait
+pub few : (m : LexMode) → pending_in m ≤ 2
 few m = grind arith
 
 after_token : (tokens rest : List ℕ → List Token) (t : Token) → ((s : List ℕ) → tokens s ≡ t ∷ rest s) → Settles rest

@@ -120,6 +120,7 @@ module _ (place : ℕ) (mode : LexMode) (between : IsBetween mode) (a b : ℕ) (
       record {
         count = scans.count;
         advances = scans.advances;
+        few = scans.few;
         reads = λ s. scans.reads s ∙ ap (λ l. t ∷ l) (same (drop used piece ++ s));
         carries = λ u c given stands starts.
             let after = scans.carries u c given stands starts in

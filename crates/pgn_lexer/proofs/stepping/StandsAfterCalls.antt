@@ -3,6 +3,7 @@ use Rattle.pgn_lexer.proofs.Words.{◌≡◌, Bool, true, false, ℕ, ◌+◌, �
 use Rattle.pgn_lexer.specs.Scanned.{token}
 use Rattle.pgn_lexer.proofs.deciding.GivenAreDecided.{common_of, decided_is, going_decides, known_decides}
 use Rattle.pgn_lexer.proofs.deciding.CommonTokens.{common_front}
+use Rattle.pgn_lexer.proofs.deciding.TextSettles.{few}
 use Rattle.pgn_lexer.proofs.cutting.PlacesOfTokens.{AllFrom, tokens_from-from, all_from-front, take_before}
 
 -- what may follow the front of a piece
@@ -75,6 +76,7 @@ module _ (count : ℕ) (old new : PartialToken) (piece : List ℕ) (used : ℕ) 
       record {
         count = refl;
         advances = tt;
+        few = few new.mode;
         reads = (h.all, h.comes);
         lengths = tt;
         ends = tt;
@@ -104,6 +106,7 @@ module _ (count : ℕ) (old new : PartialToken) (piece : List ℕ) (used : ℕ) 
       record {
         count = refl;
         advances = tt;
+        few = few new.mode;
         reads = whole;
         lengths = tt;
         ends = tt;
@@ -203,6 +206,7 @@ module _ (count : ℕ) (old new : PartialToken) (piece : List ℕ) (used : ℕ) 
         record {
           count = refl;
           advances = h.advances;
+          few = few new.mode;
           reads = reads_token;
           lengths = h.lengths;
           ends = h.ends_at;

@@ -31,4 +31,4 @@ new-requires g c = (search fits_reader, c.requires.levels)
 
 pub invariant_of-result : goal.invariant_of-result
 invariant_of-result g c =
-    rw c.new.ensures (sound_at_start c.begin_at.result _ (omega (arith, c.begin_at.ensures.count, c.requires.place)) refl refl)
+    rw c.new.ensures (sound_at_start c.begin_at.result _ (omega (arith, c.begin_at.ensures.count, c.requires.place)) c.begin_at.ensures.few refl refl)
