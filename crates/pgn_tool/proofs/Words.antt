@@ -31,7 +31,7 @@ pub use Rattle.pgn_game.specs.declared.mode.Mode.TheVariants.{Full, Reduced}
 pub use Rattle.pgn_game.specs.declared.reason.Fault.{Fault}
 pub use Rattle.pgn_game.specs.declared.reason.Reason.{Reason}
 pub use Rattle.pgn_game.specs.declared.reason.Reason.TheVariants.{InputTooLong, ReadFault, UnexpectedEnd, UnmatchedClose, WriteFault}
-pub use Rattle.pgn_layout.specs.Device.{AppendsFront, Counts, Device, IsStill, Writes, device, one_more, nowhere}
+pub use Rattle.pgn_layout.specs.Device.{AppendsFront, Counts, Device, IsStill, NoneUnflushed, Writes, device, one_more, nowhere}
 pub use Rattle.pgn_lexer.specs.Decided.{decided}
 pub use Rattle.pgn_lexer.specs.Tokens.{Kind, Token}
 pub use Rattle.pgn_lexer.specs.TokensOf.{tokens_of}
@@ -44,7 +44,7 @@ pub use Rattle.pgn_tool.specs.Program.{Carries, EndsUnopened, IsMissing, RunsAns
 pub use Rattle.pgn_tool.specs.SplitFiles.{CountsSource, CountsSplit, EndsSplit, GameSplit, IsOwn, LastFile, RunsSplit, SplitFiles, reported, settled}
 pub use Rattle.pgn_tool.specs.SplitGames.{CutFile, CutsFile, IsSplit, IsSplitWhole, Logs, LogsCut, SplitResult, SplitStops, SplitsNoMore, StopsAt, files_of, texts_in, torn_file, torn_text}
 pub use Rattle.pgn_tool.specs.BetweenGames.{ListedSoFar, SplitSoFar}
-pub use Rattle.pgn_tool.specs.TaskRun.{Answers, Blames, Concludes, Ends, EndsList, FlushCounts, HasFailed, HasFront, IsCalm, IsSmooth, IsUntouched, Job, Runs, Tells, TellsVerdict, Works, checking, counting_line, exporting, line, listing, profile_for, status_of, text_for}
+pub use Rattle.pgn_tool.specs.TaskRun.{Answers, Blames, Concludes, Ends, EndsList, FlushesLast, HasFailed, HasFront, IsCalm, IsSmooth, IsUntouched, Job, Runs, Tells, TellsVerdict, Works, WritesLast, checking, counting_line, exporting, line, listing, profile_for, status_of, text_for}
 pub use Rattle.pgn_tool.specs.declared.game_sink.GameFile.{GameFile}
 pub use Rattle.pgn_tool.specs.declared.game_sink.GameFile.TheVariants.{NotMade, Open}
 pub use Rattle.pgn_tool.specs.declared.list.Stopped.{Stopped}

@@ -2,7 +2,7 @@
 -- Letters: s is the text of the first source, r that of the second, f a fault, t are totals.
 -- `first` and `second` are the sources, `out` is standard output, and `err` standard error, before
 -- the run and after it.
-use Rattle.std.specs.Prelude.{◌≡◌, ℕ, ◌⊎◌, Bool, true, false, List, Some, Result, Ok, Err}
+use Rattle.std.specs.Prelude.{◌≡◌, ℕ, ◌⊎◌, Bool, true, false, List, Option, Some, Result, Ok, Err}
 use Rattle.std.specs.Io.KnownBytes.{Appends}
 use Rattle.pgn_layout.specs.Device.{Device, IsStill}
 use Rattle.pgn_game.specs.declared.mode.Mode.{Mode}
@@ -18,7 +18,7 @@ use Rattle.pgn_game.specs.calls.Checked.{checked_output, checked_profile, checke
 use Rattle.pgn_game.specs.calls.CheckedConversion.{TwoReadingsConvert, TwoReadingsCount}
 use Rattle.pgn_arguments.specs.declared.arguments.Task.{Task}
 use Rattle.pgn_arguments.specs.declared.arguments.Task.TheVariants.{Checked}
-use Rattle.pgn_tool.specs.TaskRun.{Concludes, FlushCounts, HasFailed, HasFront, Tells, TellsVerdict, line, mode_for, status_of}
+use Rattle.pgn_tool.specs.TaskRun.{Concludes, FlushesLast, HasFailed, HasFront, Tells, TellsVerdict, line, mode_for, status_of}
 
 -- ---- what is asked for
 
@@ -73,18 +73,18 @@ EndsTwice (Ok t) first second out err status = Concludes first out err status ×
 EndsTwice (Err f) first second out err status = RefusesTwice f first second out err status
 
 -- The devices count the failures that the conversion reports. After it the flush may add one.
-pub record CountsBothReadings (answer : Result Totals Fault) (first second out : Device) : Type 0 where
+pub record CountsBothReadings (answer : Result Totals Fault) (first second out : Device) (unflushed : Option (List ℕ)) : Type 0 where
   pub converted : Device
   pub failures : converted.failures ≡ out.failures
   pub conversion : TwoReadingsCount first second converted answer
-  pub flush : FlushCounts converted.failures_after out.failures_after
+  pub flush : FlushesLast converted.failures_after out.failures_after unflushed
 
 -- A run that reads two sources: a conversion with its result, what the devices count, and how the
--- run ends.
-pub record RunsTwice (mode : Mode) (first second out err : Device) (status : ℕ) : Type 0 where
+-- run ends. `unflushed` are the bytes of `out` that are not flushed after it, if it reports them.
+pub record RunsTwice (mode : Mode) (first second out : Device) (unflushed : Option (List ℕ)) (err : Device) (status : ℕ) : Type 0 where
   pub answer : Result Totals Fault
   pub works : TwoReadingsConvert (profile_twice mode) first second out answer
-  pub counted : CountsBothReadings answer first second out
+  pub counted : CountsBothReadings answer first second out unflushed
   pub ends : EndsTwice answer first second out err status
 
 -- the source has the text s to give, even if a read fails

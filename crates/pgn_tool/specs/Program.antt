@@ -70,7 +70,7 @@ IsMissing o status = (fault : SystemFault) × EndsUnopened fault o.err status ×
 pub data RunsStream (job : Job) (source : Device) (o : Outputs) (status : ℕ) : Type 0 where
   unbuffered : o.lacks_memory ≡ true → IsUntouched source → IsUntouched o.out
       → Reports (codes "out of memory") 3 o.err status → RunsStream job source o status
-  streams : o.has_room → status ≤ 1 → Runs job source o.out o.err status
+  streams : o.has_room → status ≤ 1 → Runs job source o.out o.unflushed_after o.err status
       → ((s : List ℕ) → IsSmooth s source o.out → Answers job s o.out o.err status)
       → RunsStream job source o status
 
@@ -80,7 +80,8 @@ pub data RunsBoth (mode : Mode) (first second : Device) (o : Outputs) (status : 
   unbuffered_twice : o.lacks_memory ≡ true → IsUntouched first → IsUntouched second
       → IsUntouched o.out → Reports (codes "out of memory") 3 o.err status
       → RunsBoth mode first second o status
-  streams_twice : o.has_room → status ≤ 1 → RunsTwice mode first second o.out o.err status
+  streams_twice : o.has_room → status ≤ 1
+      → RunsTwice mode first second o.out o.unflushed_after o.err status
       → ((s r : List ℕ) → IsSmooth s first o.out → IsSmooth r second o.out
       → AnswersTwice mode s r o.out o.err status)
       → ((s : List ℕ) → IsSmooth s first o.out → IsSmooth s second o.out

@@ -4,7 +4,7 @@
 -- after it: `out` is standard output, and `err` standard error.
 use Rattle.std.specs.Prelude.{◌≡◌, ℕ, ◌-◌, ◌^◌, ◌<◌, ◌≤◌, ◌⊎◌, Bool, true, false, List, [], ◌∷◌, ◌++◌, length, take, codes, decimal, Option, Some, Result, Ok, Err}
 use Rattle.std.specs.Io.KnownBytes.{Appends, Keeps}
-use Rattle.pgn_layout.specs.Device.{Device, IsStill, NoneUnflushed, nowhere, one_more}
+use Rattle.pgn_layout.specs.Device.{AppendsFront, Device, IsStill, NoneUnflushed, nowhere, one_more}
 use Rattle.pgn_game.specs.declared.mode.Mode.{Mode}
 use Rattle.pgn_game.specs.declared.mode.Mode.TheVariants.{Full, Reduced}
 use Rattle.pgn_game.specs.declared.reason.Reason.{Reason}
@@ -175,30 +175,40 @@ Works (exporting mode) answer source out = Converts (profile_of 64 32 mode) sour
 Works checking answer source out = Checks (profile_of 64 32 Full) source answer × WritesCountingLine answer out
 Works listing answer source out = ⊥
 
--- the count of failures around one call that may fail, as around the flush at the end of a run
-abbrev pub FlushCounts : ℕ → ℕ → Type 0
-FlushCounts old new = (new ≡ old) ⊎ (new ≡ one_more old)
+-- The flush at the end of a run, around which a sink counts `old` and then `new` failures. It does
+-- well, and no byte is unflushed, if the sink reports which are. Or it fails, which is counted.
+abbrev pub FlushesLast : ℕ → ℕ → Option (List ℕ) → Type 0
+FlushesLast old new unflushed = ((new ≡ old) × NoneUnflushed unflushed) ⊎ (new ≡ one_more old)
+
+-- A text is written, or a part of it, and one failure is counted. Either way the flush follows.
+pub data WritesLast (d : Device) (text : List ℕ) (unflushed : Option (List ℕ)) : Type 0 where
+  whole : Appends d.before d.after text → FlushesLast d.failures d.failures_after unflushed
+      → WritesLast d text unflushed
+  part : AppendsFront d.before d.after text
+      → FlushesLast (one_more d.failures) d.failures_after unflushed → WritesLast d text unflushed
 
 -- After the conversion of a check, the line of the counts and the flush may each fail once. On a
 -- fault only the flush may.
-abbrev pub CountsCheck : Result Totals Fault → Device → Type 0
-CountsCheck (Ok t) out =
-    (written : ℕ) × FlushCounts out.failures written × FlushCounts written out.failures_after
-CountsCheck (Err f) out = FlushCounts out.failures out.failures_after
+abbrev pub CountsCheck : Result Totals Fault → Device → Option (List ℕ) → Type 0
+CountsCheck (Ok t) out unflushed = WritesLast out (counting_line t.games t.plies) unflushed
+CountsCheck (Err f) out unflushed = FlushesLast out.failures out.failures_after unflushed
 
 -- The devices count the failures that the conversion reports. After it the flush may add one, and
--- in a check the line of the counts another one.
-abbrev pub CountsWork : Job → Result Totals Fault → Device → Device → Type 0
-CountsWork (exporting mode) answer source out =
-    (converted : ℕ) × CountsResult answer source (record out { failures_after = converted }) × FlushCounts converted out.failures_after
-CountsWork checking answer source out = CountsResult answer source nowhere × CountsCheck answer out
-CountsWork listing answer source out = ⊥
+-- in a check the line of the counts another one. The flush is made, whatever failed before it.
+abbrev pub CountsWork : Job → Result Totals Fault → Device → Device → Option (List ℕ) → Type 0
+CountsWork (exporting mode) answer source out unflushed =
+    (converted : ℕ) × CountsResult answer source (record out { failures_after = converted })
+    × FlushesLast converted out.failures_after unflushed
+CountsWork checking answer source out unflushed =
+    CountsResult answer source nowhere × CountsCheck answer out unflushed
+CountsWork listing answer source out unflushed = ⊥
 
 -- A run that converts: a conversion with its result, what the devices count, and how the run ends.
-pub record RunsConversion (job : Job) (source out err : Device) (status : ℕ) : Type 0 where
+-- `unflushed` are the bytes of `out` that are not flushed after it, if it reports them.
+pub record RunsConversion (job : Job) (source out : Device) (unflushed : Option (List ℕ)) (err : Device) (status : ℕ) : Type 0 where
   pub answer : Result Totals Fault
   pub works : Works job answer source out
-  pub counted : CountsWork job answer source out
+  pub counted : CountsWork job answer source out unflushed
   pub ends : Ends answer source out err status
 
 -- a line could not be written, which is reported: the status is 1
@@ -214,13 +224,13 @@ EndsList (Err (stopped.Refused f)) source out err status = Refuses f source out 
 EndsList (Err stopped.Unwritten) source out err status = Breaks out err status
 
 -- A run that lists: a list with its result, what the devices count, and how the run ends.
-pub record RunsList (source out err : Device) (status : ℕ) : Type 0 where
+pub record RunsList (source out : Device) (unflushed : Option (List ℕ)) (err : Device) (status : ℕ) : Type 0 where
   pub answer : Result Unit Stopped
   pub lists : ListResult source.before source.after answer out.before out.after
-  pub counted : (listed : ℕ) × CountsList answer source.failures source.failures_after out.failures listed × FlushCounts listed out.failures_after
+  pub counted : (listed : ℕ) × CountsList answer source.failures source.failures_after out.failures listed × FlushesLast listed out.failures_after unflushed
   pub ends : EndsList answer source out err status
 
 -- the run of a job: a list, or a conversion
-abbrev pub Runs : Job → Device → Device → Device → ℕ → Type 0
-Runs listing source out err status = RunsList source out err status
-Runs job source out err status = RunsConversion job source out err status
+abbrev pub Runs : Job → Device → Device → Option (List ℕ) → Device → ℕ → Type 0
+Runs listing source out unflushed err status = RunsList source out unflushed err status
+Runs job source out unflushed err status = RunsConversion job source out unflushed err status

@@ -23,7 +23,8 @@ use pgn_lexer::laws::decided_is_prefix;
 ///
 /// On a fault of `first` every game before it is written, and nothing of its own game. On another
 /// one, the text of the current game may be torn. Only the first fault is reported. A failure of
-/// `err` changes no status. The task must be `Checked`.
+/// `err` changes no status. `out` is flushed at the end, even if a write has failed. The task must
+/// be `Checked`.
 pub fn run_checked<Q: Source, R: Source, O: Sink, E: Sink>(
     task: &Task,
     first: &mut Q,
@@ -68,7 +69,7 @@ pub fn run_checked<Q: Source, R: Source, O: Sink, E: Sink>(
     ensures runs { RunsTwice (checked_mode task.now)
         (device Q.left Q.failures first.old first.new)
         (device R.left R.failures second.old second.new)
-        (device O.taken O.failures out.old out.new)
+        (device O.taken O.failures out.old out.new) (O.unflushed out.new)
         (device E.taken E.failures err.old err.new) result }
 
     // Nothing that `out` took is unflushed, if it reports that, or a call of it failed.
@@ -97,7 +98,7 @@ fn export_twice<Q: Source, R: Source, O: Sink, E: Sink>(
 ) -> u8
     ensures runs { RunsTwice mode (device Q.left Q.failures first.old first.new)
         (device R.left R.failures second.old second.new)
-        (device O.taken O.failures out.old out.new)
+        (device O.taken O.failures out.old out.new) (O.unflushed out.new)
         (device E.taken E.failures err.old err.new) result }
     ensures flushed { IsFlushed (device O.taken O.failures out.old out.new)
         (O.unflushed out.new) result }

@@ -1,7 +1,7 @@
 //! The standard streams over any reader and writer, and the file that is read in place of standard
 //! input.
-ghost use Rattle.std.specs.Prelude.{◌≡◌, ◌<◌, ◌≤◌, [], length, drop, OnOk, vec_len, vec_capacity};
-ghost use Rattle.std.specs.Io.KnownBytes.{Keeps, append_known};
+ghost use Rattle.std.specs.Prelude.{◌≡◌, ◌+◌, ◌-◌, ◌<◌, ◌≤◌, [], length, drop, min, IfOk, Ok, OnOk, vec_len, vec_capacity};
+ghost use Rattle.std.specs.Io.KnownBytes.{Keeps, WriteAppends, append_known};
 ghost use Rattle.pgn_layout.specs.Device.{Counts};
 ghost use Rattle.pgn_tool.specs.declared.standard.StandardOrFile.TheVariants.{Standard};
 
@@ -78,11 +78,12 @@ impl<S: FileSystem, R: Read + Drop> Input for StandardInput<S, R> {
     }
 }
 
-/// Standard output over a writer, without a buffer until there is one.
+/// Standard output over a writer, without a buffer until there is one. It holds back 64 KiB at most.
 #[derive(Drop)]
 pub struct StandardOutput<W> {
     pub outlet: Outlet<W>,
     pub buffer: Vec<u8>,
+    ghost short: { vec_len buffer ≤ 65536 },
 }
 
 impl<W: Write> StandardOutput<W> {
@@ -95,6 +96,14 @@ impl<W: Write> StandardOutput<W> {
             outlet: Outlet::new(writer),
             buffer: Vec::new(alloc),
         }
+    }
+
+    // How many bytes are still taken before the buffer has to be written out.
+    #[inline]
+    fn room(&self) -> usize
+        ensures { result ≡ min 65536 (vec_capacity self.now.buffer) - vec_len self.now.buffer }
+    {
+        self.buffer.capacity().min(OUTPUT_BUFFER) - self.buffer.len()
     }
 
     // Writes the buffer out. What a failure leaves stays in it.
@@ -137,11 +146,25 @@ impl<W: Write> Sink for StandardOutput<W> {
 
     ghost unflushed = { λ s. Some s.buffer.items };
 
+    /// Takes some of the first bytes, at least one, and returns how many. What has room in the buffer
+    /// goes to no writer yet.
     #[inline]
-    fn write_some(&mut self, bytes: &[u8]) -> Result<usize, WriteFault> {
-        if bytes.len() > self.buffer.capacity() - self.buffer.len() {
+    fn write_some(&mut self, bytes: &[u8]) -> Result<usize, WriteFault>
+        requires { 0 < length bytes.now }
+        ensures bytes { WriteAppends
+            (append_known (W.contents self.old.outlet.writer) self.old.buffer.items)
+            (append_known (W.contents self.new.outlet.writer) self.new.buffer.items)
+            result bytes.now }
+        ensures count { IfOk result (λ n. (0 < n) × (n ≤ length bytes.now)) }
+        ensures failures { Counts result self.old.outlet.failures self.new.outlet.failures }
+        ensures buffered { vec_len self.old.buffer + length bytes.now
+            ≤ min 65536 (vec_capacity self.old.buffer)
+            → (result ≡ Ok (length bytes.now)) × (self.new.outlet ≡ self.old.outlet) }
+        ensures capacity { vec_capacity self.old.buffer ≤ vec_capacity self.new.buffer }
+    {
+        if bytes.len() > self.room() {
             self.write_out()?;
-            if bytes.len() > self.buffer.capacity() {
+            if bytes.len() > self.room() {
                 return self.outlet.write_some(bytes);
             }
         }
@@ -151,7 +174,14 @@ impl<W: Write> Sink for StandardOutput<W> {
         Ok(bytes.len())
     }
 
-    fn flush(&mut self) -> Result<(), WriteFault> {
+    fn flush(&mut self) -> Result<(), WriteFault>
+        ensures bytes { Keeps
+            (append_known (W.contents self.old.outlet.writer) self.old.buffer.items)
+            (append_known (W.contents self.new.outlet.writer) self.new.buffer.items) }
+        ensures failures { Counts result self.old.outlet.failures self.new.outlet.failures }
+        ensures flushed { OnOk result (self.new.buffer.items ≡ []) }
+        ensures capacity { vec_capacity self.new.buffer ≡ vec_capacity self.old.buffer }
+    {
         self.write_out()?;
         self.outlet.flush()
     }

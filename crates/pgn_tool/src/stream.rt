@@ -3,7 +3,7 @@ ghost use Rattle.std.specs.Prelude.{◌≡◌, ◌⊎◌, ℕ, ◌+◌, ◌≤�
 ghost use Rattle.std.specs.Io.KnownBytes.{Appends};
 ghost use Rattle.pgn_layout.specs.Device.{NoneUnflushed, device};
 ghost use Rattle.pgn_game.specs.games.Reason.{line_of};
-ghost use Rattle.pgn_tool.specs.TaskRun.{Answers, FlushCounts, HasFailed, HasFront, IsFlushed, IsSmooth, Runs, Tells, checking, counting_line, exporting, is_for_stream, job_of, line, listing, mode_for};
+ghost use Rattle.pgn_tool.specs.TaskRun.{Answers, HasFailed, HasFront, IsFlushed, IsSmooth, Runs, Tells, WritesLast, checking, counting_line, exporting, is_for_stream, job_of, line, listing, mode_for};
 
 use crate::list::{Stopped, list_games};
 use arrayvec::ArrayVec;
@@ -26,7 +26,8 @@ pub const LEVELS: usize = 33;
 ///
 /// On a fault, `export` has written every finished game and the complete lines of the current one,
 /// `list` the lines of the finished games, and `check` nothing. Only the first fault is reported. A
-/// failure of `err` changes no status. The task must be `export`, `check` or `list`.
+/// failure of `err` changes no status. `out` is flushed at the end, even if a write has failed. The
+/// task must be `export`, `check` or `list`.
 pub fn run_stream<R: Source, O: Sink, E: Sink>(
     task: &Task,
     reader: &mut R,
@@ -49,7 +50,7 @@ pub fn run_stream<R: Source, O: Sink, E: Sink>(
 
     // What is written and reported then.
     ensures runs { Runs (job_of task.now) (device R.left R.failures reader.old reader.new)
-        (device O.taken O.failures out.old out.new)
+        (device O.taken O.failures out.old out.new) (O.unflushed out.new)
         (device E.taken E.failures err.old err.new) result }
 
     // Nothing that `out` took is unflushed, if it reports that, or a call of it failed.
@@ -76,7 +77,7 @@ pub fn export_mode(reduced: bool) -> Mode
 #[inline(never)]
 fn export<R: Source, O: Sink, E: Sink>(mode: Mode, source: &mut R, out: &mut O, err: &mut E) -> u8
     ensures runs { Runs (exporting mode) (device R.left R.failures source.old source.new)
-        (device O.taken O.failures out.old out.new)
+        (device O.taken O.failures out.old out.new) (O.unflushed out.new)
         (device E.taken E.failures err.old err.new) result }
     ensures flushed { IsFlushed (device O.taken O.failures out.old out.new)
         (O.unflushed out.new) result }
@@ -93,7 +94,7 @@ fn export<R: Source, O: Sink, E: Sink>(mode: Mode, source: &mut R, out: &mut O, 
 #[inline(never)]
 fn check<R: Source, O: Sink, E: Sink>(source: &mut R, out: &mut O, err: &mut E) -> u8
     ensures runs { Runs checking (device R.left R.failures source.old source.new)
-        (device O.taken O.failures out.old out.new)
+        (device O.taken O.failures out.old out.new) (O.unflushed out.new)
         (device E.taken E.failures err.old err.new) result }
     ensures flushed { IsFlushed (device O.taken O.failures out.old out.new)
         (O.unflushed out.new) result }
@@ -114,7 +115,7 @@ fn check<R: Source, O: Sink, E: Sink>(source: &mut R, out: &mut O, err: &mut E) 
 #[inline(never)]
 fn list<R: Source, O: Sink, E: Sink>(source: &mut R, out: &mut O, err: &mut E) -> u8
     ensures runs { Runs listing (device R.left R.failures source.old source.new)
-        (device O.taken O.failures out.old out.new)
+        (device O.taken O.failures out.old out.new) (O.unflushed out.new)
         (device E.taken E.failures err.old err.new) result }
     ensures flushed { IsFlushed (device O.taken O.failures out.old out.new)
         (O.unflushed out.new) result }
@@ -128,15 +129,16 @@ fn list<R: Source, O: Sink, E: Sink>(source: &mut R, out: &mut O, err: &mut E) -
     }
 }
 
-/// Writes the text and flushes, and returns whether both succeeded.
+/// Writes the text and flushes, and returns whether both succeeded. It flushes even if the text
+/// could not be written.
 pub fn write_last<O: Sink>(text: &[u8], out: &mut O) -> bool
     ensures written { result ≡ true → Appends (O.taken out.old) (O.taken out.new) text.now }
     ensures kept { result ≡ true → O.failures out.new ≡ O.failures out.old }
     ensures failed { result ≡ false → HasFailed (device O.taken O.failures out.old out.new) }
     ensures flushed { NoneUnflushed (O.unflushed out.new)
         ⊎ (HasFailed (device O.taken O.failures out.old out.new) × (result ≡ false)) }
-    ensures counted { (written : ℕ) × FlushCounts (O.failures out.old) written
-        × FlushCounts written (O.failures out.new) }
+    ensures last { WritesLast (device O.taken O.failures out.old out.new) text.now
+        (O.unflushed out.new) }
     ensures front { HasFront (device O.taken O.failures out.old out.new) text.now }
 {
     let written = write_all(out, text);

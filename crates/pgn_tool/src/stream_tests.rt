@@ -501,6 +501,47 @@ fn empties(out: &mut StandardOutput<Page>) -> bool {
     out.flush().is_ok() && out.buffer.is_empty()
 }
 
+// Runs the task on `TWO`, by the program's buffer.
+fn run_reserved(rt: &impl Abort, alloc: Global, job: Job) -> Ran {
+    let mut out = StandardOutput::new(alloc, memory(alloc));
+    let mut err = Outlet::new(memory(alloc));
+    assert!(rt; out.reserve().is_ok());
+    let status = run_stream(&job.task(), &mut Inlet::new(whole(TWO)), &mut out, &mut err);
+    left_by(status, out, err)
+}
+
+#[test]
+fn writes_a_small_text_at_once(rt: HostRuntime) {
+    for job in [Job::Export, Job::Reduced, Job::Check, Job::List] {
+        let ran = run_reserved(&rt, rt.alloc(), job);
+        let is_one = ran.out.calls == 1 && ran.is(0, job.all(), b"");
+        holds_at(&rt, is_one, &(job, ran.out.calls));
+    }
+}
+
+// Writes the text of one game so many times, by the program's buffer.
+fn write_times(rt: &impl Abort, alloc: Global, times: usize) -> Page {
+    let mut out = StandardOutput::new(alloc, memory(alloc));
+    assert!(rt; out.reserve().is_ok());
+    for _ in 0..times {
+        assert!(rt; write_all(&mut out, first()).is_ok());
+    }
+    out.outlet.into_inner()
+}
+
+// The text has 96 bytes, and 64 KiB have room for it 682 times.
+#[test]
+fn writes_in_blocks(rt: HostRuntime) {
+    let page = write_times(&rt, rt.alloc(), 682);
+    holds_at(&rt, page.calls == 0, &page.calls);
+    let page = write_times(&rt, rt.alloc(), 683);
+    holds_at(
+        &rt,
+        page.calls == 1 && page.taken.len() == 65472,
+        &(page.calls, page.taken.len()),
+    );
+}
+
 #[test]
 fn flushes_behind_its_buffer(rt: HostRuntime) {
     let mut out = StandardOutput::new(rt.alloc(), memory(rt.alloc()));

@@ -1,6 +1,6 @@
 -- What follows of a run from the conversion in it, of an input that is read twice.
-use Rattle.pgn_tool.proofs.Words.{◌≡◌, ℕ, ◌≤◌, List, Option, ◌⊎◌, inl, inr, arith, Result, Ok, Err, Keeps, Counts, Device, IsStill, Mode, Reason, ReadFault, WriteFault, Fault, Totals, Profile, refused, AreConverted, TwoReadingsConvert, CountsThree, FirstStops, SecondStops, TwoReadingsFail, HasTaken, OneFails, WriteStops, first_too_long, first_unread, second_too_long, second_unread, unwritten, EqualReadings, FlushCounts, HasFailed, IsCalm, IsSmooth, status_of, AnswersSame, AnswersTwice, BlamesTwice, EndsTwice, RunsTwice, profile_twice, Appends-kept, IfSome_then, common_steps}
-use Rattle.pgn_tool.proofs.runs.ConversionToRun.{calm_fails, concludes_by_verdict, longer, refuses_by_verdict, risen}
+use Rattle.pgn_tool.proofs.Words.{◌≡◌, ℕ, ◌≤◌, List, Option, ◌⊎◌, inl, inr, arith, Result, Ok, Err, Keeps, Counts, Device, IsStill, Mode, Reason, ReadFault, WriteFault, Fault, Totals, Profile, refused, AreConverted, TwoReadingsConvert, CountsThree, FirstStops, SecondStops, TwoReadingsFail, HasTaken, OneFails, WriteStops, first_too_long, first_unread, second_too_long, second_unread, unwritten, EqualReadings, HasFailed, IsCalm, IsSmooth, status_of, AnswersSame, AnswersTwice, BlamesTwice, EndsTwice, RunsTwice, profile_twice, Appends-kept, IfSome_then, common_steps}
+use Rattle.pgn_tool.proofs.runs.ConversionToRun.{CountsOneAtMost, calm_fails, concludes_by_verdict, longer, refuses_by_verdict, risen}
 
 -- ---- a conversion, and a flush after it
 
@@ -79,7 +79,7 @@ blames_twice_of _ flushed first second d after failures_after devices counts = t
 
 -- it counts one failure of its sink at most
 pub counted_once_of_two : (reason : Reason) (first second sink : Device)
-    → CountsThree reason first second sink → FlushCounts sink.failures sink.failures_after
+    → CountsThree reason first second sink → CountsOneAtMost sink.failures sink.failures_after
 counted_once_of_two ReadFault first second sink devices = inl devices.1
 counted_once_of_two WriteFault first second sink devices = inr devices.2
 counted_once_of_two _ first second sink devices = inl devices.2
@@ -109,8 +109,9 @@ module _ (s r : List ℕ) (first second out : Device) (one : IsSmooth s first ou
   texts_answer mode err code (Ok t) works ends = grind (arith, common_steps, concludes_by_verdict)
   texts_answer mode err code (Err f) works ends = grind (arith, common_steps, own_fault, profile_twice, refuses_by_verdict)
 
-  pub twice_answers : (mode : Mode) (err : Device) (code : ℕ) → RunsTwice mode first second out err code → AnswersTwice mode s r out err code
-  twice_answers mode err code runs = texts_answer mode err code runs.answer runs.works runs.ends
+  pub twice_answers : (mode : Mode) (unflushed : Option (List ℕ)) (err : Device) (code : ℕ)
+      → RunsTwice mode first second out unflushed err code → AnswersTwice mode s r out err code
+  twice_answers mode unflushed err code runs = texts_answer mode err code runs.answer runs.works runs.ends
 
 -- two readings of one text are one reading of it
 pub same_answers : (mode : Mode) (s : List ℕ) (out err : Device) (code : ℕ)
@@ -125,6 +126,7 @@ ends_as : (answer : Result Totals Fault) (first second out err : Device) (code :
 ends_as (Ok t) first second out err code ends = (ends.0.ends, λ zero. (ends.0.read, ends.1, (ends.0.well zero).0))
 ends_as (Err f) first second out err code ends = (omega (arith, ends.ends), λ zero. absurd (omega (arith, ends.ends, zero)))
 
-pub twice_ends : (mode : Mode) (first second out err : Device) (code : ℕ) → RunsTwice mode first second out err code
+pub twice_ends : (mode : Mode) (first second out : Device) (unflushed : Option (List ℕ)) (err : Device) (code : ℕ)
+    → RunsTwice mode first second out unflushed err code
     → (code ≤ 1) × (code ≡ 0 → IsStill first × IsStill second × IsStill out)
-twice_ends mode first second out err code runs = ends_as runs.answer first second out err code runs.ends
+twice_ends mode first second out unflushed err code runs = ends_as runs.answer first second out err code runs.ends

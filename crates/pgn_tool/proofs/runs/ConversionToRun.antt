@@ -1,5 +1,5 @@
 -- What follows of a run from the conversion in it.
-use Rattle.pgn_tool.proofs.Words.{◌≡◌, ◌∙◌, ℕ, ◌^◌, ◌<◌, ◌≤◌, Bool, true, false, List, ◌++◌, length, ap, refl, subst, sym, arith, take, length-append, Option, None, Some, inl, inr, take-length, Result, Ok, Err, OnOk, is_ok, codes, ◌⊎◌, if◌then◌else◌, Appends, Counted, line_of, Consumes, Keeps, Counts, Device, IsStill, Writes, one_more, Reason, ReadFault, WriteFault, Fault, Totals, Profile, tokens_of, Read, read, refused, totals, verdict_of, profile_of, AfterConversion, CountsDevices, Fails, IsConverted, Stopped, CountsReadFault, ListResult, ListStops, list_profile, Answers, Blames, Concludes, Ends, EndsList, FlushCounts, HasFailed, IsCalm, IsSmooth, Job, Runs, Tells, TellsVerdict, Works, checking, exporting, line, listing, status_of, Appends-kept, device, Verdict, IfSome_then, common_steps}
+use Rattle.pgn_tool.proofs.Words.{◌≡◌, ◌∙◌, ℕ, ◌^◌, ◌<◌, ◌≤◌, Bool, true, false, List, ◌++◌, length, ap, refl, subst, sym, arith, take, length-append, Option, None, Some, inl, inr, take-length, Result, Ok, Err, OnOk, is_ok, codes, ◌⊎◌, if◌then◌else◌, Appends, Counted, line_of, Consumes, Keeps, Counts, Device, IsStill, NoneUnflushed, Writes, one_more, Reason, ReadFault, WriteFault, Fault, Totals, Profile, tokens_of, Read, read, refused, totals, verdict_of, profile_of, AfterConversion, CountsDevices, Fails, IsConverted, Stopped, CountsReadFault, ListResult, ListStops, list_profile, Answers, Blames, Concludes, Ends, EndsList, FlushesLast, HasFailed, IsCalm, IsSmooth, Job, Runs, Tells, TellsVerdict, Works, WritesLast, checking, exporting, line, listing, status_of, Appends-kept, device, Verdict, IfSome_then, common_steps}
 
 -- ---- devices
 
@@ -14,9 +14,25 @@ calm_fails d calm failed = omega (arith, calm.0, calm.1)
 
 -- ---- a run without a fault
 
-pub flush_counts : {A E : Type 0} → (r : Result A E) (mid new : ℕ) → Counts r mid new → FlushCounts mid new
-flush_counts (Ok x) mid new counts = inl counts
-flush_counts (Err e) mid new counts = inr counts
+-- the count of failures around one call that may fail
+abbrev pub CountsOneAtMost : ℕ → ℕ → Type 0
+CountsOneAtMost old new = (new ≡ old) ⊎ (new ≡ one_more old)
+
+pub flushes_last : {A E : Type 0} → (r : Result A E) (mid new : ℕ) (unflushed : Option (List ℕ)) → Counts r mid new
+    → OnOk r (NoneUnflushed unflushed) → FlushesLast mid new unflushed
+flushes_last (Ok x) mid new unflushed counts empty = inl (counts, empty)
+flushes_last (Err e) mid new unflushed counts empty = inr counts
+
+-- the same behind a text
+pub writes_last : {A E B F : Type 0} → (r : Result A E) (flushed : Result B F) (a b c : Option (List ℕ)) (text : List ℕ)
+    (old mid new : ℕ) (unflushed : Option (List ℕ)) → Writes a b r text → Keeps b c → Counts r old mid → Counts flushed mid new
+    → OnOk flushed (NoneUnflushed unflushed)
+    → WritesLast (record { before = a; after = c; failures = old; failures_after = new }) text unflushed
+writes_last (Ok x) flushed a b c text old mid new unflushed writes keeps still counts empty =
+    WritesLast.whole (Appends-kept a b c text writes keeps) (flushes_last flushed old new unflushed (rw still at counts) empty)
+writes_last (Err e) flushed a b c text old mid new unflushed writes keeps rose counts empty =
+    WritesLast.part (writes.0, writes.1, Appends-kept a b c _ writes.2 keeps)
+    (flushes_last flushed (one_more old) new unflushed (rw rose at counts) empty)
 
 -- the status says whether all was written
 pub concludes_as : {S : Type 0}
@@ -118,7 +134,7 @@ silent_blames _ source out devices = tt
 
 -- nothing is left after a flush that did well, and one that failed raises the count
 pub flushed_after : {A E : Type 0} → (r : Result A E) (old mid new : ℕ) (Empty P : Type 0)
-    → FlushCounts old mid → Counts r mid new
+    → CountsOneAtMost old mid → Counts r mid new
     → OnOk r Empty → (is_ok r ≡ false → P) → Empty ⊎ ((one_more old ≤ new) × P)
 flushed_after (Ok x) old mid new Empty P before counts empty ill = inl empty
 flushed_after (Err e) old mid new Empty P (inl still) counts empty ill = inr (omega (arith, still, counts), ill refl)
@@ -126,7 +142,7 @@ flushed_after (Err e) old mid new Empty P (inr rose) counts empty ill = inr (ome
 
 -- a conversion that reports a fault counts one failure of its sink at most
 pub counted_once : (reason : Reason) (source_old source_new old mid : ℕ)
-    → CountsDevices reason source_old source_new old mid → FlushCounts old mid
+    → CountsDevices reason source_old source_new old mid → CountsOneAtMost old mid
 counted_once ReadFault source_old source_new old mid devices = inl devices.1
 counted_once WriteFault source_old source_new old mid devices = inr devices.1
 counted_once _ source_old source_new old mid devices = inl devices.1
@@ -201,10 +217,10 @@ module _ (s : List ℕ) (source out : Device) (smooth : IsSmooth s source out) w
     list_answers (Ok x) works ends = grind (arith, common_steps, concludes_by_verdict, verdict_is, read, list_profile, tokens_of)
     list_answers (Err stopped) works ends = stopped_answers stopped works ends
 
-    pub runs_answers : (job : Job) → Runs job source out err code → Answers job s out err code
-    runs_answers (exporting mode) runs = job_answers (exporting mode) runs.answer runs.works runs.ends
-    runs_answers checking runs = job_answers checking runs.answer runs.works runs.ends
-    runs_answers listing runs = list_answers runs.answer runs.lists runs.ends
+    pub runs_answers : (job : Job) (unflushed : Option (List ℕ)) → Runs job source out unflushed err code → Answers job s out err code
+    runs_answers (exporting mode) unflushed runs = job_answers (exporting mode) runs.answer runs.works runs.ends
+    runs_answers checking unflushed runs = job_answers checking runs.answer runs.works runs.ends
+    runs_answers listing unflushed runs = list_answers runs.answer runs.lists runs.ends
 
 -- ---- the status
 
@@ -222,7 +238,7 @@ module _ (source out err : Device) (code : ℕ) where
   list_ends_as (Err (Stopped.Refused f)) ends = ends_as (Err f) ends
   list_ends_as (Err Stopped.Unwritten) ends = (omega (arith, ends.ends), λ zero. absurd (omega (arith, ends.ends, zero)))
 
-  pub runs_end : (job : Job) → Runs job source out err code → EndsAs
-  runs_end (exporting mode) runs = ends_as runs.answer runs.ends
-  runs_end checking runs = ends_as runs.answer runs.ends
-  runs_end listing runs = list_ends_as runs.answer runs.ends
+  pub runs_end : (job : Job) (unflushed : Option (List ℕ)) → Runs job source out unflushed err code → EndsAs
+  runs_end (exporting mode) unflushed runs = ends_as runs.answer runs.ends
+  runs_end checking unflushed runs = ends_as runs.answer runs.ends
+  runs_end listing unflushed runs = list_ends_as runs.answer runs.ends

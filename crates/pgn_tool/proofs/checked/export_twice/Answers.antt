@@ -1,5 +1,5 @@
 use Rattle.pgn_tool.proofs.Words.{◌∙◌, inl, refl, Err, Ok, device, profile_twice}
-use Rattle.pgn_tool.proofs.runs.ConversionToRun.{concludes_flushed, flush_counts, flushed_after}
+use Rattle.pgn_tool.proofs.runs.ConversionToRun.{concludes_flushed, flushed_after, flushes_last}
 use Rattle.pgn_tool.proofs.runs.CheckedConversionToRun.{blames_twice_of, converts_twice_on, counted_once_of_two}
 use Rattle.pgn_tool.proofs.checked.export_twice.Goals as goal
 
@@ -16,7 +16,7 @@ returns-in-Ok g c =
         works = converts_twice_on (profile_twice c.args.mode) first second converted _ _ flush.ensures.bytes
             (Ok c.in-Ok.field-0) c.in-Ok.ensures.converts;
         counted =
-            record { converted = converted; failures = refl; conversion = counted; flush = flush_counts flush.result _ _ flush.ensures.failures };
+            record { converted = converted; failures = refl; conversion = counted; flush = flushes_last flush.result _ _ _ flush.ensures.failures flush.ensures.flushed };
         ends = (
           concludes_flushed g.E.Sink.taken g.E.Sink.failures _ _ flush.result c.is_ok.result
               _ _ _ _ c.is_ok.ensures.value counted.0 counted.2 flush.ensures.failures
@@ -43,7 +43,7 @@ returns-in-Err g c =
         works = converts_twice_on (profile_twice c.args.mode) first second converted _ _ flush.ensures.bytes
             (Err c.in-Err.fault) c.in-Err.ensures.converts;
         counted =
-            record { converted = converted; failures = refl; conversion = counted; flush = flush_counts flush.result _ _ flush.ensures.failures };
+            record { converted = converted; failures = refl; conversion = counted; flush = flushes_last flush.result _ _ _ flush.ensures.failures flush.ensures.flushed };
         ends = record {
           ends = c.refuse.ensures.status;
           told = c.refuse.ensures.told;

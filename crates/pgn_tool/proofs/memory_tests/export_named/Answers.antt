@@ -11,7 +11,7 @@ carried name m status text (unopened other SystemFault.NoMemory same refuses idl
 carried name m status text (opened source is ((unbuffered short still unwritten (failed, told), idle), same)) zero held small calm =
     absurd (omega (arith, failed, zero))
 carried name m status text (opened source is ((streams room low runs answers, idle), same)) zero held small calm =
-    let still = (Rattle.pgn_tool.proofs.runs.ConversionToRun.runs_end source m.out m.err status (exporting Full) runs).1 zero in
+    let still = (Rattle.pgn_tool.proofs.runs.ConversionToRun.runs_end source m.out m.err status (exporting Full) _ runs).1 zero in
     let from = rw held at is in
     let gives : source.before ≡ Some text = cc in
     let none : source.failures ≡ 0 = cc in

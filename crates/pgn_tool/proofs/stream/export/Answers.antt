@@ -1,5 +1,5 @@
 use Rattle.pgn_tool.proofs.Words.{◌∙◌, inl, Err, Ok}
-use Rattle.pgn_tool.proofs.runs.ConversionToRun.{blames_of, concludes_flushed, converts_on, counted_once, flush_counts, flushed_after}
+use Rattle.pgn_tool.proofs.runs.ConversionToRun.{blames_of, concludes_flushed, converts_on, counted_once, flushed_after, flushes_last}
 use Rattle.pgn_tool.proofs.stream.export.Goals as goal
 
 pub returns-in-Ok : goal.returns-in-Ok
@@ -10,7 +10,7 @@ returns-in-Ok g c =
       runs = record {
         answer = Ok c.in-Ok.field-0;
         works = converts_on _ (g.R.Source.left c.convert-answer.new.reader) _ _ _ flush.ensures.bytes _ (Ok c.in-Ok.field-0) c.in-Ok.ensures.converts;
-        counted = (_, counted, flush_counts flush.result _ _ flush.ensures.failures);
+        counted = (_, counted, flushes_last flush.result _ _ _ flush.ensures.failures flush.ensures.flushed);
         ends =
             concludes_flushed g.E.Sink.taken g.E.Sink.failures _ _ flush.result c.is_ok.result
             _ _ _ _ c.is_ok.ensures.value counted.0 counted.1 flush.ensures.failures
@@ -30,7 +30,7 @@ returns-in-Err g c =
       runs = record {
         answer = Err c.in-Err.fault;
         works = converts_on _ _ _ _ _ flush.ensures.bytes _ (Err c.in-Err.fault) c.in-Err.ensures.converts;
-        counted = (_, counted, flush_counts flush.result _ _ flush.ensures.failures);
+        counted = (_, counted, flushes_last flush.result _ _ _ flush.ensures.failures flush.ensures.flushed);
         ends = record {
           ends = c.refuse.ensures.status;
           told = c.refuse.ensures.told;

@@ -1,5 +1,5 @@
 use Rattle.pgn_tool.proofs.Words.{◌≡◌, ◌∙◌, ap, refl, inl, inr, Err, Ok, Refused, Unwritten}
-use Rattle.pgn_tool.proofs.runs.ConversionToRun.{concludes_flushed, flush_counts, flushed_after, list_blames, lists_on, risen}
+use Rattle.pgn_tool.proofs.runs.ConversionToRun.{concludes_flushed, flushed_after, flushes_last, list_blames, lists_on, risen}
 use Rattle.pgn_tool.proofs.stream.list.Goals as goal
 
 pub returns-in-Ok : goal.returns-in-Ok
@@ -10,7 +10,7 @@ returns-in-Ok g c =
       runs = record {
         answer = Ok tt;
         lists = lists_on _ (g.R.Source.left c.list_games-answer.new.source) _ _ _ flush.ensures.bytes (Ok tt) c.in-Ok.ensures.lists;
-        counted = (_, counted, flush_counts flush.result _ _ flush.ensures.failures);
+        counted = (_, counted, flushes_last flush.result _ _ _ flush.ensures.failures flush.ensures.flushed);
         ends =
             concludes_flushed g.E.Sink.taken g.E.Sink.failures _ _ flush.result c.is_ok.result
             _ _ _ _ c.is_ok.ensures.value counted.0 counted.1 flush.ensures.failures
@@ -32,7 +32,7 @@ returns-in-Err-Refused g c =
       runs = record {
         answer = Err (Refused f);
         lists = lists_on _ _ _ _ _ flush.ensures.bytes (Err (Refused f)) (rw is at list.ensures.lists);
-        counted = (_, counted, flush_counts flush.result _ _ flush.ensures.failures);
+        counted = (_, counted, flushes_last flush.result _ _ _ flush.ensures.failures flush.ensures.flushed);
         ends = record {
           ends = c.refuse.ensures.status;
           told = c.refuse.ensures.told;
@@ -53,7 +53,7 @@ returns-in-Err-Unwritten g c =
       runs = record {
         answer = Err Unwritten;
         lists = lists_on _ _ _ _ _ flush.ensures.bytes (Err Unwritten) (rw is at list.ensures.lists);
-        counted = (_, counted, flush_counts flush.result _ _ flush.ensures.failures);
+        counted = (_, counted, flushes_last flush.result _ _ _ flush.ensures.failures flush.ensures.flushed);
         ends = record { ends = told.status; failed = risen flush.result _ _ _ counted.1 flush.ensures.failures; told = told.told refl };
       };
       flushed = flushed_after flush.result _ _ _ _ _ (inr counted.1) flush.ensures.failures flush.ensures.flushed (λ ill. told.status);
