@@ -38,6 +38,8 @@ OF_FORFEIT = ("of a forfeit PGN 8.1.1.7 has the result alone, * if there is no w
               "tag says why")
 CASTLING = ("%s may not castle by %s here: the right is lost, a square between is occupied, or the "
             "king is in check, or passes or reaches an attacked square.")
+# The squares from which a piece may go, or would expose its king; and a sentence.
+Explained = Tuple[Tuple[str, ...], Tuple[str, ...], str]
 PIECES = {"K": "king", "Q": "queen", "R": "rook", "B": "bishop", "N": "knight", "P": "pawn"}
 
 
@@ -209,19 +211,16 @@ class Linter(Reader):
 
     def _add(self, fault: PgnFault) -> None:
         bad = self._bad
-        legal: Tuple[str, ...] = ()
-        exposing: Tuple[str, ...] = ()
-        sentence = ""
+        said: Explained = (), (), ""
         fen, move = fault.fen, bad.move
         if fen and move:
-            legal, exposing, sentence = guarded(
-                lambda: explained(fault.number, fen or "", move or ""), ((), (), ""),
-                fault.line, fault.column)
+            said = guarded(lambda: explained(fault.number, fen or "", move or ""), said,
+                           fault.line, fault.column)
         assert fault.end is not None
         self.found.append(Finding(
             self.name, fault.line, fault.column, fault.offset, fault.number, fault.reason, bad.note,
             fault.game, bad.white, bad.black, fault.begin, fault.end, bad.text, bad.before,
-            fault.fen, bad.move, legal, exposing, sentence,
+            fault.fen, bad.move, *said,
             tuple(self._bad_games.section(fault).edits) if self._bad_games else ()))
 
 
@@ -273,7 +272,7 @@ def _is_utf8(text: bytes) -> bool:
 # ---- the move
 
 
-def explained(number: int, fen: str, move: str) -> Tuple[Tuple[str, ...], Tuple[str, ...], str]:
+def explained(number: int, fen: str, move: str) -> Explained:
     """From where a piece may go there, from where it would expose its king, and a sentence.
 
     >>> explained(34, "4r2k/8/8/8/8/8/4R3/4K3 w - - 0 1", "Rd2")[2]

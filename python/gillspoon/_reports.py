@@ -130,7 +130,8 @@ class Report:
         self._put("%s %s (game %d, %s \u2013 %s)" % (
             self._in(BOLD, place), self._in(RED, reason), it.game, it.white, it.black))
         if self.with_board:
-            for line in guarded(lambda: self._explanation(it), [], it.line, it.column):
+            none: List[str] = []
+            for line in guarded(lambda: self._explanation(it), none, it.line, it.column):
                 self._put("  " + line if line else "")
 
     def warning(self, it: Warned) -> None:
