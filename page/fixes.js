@@ -50,6 +50,7 @@ export class Fixes {
     this.pair = part("pair", "y");
     this.emptyLine = part("empty line", "");
     this.tagLine = part("tag line", "");
+    this.likeResult = part("like a result", "");
     this.quote = part("quote", "g");
     this.movetext = part("movetext", "g");
     this.word = part("word", "g");
@@ -113,7 +114,7 @@ export class Fixes {
     if (needs === "end") {
       return this.isRest(here.text, stop);
     }
-    return needs !== "last" || here.isLast;
+    return needs !== "last" || here.around.isLast;
   }
 
   // Whether white space, comments and escape lines go from a place to the end of a text.
@@ -147,10 +148,11 @@ export class Fixes {
     return !this.isRest(text, this.endOfHead({ text, begin: 0 }));
   }
 
-  // Whether the movetext at a place begins with the number 1.
-  beginsGame(text, place) {
+  // Whether movetext begins with the number 1, or without a number behind an empty line.
+  beginsGame(text, place, isApart) {
     const number = matchAt(this.firstNumber, text, place);
-    return number !== null && Number(number[1]) === 1;
+    return number ? Number(number[1]) === 1
+      : isApart || this.emptyLine.test(matchAt(this.space, text, place)[0]);
   }
 
   // Whether the text before a fault is signs alone, such as ! or $10.
@@ -325,14 +327,14 @@ const FUNCTIONS = {
       ? { start: pair.valueAt, stop: pair.valueAt + pair.value.length, text: marker } : null;
   },
 
-  // Adds a Result tag with the marker, to a game that has moves or tags. No tag may have a result as
-  // its value: its name may be a damaged one.
+  // Adds a Result tag with the marker, to a game that has moves or tags. No tag may have a value
+  // like a result: its name may be a damaged one.
   "missing Result tag"(fixes, here, pattern) {
     const pairs = fixes.head(here);
     const marker = matchAt(pattern, here.text, here.place);
     const isEmpty = fixes.isRest(here.text.slice(0, here.place), here.begin);
-    const hasResult = pairs.some(({ name, value }) => name === "Result" ||
-      RESULT_VALUES.includes(value.replace(/^[\t-\r ]+|[\t-\r ]+$/g, "")));
+    const hasResult = pairs.some(
+      ({ name, value }) => name === "Result" || fixes.likeResult.test(value));
     if (!marker || isEmpty || hasResult || !isWhole(fixes, here, pairs, endOf(marker))) {
       return null;
     }
@@ -366,9 +368,8 @@ const FUNCTIONS = {
         !isOfOneGame(fixes, here, pairs, pair)) {
       return null;
     }
-    const line = matchAt(pattern, here.text, pair.end);
-    const isAlone = !pair.start || /[\r\n]/.test(here.text[pair.start - 1]);
-    return { start: pair.start, stop: line && isAlone ? endOf(line) : pair.end, text: "" };
+    const line = beginsLine(here.text, pair.start) ? matchAt(pattern, here.text, pair.end) : null;
+    return { start: pair.start, stop: line ? endOf(line) : pair.end, text: "" };
   },
 
   // Writes a FEN with the blanks and the castling letters that it has to have.
@@ -422,24 +423,28 @@ const OTHERS = [
   } },
 ];
 
-// Whether a marker that ends at a place ends a game that begins where it is read from. Movetext
-// behind the marker has to begin another game, and so has movetext without tags.
-function isWhole(fixes, here, pairs, place) {
-  const isStart = pairs.length || fixes.beginsGame(here.text, here.begin) ||
-    here.isFirst && !matchAt(fixes.firstNumber, here.text, here.begin);
-  return isStart &&
-    (matchAt(fixes.endOfMovetext, here.text, place) || fixes.beginsGame(here.text, place));
+// Whether a game is whole whose marker ends at a place. Movetext behind the marker has to begin
+// another game, and so has movetext without tags.
+function isWhole(fixes, { text, begin, around }, pairs, place) {
+  return (pairs.length || fixes.beginsGame(text, begin, around.isFirst || around.isApart)) &&
+    (matchAt(fixes.endOfMovetext, text, place) || fixes.beginsGame(text, place, false));
 }
 
-// Whether the name of a pair alone is twice in one tag section. Several such names may be those of
-// two games that were joined, and so may an Event, the first name, and what is behind an empty line.
+// Whether the name of a pair alone is repeated in a tag section. Several such names may be those of
+// two games that were joined, and so may an Event, the first name, what is behind an empty line,
+// and a Result that is the last pair, if it begins no line.
 function isOfOneGame(fixes, here, pairs, { name, start }) {
   const names = pairs.map((it) => it.name);
   const repeated = names.filter((it, index) => names.indexOf(it) < index);
+  const isLastResult = name === "Result" && name === names[names.length - 1];
   return repeated.length > 0 && repeated.every((it) => it === name) &&
-    name !== "Event" && name !== names[0] &&
+    name !== "Event" && name !== names[0] && (!isLastResult || beginsLine(here.text, start)) &&
     !fixes.emptyLine.test(here.text.slice(pairs[0].start, start)) &&
     !fixes.tagLine.test(here.text.slice(fixes.endOfHead(here)));
+}
+
+function beginsLine(text, place) {
+  return !place || /[\r\n]/.test(text[place - 1]);
 }
 
 // The match of a sticky pattern at a place, or null.

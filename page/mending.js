@@ -12,8 +12,8 @@ const NEVER_CLOSED = 12;
 const SMALL_LETTER = "small letter";
 // A move that no position allows: its fault has the position.
 const NO_MOVE = " Ka1a1 ";
-// How much of the text behind a bad game shows whether it still ends where it did.
-const TEXT_BEHIND = 1 << 12;
+// How much of the text before and behind a bad game is looked at.
+const TEXT_AROUND = 1 << 12;
 const BYTE_ORDER_MARK_SIZE = 3;
 // The most variations that can be open, and one more.
 const MOST_OPEN = 33;
@@ -67,11 +67,10 @@ class TextReader {
   }
 }
 
-// A fault, and the text in which it is.
+// A fault, the text in which it is, and what is around that.
 class Here {
-  constructor(text, begin, found, reader, { isFirst, isLast }) {
-    Object.assign(this, { text, begin, reader, isFirst, isLast });
-    Object.assign(this, { fault: found.fault, place: found.place });
+  constructor(text, begin, found, reader, around) {
+    Object.assign(this, { text, begin, reader, around, fault: found.fault, place: found.place });
     this.fens = found.fen ? { [found.place]: found.fen } : {};
   }
 
@@ -89,10 +88,11 @@ class Here {
 
 // Mends the text of a bad game up to its end, which is a guess.
 //
-// `isFirst`: the game begins its file. `isLast`: the text ends it.
+// `around`: whether it is the first game of its file (isFirst) or the last (isLast), and whether an
+// empty line is before it (isApart).
 class Mending {
-  constructor(text, fixes, reader, missingResult, isFirst, isLast) {
-    Object.assign(this, { text, fixes, reader, missingResult, isFirst, isLast });
+  constructor(text, fixes, reader, missingResult, around) {
+    Object.assign(this, { text, fixes, reader, missingResult, around });
     this.begin = 0;
     this.isSound = false;
     // the edits that were kept, in order, with the places of the text before all edits
@@ -105,7 +105,7 @@ class Mending {
       const found = this.mendGame();
       if (found.status === OK) {
         this.begin = found.end;
-        this.isFirst = false;
+        this.around = { ...this.around, isFirst: false, isApart: false };
       } else {
         this.isSound = found.status === NO_GAME;
         this.fault = found.fault;
@@ -140,7 +140,7 @@ class Mending {
   }
 
   here(found) {
-    return new Here(this.text, this.begin, found, this.reader, this);
+    return new Here(this.text, this.begin, found, this.reader, this.around);
   }
 
   // Tries the fixes at a fault: whether one was kept.
@@ -245,6 +245,10 @@ function growth(edit) {
   return edit.text.length - (edit.stop - edit.start);
 }
 
+function isNoSpace(byte) {
+  return !/[\t-\r ]/.test(String.fromCharCode(byte));
+}
+
 // How many braces a text opens and does not close.
 function openBraces(text) {
   return text.split("{").length - text.split("}").length;
@@ -270,15 +274,16 @@ export class Mender {
       conversion.module, conversion.text, conversion.length, conversion.from, place);
     const end = found === null ? bytes.length : found;
     const stop = isMark ? Math.max(end, place + BYTE_ORDER_MARK_SIZE) : end;
+    const first = conversion.from + bytes.subarray(conversion.from).findIndex(isNoSpace);
     // a byte order mark and a % mean something else at the start of a text
-    const begin = conversion.from && conversion.from - 1;
+    const begin = first && first - 1;
     const given = latin1(bytes.subarray(begin, stop));
-    const text = conversion.from ? given.replace(/^[^\t-\r ]/, " ") : given;
+    const text = first ? given.replace(/^[^\t-\r ]/, " ") : given;
     const mending = new Mending(
-      text, this.fixes, this.reader, this.missingResult, !conversion.inFile, end === bytes.length);
+      text, this.fixes, this.reader, this.missingResult, this.around(bytes, first, end));
     mending.run();
     const isKept =
-      mending.isSound || mending.endsAsBefore(bytes.subarray(end, end + TEXT_BEHIND));
+      mending.isSound || mending.endsAsBefore(bytes.subarray(end, end + TEXT_AROUND));
     for (const edit of isKept ? mending.edits : []) {
       const offset = begin + edit.start;
       this.edits.push({
@@ -289,5 +294,15 @@ export class Mender {
     }
     this.mended += isKept && mending.edits.length ? 1 : 0;
     this.left += mending.isSound ? 0 : 1;
+  }
+
+  // What is around a bad game that begins and ends at these places.
+  around(bytes, begin, end) {
+    const before = latin1(bytes.subarray(Math.max(begin - TEXT_AROUND, 0), begin));
+    const space = /[\t-\r ]*$/.exec(before)[0];
+    return {
+      isFirst: space.length === begin, isLast: end === bytes.length,
+      isApart: this.fixes.emptyLine.test(space),
+    };
   }
 }

@@ -28,6 +28,18 @@ MEGABYTE = 1000000
 # Keys, as WebDriver names them.
 TAB, ENTER, CONTROL, UP, DOWN = "\ue004", "\ue007", "\ue009", "\ue013", "\ue015"
 INITIAL = "rnbqkbnr/pppppppp/8/8/8/8/PPPPPPPP/RNBQKBNR w KQkq - 0 1"
+# Texts at the edges of rules, beside the rows of spellings.py.
+EDGES = [
+    "1. e4 e5 Nf3 Nc6 3Bc4 *", "1. e4 e5 2. Nf3 Nf6 3. Be2 Be7 O - O\n",
+    '[Site "x"]\n[Event "a"]\n[Event "a"]\n\n*\n',
+    '[White "x"]\n[Site "a"]\n[Site "a"]\n[Bl ack "c"]\n[Round "1"]\n\n*\n',
+    '[White "x"]\n[Result "*"][Result "*"]\n\n*\n',
+    '[White "x"]\n[Result "*"]\n[Result "*"]\n\n*\n',
+    '[Result "?"]\n\n1. e4 1-0\n\n[Result "?"]\n\n1. d4 1-0\n',
+    "e4 e5 1-0\n", "\ne4 e5 1-0\n", "1. e4 *\ne4 e5 1-0\n", "1. e4 *\n\ne4 e5 1-0\n",
+    "1. e2-e4 *\ne4 e5 1-0\n", "1. e2-e4 *\n\ne4 e5 1-0\n", "1. e2-e4 {e4-e5 *",
+    '[ResuIt " l-0"]\n\n1. e4 1-0\n', "1. e4 e5 00002Nf3 *", "0001. e4 e5 2Nf3 *",
+]
 
 # Scripts that the tests run in the page.
 IS_READY = ("return document.documentElement.dataset.state === 'ready' || "
@@ -831,9 +843,9 @@ class Mending(Case):
         """For all rows of spellings.py, and for texts that are made of them with random damage."""
         rng = random.Random(80)
         rows = [row[0].encode() for row in SAFE + UNSAFE] + [
-            it.encode() for it in LEFT + DOUBTFUL]
+            it.encode() for it in LEFT + DOUBTFUL + EDGES]
         self.page()
-        self.assertEqual(self.count_of_edits(rows), sum(len(edits) for _, edits, _ in SAFE))
+        self.assertGreater(self.count_of_edits(rows), sum(len(edits) for _, edits, _ in SAFE))
         self.assertGreater(self.count_of_edits([damaged(rng, rows) for _ in range(200)]), 60)
 
     def test_edits_of_damaged_games_are_those_of_pgn_lint(self):
