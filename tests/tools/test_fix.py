@@ -87,6 +87,12 @@ class Spellings(unittest.TestCase):
         # the last one has a test of its own
         self.assertEqual(tried, set(NAMES) - {"letters of a language"})
 
+    def test_comments_have_one_reading(self):
+        """Many braces in a comment take no time, where a result would have to end the game."""
+        for comment in ("{%s}" % ("{ " * 1000), ";%s\n" % ("; " * 1000)):
+            text = "1. e4 e5 1/2 %s 2. d4 *" % comment
+            self.assertEqual(list(gillspoon.fixes(text.encode())), [])
+
     def test_latin_1(self):
         for old, new in ((b"1. e4 \xbd\n", b'[Result "1/2-1/2"]\n\n1. e4 1/2-1/2\n'),
                          (b"1. e4 \xb1 e5 *", b"1. e4 $16 e5 *"),
