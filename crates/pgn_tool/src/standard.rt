@@ -78,7 +78,8 @@ impl<S: FileSystem, R: Read + Drop> Input for StandardInput<S, R> {
     }
 }
 
-/// Standard output over a writer, without a buffer until there is one. It holds back 64 KiB at most.
+/// Standard output over a writer, without a buffer until there is one. It holds back 64 KiB at
+/// most.
 #[derive(Drop)]
 pub struct StandardOutput<W> {
     pub outlet: Outlet<W>,
@@ -146,8 +147,8 @@ impl<W: Write> Sink for StandardOutput<W> {
 
     ghost unflushed = { λ s. Some s.buffer.items };
 
-    /// Takes some of the first bytes, at least one, and returns how many. What has room in the buffer
-    /// goes to no writer yet.
+    /// Takes some of the first bytes, at least one, and returns how many. What has room in the
+    /// buffer goes to no writer yet.
     #[inline]
     fn write_some(&mut self, bytes: &[u8]) -> Result<usize, WriteFault>
         requires { 0 < length bytes.now }
