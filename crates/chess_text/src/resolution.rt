@@ -77,7 +77,8 @@ pub fn resolve(position: &Position, form: &Form, probes: &mut Probes) -> Result<
 
 /// Returns the one legal move that agrees with the form. (PGN 8.2.3)
 ///
-/// It does what `resolve` does, without the position after the move, and counts the same pairs.
+/// It does what `resolve` does, without the position after the move. What `resolve` says of the
+/// count holds here too.
 ///
 /// # Errors
 ///
