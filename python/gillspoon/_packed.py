@@ -248,7 +248,9 @@ class Zip:
             self._file = zipfile.ZipFile(path)
         except zipfile.BadZipFile as error:
             raise OSError("%s: %s" % (name, error)) from error
-        self._games = [it for it in self._file.infolist() if it.filename.lower().endswith(".pgn")]
+        # hidden files are passed over, as in a folder: a Mac puts notes into ._a.pgn
+        self._games = [it for it in self._file.infolist() if it.filename.lower().endswith(".pgn")
+                       and not os.path.basename(it.filename).startswith(".")]
 
     def has_games(self) -> bool:
         """Whether there is a file *.pgn in it."""

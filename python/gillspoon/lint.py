@@ -500,7 +500,6 @@ class Run:
         self.read += checked.read
         self.unread += checked.unread
         self.own_errors += checked.own_errors
-        self._take_own_errors(file)
 
     def _found(self, finding: Union[Finding, Warned]) -> None:
         self.faults += isinstance(finding, Finding)
@@ -510,6 +509,7 @@ class Run:
         if self.given.max is None or self.faults <= self.given.max:
             self.progress.clear()
             self.writer.found(finding)
+            self._take_own_errors(finding.file)
 
     def _pass_over(self, file: PassedOver) -> None:
         if not self.given.quiet:

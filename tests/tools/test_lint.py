@@ -800,6 +800,10 @@ class Zips(Lint):
         self.put("a.zip:y.PGN", GOOD)
         self.assertEqual(self.lint("--quiet", "a.zip:y.PGN"), (0, "", ""))
 
+    def test_hidden_members_are_passed_over(self):
+        self.put("b.zip", zip_of(("y.pgn", BAD), ("__MACOSX/._y.pgn", b"\0\5\26\7\0\2Mac OS X")))
+        self.assertEqual(self.lint("--quiet", "b.zip"), (1, "b.zip:y.pgn:%s\n" % BAD_LINE, ""))
+
     def test_a_member_of_another_kind(self):
         self.put("b.zip", zip_of(("u.pgn", OTHERS["mark.pgn"][0]), ("y.pgn", BAD)))
         said = (3, "b.zip:y.pgn:%s\n" % BAD_LINE, "pgn_lint: b.zip:u.pgn: %s\n" % NO_TEXT)
