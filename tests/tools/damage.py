@@ -31,6 +31,7 @@ MOVE = re.compile(rb"(?<![\w+#=:/\[\"-])(?:[KQRBN]?[a-h]?[1-8]?x?[a-h][1-8](?:=[
                   rb"[+#]*|(?<!\S)(?:1-0|0-1|1/2-1/2)")
 PAIR_LINE = re.compile(rb"(?m)^\[(\w+) \"[^\"\n]*\"\][ \t]*\n")
 LINE = re.compile(rb"[^\n]*\n")
+MOVE_LINE = re.compile(rb"(?m)^[^\[\n][^\n]*\n")
 
 
 class Damaged(NamedTuple):
@@ -146,8 +147,8 @@ def confused(*letters):
 
 
 def byte_of_a_move(rng, text):
-    """The place of a byte: in three cases of four in a move or a marker."""
-    move = one_of(rng, MOVE.finditer(text)) if rng.random() < 0.75 else None
+    """The place of a byte: in nine cases of ten in a move or a marker."""
+    move = one_of(rng, MOVE.finditer(text)) if rng.random() < 0.9 else None
     return rng.randrange(move.start(), move.end()) if move else rng.randrange(len(text))
 
 
@@ -162,7 +163,9 @@ def byte_doubled(rng, text):
 
 
 def line_dropped(rng, text):
-    line = one_of(rng, LINE.finditer(text, *movetext_or_all(rng, text)))
+    """In three cases of four it has movetext: most tags are missed by nobody."""
+    pattern = MOVE_LINE if rng.random() < 0.75 else LINE
+    line = one_of(rng, pattern.finditer(text))
     return [(line.start(), line.end(), b"")] if line else []
 
 
@@ -172,10 +175,10 @@ def line_doubled(rng, text):
 
 
 def tag_dropped(rng, text):
-    """Three of four say how the game is read: the others are missed by nobody."""
+    """Nine of ten say how the game is read: the others are missed by nobody."""
     pairs = list(PAIR_LINE.finditer(text))
     reading = [it for it in pairs if it[1] in (b"Result", b"FEN", b"SetUp")]
-    pair = one_of(rng, reading if rng.random() < 0.75 else pairs)
+    pair = one_of(rng, reading if rng.random() < 0.9 else pairs)
     return [(pair.start(), pair.end(), b"")] if pair else []
 
 

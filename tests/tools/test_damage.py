@@ -24,7 +24,7 @@ class Damages:
         for it, edits in counts.wrong:
             with self.subTest():
                 self.fail(damage.report(it, edits))
-        self.assertGreater(counts.outcomes[damage.RIGHT], COUNT // 12)
+        self.assertGreater(counts.outcomes[damage.RIGHT], COUNT // 15)
         self.assertEqual(sum(counts.outcomes.values()), COUNT)
         for name in damage.DAMAGES:
             least = 0 if name == damage.ALWAYS_SILENT else LEAST
