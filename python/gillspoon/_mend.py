@@ -178,7 +178,7 @@ class Mending:
         last = found.end if found.status == _library.OK else found.place
         names = tuple(it.name for it in spellings)
         for change, start in zip(changes, ends):
-            if start < last:
+            if start + len(change.new) <= last:
                 stop = start + change.stop - change.start
                 self.changes.apply(Change(start, stop, change.new), names,
                                    all(it.is_safe for it in spellings))

@@ -93,6 +93,11 @@ class Spellings(unittest.TestCase):
             text = "1. e4 e5 1/2 %s 2. d4 *" % comment
             self.assertEqual(list(gillspoon.fixes(text.encode())), [])
 
+    def test_like_tokens_end_with_their_game(self):
+        """What is joined to a marker is no token of its game."""
+        text = "1. e4 e5 2. \u2655h5 *\u2655h5 *".encode()
+        self.assertEqual([(it.offset, it.new) for it in gillspoon.fixes(text)], [(12, b"Qh5")])
+
     def test_latin_1(self):
         for old, new in ((b"1. e4 \xbd\n", b'[Result "1/2-1/2"]\n\n1. e4 1/2-1/2\n'),
                          (b"1. e4 \xb1 e5 *", b"1. e4 $16 e5 *"),
