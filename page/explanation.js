@@ -53,6 +53,9 @@ export function explained(fault) {
     return ["A pawn that reaches the last rank needs a piece: write " +
       symbol.replace(/[+#]+$/, "") + "=Q."];
   }
+  if (isPromotionTooSoon(explanation, symbol)) {
+    return ["No pawn is promoted on " + target + ", but on the last rank alone."];
+  }
   if (legal.length > 1) {
     return [
       piece + "s on " + listed(legal, "and") + " can " + (legal.length > 2 ? "all" : "both") +
@@ -75,8 +78,16 @@ export function explained(fault) {
 }
 
 function isPromotionMissing(explanation, symbol) {
-  return explanation.piece === "P" && /[18]/.test(squareName(explanation.target)[1]) &&
-    !/[QRBN]/.test(symbol);
+  return isOnLastRank(explanation) && !/[QRBN]/.test(symbol);
+}
+
+function isPromotionTooSoon(explanation, symbol) {
+  return explanation.piece === "P" && !isOnLastRank(explanation) && /[QRBN]/.test(symbol);
+}
+
+// Whether it is a pawn's move to the rank on which it is promoted.
+function isOnLastRank(explanation) {
+  return explanation.piece === "P" && /[18]/.test(squareName(explanation.target)[1]);
 }
 
 function castlingExplained(explanation, side) {

@@ -11,9 +11,11 @@ from ._library import BadGame
 from ._places import BYTE_ORDER_MARK
 from ._sources import LONGEST_LINE, Window
 
-# White space, comments and escapes between tag pairs.
+# White space, comments and escapes between tag pairs. Each has one reading: with more of them, a
+# search that fails would take a time that doubles with each brace.
 SPACE = re.compile(
-    rb"(?:[\t-\r ]|\xef\xbb\xbf|\{[^}]*\}?|;[^\r\n]*|%(?<![^\r\n]%)[^\r\n]*)*")
+    rb"(?:[\t-\r ]|\xef\xbb\xbf|\{[^}]*(?:\}|\Z)|;[^\r\n]*(?![^\r\n])"
+    rb"|%(?<![^\r\n]%)[^\r\n]*(?![^\r\n]))*")
 # A tag pair. Where no bracket follows the value, the rest of the line is passed over.
 PAIR = re.compile(
     rb'\[%(space)b(\w+)%(space)b"((?:[^"\\\r\n]|\\["\\]?)*)"?(?:%(space)b\]|[^\[\r\n]*)'

@@ -517,6 +517,17 @@ class NoTraceback(Lint):
                         self.assertTrue(ran.stdout.decode().startswith(first))
                         self.assertIn("2 files, 3 games, 2 faults in 2 files", ran.stdout.decode())
 
+    def test_many_braces(self):
+        """Comments among tags have one reading: a search that fails then ends."""
+        self.put("a.pgn", b"1. e4 [" + b"{ ; " * 500 + b"\n")
+        self.put("b.pgn", b"[" + b"{ " * 500 + b"\n")
+        status, out, told = self.lint("--quiet", "a.pgn", "b.pgn")
+        self.assertEqual((status, out.splitlines(), told), (1, [
+            "a.pgn:1:7: tag in movetext: the game before may have no result at its end "
+            "(game 1, ? \u2013 ?)",
+            "b.pgn:2:1: comment is not closed: it begins at line 1, column 2 (game 1, ? \u2013 ?)",
+        ], ""))
+
 
 class Files(Lint):
     def test_real_files(self):

@@ -1336,6 +1336,8 @@ class Rest(Case):
                  "be in check."),
                 ("4k3/8/8/8/8/8/8/4K2R w - - 0 1", "O-O",
                  "“O-O” is not legal. White cannot castle on the king’s side here"),
+                ("4k3/8/P7/8/8/8/8/4K3 w - - 0 1", "a7Q",
+                 "“a7Q” is not legal. No pawn is promoted on a7, but on the last rank alone."),
                 ("4k3/P7/8/8/8/8/8/4K3 w - - 0 1", "a8",
                  "“a8” is not legal. A pawn that reaches the last rank needs a piece: write "
                  "a8=Q.")):
