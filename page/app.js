@@ -261,9 +261,7 @@ class Page {
   }
 
   fault({ fault }) {
-    if (fault) {
-      this.faults.add(fault);
-    }
+    this.faults.add(fault);
   }
 
   done(state) {

@@ -10,8 +10,13 @@ import { noteOnResult, terminationsIn } from "./forfeits.js";
 
 // The room for export text in the module's memory, from where it is moved into a chunk of its own.
 const ROOM = 1 << 22;
-// How much of the game at fault is read for its tag pairs.
+// How much of the game at fault is read for its tag pairs: a little first, and more at most.
 const TAGS_SIZE = 1 << 16;
+const SHORT_TAGS_SIZE = 1 << 10;
+// A line with a tag pair, and one that begins with a move number.
+const TAG_LINE =
+  /^[ \t]*\[[ \t]*(White|Black|Event|Result)[ \t]+"((?:[^"\\\r\n]|\\["\\]?)*)/gm;
+const NUMBERED_LINE = /^[ \t]*[0-9]+[ \t]*\./m;
 // So much of a tag's value is looked at.
 const VALUE_SIZE = 1 << 10;
 const LINE_WIDTH = 76;
@@ -34,6 +39,13 @@ function lastUpTo(places, place) {
     }
   }
   return low;
+}
+
+// Whether a text is white space and one byte order mark at most, as joined files have it between
+// them: that is no game.
+function isMarkAlone(bytes) {
+  const first = bytes.findIndex((it) => it !== 32 && (it < 9 || it > 13));
+  return first < 0 || startsWithByteOrderMark(bytes, first) && first + 3 === bytes.length;
 }
 
 export class Conversion {
@@ -179,9 +191,10 @@ export class Conversion {
     const message = module.textField("pgn_game", "message");
     const fen = module.textField("pgn_game", "fen");
     const reason = message.slice(module.field("pgn_game", "reason_at"));
-    const tags = this.tagsOfGame(bytes);
+    const end = this.endOfBadGame(place);
+    const tags = this.tagsOfGame(bytes, end);
     const fault = {
-      file: this.name, number, place, message, reason, fen, line: this.lineOf(place),
+      file: this.name, number, place, end, message, reason, fen, line: this.lineOf(place),
       symbol: symbolAt(bytes, place), game: this.inFile + 1, tags, hasResult: "Result" in tags,
       near: latin1(bytes.subarray(place, place + 4)), isAtEnd: place === this.length,
       note: number === BAD_RESULT
@@ -225,13 +238,31 @@ export class Conversion {
     return this.lineAt.ends + 1;
   }
 
-  // White, Black, Event and Result of the game at fault, as far as its lines have them.
-  tagsOfGame(bytes) {
-    const text = latin1(bytes.subarray(this.from, this.from + TAGS_SIZE));
+  // Where the bad game ends that has its fault at a place.
+  endOfBadGame(place) {
+    const end = endOfBadGame(this.module, this.text, this.length, this.from, place);
+    return end === null ? this.length : end;
+  }
+
+  // What a bad game up to `end` has before its moves have numbers.
+  headOfGame(bytes, end) {
+    for (let size = SHORT_TAGS_SIZE; ; size *= 8) {
+      const stop = Math.min(end, this.from + size);
+      const text = latin1(bytes.subarray(this.from, stop));
+      const movetext = text.search(NUMBERED_LINE);
+      if (movetext >= 0) {
+        return text.slice(0, movetext);
+      }
+      if (stop === end || size >= TAGS_SIZE) {
+        return text;
+      }
+    }
+  }
+
+  // White, Black, Event and Result of the bad game up to `end`, as far as its lines have them.
+  tagsOfGame(bytes, end) {
     const tags = {};
-    const pair = /^[ \t]*\[[ \t]*(White|Black|Event|Result)[ \t]+"((?:[^"\\\r\n]|\\["\\]?)*)/gm;
-    const movetext = text.search(/^[ \t]*[0-9]+[ \t]*\./m);
-    for (const found of text.slice(0, movetext < 0 ? text.length : movetext).matchAll(pair)) {
+    for (const found of this.headOfGame(bytes, end).matchAll(TAG_LINE)) {
       const value = Uint8Array.from(found[2].replace(/\\(["\\])/g, "$1"), (it) => it.charCodeAt(0));
       if (!(found[1] in tags)) {
         tags[found[1]] = decoded(value);
@@ -240,15 +271,12 @@ export class Conversion {
     return tags;
   }
 
-  // Sets the bad game aside, and goes on behind it.
-  goOn(place) {
+  // Sets aside the bad game up to `end`, and goes on behind it.
+  goOn(end) {
     const bytes = this.fileBytes();
-    const found = endOfBadGame(this.module, this.text, this.length, this.from, place);
-    const end = found === null ? this.length : found;
     const part = bytes.slice(this.from, end);
     this.from = startsWithByteOrderMark(bytes, end) ? end + 3 : end;
-    // a byte order mark that joined files have between them is no game
-    if (!/^[\t-\r ]*(?:\u00ef\u00bb\u00bf)?$/.test(latin1(part))) {
+    if (!isMarkAlone(part)) {
       this.bad.push(part);
       this.inFile++;
     }

@@ -1,9 +1,12 @@
 // The proved module as functions on bytes: crates/pgn_c/pgn.h says what each call does.
 //
-// The module was built for 64-bit memory and then lowered to 32 bits. So its memory has addresses
-// below 2^32, but its calls still take and answer 64-bit integers, which are BigInt here.
+// The memory has addresses below 2^32. There are two kinds of module:
+//
+// - The proved one was built for 64-bit memory and then lowered to 32 bits. Its calls still take
+//   64-bit integers, which are BigInt here, and a size_t has eight bytes.
+// - Cargo builds for 32-bit memory. The calls of its module take numbers, and a size_t has four.
 
-// The structs of pgn.h. A size_t has eight bytes, as where the module was proved.
+// The structs of pgn.h.
 export const STRUCTS = {
   pgn_text: [["status", "uint32_t"], ["field", "uint32_t"], ["length", "size_t"]],
   pgn_move: [
@@ -43,10 +46,11 @@ export const MORE = 5;
 export const MODES = { full: 0, reduced: 1 };
 export const MISSING_RESULTS = { unknown: 0, fromMarker: 1 };
 
-// The notation of moves as a PGN has them.
-const SAN = 0;
+// The notations of moves: as a PGN has them, and as engines have them.
+export const SAN = 0;
+export const UCI = 1;
 
-const SIZES = { uint8_t: 1, uint32_t: 4, uint64_t: 8, size_t: 8 };
+const SIZES = { uint8_t: 1, uint32_t: 4, uint64_t: 8 };
 // The results of calls are written at the begin of the free memory. None is longer.
 const RESULT_SIZE = 512;
 // Behind them is room for short texts: a FEN and a move, or the tag section of an export text.
@@ -54,27 +58,22 @@ const SHORT_TEXTS_SIZE = 65536;
 // A pgn_bad_game is put there too.
 const BAD_GAME_SIZE = 64;
 const PAGE_SIZE = 65536;
-// No address of 32 bits is larger.
-const MOST_PAGES = 65536;
+// No address of 32 bits is larger. Where a size_t has 32 bits, Rust allows half of it to a text.
+const MOST_PAGES = { wide: 65536, narrow: 32768 };
 
 export class OutOfMemory extends Error {}
 
-// Where each field of a struct is, as a C compiler puts it.
-export function layoutOf(fields) {
+// Where each field of a struct is, as a C compiler puts it for a size_t of so many bytes.
+function layoutOf(fields, sizeOfSize) {
   const layout = {};
   let end = 0;
   for (const [name, type, count] of fields) {
-    const size = SIZES[type];
+    const size = SIZES[type] || sizeOfSize;
     const at = Math.ceil(end / size) * size;
-    layout[name] = { at, type, count };
+    layout[name] = { at, size, count };
     end = at + size * (count || 1);
   }
   return layout;
-}
-
-const LAYOUTS = {};
-for (const name of Object.keys(STRUCTS)) {
-  LAYOUTS[name] = layoutOf(STRUCTS[name]);
 }
 
 export async function loadModule(bytes) {
@@ -86,6 +85,12 @@ export class Module {
   constructor(exported) {
     this.calls = exported;
     this.memory = exported.memory;
+    // the address is of the type that the calls take
+    this.isWide = typeof exported.__heap_base.value === "bigint";
+    this.layouts = {};
+    for (const name of Object.keys(STRUCTS)) {
+      this.layouts[name] = layoutOf(STRUCTS[name], this.isWide ? 8 : 4);
+    }
     this.result = Math.ceil(Number(exported.__heap_base.value) / 8) * 8;
     this.shortTexts = this.result + RESULT_SIZE;
     // From here on the caller may put what it wants.
@@ -98,7 +103,7 @@ export class Module {
     const pages = Math.ceil(end / PAGE_SIZE);
     const has = this.memory.buffer.byteLength / PAGE_SIZE;
     if (pages > has) {
-      if (pages > MOST_PAGES) {
+      if (pages > (this.isWide ? MOST_PAGES.wide : MOST_PAGES.narrow)) {
         throw new OutOfMemory();
       }
       try {
@@ -127,14 +132,22 @@ export class Module {
     });
   }
 
+  // Calls a function of pgn.h, which writes its result. A number in an array is one of uint32_t, and
+  // all others are addresses and lengths.
+  call(name, ...values) {
+    const sized = (value) => this.isWide ? BigInt(value) : value;
+    this.calls[name](
+      sized(this.result), ...values.map((it) => Array.isArray(it) ? it[0] : sized(it)));
+  }
+
   // A field of the result of the last call: a number, or bytes.
   field(struct, name) {
-    const { at, type, count } = LAYOUTS[struct][name];
+    const { at, size, count } = this.layouts[struct][name];
     const place = this.result + at;
     if (count) {
       return this.bytes.slice(place, place + count);
     }
-    return type === "uint32_t"
+    return size === 4
       ? this.view.getUint32(place, true)
       : Number(this.view.getBigUint64(place, true));
   }
@@ -149,8 +162,7 @@ export class Module {
   normalizeFen(fen) {
     const room = 96;
     const [at, buffer] = this.put(fen, new Uint8Array(room));
-    this.calls.pgn_fen_normalize(
-      BigInt(this.result), BigInt(at), BigInt(fen.length), BigInt(buffer), BigInt(room));
+    this.call("pgn_fen_normalize", at, fen.length, buffer, room);
     const length = this.field("pgn_text", "length");
     return {
       status: this.field("pgn_text", "status"),
@@ -159,11 +171,10 @@ export class Module {
     };
   }
 
-  san(fen, text) {
+  // The move that a text names in a notation.
+  san(fen, text, notation = SAN) {
     const [fenAt, textAt] = this.put(fen, text);
-    this.calls.pgn_san(
-      BigInt(this.result), BigInt(fenAt), BigInt(fen.length), BigInt(textAt), BigInt(text.length),
-      SAN);
+    this.call("pgn_san", fenAt, fen.length, textAt, text.length, [notation]);
     return {
       status: this.field("pgn_move", "status"),
       fault: this.field("pgn_move", "fault"),
@@ -175,8 +186,7 @@ export class Module {
 
   explain(fen, text) {
     const [fenAt, textAt] = this.put(fen, text);
-    this.calls.pgn_explain(
-      BigInt(this.result), BigInt(fenAt), BigInt(fen.length), BigInt(textAt), BigInt(text.length));
+    this.call("pgn_explain", fenAt, fen.length, textAt, text.length);
     const read = (name) => this.field("pgn_explanation", name);
     return {
       status: read("status"), fault: read("fault"), form: read("form"),
@@ -192,8 +202,7 @@ export class Module {
     const read = (name) => this.field("pgn_tag", name);
     const [address] = this.put(text);
     for (let at = 0; ; at = read("next")) {
-      this.calls.pgn_tag_at(
-        BigInt(this.result), BigInt(address), BigInt(text.length), BigInt(at));
+      this.call("pgn_tag_at", address, text.length, at);
       if (read("status") !== OK) {
         return pairs;
       }
@@ -207,19 +216,19 @@ export class Module {
   nextSection(text, length, begin, fault) {
     const [game] = this.put(new Uint8Array(BAD_GAME_SIZE));
     for (const [name, place] of [["begin", begin], ["fault", fault], ["at", begin]]) {
-      this.view.setBigUint64(game + LAYOUTS.pgn_bad_game[name].at, BigInt(place), true);
+      // addresses are below 2^32, and the other half of a longer field is 0
+      this.view.setUint32(game + this.layouts.pgn_bad_game[name].at, place, true);
     }
-    this.calls.pgn_next_section(
-      BigInt(this.result), BigInt(game), BigInt(text + begin), BigInt(length - begin), 1);
+    this.call("pgn_next_section", game, text + begin, length - begin, [1]);
     const isFound = this.field("pgn_section", "status") === OK;
     return isFound ? this.field("pgn_section", "place") : null;
   }
 
   // Converts the next game of a text in the memory. Each place counts from the text's first byte.
   nextGame(text, length, from, options, buffer, capacity) {
-    this.calls.pgn_next_game(
-      BigInt(this.result), BigInt(text), BigInt(length), BigInt(from), options.mode,
-      options.missingResult, BigInt(buffer), BigInt(capacity));
+    this.call(
+      "pgn_next_game", text, length, from, [options.mode], [options.missingResult], buffer,
+      capacity);
     return this.field("pgn_game", "status");
   }
 }

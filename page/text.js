@@ -7,11 +7,12 @@ export const RESULTS = "1-0, 0-1, " + DRAW + " or *";
 
 const LF = 10;
 const CR = 13;
+const UTF8 = new TextDecoder("utf-8", { fatal: true, ignoreBOM: true });
 
 // A text is shown as UTF-8 where it is that, else as Latin-1. Its bytes are never changed.
 export function decoded(bytes) {
   try {
-    return new TextDecoder("utf-8", { fatal: true, ignoreBOM: true }).decode(bytes);
+    return UTF8.decode(bytes);
   } catch (error) {
     return latin1(bytes);
   }
@@ -20,7 +21,7 @@ export function decoded(bytes) {
 // The same line by line, since files of several sources mix both.
 export function decodedLines(bytes) {
   try {
-    return new TextDecoder("utf-8", { fatal: true, ignoreBOM: true }).decode(bytes);
+    return UTF8.decode(bytes);
   } catch (error) {
     const lines = [];
     for (let at = 0; at < bytes.length;) {

@@ -75,7 +75,7 @@ const ANSWERS = {
     isStopped = false;
     goesOnByItself = message.every;
     const begin = performance.now();
-    setAside(conversion.lastFault);
+    conversion.goOn(conversion.lastFault.end);
     await convert(begin);
   },
 
@@ -149,43 +149,50 @@ function readPart(index, begin, end) {
 }
 
 async function convert(begin) {
-  for (;;) {
-    const state = conversion.convertUntil(performance.now() + WORK_MILLISECONDS);
-    report("progress", {
-      file: conversion.name, done: conversion.from, length: conversion.length,
-    });
-    if (state === "fault") {
-      await wholeFile;
-      if (!tellFault()) {
-        end("refused", begin);
-        return;
-      }
+  for (let until = 0; ;) {
+    if (performance.now() >= until) {
+      report("progress", {
+        file: conversion.name, done: conversion.from, length: conversion.length,
+      });
+      await otherTasks();
+      until = performance.now() + WORK_MILLISECONDS;
     }
+    const state = isStopped ? "stopped" : conversion.convertUntil(until);
     if (state === "end") {
       await nextFile(begin);
       return;
     }
-    await (state === "wait" ? part : otherTasks());
-    if (isStopped) {
-      end("stopped", begin);
+    if (state === "stopped" || state === "fault" && !await goesOnAfterFault()) {
+      end(isStopped ? "stopped" : "refused", begin);
       return;
+    }
+    if (state === "wait") {
+      await part;
     }
   }
 }
 
-// Tells the page the fault; true if the conversion goes on behind it by itself.
-function tellFault() {
+// Takes the fault when its whole file is read. True if the conversion goes on by itself.
+async function goesOnAfterFault() {
+  await wholeFile;
+  return !isStopped && takeFault();
+}
+
+function takeFault() {
   if (mender) {
     const place = conversion.module.field("pgn_game", "place");
+    const end = conversion.endOfBadGame(place);
     mender.mend(conversion, fileIndex, place);
-    conversion.goOn(place);
+    conversion.goOn(end);
     return true;
   }
   conversion.lastFault = conversion.fault();
   faultLines.push(lineOfFault(conversion.lastFault));
-  report("fault", { fault: faultLines.length <= MOST_FAULTS ? conversion.lastFault : null });
+  if (faultLines.length <= MOST_FAULTS) {
+    report("fault", { fault: conversion.lastFault });
+  }
   if (goesOnByItself) {
-    setAside(conversion.lastFault);
+    conversion.goOn(conversion.lastFault.end);
   }
   return goesOnByItself;
 }
@@ -195,10 +202,6 @@ function lineOfFault({ file, line, column, reason, note, game, tags }) {
   const names = ["White", "Black"].map((it) => tags[it] === undefined ? "?" : tags[it]);
   return printable(file + ":" + line + ":" + column + ": " + reason + (note ? ": " + note : "") +
     " (game " + game + ", " + names.join(" – ") + ")") + "\n";
-}
-
-function setAside(fault) {
-  conversion.goOn(fault.place);
 }
 
 function end(kind, begin) {

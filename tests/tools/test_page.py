@@ -77,26 +77,36 @@ DOWNLOAD = """
     }
     return [blob[0], btoa(text)];
 """
-# Converts inputs by pgn_convert of the page's own module, without the page's JavaScript.
+# Whether the module takes 64-bit integers, as the one that rt builds does, and Cargo's does not.
+IS_WIDE = """
+    const code = atob(document.getElementById('module').textContent);
+    const made = await WebAssembly.instantiate(Uint8Array.from(code, it => it.charCodeAt(0)), {});
+    return typeof made.instance.exports.__heap_base.value === 'bigint';
+"""
+# Converts inputs by pgn_convert of the page's own module, without the page's JavaScript. A size_t
+# is as long as an address.
 CONVERT = """
     const code = atob(document.getElementById('module').textContent);
     const made = await WebAssembly.instantiate(Uint8Array.from(code, it => it.charCodeAt(0)), {});
     const calls = made.instance.exports, base = Number(calls.__heap_base.value) + 16 & -16;
+    const isWide = typeof calls.__heap_base.value === 'bigint';
+    const size = isWide ? BigInt : Number, message = isWide ? 48 : 44;
     calls.memory.grow(64);
     const memory = new Uint8Array(calls.memory.buffer), view = new DataView(calls.memory.buffer);
     const text = base + 512, buffer = text + (1 << 20), capacity = 1 << 20;
     return values[0].map(([mode, input]) => {
       const bytes = Uint8Array.from(atob(input), it => it.charCodeAt(0));
       memory.set(bytes, text);
-      calls.pgn_convert(BigInt(base), BigInt(text), BigInt(bytes.length), BigInt(buffer),
-        BigInt(capacity), mode);
+      calls.pgn_convert(size(base), size(text), size(bytes.length), size(buffer), size(capacity),
+        mode);
       const number = (at) => Number(view.getBigUint64(base + at, true));
-      const message = memory.subarray(base + 48, base + 152);
+      const said = memory.subarray(base + message, base + message + 104);
       return {
         status: view.getUint32(base, true), fault: view.getUint32(base + 4, true),
         place: number(8), games: number(24), plies: number(32),
-        message: String.fromCharCode(...message.subarray(0, message.indexOf(0))),
-        output: btoa(String.fromCharCode(...memory.subarray(buffer, buffer + number(16)))),
+        message: String.fromCharCode(...said.subarray(0, said.indexOf(0))),
+        output: btoa(String.fromCharCode(
+          ...memory.subarray(buffer, buffer + view.getUint32(base + 16, true)))),
       };
     });
 """
@@ -277,13 +287,19 @@ class States(Case):
         self.assertEqual(self.text("privacy"),
                          "Nothing leaves your browser. This page makes no request. It works from a "
                          "disk, and without a network.")
+        self.assertQuiet()
+
+    def test_what_is_proved(self):
+        self.page()
+        is_of_rt = self.browser.await_script(IS_WIDE)["value"]
         self.assertEqual(
             self.text("proved"),
             "The converter inside this page is proved for every text, by the same clauses as the "
             "library for C, in the form that the Rattle toolchain wrote. Another tool then adapts it "
             "to 32-bit memory and optimizes it. That step and the JavaScript of the page are "
-            "tested, not proved.")
-        self.assertQuiet()
+            "tested, not proved." if is_of_rt else
+            "Cargo compiled the converter inside this page from the proved sources, without their "
+            "contracts. Nothing of this page is proved.")
 
     def test_converted(self):
         self.page()
