@@ -1,4 +1,4 @@
-"""The recipe for all processors (docs/RECIPES.md) on 1, 2 and 4 processes, beside one run.
+"""The recipe for all processors (docs/PARALLEL.md) on 1, 2 and 4 processes, beside one run.
 
 An archive of annotated games, ten times over, is exported by GNU parallel from a plain file
 (--pipepart) and from a pipe (--pipe). Each output has to be the same bytes. Processor time is that
@@ -64,4 +64,4 @@ def lines(result):
     return [result["input"], *tables.machine(result), *result["table"]]
 
 
-RECORDS = ((ROOT + "/docs/RECIPES.md", lines),)
+RECORDS = ((ROOT + "/docs/PARALLEL.md", lines),)

@@ -1,7 +1,8 @@
 // The page: takes files or pasted games, lets a worker convert them, and shows what it answers.
 import { MISSING_RESULTS, MODES, loadModule } from "./module.js";
 import { decodedLines } from "./text.js";
-import { otherKind } from "./kinds.js";
+import { kindOf } from "./kinds.js";
+import { TooLarge, canUnpack, unpacked } from "./unpack.js";
 import { reasonOfRead, whyItFailed } from "./failures.js";
 import { PastedGames } from "./pasted.js";
 import { FaultList } from "./fault_list.js";
@@ -10,7 +11,8 @@ import { GameList } from "./game_list.js";
 import { EditList } from "./edit_list.js";
 import { showNotes } from "./notes.js";
 import { NO_MARKER } from "./fixes.js";
-import { byId, counted, item } from "./elements.js";
+import { MainLine } from "./main_line.js";
+import { byId, counted, goByKeys, item } from "./elements.js";
 
 // So much of an export is shown as text; all of it can be downloaded.
 const MOST_SHOWN = 100000;
@@ -31,8 +33,9 @@ function bytesOfBlock(id) {
 }
 
 class Page {
-  constructor(moduleBytes) {
+  constructor(moduleBytes, module) {
     this.moduleBytes = moduleBytes;
+    this.mainLine = new MainLine(module);
     const script = new Blob([byId("worker").textContent], { type: "text/javascript" });
     this.workerAddress = URL.createObjectURL(script);
     this.worker = null;
@@ -53,7 +56,7 @@ class Page {
       // the browser says nothing of the same file that is chosen again, unless the field is empty
       event.target.value = "";
     });
-    byId("stop").addEventListener("click", () => this.worker.postMessage({ kind: "stop" }));
+    byId("stop").addEventListener("click", () => this.stop());
     byId("go-on-once").addEventListener("click", () => this.goOn(false));
     byId("go-on-always").addEventListener("click", () => this.goOn(true));
     byId("mend").addEventListener("click", () => this.mend([]));
@@ -64,6 +67,9 @@ class Page {
     byId("download-faults").addEventListener("click", () => this.ask("faultList", "download"));
     for (const id of ["mode", "missing"]) {
       byId(id).addEventListener("change", () => this.again(false));
+    }
+    for (const id of ["other-faults", "notes-list", "list"]) {
+      goByKeys(byId(id));
     }
     this.listenToDrops();
   }
@@ -99,24 +105,56 @@ class Page {
     }
     this.endWorkers();
     this.chosen = files;
-    const kinds = await Promise.all(files.map((it) => this.kindOf(it)));
+    const looked = await Promise.all(files.map((it) => this.look(it, files)));
     // other files may have been chosen, or games pasted, while these were looked at
     if (this.chosen === files) {
       this.begin({
-        files: files.filter((_, index) => !kinds[index]), leftOut: kinds.filter((it) => it),
+        files: looked.filter((it) => typeof it !== "string"),
+        leftOut: looked.filter((it) => typeof it === "string"),
       });
     }
   }
 
-  // What is said of a file that is no text of games, or an empty text.
-  async kindOf(file) {
+  // A chosen file, or what comes out if it is compressed with gzip. Or sentences about it, if it is
+  // no text of games.
+  async look(file, files) {
+    let kind;
     try {
-      const kind = await otherKind(file);
-      this.wereRead.add(file);
-      return kind;
+      kind = await kindOf(file);
     } catch (error) {
       // the conversion meets it too, and says so
-      return "";
+      return file;
+    }
+    this.wereRead.add(file);
+    return kind.isGzip && canUnpack() ? this.unpack(file, files) : kind.sentences || file;
+  }
+
+  async unpack(file, files) {
+    if (this.chosen === files) {
+      this.showWork(true);
+    }
+    try {
+      return await unpacked(file, (size) => {
+        if (this.chosen !== files) {
+          throw new Error("other files were chosen");
+        }
+        byId("work-text").textContent =
+          "Unpacking " + file.name + ": " + megabytes(size) + " so far.";
+      });
+    } catch (error) {
+      const reason = error instanceof TooLarge ? "memory" : error instanceof TypeError ? "packed"
+        : reasonOfRead(error.name, true);
+      return whyItFailed({ reason, file: file.name });
+    }
+  }
+
+  stop() {
+    if (this.chosen) {
+      // they are being unpacked
+      this.chosen = null;
+      this.failed({ reason: "none" });
+    } else {
+      this.worker.postMessage({ kind: "stop" });
     }
   }
 
@@ -160,8 +198,12 @@ class Page {
     byId("chosen").hidden = !names.length || this.job.pasted !== null;
     byId("chosen").textContent =
       "Chosen: " + names.join(", ") + (more ? " and " + counted(more, "more file") : "") + ".";
-    byId("left-out").hidden = !this.job.leftOut.length;
-    byId("left-out").replaceChildren(...this.job.leftOut.map((it) => item(it)));
+    this.showLeftOut(this.job.leftOut);
+  }
+
+  showLeftOut(sentences) {
+    byId("left-out").hidden = !sentences.length;
+    byId("left-out").replaceChildren(...sentences.map((it) => item(it)));
   }
 
   // Lets a worker go through the files. `hearer` has a function for each kind of its messages.
@@ -298,9 +340,12 @@ class Page {
     byId("download-bad").hidden = !state.bad;
     byId("copied").textContent = "";
     byId("work").dataset.state = state.kind;
+    this.showLeftOut([...this.job.leftOut, ...state.withoutGames.map(
+      (name) => (this.job.pasted === null ? name : "The text") + " has no game.")]);
     this.faults.show(state.faults, state.kind === "refused");
-    showNotes(state.noted, state.notes, (index) => this.list.ask({ kind: "game", index }));
-    this.list.begin(state.games);
+    const hasFiles = this.files.length > 1;
+    showNotes(state.noted, state.notes, hasFiles, (index) => this.list.ask({ kind: "game", index }));
+    this.list.begin(state.games, hasFiles);
     this.worker.postMessage({ kind: "head", most: MOST_SHOWN });
   }
 
@@ -328,8 +373,9 @@ class Page {
     this.list.show(answer);
   }
 
-  game({ index, bytes }) {
-    this.list.open(index, decodedLines(bytes));
+  game({ row, bytes }) {
+    this.mainLine.open(bytes);
+    this.list.open(row, decodedLines(bytes));
   }
 
   async exported({ blob }) {
@@ -355,7 +401,8 @@ class Page {
   }
 
   outputName(what, kind = "pgn") {
-    const name = this.files.length === 1 ? this.files[0].name.replace(/\.[^.]*$/, "") : "games";
+    const name = this.files.length === 1
+      ? this.files[0].name.replace(/(\.[^.]*)?\.gz$|\.[^.]*$/, "") : "games";
     return name.replace(/[^\w-]+/g, "-") + "." + what + "." + kind;
   }
 
@@ -390,7 +437,7 @@ async function start() {
     return;
   }
   new PositionFields(module);
-  new Page(bytes);
+  new Page(bytes, module);
   document.documentElement.dataset.state = "ready";
 }
 

@@ -59,9 +59,15 @@ export class Conversion {
     // how much of the export text is in the chunks, and how much is still in the module's memory
     this.moved = 0;
     this.used = 0;
-    // of each game: where its export text begins, and its plies
+    // of each game: where its export text begins, its number in its file, and its plies
     this.starts = [];
+    this.numbers = [];
     this.plies = [];
+    // of each file: its name, and the index of the first game behind its begin
+    this.fileNames = [];
+    this.fileStarts = [];
+    // the names of the files that have neither a game nor a bad one
+    this.withoutGames = [];
     this.allPlies = 0;
     this.bad = [];
     // the games whose Termination names a forfeit in other words than the standard's
@@ -80,6 +86,8 @@ export class Conversion {
   beginFile(name, length) {
     this.move();
     this.name = name;
+    this.fileNames.push(name);
+    this.fileStarts.push(this.games);
     this.length = length;
     this.text = this.module.free;
     this.buffer = this.text + length;
@@ -118,8 +126,7 @@ export class Conversion {
       } else if (status === FULL) {
         this.makeRoom();
       } else if (status === NO_GAME) {
-        this.from = this.length;
-        this.move();
+        this.endFile();
         return "end";
       } else if (status === FAULT || status === MORE) {
         return "fault";
@@ -131,6 +138,14 @@ export class Conversion {
       }
     }
     return "wait";
+  }
+
+  endFile() {
+    this.from = this.length;
+    this.move();
+    if (!this.inFile) {
+      this.withoutGames.push(this.name);
+    }
   }
 
   // Whether more bytes of the file could change the answer.
@@ -146,7 +161,7 @@ export class Conversion {
     this.plies.push(read("plies"));
     this.allPlies += read("plies");
     this.from = read("end");
-    this.inFile++;
+    this.numbers.push(++this.inFile);
   }
 
   makeRoom() {
@@ -182,7 +197,7 @@ export class Conversion {
     }
   }
 
-  // What is known of the fault that the last call has answered.
+  // What the list of faults has of the fault that the last call has answered.
   fault() {
     const { module } = this;
     const bytes = this.fileBytes();
@@ -193,24 +208,28 @@ export class Conversion {
     const reason = message.slice(module.field("pgn_game", "reason_at"));
     const end = this.endOfBadGame(place);
     const tags = this.tagsOfGame(bytes, end);
-    const fault = {
-      file: this.name, number, place, end, message, reason, fen, line: this.lineOf(place),
-      symbol: symbolAt(bytes, place), game: this.inFile + 1, tags, hasResult: "Result" in tags,
-      near: latin1(bytes.subarray(place, place + 4)), isAtEnd: place === this.length,
+    return {
+      file: this.name, number, place, end, reason, fen, line: this.lineOf(place),
+      game: this.inFile + 1, tags,
       note: number === BAD_RESULT
         ? noteOnResult(latin1(bytes.subarray(place, place + VALUE_SIZE))) : "",
       ...lineAround(bytes, place, LINE_WIDTH),
     };
-    if (number === UNCLOSED_COMMENT) {
-      fault.openedLine = this.lineOf(this.openBrace(bytes));
-    }
-    if (number === TAG_IN_MOVETEXT) {
-      fault.hasMovetext = this.fixes.hasMovetext(latin1(bytes.subarray(this.from, place)));
-    }
-    if (fen) {
-      Object.assign(fault, this.explanation(fen, fault.symbol));
-    }
-    return fault;
+  }
+
+  // The same with all that the page shows of a fault.
+  withDetails(fault) {
+    const { number, place, fen, tags } = fault;
+    const bytes = this.fileBytes();
+    const symbol = symbolAt(bytes, place);
+    return {
+      ...fault, symbol, hasResult: "Result" in tags, isAtEnd: place === this.length,
+      near: latin1(bytes.subarray(place, place + 4)),
+      openedLine: number === UNCLOSED_COMMENT ? this.lineOf(this.openBrace(bytes)) : 0,
+      hasMovetext: number === TAG_IN_MOVETEXT &&
+        this.fixes.hasMovetext(latin1(bytes.subarray(this.from, place))),
+      ...(fen ? this.explanation(fen, symbol) : {}),
+    };
   }
 
   // The brace that opens the comment which the text ends in, by guess: the first one behind the
@@ -314,7 +333,7 @@ export class Conversion {
     return this.exported(this.starts[index], end);
   }
 
-  // Number, White, Black, Result and plies of some games.
+  // File, number, plies and tags of some games.
   rows(first, count) {
     const rows = [];
     for (let index = first; index < Math.min(first + count, this.games); index++) {
@@ -323,13 +342,17 @@ export class Conversion {
     return rows;
   }
 
-  // Number, plies and tags of a game.
+  // File, number, plies and tags of a game.
   row(index) {
     const row = {};
     for (const [name, value] of this.module.tags(this.game(index))) {
       row[latin1(name)] = decoded(value).replace(/\\(["\\])/g, "$1");
     }
     // a tag may have one of these names
-    return Object.assign(row, { number: index + 1, plies: this.plies[index] });
+    const fileIndex = lastUpTo(this.fileStarts, index);
+    return Object.assign(row, {
+      index, fileIndex, file: this.fileNames[fileIndex], number: this.numbers[index],
+      plies: this.plies[index],
+    });
   }
 }

@@ -31,7 +31,7 @@ export class EditList {
       edits.length ? counted(edits.length, "edit") + " in " + counted(mended, "game") + "."
         : "No fix of this page applies.",
       edits.length > MOST_EDITS ? "The first " + MOST_EDITS + " are listed; all are applied." : "",
-      !left ? "All games are then sound."
+      !left ? "All games are then valid."
         : counted(left, "game") + (left === 1 ? " stays bad." : " stay bad.") +
           " pgn_lint --fix has more fixes.",
     ].join(" ").replace(/ {2}/g, " ");

@@ -34,6 +34,32 @@ export function button(text, act) {
   return made;
 }
 
+// Makes the buttons of a list one stop of the tab key, at the one that had the focus last.
+export function oneTabStop(list) {
+  list.querySelectorAll("button").forEach((it, index) => {
+    it.tabIndex = index ? -1 : 0;
+  });
+}
+
+// Lets the arrow keys, Home and End go through the buttons of a list.
+export function goByKeys(list) {
+  list.addEventListener("focusin", (event) => {
+    list.querySelectorAll("button").forEach((it) => {
+      it.tabIndex = it === event.target ? 0 : -1;
+    });
+  });
+  list.addEventListener("keydown", (event) => {
+    const buttons = Array.from(list.querySelectorAll("button"));
+    const at = buttons.indexOf(event.target);
+    const to = buttons[
+      { ArrowUp: at - 1, ArrowDown: at + 1, Home: 0, End: buttons.length - 1 }[event.key]];
+    if (to) {
+      event.preventDefault();
+      to.focus();
+    }
+  });
+}
+
 // A button in a paragraph of its own.
 export function buttonLine(text, act) {
   const line = document.createElement("p");

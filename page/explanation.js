@@ -1,6 +1,6 @@
 // Why a move was refused, in sentences, from what the library's explanation says.
 import { squareName } from "./spellings.js";
-import { nameOfPiece, sideOf } from "./board.js";
+import { nameOfPiece, piecesOf, sideOf } from "./board.js";
 
 const LEGAL = 2;
 const IN_CHECK = 1;
@@ -75,6 +75,29 @@ export function explained(fault) {
     "No " + nameOfPiece(explanation.piece) + " of " + side + " can go to " + target +
     (isHinted(symbol, explanation.piece) ? " from where “" + symbol + "” says." : "."),
   ];
+}
+
+// Which rule the fields of a FEN break together that are good each by itself.
+export function whyNoPosition(fen) {
+  const pieces = piecesOf(fen);
+  const side = sideOf(fen);
+  const [, , , target] = fen.split(" ");
+  for (const [name, king] of [["White", "K"], ["Black", "k"]]) {
+    const kings = pieces.filter((it) => it === king).length;
+    if (kings !== 1) {
+      return name + " has " + (kings ? kings + " kings" : "no king");
+    }
+  }
+  const pawn = pieces.findIndex((it, square) => /[Pp]/.test(it) && (square < 8 || square >= 56));
+  if (pawn >= 0) {
+    return "a pawn is on " + squareName(pawn) + ", and none can be on the first or last rank";
+  }
+  const rank = side === "White" ? "6" : "3";
+  if (target !== "-" && target[1] !== rank) {
+    return "with " + side + " to move the en passant target is on rank " + rank + ", and not " +
+      target;
+  }
+  return (side === "White" ? "Black" : "White") + " has moved, and is in check";
 }
 
 function isPromotionMissing(explanation, symbol) {

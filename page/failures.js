@@ -6,6 +6,8 @@ const SENTENCES = {
   read: " cannot be read.",
   changed: " has changed since you chose it. Choose it again.",
   gone: " is no longer where it was when you chose it. Choose it again.",
+  packed: " cannot be unpacked here: it is damaged, or there is more behind its end. Unpack it, by " +
+    "gzip -d, and choose the file that comes out.",
 };
 
 // The reason of a read that failed, by the error's name. What was read before, and is refused now,

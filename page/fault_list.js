@@ -1,5 +1,5 @@
 // The faults of a conversion: one of them in full, and the list of all.
-import { button, buttonLine, byId, counted, item } from "./elements.js";
+import { button, buttonLine, byId, counted, item, oneTabStop } from "./elements.js";
 import { faultView, gameAndPlayers } from "./fault_view.js";
 
 export class FaultList {
@@ -35,6 +35,7 @@ export class FaultList {
         this.open(index);
         byId("faults-title").focus();
       }))));
+    oneTabStop(byId("other-faults"));
   }
 
   open(index) {

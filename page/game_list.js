@@ -1,5 +1,5 @@
-// The list of games: some rows a time, of which one opens as text.
-import { button, byId } from "./elements.js";
+// The list of games: some rows a time, of which one opens.
+import { button, byId, oneTabStop } from "./elements.js";
 
 const ROWS = 50;
 const COLUMNS = ["number", "White", "Black", "Result", "plies"];
@@ -12,8 +12,10 @@ export class GameList {
     byId("next").addEventListener("click", () => this.turn(ROWS));
   }
 
-  begin(games) {
+  // `hasFiles`: the games are those of several files, which the list names.
+  begin(games, hasFiles) {
     this.games = games;
+    this.hasFiles = hasFiles;
     this.first = 0;
     byId("game").hidden = true;
     this.turn(0);
@@ -33,8 +35,12 @@ export class GameList {
   show({ first, rows }) {
     const [begin, end, all] = [first + 1, first + rows.length, this.games].map(
       (it) => it.toLocaleString("en"));
-    byId("shown").textContent = "Games " + begin + " to " + end + " of " + all;
-    byId("list").replaceChildren(...rows.map((row) => this.row(row)));
+    byId("shown").textContent = "Rows " + begin + " to " + end + " of " + all;
+    byId("list").replaceChildren(...rows.flatMap((row, at) => {
+      const isFirst = !at || rows[at - 1].fileIndex !== row.fileIndex;
+      return this.hasFiles && isFirst ? [fileRow(row.file), this.row(row)] : [this.row(row)];
+    }));
+    oneTabStop(byId("list"));
   }
 
   row(row) {
@@ -42,7 +48,7 @@ export class GameList {
     for (const column of COLUMNS) {
       const cell = document.createElement("td");
       if (column === "number") {
-        const opener = button(row.number, () => this.ask({ kind: "game", index: row.number - 1 }));
+        const opener = button(row.number, () => this.ask({ kind: "game", index: row.index }));
         opener.setAttribute("aria-label", "Show game " + row.number);
         cell.append(opener);
       } else {
@@ -53,10 +59,21 @@ export class GameList {
     return made;
   }
 
-  open(index, text) {
+  open({ number, file }, text) {
     byId("game").hidden = false;
-    byId("game-title").textContent = "Game " + (index + 1);
+    byId("game-title").textContent = "Game " + number + (this.hasFiles ? " of " + file : "");
     byId("game-text").textContent = text;
     byId("game-title").focus();
   }
+}
+
+// The row above the games of a file.
+function fileRow(name) {
+  const made = document.createElement("tr");
+  const cell = document.createElement("th");
+  cell.colSpan = COLUMNS.length;
+  cell.scope = "rowgroup";
+  cell.textContent = name;
+  made.append(cell);
+  return made;
 }

@@ -6,12 +6,18 @@
 //   64-bit integers, which are BigInt here, and a size_t has eight bytes.
 // - Cargo builds for 32-bit memory. The calls of its module take numbers, and a size_t has four.
 
+import { latin1 } from "./text.js";
+
 // The structs of pgn.h.
 export const STRUCTS = {
   pgn_text: [["status", "uint32_t"], ["field", "uint32_t"], ["length", "size_t"]],
   pgn_move: [
     ["status", "uint32_t"], ["fault", "uint32_t"], ["field", "uint32_t"],
     ["san", "uint8_t", 8], ["uci", "uint8_t", 8], ["fen", "uint8_t", 96],
+  ],
+  pgn_plies: [
+    ["status", "uint32_t"], ["fault", "uint32_t"], ["field", "uint32_t"], ["place", "uint64_t"],
+    ["written", "size_t"], ["plies", "size_t"],
   ],
   pgn_game: [
     ["status", "uint32_t"], ["fault", "uint32_t"], ["place", "uint64_t"], ["written", "size_t"],
@@ -58,6 +64,8 @@ const SHORT_TEXTS_SIZE = 65536;
 // A pgn_bad_game is put there too.
 const BAD_GAME_SIZE = 64;
 const PAGE_SIZE = 65536;
+// The most bytes that pgn_line writes for a ply.
+const PLY_SIZE = 108;
 // No address of 32 bits is larger. Where a size_t has 32 bits, Rust allows half of it to a text.
 const MOST_PAGES = { wide: 65536, narrow: 32768 };
 
@@ -182,6 +190,23 @@ export class Module {
       san: this.textField("pgn_move", "san"),
       fen: this.textField("pgn_move", "fen"),
     };
+  }
+
+  // The plies of a text of moves from the position of a FEN on: SAN, UCI and the FEN after each.
+  line(fen, text) {
+    // each move has a letter, a digit and white space at least
+    const room = PLY_SIZE * (text.length / 3 + 1 | 0);
+    const textAt = this.free + fen.length;
+    const buffer = textAt + text.length;
+    this.reserve(buffer + room);
+    this.bytes.set(fen, this.free);
+    this.bytes.set(text, textAt);
+    this.call("pgn_line", this.free, fen.length, textAt, text.length, [SAN], buffer, room);
+    const written = this.bytes.subarray(buffer, buffer + this.field("pgn_plies", "written"));
+    return latin1(written).split("\n").slice(0, -1).map((line) => {
+      const [san, uci, after] = line.split("\t");
+      return { san, uci, fen: after };
+    });
   }
 
   explain(fen, text) {

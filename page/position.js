@@ -1,17 +1,15 @@
 // The fields for a FEN and a move on it.
-import { OK } from "./module.js";
+import { OK, SAN, UCI } from "./module.js";
 import { encoded } from "./text.js";
 import { spellings } from "./spellings.js";
 import { boardView } from "./board_view.js";
 import { byId } from "./elements.js";
-import { explained } from "./explanation.js";
+import { explained, whyNoPosition } from "./explanation.js";
+import { INITIAL_FEN } from "./main_line.js";
 
 const FIELDS = [
   "", "field 1, the pieces", "field 2, the side to move", "field 3, the castling rights",
   "field 4, the en passant target", "field 5, the halfmove clock", "field 6, the move number",
-  "each field is right by itself, but together they make no position: a king is missing, a pawn is " +
-  "on the first or last rank, the side that has moved is in check, or the en passant target is " +
-  "on a rank where none can be",
 ];
 const REASONS = {
   33: "is not a move", 34: "is not legal", 35: "is ambiguous",
@@ -31,7 +29,7 @@ export class PositionFields {
         this.play();
       }
     });
-    byId("fen").value = "rnbqkbnr/pppppppp/8/8/8/8/PPPPPPPP/RNBQKBNR w KQkq - 0 1";
+    byId("fen").value = INITIAL_FEN;
     this.showPosition();
   }
 
@@ -40,7 +38,8 @@ export class PositionFields {
     const read = this.module.normalizeFen(encoded(given));
     this.fen = read.status === OK ? read.fen : "";
     byId("fen-answer").textContent = given === "" ? ""
-      : !this.fen ? "This FEN is no position: " + FIELDS[read.field] + "."
+      : !this.fen ? "This FEN is no position: " + (FIELDS[read.field] ||
+        "each field is right by itself, but " + whyNoPosition(given)) + "."
       : this.fen === given ? "This is the canonical FEN." : "Canonical: " + this.fen;
     this.showMove();
   }
@@ -51,7 +50,7 @@ export class PositionFields {
     byId("move-answer").textContent = "";
     const boards = [];
     if (this.fen && text) {
-      const move = this.module.san(encoded(this.fen), encoded(text));
+      const move = this.moveOf(text);
       if (move.status === OK) {
         this.after = move.fen;
         byId("move-answer").textContent = move.san + ", and then " + move.fen;
@@ -64,6 +63,13 @@ export class PositionFields {
     }
     byId("play").disabled = !this.after;
     byId("position").replaceChildren(...boards);
+  }
+
+  // The move that a text names in SAN, or else in the notation of engines.
+  moveOf(text) {
+    const [asSan, asUci] = [SAN, UCI].map(
+      (notation) => this.module.san(encoded(this.fen), encoded(text), notation));
+    return asSan.status !== OK && asUci.status === OK ? asUci : asSan;
   }
 
   // The board in which a move was refused, and why.

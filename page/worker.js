@@ -84,7 +84,7 @@ const ANSWERS = {
   },
 
   game(message) {
-    report("game", { index: message.index, bytes: conversion.game(message.index) });
+    report("game", { row: conversion.row(message.index), bytes: conversion.game(message.index) });
   },
 
   head(message) {
@@ -189,7 +189,7 @@ function takeFault() {
   conversion.lastFault = conversion.fault();
   faultLines.push(lineOfFault(conversion.lastFault));
   if (faultLines.length <= MOST_FAULTS) {
-    report("fault", { fault: conversion.lastFault });
+    report("fault", { fault: conversion.withDetails(conversion.lastFault) });
   }
   if (goesOnByItself) {
     conversion.goOn(conversion.lastFault.end);
@@ -217,6 +217,7 @@ function end(kind, begin) {
     place: conversion.from, file: conversion.name, waiting: files.length,
     faults: faultLines.length, noted: conversion.forfeits.length,
     notes: conversion.forfeits.slice(0, MOST_NOTES).map((index) => conversion.row(index)),
+    withoutGames: conversion.withoutGames,
   });
   isStopped = false;
 }

@@ -41,7 +41,7 @@ enum {
     PGN_NO_MODE = 3, /* an argument has no such value, or is null; nothing was written */
     PGN_NO_GAME = 4, /* no game is left in the text */
     PGN_MORE = 5,    /* a fault if the text ends here: a caller who reads in chunks gives more */
-    PGN_BAD_PLACE = 6 /* the place is behind the text or above 2^62; nothing was written */
+    PGN_BAD_PLACE = 6 /* the place is after the text or above 2^62; nothing was written */
 };
 
 /* The modes of pgn_convert, pgn_next_game and pgn_read_game. */
@@ -114,7 +114,7 @@ typedef struct pgn_game {
     uint32_t fault;       /* the fault's number with PGN_FAULT, PGN_MORE and PGN_FULL; else 0 */
     uint64_t place;       /* the byte offset of the fault in the text; else 0 */
     size_t written;       /* how many bytes of the buffer were written, from its front */
-    size_t end;           /* PGN_OK: the place behind the game, from where the next begins; else 0 */
+    size_t end;           /* PGN_OK: the place after the game, from where the next begins; else 0 */
     size_t marker_at;     /* PGN_OK: the place of the game's termination marker; else 0 */
     uint64_t plies;       /* PGN_OK: the game's plies, without variations; else 0 */
     size_t reason_at;     /* where the reason begins in the message */
@@ -130,7 +130,7 @@ typedef struct pgn_tag {
                             PGN_NO_MODE for a null pointer */
     size_t name_at;      /* where the name begins in the text */
     size_t name_length;  /* how many bytes it has, 1 to 255 */
-    size_t value_at;     /* where the value begins, behind its quote */
+    size_t value_at;     /* where the value begins, after its quote */
     size_t value_length; /* how many bytes it has, with the backslash before each quote or backslash */
     size_t next;         /* where the next line begins */
 } pgn_tag;
@@ -138,7 +138,7 @@ typedef struct pgn_tag {
 /* Which lines can show where a game ends, for pgn_next_section. */
 enum {
     PGN_ENDS_ANYWHERE = 0,    /* all lines, as for a bad game */
-    PGN_ENDS_IN_COMMENTS = 1, /* lines in comments, as for a sound game: one may hide another game */
+    PGN_ENDS_IN_COMMENTS = 1, /* lines in comments, as for a valid game: one may hide another game */
     PGN_ENDS_NOWHERE = 2      /* none: the lines are read for the comment that is open */
 };
 
@@ -146,7 +146,7 @@ enum {
 typedef struct pgn_bad_game {
     size_t begin;            /* where the game before it ends */
     size_t fault;            /* the place of its fault */
-    size_t at;               /* where the next line begins; `begin` before the first call; behind
+    size_t at;               /* where the next line begins; `begin` before the first call; after
                                 PGN_OK the place where reading goes on */
     size_t comment_at;       /* where the comment begins that is open there, if has_comment */
     size_t escapes_at;       /* where the escape lines before the next line begin, if has_escapes */
@@ -207,7 +207,7 @@ pgn_result pgn_convert(const uint8_t *text, size_t length,
 /*
  * Writes the canonical text of a FEN (PGN 16.1) into the front of a buffer.
  *
- * The text has at most 93 bytes, and no zero behind them.
+ * The text has at most 93 bytes, and no zero after them.
  *
  * PGN_OK: the buffer has the text, and `length` is its length.
  * PGN_FAULT: the FEN is no position; `field` says which field is at fault. The buffer is unchanged.
@@ -245,8 +245,8 @@ pgn_move pgn_san(const uint8_t *fen, size_t fen_length, const uint8_t *text, siz
  * of at most 108 bytes:
  *
  * `format`      moves in  line of a ply
- * PGN_SAN       SAN       its SAN, its UCI and the FEN of the position after it, with a tab behind
- *                         the first two and a line feed behind the third
+ * PGN_SAN       SAN       its SAN, its UCI and the FEN of the position after it, with a tab after
+ *                         the first two and a line feed after the third
  * PGN_UCI       UCI       the same
  * PGN_SAN_FEN   SAN       the FEN and a line feed
  * PGN_UCI_FEN   UCI       the same
@@ -261,7 +261,7 @@ pgn_move pgn_san(const uint8_t *fen, size_t fen_length, const uint8_t *text, siz
  *     the last line and the text from `place` on.
  * PGN_NO_MODE: `format` is above 3.
  *
- * The bytes of the buffer behind the first `written` are as they were.
+ * The bytes of the buffer after the first `written` are as they were.
  */
 pgn_plies pgn_line(const uint8_t *fen, size_t fen_length, const uint8_t *text, size_t length,
                    uint32_t format, uint8_t *buffer, size_t capacity);
@@ -273,16 +273,16 @@ pgn_plies pgn_line(const uint8_t *fen, size_t fen_length, const uint8_t *text, s
  * the first byte of the text. The bytes before `from` count as white space. So from a place inside
  * a token, a comment or an escape line, the rest of it is read as if it were outside. A byte order
  * mark is skipped at place 0 alone. A `%` at `from` begins an escape line only in the first column:
- * at place 0, behind CR or LF, and at place 3 of a text that begins with a byte order mark.
+ * at place 0, after CR or LF, and at place 3 of a text that begins with a byte order mark.
  *
- * PGN_OK: a game; the buffer has its export text. Bytes behind the one at `end` do not matter. If
- *     `end` is `length`, more bytes behind the text could change the answer: a caller who reads in
+ * PGN_OK: a game; the buffer has its export text. Bytes after the one at `end` do not matter. If
+ *     `end` is `length`, more bytes after the text could change the answer: a caller who reads in
  *     chunks gives more, and calls again with the same `from`.
  * PGN_NO_GAME: no game is left; there may be white space, comments and escape lines. Nothing is
  *     written. With more bytes there may be a game.
  * PGN_FAULT: the game has a fault, or (52) the text goes on to the byte at 2^62 before it ends. More
  *     bytes would not change that. The buffer has the complete lines of the game, if its movetext has begun.
- * PGN_MORE: the text has a fault if it ends here: inside a game or a comment, or behind a token
+ * PGN_MORE: the text has a fault if it ends here: inside a game or a comment, or after a token
  *     that could go on. More bytes could change that. A caller who reads in chunks gives more, and
  *     calls again with the same `from`. If the text is whole, this is its fault: `fault`, `place`
  *     and `message` say which. The buffer has what it has with PGN_FAULT.
@@ -294,7 +294,7 @@ pgn_plies pgn_line(const uint8_t *fen, size_t fen_length, const uint8_t *text, s
  *
  * With PGN_RESULT_FROM_MARKER the game is first read without being written. So nothing is written
  * with PGN_FAULT and PGN_MORE, and PGN_FULL is only for a game without a fault. The bytes of the
- * buffer behind the first `written` are as they were.
+ * buffer after the first `written` are as they were.
  */
 pgn_game pgn_next_game(const uint8_t *text, size_t length, size_t from, uint32_t mode,
                        uint32_t missing_result, uint8_t *buffer, size_t capacity);
@@ -304,14 +304,14 @@ pgn_game pgn_next_game(const uint8_t *text, size_t length, size_t from, uint32_t
  * front of a buffer.
  *
  * The arguments, the statuses and the results are those of pgn_next_game. But the buffer gets only
- * the tag section and the empty line behind it. No move is written, so a call takes less time.
+ * the tag section and the empty line after it. No move is written, so a call takes less time.
  *
  * PGN_OK: a game; the buffer has its tag section. `end` has the meaning that it has in
  *     pgn_next_game.
  * PGN_FULL: the section is longer than the buffer, which has its first `capacity` bytes. `fault` is
  *     51, and `place` is that of the game's marker. Call again with a larger one.
  *
- * With all others nothing is written. The bytes of the buffer behind the first `written` are as
+ * With all others nothing is written. The bytes of the buffer after the first `written` are as
  * they were. With PGN_RESULT_FROM_MARKER a missing Result is written as the marker.
  */
 pgn_game pgn_read_game(const uint8_t *text, size_t length, size_t from, uint32_t mode,
@@ -326,7 +326,7 @@ pgn_game pgn_read_game(const uint8_t *text, size_t length, size_t from, uint32_t
 pgn_tag pgn_tag_at(const uint8_t *text, size_t length, size_t at);
 
 /*
- * Reads the next piece of the text of a bad game, and finds where reading goes on behind the game.
+ * Reads the next piece of the text of a bad game, and finds where reading goes on after the game.
  *
  * It is a guess: the next line that begins a tag section. docs/PYTHON.md has the rule in words. The
  * first piece begins at the byte `begin` of the text, and each further one at the byte `at`. The
@@ -335,9 +335,9 @@ pgn_tag pgn_tag_at(const uint8_t *text, size_t length, size_t at);
  *
  * PGN_OK: reading goes on at `place`, which lies above `begin`. `at` is the same place. A byte order
  *     mark that stands where the game ends is passed.
- * PGN_NO_GAME: the place is not in this text: all the rest belongs to the bad game. `at` is behind
+ * PGN_NO_GAME: the place is not in this text: all the rest belongs to the bad game. `at` is after
  *     the text, and `comment_at` says which comment is open there.
- * PGN_MORE: the whole lines of the piece are read, and `at` is behind them. The next piece begins
+ * PGN_MORE: the whole lines of the piece are read, and `at` is after them. The next piece begins
  *     with the bytes that are left, from `at` on. Give more of them than before.
  * PGN_NO_MODE: there are no such `ends`. The game is unchanged.
  * PGN_BAD_PLACE: the piece would end at 2^64 or above. The game is unchanged.

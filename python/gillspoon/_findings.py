@@ -89,7 +89,7 @@ class Finding(NamedTuple):
 
 
 class Warned(NamedTuple):
-    """A warning, of a sound game or of a file. These are its fields of --json."""
+    """A warning, of a valid game or of a file. These are its fields of --json."""
 
     file: str
     line: int

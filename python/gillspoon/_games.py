@@ -324,7 +324,7 @@ def games(source: Source, *, checked: bool = False, reduced: bool = False,
     """Reads the games of a source, one at a time.
 
     A source is a path, bytes or an mmap, or an open binary file. Each may be compressed: gz, bz2,
-    xz, zst or zip, known by its first bytes. Memory grows with the longest game, sound or bad, and
+    xz, zst or zip, known by its first bytes. Memory grows with the longest game, valid or bad, and
     not with the source.
 
     `checked`: a game without a Result tag takes its termination marker. Else a missing Result

@@ -1,4 +1,4 @@
-"""What export format has no place for, in the text of sound games.
+"""What export format has no place for, in the text of valid games.
 
 The library says where each game begins and ends. Between its tag pairs and before them there are
 comments and escape lines (PGN 6) alone; in its movetext only escape lines are left out.

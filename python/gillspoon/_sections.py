@@ -76,7 +76,7 @@ QUOTED_TAG_LINE = re.compile(rb'[\r\n][\x00-\x20\x7f\xef\xbb\xbf]*\[[\t-\r ]*\w+
 
 
 def game_in_comment(text: bytes) -> Optional[int]:
-    """Where a comment of a sound game holds a line that begins a tag section, or None.
+    """Where a comment of a valid game holds a line that begins a tag section, or None.
 
     >>> game_in_comment(b'1. e4 {resigns\\n\\n[White "Ada"]\\n\\n1. d4 {a} 1-0')
     16

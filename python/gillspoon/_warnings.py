@@ -1,6 +1,6 @@
-"""What pgn_lint warns of in games that are sound, and in a file.
+"""What pgn_lint warns of in games that are valid, and in a file.
 
-A sound game can hide another one in a comment, and some values have forms that the standard does
+A valid game can hide another one in a comment, and some values have forms that the standard does
 not know. Each test is cheap on a game that it does not warn of.
 """
 import re
@@ -49,7 +49,7 @@ class Watcher:
         self._encodings = {True: False, False: False}
 
     def game(self, game: Game, text: bytes) -> Iterator[Said]:
-        """The warnings of a sound game, whose text has the comments before it."""
+        """The warnings of a valid game, whose text has the comments before it."""
         if text[:1] in (b"{", b";"):
             yield Said(game.offset, DROPPED)
         inside = game_in_comment(text)

@@ -51,7 +51,7 @@ text has one reading and nothing is lost; --unsafe-fixes adds the others. What n
 it is, byte for byte. --fix replaces a file whole, and leaves read-only files alone. What is left is
 reported by the lines of the text after the edits, and warnings are counted alone.
 
-A warning is about a sound game: a comment in which a game may be, text that export drops, a value
+A warning is about a valid game: a comment in which a game may be, text that export drops, a value
 whose form the standard does not know, a mix of encodings, a Variant tag, or a file without games.
 
 status:

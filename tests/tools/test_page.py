@@ -7,6 +7,7 @@ import json
 import os
 import random
 import re
+import shutil
 import sys
 import tempfile
 import unittest
@@ -27,6 +28,7 @@ ARCHIVE_GAMES = 12500
 MEGABYTE = 1000000
 # Keys, as WebDriver names them.
 TAB, ENTER, CONTROL, UP, DOWN = "\ue004", "\ue007", "\ue009", "\ue013", "\ue015"
+END, HOME, LEFT, RIGHT = "\ue010", "\ue011", "\ue012", "\ue014"
 INITIAL = "rnbqkbnr/pppppppp/8/8/8/8/PPPPPPPP/RNBQKBNR w KQkq - 0 1"
 # Texts at the edges of rules, beside the rows of spellings.py.
 EDGES = [
@@ -207,6 +209,12 @@ class Case(unittest.TestCase):
     def text(self, identity):
         return re.sub(r"\n{2,}", "\n", self.browser.run(TEXT, identity)).strip()
 
+    def rows(self):
+        """The rows of the list of games."""
+        return self.browser.run(
+            "return [...document.querySelectorAll('#list tr')].map(row => "
+            "[...row.cells].map(cell => cell.innerText))")
+
     def picture(self, name):
         os.makedirs(PICTURES, exist_ok=True)
         self.browser.picture("%s/%s.png" % (PICTURES, name))
@@ -307,12 +315,10 @@ class States(Case):
         self.picture("converted")
         self.assertRegex(self.text("work"), r"^Progress\nDone, after \d+\.\d s\.$")
         self.assertEqual(self.text("counts"), "3 games, 7 plies.")
-        rows = self.browser.run(
-            "return [...document.querySelectorAll('#list tr')].map(row => "
-            "[...row.cells].map(cell => cell.innerText))")
-        self.assertEqual(rows, [["1", "Silva, J.", "Nowak, A.", "1-0", "7"],
-                                ["2", "Amaral, Rita", "Okafor, Ben", "1-0", "0"],
-                                ["3", "Silva, J.", "Nowak, A.", "1/2-1/2", "0"]])
+        self.assertEqual(self.rows(), [
+            ["annotated.pgn"], ["1", "Silva, J.", "Nowak, A.", "1-0", "7"],
+            ["two.pgn"], ["1", "Amaral, Rita", "Okafor, Ben", "1-0", "0"],
+            ["2", "Silva, J.", "Nowak, A.", "1/2-1/2", "0"]])
         readme = "\n".join(lines_of("README.md"))
         first = re.search(r"\$ pgn_tool export examples/annotated\.pgn\n(.*?\n\n.*?\n\n)```",
                           readme, re.S)[1]
@@ -320,7 +326,7 @@ class States(Case):
         self.assertTrue(shown.startswith(first))
         self.browser.run("document.querySelector('#list button').click()")
         self.browser.wait_for("return !document.getElementById('game').hidden")
-        self.assertEqual(self.text("game-title"), "Game 1")
+        self.assertEqual(self.text("game-title"), "Game 1 of annotated.pgn")
         self.assertEqual(
             self.browser.run("return document.getElementById('game-text').textContent"), first)
         name, text = self.download("download")
@@ -410,8 +416,8 @@ class States(Case):
             ".map(it => it.outerHTML.slice(0, 80))")
         self.assertEqual(wide, [])
 
-    def test_wide_table(self):
-        """At the width of a phone the table scrolls, and the page does not."""
+    def test_phone_with_long_names(self):
+        """The page is as wide as the window, and of each game the result and the plies are seen."""
         self.page(size=(390, 844))
         self.browser.command("Emulation.setDeviceMetricsOverride", width=390, height=844,
                              deviceScaleFactor=1, mobile=True)
@@ -432,12 +438,42 @@ class States(Case):
         self.picture("phone-table")
         for part in ("chosen", "left-out", "all-faults", "mending", "notes", "list", "game"):
             self.assertTrue(self.browser.run(IS_VISIBLE, part), part)
-        page, table, shown, moved = self.browser.run(
-            "const it = document.querySelector('.wide'); it.scrollLeft = 20;"
-            "return [document.documentElement.scrollWidth, it.scrollWidth, it.clientWidth,"
-            " it.scrollLeft]")
-        self.assertEqual((page, moved), (390, 20))
-        self.assertGreater(table, shown)
+        self.assertEqual(self.browser.run("return document.documentElement.scrollWidth"), 390)
+        ends = self.browser.run(
+            "return [...document.querySelectorAll('#list td')].slice(-2).map(it => {"
+            "const range = document.createRange(); range.selectNodeContents(it);"
+            "return range.getBoundingClientRect().right; })")
+        self.assertLess(0, min(ends))
+        self.assertLessEqual(max(ends), 390)
+
+    def test_borders(self):
+        """Those of fields, buttons and boxes have a contrast of 3:1 (WCAG 2.2, 1.4.11)."""
+        self.page()
+        bad = b'[Event "x"]\n\n1. e2-e4 *\n\n'
+        self.convert(("in.pgn", 2 * bad))
+        for scheme in ("light", "dark"):
+            self.browser.command("Emulation.setEmulatedMedia",
+                                 features=[{"name": "prefers-color-scheme", "value": scheme}])
+            found = self.browser.run(
+                "return ['textarea', 'pre', 'input[type=text]', 'select', 'button', 'fieldset',"
+                " '#drop', '.box', 'th', 'h2'].map(name => {"
+                "const style = (it) => getComputedStyle(document.querySelector(it));"
+                "return [name, style(name).borderBottomColor, style(name).backgroundColor,"
+                " style('body').backgroundColor]; })")
+            for name, border, *grounds in found:
+                for ground in grounds:
+                    if ground != "rgba(0, 0, 0, 0)":
+                        self.assertGreaterEqual(contrast(border, ground), 3, (scheme, name))
+
+
+def contrast(*colours):
+    """The contrast of two colours as CSS has them, by WCAG 2.2."""
+    lights = []
+    for colour in colours:
+        parts = [int(it) / 255 for it in re.findall(r"\d+", colour)[:3]]
+        linear = [it / 12.92 if it <= 0.04045 else ((it + 0.055) / 1.055) ** 2.4 for it in parts]
+        lights.append(0.2126 * linear[0] + 0.7152 * linear[1] + 0.0722 * linear[2])
+    return (max(lights) + 0.05) / (min(lights) + 0.05)
 
 
 class Large(Case):
@@ -475,7 +511,7 @@ class Large(Case):
                          [counts[1].rstrip(","), counts[3]])
         self.browser.run(CLICK, "next")
         self.browser.wait_for("return document.getElementById('shown').innerText === arguments[0]",
-                              "Games 51 to 100 of {:,}".format(ARCHIVE_GAMES))
+                              "Rows 51 to 100 of {:,}".format(ARCHIVE_GAMES))
         self.assertEqual(self.browser.run("return document.querySelector('#list button').innerText"),
                          "51")
         exported = run([program, "export", self.archive]).stdout
@@ -625,15 +661,14 @@ class Files(Case):
         """Each is known by its first bytes, and the page says what to do."""
         self.page()
         game = b"1. e4 *\n"
-        compressed = ("a is compressed with %s. Unpack it and choose the file that comes out. The "
-                      "command pgn_fmt reads it as it is.")
+        compressed = ("a is compressed with %s. Unpack it, by %s -d, and choose the file that comes "
+                      "out. The command pgn_fmt reads it as it is.")
         unpack = "Unpack it and choose the PGN files in it"
         rows = [
-            (PACKERS["gz"](game), compressed % "gzip"),
-            (PACKERS["bz2"](game), compressed % "bzip2"),
-            (PACKERS["xz"](game), compressed % "xz"),
+            (PACKERS["bz2"](game), compressed % ("bzip2", "bzip2")),
+            (PACKERS["xz"](game), compressed % ("xz", "xz")),
             # RFC 8878, section 3.1.1: the magic number of a frame, in little-endian order
-            (0xFD2FB528.to_bytes(4, "little") + bytes(8), compressed % "zstd"),
+            (0xFD2FB528.to_bytes(4, "little") + bytes(8), compressed % ("zstd", "zstd")),
             (PACKERS["zip"](game), "a is a zip archive or an office document. " + unpack +
              ", or paste the games as text."),
             (b"PK\5\6" + bytes(18), "a is an empty zip archive."),
@@ -656,9 +691,73 @@ class Files(Case):
         self.assertEqual(self.text("chosen"), "Chosen: b.")
         self.assertEqual(self.text("counts"), "1 game, 1 ply.")
         # an escape line, a move and a comment are none of these
-        for text in (b"%PDF\n1. e4 *", b"Rd1 *", b"{PK} *", b""):
+        for text in (b"%PDF\n1. e4 *", b"Rd1 *", b"{PK} *"):
             self.convert(("a", text))
             self.assertFalse(self.browser.run(IS_VISIBLE, "left-out"), text)
+
+    def test_without_a_game(self):
+        """A file that has none is named, and so is a text."""
+        self.page()
+        for text in (b"", b"\n", b"{a comment}\n% an escape\n"):
+            self.assertEqual(self.convert(("a.pgn", text), ("b.pgn", b"1. e4 *")), "done")
+            self.assertEqual(self.text("left-out"), "a.pgn has no game.")
+            self.assertEqual(self.text("counts"), "1 game, 1 ply.")
+        # a bad game is one
+        self.assertEqual(self.convert(("a.pgn", b"1. e5 *")), "refused")
+        self.assertFalse(self.browser.run(IS_VISIBLE, "left-out"))
+        self.assertEqual(self.paste(";nothing"), "done")
+        self.assertEqual(self.text("left-out"), "The text has no game.")
+
+    def test_gzip(self):
+        """It is unpacked, and places are those of the text."""
+        self.page()
+        packed = PACKERS["gz"](b"1. e4 *\n\n1. e5 *\n")
+        self.assertEqual(self.convert(("in.pgn.gz", packed), ("b.pgn", b"1. d4 *")), "refused")
+        self.assertIn("in.pgn.gz: line 3, column 4 (byte 12): move is not legal",
+                      self.text("fault"))
+        self.browser.run("delete document.getElementById('work').dataset.shown;"
+                         "document.getElementById('go-on-always').click()")
+        self.assertEqual(self.browser.wait_for(IS_SHOWN), "done")
+        self.assertEqual(self.text("counts"), "2 games, 2 plies; 1 bad game set aside.")
+        self.assertEqual(self.convert(("in.pgn.gz", PACKERS["gz"](example("annotated")))), "done")
+        name, text = self.download("download")
+        self.assertEqual(name, "in.export.pgn")
+        self.assertIn(b"Qxf7#", text)
+        self.assertQuiet()
+
+    def test_bad_gzip(self):
+        """What cannot be unpacked is left out, whole."""
+        self.page()
+        packed = PACKERS["gz"](b"1. e4 *\n" * 100)
+        wanted = ("a.gz cannot be unpacked here: it is damaged, or there is more behind its end. "
+                  "Unpack it, by gzip -d, and choose the file that comes out.")
+        for text in (packed[:-9], packed[:30] + b"\xff\xff" + packed[32:], packed + packed, packed[:3]):
+            with self.subTest(text):
+                self.assertEqual(self.convert(("a.gz", text)), "failed")
+                self.assertEqual(self.text("left-out"), wanted)
+                self.assertEqual(self.text("work-text"), "Nothing was converted.")
+        # a browser that cannot unpack
+        self.browser.run("delete window.DecompressionStream")
+        self.assertEqual(self.convert(("a.gz", packed)), "failed")
+        self.assertEqual(self.text("left-out"), (
+            "a.gz is compressed with gzip. Unpack it, by gzip -d, and choose the file that comes "
+            "out. The command pgn_fmt reads it as it is."))
+
+    def test_stop_of_unpacking(self):
+        self.page()
+        self.browser.run(
+            "const pass = TransformStream.prototype.constructor;"
+            "window.TransformStream = function ({transform}) { return new pass({"
+            "  async transform(bytes, it) { transform(bytes, it); window.passed = true;"
+            "    await new Promise((resolve) => setTimeout(resolve, 200)); }}); }")
+        self.browser.run(OPEN, [["a.gz", as_text(PACKERS["gz"](b"1. e4 *\n" * 200000))]])
+        self.browser.wait_for("return window.passed")
+        self.assertRegex(self.text("work-text"), r"^Unpacking a\.gz: \d+\.\d MB so far\.$")
+        self.browser.run(CLICK, "stop")
+        self.assertEqual(self.text("work-text"), "Nothing was converted.")
+        self.browser.await_script("await new Promise((resolve) => setTimeout(resolve, 1000))")
+        self.assertEqual(self.text("work-text"), "Nothing was converted.")
+        self.assertFalse(self.browser.run(IS_VISIBLE, "result"))
 
 
 class Mending(Case):
@@ -699,7 +798,7 @@ class Mending(Case):
                     self.assertEqual([it.split(", ", 2)[2] for it in listed],
                                      ["%s: %s → %s" % (name, shown(old), shown(new))
                                       for old, new, name in edits])
-                    self.assertIn("in 1 game. All games are then sound.", told)
+                    self.assertIn("in 1 game. All games are then valid.", told)
                     self.assertEqual(self.apply(), "done")
                     self.assertEqual(self.browser.run(
                         "return document.getElementById('paste').value"), wanted)
@@ -778,7 +877,7 @@ class Mending(Case):
             "one.pgn: line 4, column 9, no marker: nothing → “ 0-1”",
             "one.pgn: line 8, column 4, long notation, no marker: “e2-e4” → “e2e4 *”",
             "two.pgn: line 3, column 19, no marker: nothing → “1/2-1/2”"])
-        self.assertEqual(told, "3 edits in 3 games. All games are then sound.")
+        self.assertEqual(told, "3 edits in 3 games. All games are then valid.")
         self.assertEqual(self.apply(), "done")
         self.assertEqual(self.text("counts"), "4 games, 6 plies.")
         text = self.download("download")[1]
@@ -977,13 +1076,37 @@ class Keyboard(Case):
         """The button that is no longer of use gives the focus to the list."""
         self.page()
         self.convert(("in.pgn", b"1. e4 *\n" * 120))
-        for shown, focus in (("Games 51 to 100 of 120", "next"),
-                             ("Games 101 to 120 of 120", "list-title")):
+        for shown, focus in (("Rows 51 to 100 of 120", "next"),
+                             ("Rows 101 to 120 of 120", "list-title")):
             self.browser.run("document.getElementById('next').focus()")
             self.press(ENTER)
             self.browser.wait_for("return document.getElementById('shown').innerText === "
                                   "arguments[0]", shown)
             self.assertEqual(self.focused(), focus)
+
+    def test_keys_in_lists(self):
+        """A list is one stop of the tab key, and other keys go through it."""
+        self.page()
+        bad, good = b'[Event "x"]\n\n1. e5 *\n\n', b'[Termination "forfeit"]\n\n1. e4 *\n\n'
+        self.convert(("in.pgn", 3 * bad + 3 * good))
+        self.browser.run("delete document.getElementById('work').dataset.shown;"
+                         "document.getElementById('go-on-always').click()")
+        self.assertEqual(self.browser.wait_for(IS_SHOWN), "done")
+        for name in ("other-faults", "notes-list", "list"):
+            with self.subTest(name):
+                place = ("return [...document.querySelectorAll('#%s button')].indexOf("
+                         "document.activeElement)" % name)
+                stops = ("return [...document.querySelectorAll('#%s button')].map(it => "
+                         "it.tabIndex)" % name)
+                self.assertEqual(self.browser.run(stops), [0, -1, -1])
+                self.browser.run("document.querySelector('#%s button').focus()" % name)
+                for key, at in ((DOWN, 1), (DOWN, 2), (DOWN, 2), (UP, 1), (HOME, 0), (UP, 0),
+                                (END, 2)):
+                    self.press(key)
+                    self.assertEqual(self.browser.run(place), at)
+                self.assertEqual(self.browser.run(stops), [-1, -1, 0])
+                self.press(TAB)
+                self.assertEqual(self.browser.run(place), -1)
 
     def test_keys_in_the_text_field(self):
         """Ctrl and Enter convert. A fault is selected, so that typing replaces it."""
@@ -1047,6 +1170,88 @@ class Keyboard(Case):
         self.assertEqual(self.convert(("pasted games", b"1. e5 *")), "refused")
         self.assertEqual((self.selected(), self.text("paste-fault")), ([0, "1"], ""))
         self.assertNotIn("Show it", self.text("fault"))
+
+
+class MainLine(Case):
+    """The board on which the main line of a game is played through."""
+
+    GAME = ('[White "x"]\n\n1. e4 {a (b) $3 c} e5 (1... c5 2. Nf3 (2. c3 d5) d6) 2. Nf3! $10 Nc6 '
+            '1/2-1/2')
+
+    def open(self, text, number=0):
+        self.page()
+        self.convert(("a.pgn", text.encode()))
+        self.browser.run("document.querySelectorAll('#list button')[arguments[0]].click()", number)
+        self.browser.wait_for("return document.activeElement.id === 'game-title'")
+
+    def board(self):
+        """What is said, and the position in words."""
+        return self.text("line-at"), self.browser.run(
+            "return document.querySelector('#line-board svg').getAttribute('aria-label')")
+
+    def test_keys_and_buttons(self):
+        self.open(self.GAME.replace("[White", '[Result "1/2-1/2"]\n[White'))
+        begin = ("The position before the first move: ply 0 of 4", (
+            "White: king e1; queen d1; rooks a1, h1; bishops c1, f1; knights b1, g1; "
+            "pawns a2, b2, c2, d2, e2, f2, g2, h2. Black: king e8; queen d8; rooks a8, h8; "
+            "bishops c8, f8; knights b8, g8; pawns a7, b7, c7, d7, e7, f7, g7, h7. "
+            "White to move."))
+        end = ("After 2... Nc6: ply 4 of 4", (
+            "White: king e1; queen d1; rooks a1, h1; bishops c1, f1; knights b1, f3; "
+            "pawns a2, b2, c2, d2, f2, g2, h2, e4. Black: king e8; queen d8; rooks a8, h8; "
+            "bishops c8, f8; knights c6, g8; pawns e5, a7, b7, c7, d7, f7, g7, h7. "
+            "White to move."))
+        self.assertEqual(self.board(), begin)
+        for key, said in ((RIGHT, "After 1. e4: ply 1 of 4"), (RIGHT, "After 1... e5: ply 2 of 4"),
+                          (RIGHT, "After 2. Nf3: ply 3 of 4"), (LEFT, "After 1... e5: ply 2 of 4")):
+            self.press(key)
+            self.assertEqual(self.text("line-at"), said)
+        self.picture("main-line")
+        for key, shown in ((END, end), (RIGHT, end), (HOME, begin), (LEFT, begin)):
+            self.press(key)
+            self.assertEqual(self.board(), shown)
+        for button, shown in (("to-end", end), ("forward", end), ("to-start", begin),
+                              ("back", begin)):
+            self.browser.run(CLICK, button)
+            self.assertEqual(self.board(), shown)
+        # in the text of the game these keys scroll it
+        self.browser.run("document.getElementById('game-text').focus()")
+        self.press(END)
+        self.assertEqual(self.board(), begin)
+        self.assertQuiet()
+
+    def test_marks(self):
+        """The squares that the last move began and ended on."""
+        self.open(self.GAME.replace("[White", '[Result "1/2-1/2"]\n[White'))
+        self.press(RIGHT)
+        marked = self.browser.run(
+            "return [...document.querySelectorAll('#line-board .moved')].map(it => "
+            "[it.getAttribute('x'), it.getAttribute('y')])")
+        # e2 and e4: a square has 40 units, and a mark is 2 inside it
+        self.assertEqual(sorted(marked), [["162", "162"], ["162", "242"]])
+
+    def test_from_a_position(self):
+        self.open('[FEN "4k3/P7/8/8/8/8/8/4K3 b - - 0 30"]\n\n30... Kd7 31. a8=Q *\n'
+                  '[Event "x"]\n\n*\n')
+        self.assertEqual(self.text("line-at"), "The position before the first move: ply 0 of 2")
+        self.press(END)
+        self.assertEqual(self.board(), (
+            "After 31. a8=Q: ply 2 of 2",
+            "White: king e1; queen a8. Black: king d7. Black to move."))
+
+    def test_no_move(self):
+        self.open("*\n")
+        for key in (RIGHT, END):
+            self.press(key)
+            self.assertEqual(self.text("line-at"),
+                             "The position before the first move: ply 0 of 0")
+
+    def test_long_game(self):
+        """More plies than the room for short texts holds."""
+        shuffle = "Nf3 Nf6 Ng1 Ng8 "
+        self.open(600 * shuffle + "e4 *")
+        self.press(END)
+        self.assertEqual(self.text("line-at"), "After 1201. e4: ply 2401 of 2401")
 
 
 class Rest(Case):
@@ -1212,7 +1417,11 @@ class Rest(Case):
             "(PGN 9.8.1). The first 100 are listed."))
         listed = self.browser.run("return [...document.querySelectorAll('#notes button')]"
                                   ".map(it => it.innerText)")
-        self.assertEqual(listed, ["Game 25001"] + ["Game %d" % it for it in range(50002, 50101)])
+        self.assertEqual(
+            listed, ["Game 25001: a.pgn"] + ["Game %d: b.pgn" % it for it in range(1, 100)])
+        self.browser.run("document.querySelectorAll('#notes button')[1].click()")
+        self.browser.wait_for("return !document.getElementById('game').hidden")
+        self.assertEqual(self.text("game-title"), "Game 1 of b.pgn")
 
     def test_list_of_faults(self):
         """Each has its game and its players, and the download has the lines of pgn_lint."""
@@ -1329,15 +1538,86 @@ class Rest(Case):
         self.assertEqual(self.text("fen-answer"),
                          "This FEN is no position: field 3, the castling rights.")
         self.set("fen", INITIAL)
-        self.set("move", "g1f3")
+        self.set("move", "g1e2")
         self.assertEqual(self.text("move-answer"),
-                         "“g1f3” is not legal. No pawn of White can go to f3 from where “g1f3” "
+                         "“g1e2” is not legal. No pawn of White can go to e2 from where “g1e2” "
                          "says.")
         self.set("move", "Ng1f3")
         after = "rnbqkbnr/pppppppp/8/8/8/5N2/PPPPPPPP/RNBQKB1R b KQkq - 1 1"
         self.assertEqual(self.text("move-answer"), "Nf3, and then " + after)
         self.browser.run(CLICK, "play")
         self.assertEqual(self.browser.run("return document.getElementById('fen').value"), after)
+
+    def test_engine_moves(self):
+        """The field for a move takes the notation of engines too."""
+        self.page()
+        for fen, move, san in (
+                (INITIAL, "g1f3", "Nf3"), (INITIAL, "e2e4", "e4"),
+                ("4k3/8/8/8/8/8/8/4K2R w K - 0 1", "e1g1", "O-O"),
+                ("r3k3/8/8/8/8/8/8/4K3 b q - 0 1", "e8c8", "O-O-O"),
+                ("8/P6k/8/8/8/8/8/4K3 w - - 0 1", "a7a8n", "a8=N")):
+            self.set("fen", fen)
+            self.set("move", move)
+            self.assertTrue(self.text("move-answer").startswith(san + ", and then "), move)
+
+    def test_no_position(self):
+        """Which of its rules six good fields break together."""
+        self.page()
+        for fen, said in (
+                ("8/8/8/8/8/8/8/4K3 w - - 0 1", "Black has no king"),
+                ("4k3/8/8/8/8/8/8/8 w - - 0 1", "White has no king"),
+                ("4k3/8/8/8/8/8/8/K3K3 w - - 0 1", "White has 2 kings"),
+                ("P3k3/8/8/8/8/8/8/4K3 w - - 0 1",
+                 "a pawn is on a8, and none can be on the first or last rank"),
+                ("4k3/8/8/8/8/8/8/p3K3 w - - 0 1",
+                 "a pawn is on a1, and none can be on the first or last rank"),
+                ("4k3/8/8/4pP2/8/8/8/4K3 w - e3 0 1",
+                 "with White to move the en passant target is on rank 6, and not e3"),
+                ("4k3/8/8/8/4P3/8/8/4K3 b - e6 0 1",
+                 "with Black to move the en passant target is on rank 3, and not e6"),
+                ("4k3/8/8/8/8/8/8/4RK2 w - - 0 1", "Black has moved, and is in check"),
+                ("4rk2/8/8/8/8/8/8/4K3 b - - 0 1", "White has moved, and is in check")):
+            self.set("fen", fen)
+            self.assertEqual(
+                self.text("fen-answer"),
+                "This FEN is no position: each field is right by itself, but %s." % said)
+
+    def test_numbers_of_games(self):
+        """Those that the games have in their file, where bad ones count too."""
+        self.page()
+        bad, good = b'[Event "x"]\n\n1. e5 *\n\n', b'[White "%d"]\n\n1. e4 *\n\n'
+        self.convert(("a.pgn", good % 1 + bad + bad + good % 4), ("b.pgn", bad + good % 2))
+        self.browser.run("delete document.getElementById('work').dataset.shown;"
+                         "document.getElementById('go-on-always').click()")
+        self.assertEqual(self.browser.wait_for(IS_SHOWN), "done")
+        self.assertEqual([it[:2] for it in self.rows()], [
+            ["a.pgn"], ["1", "1"], ["4", "4"], ["b.pgn"], ["2", "2"]])
+        self.browser.run("document.querySelectorAll('#list button')[1].click()")
+        self.browser.wait_for("return !document.getElementById('game').hidden")
+        self.assertEqual(self.text("game-title"), "Game 4 of a.pgn")
+        self.assertIn('[White "4"]', self.text("game-text"))
+
+    def test_list_of_faults_in_its_box(self):
+        """However long it is, the result is not far below."""
+        self.page()
+        self.convert(("in.pgn", b'[Event "x"]\n\n1. e5 *\n\n' * 200))
+        self.browser.run("delete document.getElementById('work').dataset.shown;"
+                         "document.getElementById('go-on-always').click()")
+        self.assertEqual(self.browser.wait_for(IS_SHOWN), "done")
+        listed, box, apart = self.browser.run(
+            "const list = document.getElementById('other-faults'), top = (id) => "
+            "document.getElementById(id).getBoundingClientRect().top;"
+            "return [list.clientHeight, list.parentElement.clientHeight,"
+            " top('result-title') - top('all-faults-title')]")
+        self.assertGreater(listed, 5000)
+        self.assertLess(box, 400)
+        self.assertLess(apart, 700)
+
+    def test_tags_of_a_bad_game(self):
+        """They are no tags of the game behind it."""
+        self.page()
+        self.convert(("in.pgn", b'[White "Ada"]\n\ne4 e9 *\n\n[Black "Bob"]\n\n*\n'))
+        self.assertIn("Game 1: White “Ada”, Black “?”", self.text("fault"))
 
     def test_explanations(self):
         """What is said of moves that are not legal, each for its reason."""
@@ -1442,7 +1722,8 @@ class Builder(unittest.TestCase):
 
     def test_names_what_it_lacks(self):
         self.assertEqual(self.build(self.folder + "/page.html", PATH=self.folder), (
-            127, "bin/build_page: rt, the command of the Rattle toolchain, is not on the PATH\n"))
+            127, "bin/build_page: rt, the command of the Rattle toolchain, is not on the PATH "
+            "(--cargo needs none)\n"))
         os.symlink("/bin/true", self.folder + "/rt")
         self.assertEqual(self.build(self.folder + "/page.html", PATH=self.folder), (
             127, "bin/build_page: wasm-opt is not on the PATH: Debian has it in the package "
@@ -1464,6 +1745,49 @@ class Builder(unittest.TestCase):
                          {"http://www.w3.org/2000/svg"})
         elsewhere = r"<(?:link|img|iframe|object)\b|\bsrc=|@import|url\("
         self.assertEqual(re.findall(elsewhere, text), [])
+
+    def test_by_cargo(self):
+        """The module is the one that Cargo builds, and the page says that nothing is proved."""
+        copy = self.folder + "/copy"
+        for folder in ("bin", "page", "python/gillspoon", "commands", "libraries"):
+            os.makedirs("%s/%s" % (copy, folder))
+        shutil.copy(ROOT + "/bin/build_page", copy + "/bin")
+        shutil.copy(ROOT + "/python/gillspoon/fixes.json", copy + "/python/gillspoon")
+        for name in os.listdir(ROOT + "/page"):
+            if os.path.isfile(ROOT + "/page/" + name):
+                shutil.copy(ROOT + "/page/" + name, copy + "/page")
+        with open(copy + "/bin/to_cargo", "w", encoding="utf-8") as file:
+            file.write("import os, sys\nos.makedirs(sys.argv[1], exist_ok=True)\n")
+        words = [sys.executable, copy + "/bin/build_page", "--cargo", copy + "/page.html"]
+        env = {"PATH": copy + "/commands:/usr/bin:/bin"}
+
+        def command(name, script):
+            with open("%s/commands/%s" % (copy, name), "w", encoding="utf-8") as file:
+                file.write("#!/bin/sh\n" + script)
+            os.chmod("%s/commands/%s" % (copy, name), 0o755)
+
+        command("rustc", "echo %s/none\n" % copy)
+        command("cargo", "exit 101\n")
+        ran = run(words, env=env)
+        self.assertEqual((ran.returncode, ran.stderr.decode()), (
+            127, "bin/build_page: Rust has no target wasm32-unknown-unknown here. Where rustup "
+            "installed Rust, `rustup target add wasm32-unknown-unknown` adds it. From Debian 13 on "
+            "it is in the package libstd-rust-dev-wasm32\n"))
+        command("rustc", "echo %s/libraries\n" % copy)
+        ran = run(words, env=env)
+        self.assertEqual(ran.returncode, 1)
+        self.assertIn("cargo build has failed in cargo/out", ran.stderr.decode())
+        self.assertFalse(os.path.exists(copy + "/page.html"))
+        command("cargo", """
+            [ "$*" = "build --release --package pgn_c --target wasm32-unknown-unknown --target-dir \
+target" ] && mkdir -p target/wasm32-unknown-unknown/release &&
+            printf '\\0asm\\1\\0\\0\\0' >target/wasm32-unknown-unknown/release/pgn_c.wasm\n""")
+        self.assertEqual(run(words, env=env).returncode, 0)
+        with open(copy + "/page.html", encoding="utf-8") as file:
+            text = file.read()
+        self.assertIn("Nothing of this page is proved.", text)
+        self.assertNotIn("is proved for every text", text)
+        self.assertIn(as_text(b"\0asm\1\0\0\0"), text)
 
     def test_order(self):
         """Each part of a script is behind those that it imports: constants are made of theirs."""
@@ -1488,7 +1812,7 @@ class Builder(unittest.TestCase):
             text = re.search(r"STRUCTS = \{(.*?)\n\};", file.read(), re.S)[1]
         header = c_structs()
         found = dict(re.findall(r"^  (\w+): \[(.*?)\],?$(?=\n  \w|\Z)", text, re.S | re.M))
-        self.assertEqual(sorted(found), sorted(set(header) - {"pgn_plies", "pgn_result"}))
+        self.assertEqual(sorted(found), sorted(set(header) - {"pgn_result"}))
         for name, body in found.items():
             fields = ["%s %s%s" % (kind, field, "[%s]" % count if count else "") for
                       field, kind, count in re.findall(r'\["(\w+)", "(\w+)"(?:, (\d+))?\]', body)]

@@ -1,4 +1,4 @@
-"""Tests of the recipe of docs/RECIPES.md that uses all processors, also over ssh."""
+"""Tests of the recipe of docs/PARALLEL.md, which uses all processors, also over ssh."""
 import getpass
 import os
 import socket
@@ -6,7 +6,7 @@ import subprocess
 import unittest
 
 import programs
-from programs import Folder, run
+from programs import ROOT, Folder, run
 from test_recipes import sections
 
 SHORT, WHOLE, STREAM, REMOTE, COUNTS = range(5)
@@ -17,7 +17,8 @@ LOOKALIKE = '{ a comment\n\n[Event "x"]\n\nthat holds a tag line }\n'
 
 
 def blocks():
-    return [it.replace(*BLOCK) for it in sections()["Use all processors"]]
+    found = sections(ROOT + "/docs/PARALLEL.md").values()
+    return [it.replace(*BLOCK) for blocks in found for it in blocks]
 
 
 def functions(block):

@@ -1,4 +1,4 @@
-"""Runs each block of shell of docs/RECIPES.md on a sample, but those that use all processors."""
+"""Runs each block of shell of docs/RECIPES.md on a sample."""
 import os
 import re
 import shutil
@@ -8,14 +8,12 @@ import programs
 from programs import ROOT, Folder, run
 
 RECIPES = ROOT + "/docs/RECIPES.md"
-# Their tests are in test_parallel.
-ELSEWHERE = ("Use all processors",)
 
 
-def sections():
+def sections(document=RECIPES):
     """The blocks of shell of each section, by its title."""
     found, title, block = {}, "", None
-    with open(RECIPES, encoding="utf-8") as lines:
+    with open(document, encoding="utf-8") as lines:
         for line in lines:
             if block is not None and line == "```\n":
                 block = None
@@ -64,7 +62,7 @@ class Whole(Recipe):
         with open(os.path.realpath(__file__), encoding="utf-8") as lines:
             text = lines.read()
         for title, blocks in sections().items():
-            for number in range(len(blocks) if title not in ELSEWHERE else 0):
+            for number in range(len(blocks)):
                 call = r'(recipe|mend)\(\s*"%s"' % re.escape(title)
                 call += r", %d\)" % number if number else ""
                 self.assertTrue(re.search(call, text), (title, number))
