@@ -344,7 +344,8 @@ class Page {
       (name) => (this.job.pasted === null ? name : "The text") + " has no game.")]);
     this.faults.show(state.faults, state.kind === "refused");
     const hasFiles = this.files.length > 1;
-    showNotes(state.noted, state.notes, hasFiles, (index) => this.list.ask({ kind: "game", index }));
+    showNotes(state.noted, state.notes, hasFiles, (index) =>
+      this.list.ask({ kind: "game", index }));
     this.list.begin(state.games, hasFiles);
     this.worker.postMessage({ kind: "head", most: MOST_SHOWN });
   }

@@ -63,7 +63,7 @@ export class Conversion {
     this.starts = [];
     this.numbers = [];
     this.plies = [];
-    // of each file: its name, and the index of the first game behind its begin
+    // of each file: its name, and the index of its first game
     this.fileNames = [];
     this.fileStarts = [];
     // the names of the files that have neither a game nor a bad one

@@ -34,14 +34,15 @@ export function button(text, act) {
   return made;
 }
 
-// Makes the buttons of a list one stop of the tab key, at the one that had the focus last.
+// Makes the buttons of a new list one stop of the tab key: the first of them.
 export function oneTabStop(list) {
   list.querySelectorAll("button").forEach((it, index) => {
     it.tabIndex = index ? -1 : 0;
   });
 }
 
-// Lets the arrow keys, Home and End go through the buttons of a list.
+// Lets the arrow keys, Home and End go through the buttons of a list. The tab key then stops at the
+// one that had the focus last.
 export function goByKeys(list) {
   list.addEventListener("focusin", (event) => {
     list.querySelectorAll("button").forEach((it) => {

@@ -6,7 +6,7 @@ const SENTENCES = {
   read: " cannot be read.",
   changed: " has changed since you chose it. Choose it again.",
   gone: " is no longer where it was when you chose it. Choose it again.",
-  packed: " cannot be unpacked here: it is damaged, or there is more behind its end. Unpack it, by " +
+  packed: " cannot be unpacked here: it is damaged, or more data follows its end. Unpack it, by " +
     "gzip -d, and choose the file that comes out.",
 };
 

@@ -4,7 +4,10 @@ import { byId } from "./elements.js";
 import { encoded, latin1 } from "./text.js";
 
 export const INITIAL_FEN = "rnbqkbnr/pppppppp/8/8/8/8/PPPPPPPP/RNBQKBNR w KQkq - 0 1";
-const BUTTONS = { "to-start": "Home", "back": "ArrowLeft", "forward": "ArrowRight", "to-end": "End" };
+// The keys that do the same as the buttons.
+const BUTTONS = {
+  "to-start": "Home", "back": "ArrowLeft", "forward": "ArrowRight", "to-end": "End",
+};
 
 // The moves of an export text without comments, NAGs, variations and the result.
 function movesOf(text) {
@@ -39,7 +42,8 @@ export class MainLine {
   open(bytes) {
     const fen = this.module.tags(bytes).find(([name]) => latin1(name) === "FEN");
     const begin = fen ? latin1(fen[1]) : INITIAL_FEN;
-    this.plies = [{ fen: begin }, ...this.module.line(encoded(begin), encoded(movesOf(latin1(bytes))))];
+    const moves = movesOf(latin1(bytes));
+    this.plies = [{ fen: begin }, ...this.module.line(encoded(begin), encoded(moves))];
     this.show(0);
   }
 

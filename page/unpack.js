@@ -23,5 +23,10 @@ export async function unpacked(file, passed) {
     },
   });
   const stream = file.stream().pipeThrough(new DecompressionStream("gzip")).pipeThrough(counter);
-  return new File([await new Response(stream).blob()], file.name);
+  try {
+    return new File([await new Response(stream).blob()], file.name);
+  } catch (error) {
+    // some browsers say only that it has failed
+    throw size > MOST_BYTES ? new TooLarge() : error;
+  }
 }

@@ -729,13 +729,21 @@ class Files(Case):
         """What cannot be unpacked is left out, whole."""
         self.page()
         packed = PACKERS["gz"](b"1. e4 *\n" * 100)
-        wanted = ("a.gz cannot be unpacked here: it is damaged, or there is more behind its end. "
+        wanted = ("a.gz cannot be unpacked here: it is damaged, or more data follows its end. "
                   "Unpack it, by gzip -d, and choose the file that comes out.")
         for text in (packed[:-9], packed[:30] + b"\xff\xff" + packed[32:], packed + packed, packed[:3]):
             with self.subTest(text):
                 self.assertEqual(self.convert(("a.gz", text)), "failed")
                 self.assertEqual(self.text("left-out"), wanted)
                 self.assertEqual(self.text("work-text"), "Nothing was converted.")
+        # what comes out is said to be longer than a memory of 32 bits
+        self.browser.run(
+            "window.DecompressionStream = function () { return new TransformStream({"
+            "transform(_, it) { it.enqueue({length: 2 ** 33}); }}); }")
+        self.assertEqual(self.convert(("a.gz", packed)), "failed")
+        self.assertEqual(self.text("left-out"), (
+            "a.gz does not fit into the memory that the browser gives to a page. Convert it in "
+            "parts, or with the program pgn_tool, which takes under 3 MiB for any size."))
         # a browser that cannot unpack
         self.browser.run("delete window.DecompressionStream")
         self.assertEqual(self.convert(("a.gz", packed)), "failed")
