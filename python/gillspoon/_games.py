@@ -6,7 +6,7 @@ import re
 from collections import deque
 from functools import cached_property
 from itertools import chain
-from typing import (Callable, Deque, Iterator, List, Mapping, NamedTuple, Optional, Tuple,
+from typing import (Callable, Deque, Final, Iterator, List, Mapping, NamedTuple, Optional, Tuple,
                     Union)
 
 from . import _calls, _library
@@ -20,7 +20,7 @@ from ._sections import end_of
 from ._sources import Input, Source, Window, name_of, readable_again
 from ._tags import Tags, read_tags, type_of, write_tags
 from ._texts import is_utf_8, text_of
-from ._views import view
+from ._views import view, view_of
 
 OnFault = Callable[[PgnFault], object]
 # The first size of a buffer for the tag section of a game, or for its export text.
@@ -110,38 +110,17 @@ class Game:
             self.number, self.offset, self.tags["White"], self.tags["Black"], self.result,
             self.plies)
 
-    @view
-    def number(self) -> int:
-        """The number of the game in its source, from 1; bad games count too."""
-        return self._number
-
-    @view
-    def offset(self) -> int:
-        """How many bytes of the source are before it.
-
-        Comments just before it, and lines that begin with `%`, are its own.
-        """
-        return self._offset
-
-    @view
-    def end(self) -> int:
-        """How many bytes of the source there are up to its end, with its termination marker."""
-        return self._end
-
-    @view
-    def result(self) -> str:
-        """The result, which is the termination marker at its end."""
-        return self._result
-
-    @view
-    def plies(self) -> int:
-        """How many plies the game has, without variations."""
-        return self._plies
-
-    @view
-    def fen(self) -> str:
-        """The FEN of its last position."""
-        return self._fen
+    number: Final[int] = view_of(
+        "_number", "The number of the game in its source, from 1; bad games count too.")
+    offset: Final[int] = view_of(
+        "_offset", "How many bytes of the source are before it.\n\n"
+        "Comments just before it, and lines that begin with `%`, are its own.")
+    end: Final[int] = view_of(
+        "_end", "How many bytes of the source there are up to its end, with its marker.")
+    result: Final[str] = view_of(
+        "_result", "The result, which is the termination marker at its end.")
+    plies: Final[int] = view_of("_plies", "How many plies the game has, without variations.")
+    fen: Final[str] = view_of("_fen", "The FEN of its last position.")
 
     @view
     def text(self) -> bytes:
@@ -261,7 +240,7 @@ class Reader:
                 game = self._game(found, end)
                 if call is _library.read_game:
                     # without the empty line behind it
-                    game._section = _library.front_of(buffer, found.written - 2)
+                    game._section = buffer[:found.written - 2]  # type: ignore[assignment]
                 else:
                     game._text = buffer[:found.written]  # type: ignore[assignment]
                     game._unwritten = None

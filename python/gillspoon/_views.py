@@ -1,4 +1,5 @@
 """Attributes that are views of what was read: they cannot be set, and say what to change."""
+from operator import attrgetter
 from typing import TYPE_CHECKING, Any, Callable, List, NoReturn, Tuple, TypeVar
 
 Item = TypeVar("Item")
@@ -10,8 +11,18 @@ else:
     class view(property):
         """A property that cannot be set; `_advice` of its class says what to do instead."""
 
+        def __set_name__(self, owner: type, name: str) -> None:
+            self._name = name
+
         def __set__(self, it: Any, value: object) -> NoReturn:
-            raise AttributeError("%s cannot be set: %s" % (self.fget.__name__, it._advice))
+            raise AttributeError("%s cannot be set: %s" % (self._name, it._advice))
+
+
+def view_of(slot: str, text: str) -> Any:
+    """A view of a slot, with its text for `help`. Reading it makes no call of Python code."""
+    found = view(attrgetter(slot))
+    found.__doc__ = text
+    return found
 
 
 class ViewList(List[Item]):
