@@ -26,8 +26,7 @@ static size_t play_moves(char *moves, char *to, size_t room) {
     for (char *word = strtok(moves, " \n"); word; word = strtok(NULL, " \n")) {
         if (word[strlen(word) - 1] == '.')
             continue;
-        pgn_move move = pgn_san((uint8_t *)fen, strlen(fen), (uint8_t *)word, strlen(word),
-                                PGN_SAN);
+        pgn_move move = pgn_san(fen, strlen(fen), word, strlen(word), PGN_SAN);
         memcpy(fen, move.fen, sizeof fen);
         used += (size_t)snprintf(to + used, room - used, "%s\t%s\t%s\n", (char *)move.san,
                                  (char *)move.uci, fen);
@@ -47,7 +46,7 @@ static size_t put_plies(size_t length, size_t used, int in_one_call) {
         length--;
     moves[length] = 0;
     if (in_one_call)
-        return pgn_line((const uint8_t *)first, strlen(first), (uint8_t *)moves, length, PGN_SAN,
+        return pgn_line(first, strlen(first), moves, length, PGN_SAN,
                         buffer + used, sizeof buffer - used).written;
     return play_moves(moves, (char *)buffer + used, sizeof buffer - used);
 }

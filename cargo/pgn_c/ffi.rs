@@ -41,6 +41,11 @@ unsafe fn buffer_of<'a>(buffer: *mut u8, capacity: usize) -> Option<&'a mut [u8]
     Some(unsafe { slice::from_raw_parts_mut(buffer, capacity) })
 }
 
+#[no_mangle]
+extern "C" fn pgn_version() -> u32 {
+    crate::pgn_version()
+}
+
 /// # Safety
 ///
 /// The conditions of `pgn.h` hold.

@@ -33,6 +33,10 @@
 extern "C" {
 #endif
 
+/* The version of this header: 10,000 * major + 100 * minor + patch. */
+#define PGN_VERSION "0.1.0"
+#define PGN_VERSION_NUMBER 100
+
 /* What the `status` of a result says. */
 enum {
     PGN_OK = 0,     /* done */
@@ -179,6 +183,14 @@ typedef struct pgn_explanation {
 } pgn_explanation;
 
 /*
+ * Returns the version of the library that runs, as PGN_VERSION_NUMBER is that of the header.
+ *
+ * Until 1.0 a minor version may change a call, so compare all but the patch level:
+ * pgn_version() / 100 == PGN_VERSION_NUMBER / 100.
+ */
+uint32_t pgn_version(void);
+
+/*
  * Checks a text in PGN import format, and counts its games and plies.
  *
  * PGN_OK: the text has no fault.
@@ -186,7 +198,7 @@ typedef struct pgn_explanation {
  *
  * `written` is 0.
  */
-pgn_result pgn_check(const uint8_t *text, size_t length);
+pgn_result pgn_check(const void *text, size_t length);
 
 /*
  * Converts a text from import format to export format, into the front of a buffer.
@@ -201,7 +213,7 @@ pgn_result pgn_check(const uint8_t *text, size_t length);
  * In each case the first `written` bytes of the buffer are a prefix of the export text. Its other
  * bytes are as they were.
  */
-pgn_result pgn_convert(const uint8_t *text, size_t length,
+pgn_result pgn_convert(const void *text, size_t length,
                        uint8_t *buffer, size_t capacity, uint32_t mode);
 
 /*
@@ -213,7 +225,7 @@ pgn_result pgn_convert(const uint8_t *text, size_t length,
  * PGN_FAULT: the FEN is no position; `field` says which field is at fault. The buffer is unchanged.
  * PGN_FULL: the capacity is less than `length`. The buffer is unchanged.
  */
-pgn_text pgn_fen_normalize(const uint8_t *fen, size_t length, uint8_t *buffer, size_t capacity);
+pgn_text pgn_fen_normalize(const void *fen, size_t length, uint8_t *buffer, size_t capacity);
 
 /*
  * Finds the one legal move that a text names in the position of a FEN (PGN 8.2.3).
@@ -233,7 +245,7 @@ pgn_text pgn_fen_normalize(const uint8_t *fen, size_t length, uint8_t *buffer, s
  * SAN is read freely: e2e4 and Ng1f3 are read too. UCI is read exactly: all letters are small,
  * castling is the king's move, such as e1g1, and a promotion has its letter, as in a7a8q.
  */
-pgn_move pgn_san(const uint8_t *fen, size_t fen_length, const uint8_t *text, size_t length,
+pgn_move pgn_san(const void *fen, size_t fen_length, const void *text, size_t length,
                  uint32_t notation);
 
 /*
@@ -263,7 +275,7 @@ pgn_move pgn_san(const uint8_t *fen, size_t fen_length, const uint8_t *text, siz
  *
  * The bytes of the buffer after the first `written` are as they were.
  */
-pgn_plies pgn_line(const uint8_t *fen, size_t fen_length, const uint8_t *text, size_t length,
+pgn_plies pgn_line(const void *fen, size_t fen_length, const void *text, size_t length,
                    uint32_t format, uint8_t *buffer, size_t capacity);
 
 /*
@@ -296,7 +308,7 @@ pgn_plies pgn_line(const uint8_t *fen, size_t fen_length, const uint8_t *text, s
  * with PGN_FAULT and PGN_MORE, and PGN_FULL is only for a game without a fault. The bytes of the
  * buffer after the first `written` are as they were.
  */
-pgn_game pgn_next_game(const uint8_t *text, size_t length, size_t from, uint32_t mode,
+pgn_game pgn_next_game(const void *text, size_t length, size_t from, uint32_t mode,
                        uint32_t missing_result, uint8_t *buffer, size_t capacity);
 
 /*
@@ -314,7 +326,7 @@ pgn_game pgn_next_game(const uint8_t *text, size_t length, size_t from, uint32_t
  * With all others nothing is written. The bytes of the buffer after the first `written` are as
  * they were. With PGN_RESULT_FROM_MARKER a missing Result is written as the marker.
  */
-pgn_game pgn_read_game(const uint8_t *text, size_t length, size_t from, uint32_t mode,
+pgn_game pgn_read_game(const void *text, size_t length, size_t from, uint32_t mode,
                        uint32_t missing_result, uint8_t *buffer, size_t capacity);
 
 /*
@@ -323,7 +335,7 @@ pgn_game pgn_read_game(const uint8_t *text, size_t length, size_t from, uint32_t
  * The first pair of a game's export text is at 0, the next at `next` of the one before. PGN_FAULT:
  * there is none at this place, so the pairs of the game are all found.
  */
-pgn_tag pgn_tag_at(const uint8_t *text, size_t length, size_t at);
+pgn_tag pgn_tag_at(const void *text, size_t length, size_t at);
 
 /*
  * Reads the next piece of the text of a bad game, and finds where reading goes on after the game.
@@ -342,7 +354,7 @@ pgn_tag pgn_tag_at(const uint8_t *text, size_t length, size_t at);
  * PGN_NO_MODE: there are no such `ends`. The game is unchanged.
  * PGN_BAD_PLACE: the piece would end at 2^64 or above. The game is unchanged.
  */
-pgn_section pgn_next_section(pgn_bad_game *game, const uint8_t *piece, size_t length,
+pgn_section pgn_next_section(pgn_bad_game *game, const void *piece, size_t length,
                              uint32_t is_last);
 
 /*
@@ -353,8 +365,8 @@ pgn_section pgn_next_section(pgn_bad_game *game, const uint8_t *piece, size_t le
  * crosses and reaches no attacked square, so it never has a 1. A legal move has a 2 also where
  * pgn_san has fault 36.
  */
-pgn_explanation pgn_explain(const uint8_t *fen, size_t fen_length,
-                            const uint8_t *text, size_t length);
+pgn_explanation pgn_explain(const void *fen, size_t fen_length,
+                            const void *text, size_t length);
 
 #ifdef __cplusplus
 }

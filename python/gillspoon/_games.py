@@ -6,22 +6,22 @@ import re
 from collections import deque
 from functools import cached_property
 from itertools import chain
-from typing import (Callable, Deque, Iterator, List, Mapping, NamedTuple, Optional, Tuple,
+from typing import (Callable, Deque, Final, Iterator, List, Mapping, NamedTuple, Optional, Tuple,
                     Union)
 
 from . import _calls, _library
 from ._bad_games import move_at, players_of
 from ._described import described
 from ._faults import PgnFault
-from ._moves import Habit, Line, Ply, read_moves, write_moves
+from ._moves import INITIAL_FEN, Habit, Line, Ply, read_moves, write_moves
 from ._places import BYTE_ORDER_MARK
 from ._reading import GameReader
 from ._sections import end_of
 from ._sources import Input, Source, Window, name_of, readable_again
 from ._tags import Tags, read_tags, type_of, write_tags
 from ._texts import is_utf_8, text_of
+from ._views import view, view_of
 
-INITIAL_FEN = "rnbqkbnr/pppppppp/8/8/8/8/PPPPPPPP/RNBQKBNR w KQkq - 0 1"
 OnFault = Callable[[PgnFault], object]
 # The first size of a buffer for the tag section of a game, or for its export text.
 _CAPACITY = 1 << 14
@@ -64,7 +64,7 @@ def _export_text(source: bytes, mode: int, missing: int) -> bytes:
 
 
 class Game:
-    """A game: its export text, and what the library says of it.
+    """A game: its export text, and what the library says of it. Its attributes cannot be set.
 
     >>> from gillspoon import games
     >>> for game in games(b'[White "Ada"] 1. e4 {best} e5 1-0 [Result "1-0"] d4 1-0', checked=True):
@@ -74,13 +74,12 @@ class Game:
     """
 
     __slots__ = {
-        "number": "The number of the game in its source, from 1; bad games count too.",
-        "offset": "How many bytes of the source are before it. Comments just before it, and lines "
-                  "that begin with `%`, are its own.",
-        "end": "How many bytes of the source there are up to its end, with its termination marker.",
-        "result": "The result, which is the termination marker at its end.",
-        "plies": "How many plies the game has, without variations.",
-        "fen": "The FEN of its last position.",
+        "_number": None,
+        "_offset": None,
+        "_end": None,
+        "_result": None,
+        "_plies": None,
+        "_fen": None,
         "_text": None,
         "_section": None,
         "_unwritten": None,
@@ -89,11 +88,13 @@ class Game:
         "_tags": None,
         "_moves": None,
     }
+    _advice = ("give write_game changed tags or moves, as {**game.tags, 'Result': '1-0'} and "
+               "game.moves()")
 
     def __init__(self, number: int, offset: int, end: int, result: str, plies: int, fen: str,
                  text: bytes) -> None:
-        self.number, self.offset, self.end = number, offset, end
-        self.result, self.plies, self.fen, self._text = result, plies, fen, text
+        self._number, self._offset, self._end = number, offset, end
+        self._result, self._plies, self._fen, self._text = result, plies, fen, text
         # where the text is not made yet: the tag section, and what `_export_text` makes it of
         self._section: Optional[bytes] = None
         self._unwritten: Optional[Tuple[bytes, int, int]] = None
@@ -109,22 +110,30 @@ class Game:
             self.number, self.offset, self.tags["White"], self.tags["Black"], self.result,
             self.plies)
 
-    @property
+    number: Final[int] = view_of(
+        "_number", "The number of the game in its source, from 1; bad games count too.")
+    offset: Final[int] = view_of(
+        "_offset", "How many bytes of the source are before it.\n\n"
+        "Comments just before it, and lines that begin with `%`, are its own.")
+    end: Final[int] = view_of(
+        "_end", "How many bytes of the source there are up to its end, with its marker.")
+    result: Final[str] = view_of(
+        "_result", "The result, which is the termination marker at its end.")
+    plies: Final[int] = view_of("_plies", "How many plies the game has, without variations.")
+    fen: Final[str] = view_of("_fen", "The FEN of its last position.")
+
+    @view
     def text(self) -> bytes:
         """The game in export format, as bytes, with an empty line at its end."""
         unwritten = self._unwritten
         if unwritten is not None:
-            self.text = _export_text(*unwritten)
+            # in this order, since other threads may ask for it
+            self._text = _export_text(*unwritten)
+            self._unwritten = self._section = None
         self._is_used = True
         return self._text
 
-    @text.setter
-    def text(self, text: bytes) -> None:
-        # in this order, since other threads may ask for it
-        self._text = text
-        self._unwritten = self._section = None
-
-    @property
+    @view
     def encoding(self) -> str:
         """The encoding of its text: `utf-8` if the text is UTF-8, else `latin-1`."""
         unwritten = self._unwritten
@@ -133,7 +142,7 @@ class Game:
             return "utf-8"
         return "utf-8" if is_utf_8(self.text) else "latin-1"
 
-    @property
+    @view
     def tags(self) -> Mapping[str, str]:
         """The tag pairs by their names, in the order of export format: the roster comes first.
 
@@ -231,7 +240,7 @@ class Reader:
                 game = self._game(found, end)
                 if call is _library.read_game:
                     # without the empty line behind it
-                    game._section = _library.front_of(buffer, found.written - 2)
+                    game._section = buffer[:found.written - 2]  # type: ignore[assignment]
                 else:
                     game._text = buffer[:found.written]  # type: ignore[assignment]
                     game._unwritten = None
@@ -480,10 +489,13 @@ def write_game(tags: Mapping[str, str], moves: Union[Line, str], *,
 
     `moves` is a Line, or the text of the moves. This may have all that movetext has: numbers or
     none, NAGs, comments and variations. The result is that of the Result tag; without one that at
-    the end of the text, else `*`.
+    the end of the text, else `*`. A Line that does not begin from the initial position brings its
+    FEN pair, and SetUp.
 
-    Raises PgnFault if the library rejects the game, ValueError if the text has more than one game,
-    and TypeError for what is no text, such as a number as the value of a tag.
+    Raises PgnFault if the library rejects the game; TypeError for what is no text, such as a number
+    as the value of a tag; and ValueError if the text has more than one game, if a FEN or SetUp tag
+    says another position than the line begins from, or if a ply or a variation of the line was
+    played in another position.
 
     >>> write_game({"White": "Ada"}, "e4 e5 1-0").decode().splitlines()[-4:]
     ['[Result "1-0"]', '', '1. e4 e5 1-0', '']
@@ -495,8 +507,10 @@ def write_game(tags: Mapping[str, str], moves: Union[Line, str], *,
         raise TypeError("the moves are a Line, as game.moves() gives it, or a str such as '1. e4 "
                         "e5', not %s: of a list of moves pass ' '.join(moves)" % type_of(moves))
     section = write_tags(tags)
-    movetext = moves if isinstance(moves, str) else write_moves(moves)
-    text = ("%s\n%s\n" % (section, movetext)).encode(encoding)
+    if isinstance(moves, Line):
+        section += write_tags(_missing_pairs(tags, moves.fen))
+        moves = write_moves(moves)
+    text = ("%s\n%s\n" % (section, moves)).encode(encoding)
     whole = text + tags.get("Result", "*").encode(encoding)
     export = _Conversion(_library.FULL_FORMAT)(_Piece(whole, len(whole)))
     if export is not None and export.games == 1:
@@ -508,3 +522,19 @@ def write_game(tags: Mapping[str, str], moves: Union[Line, str], *,
         raise ValueError("the moves have more behind the result of the game: %r"
                          % text[game.end:].decode(encoding).strip()[:40])
     return game.text
+
+
+def _missing_pairs(tags: Mapping[str, str], fen: str) -> Mapping[str, str]:
+    """The tag pairs that tags lack of a game from the position of a canonical FEN.
+
+    The library adds SetUp beside a FEN. Raises ValueError if the tags say another position.
+    """
+    given = tags.get("FEN")
+    if given is None and fen == INITIAL_FEN:
+        return {}
+    if given is not None and _calls.normalize_fen(given) != fen:
+        raise ValueError("the FEN tag is not the position of the line, %s: leave it out" % fen)
+    if tags.get("SetUp", "1") != "1":
+        raise ValueError("a game from a position has the SetUp tag '1', not %r: leave it out"
+                         % tags["SetUp"])
+    return {"FEN": fen} if given is None else {}

@@ -1,17 +1,19 @@
-"""The moves of a game: read from its export text, and written again.
+"""The moves of a game: read from its export text, built move by move, and written again.
 
 Export text is a normal form, and what is read here is that form alone: docs/PROFILE.md has its
 grammar. The library has checked every move, so nothing is checked again.
 """
 import re
 from itertools import groupby, repeat, starmap
-from typing import Any, Callable, Iterator, List, Optional, Sequence, Tuple, Union
+from typing import Any, Callable, Iterable, Iterator, List, Optional, Sequence, Tuple, Union
 
 from . import _calls
 from ._commands import (CLOCK, ELAPSED, Arrow, Evaluation, MarkedSquare, arrows_of, evaluation_of,
                         seconds_of, squares_of)
 from ._tags import type_of
+from ._views import ViewList, view
 
+INITIAL_FEN = "rnbqkbnr/pppppppp/8/8/8/8/PPPPPPPP/RNBQKBNR w KQkq - 0 1"
 Note = Union[int, str, "Line"]
 """What may be beside a move: a NAG is an int, a comment is a str, a variation is a Line."""
 _WORD = re.compile("[^\t-\r ]+")
@@ -85,12 +87,22 @@ class _Played:
             return self.start_fen()
         return (self.fens if hasattr(self, "fens") else self.find_fens())[at - 1]
 
+    def turn_at(self, at: int) -> int:
+        """The turn of the move that has so many before it: 0 for the move of White with number 1.
+
+        The turns of Black are odd.
+        """
+        if isinstance(self.start, Ply):
+            return self.start._turn() + 1 + at
+        _, side, _, _, _, number = self.start.split(" ")
+        return 2 * (int(number) - 1) + (side == "b") + at
+
 
 class Ply:
     """A move of a game, with the position after it and what is noted behind it.
 
-    A copy of it, or what pickle makes of it, has the position before it in place of the moves
-    before.
+    It is read with its game, or made by `line.append`. Its `san` and its `notes` can be changed. A
+    copy of it, or what pickle makes of it, has the position before it in place of the moves before.
     """
 
     __slots__ = {
@@ -104,6 +116,10 @@ class Ply:
     _at: int
     _played: _Played
     _notes: List[Note]
+    _advice = "change the notes of the ply, or append another move to its line"
+
+    def __init__(self) -> None:
+        raise TypeError('a Ply is a move of a Line: line.append("Nf3") makes one')
 
     def __repr__(self) -> str:
         return "Ply(%d, %r)" % (self.number, self.san)
@@ -113,13 +129,26 @@ class Ply:
         return _unpacked_ply, (played.fen_before(at), self.number, played.sans[at:at + 1], self.san,
                                _packed_notes(self.notes, None))
 
-    @property
+    @view
     def number(self) -> int:
         """How many plies of its game it is, from 1.
 
         The first one of a variation has the number of the move that it replaces.
         """
         return self._played.first + self._at
+
+    def _turn(self) -> int:
+        return self._played.turn_at(self._at)
+
+    @view
+    def side(self) -> str:
+        """The side that moves: `white` or `black`."""
+        return "black" if self._turn() % 2 else "white"
+
+    @view
+    def move_number(self) -> int:
+        """The number of the move, as movetext has it: 12 for `12. Nf3` and for `12... Nf6`."""
+        return self._turn() // 2 + 1
 
     @property
     def notes(self) -> List[Note]:
@@ -133,64 +162,90 @@ class Ply:
     def notes(self, notes: List[Note]) -> None:
         self._notes = notes
 
-    @property
+    @view
     def fen(self) -> str:
-        """The FEN of the position after the move, as it was read."""
+        """The FEN of the position after the move, as it was read or appended."""
         try:
             return self._played.fens[self._at]
         except AttributeError:
             return self._played.find_fens()[self._at]
 
-    @property
+    @view
     def uci(self) -> str:
-        """The move in UCI, as it was read: `g1f3`, `e1g1` for castling, `a7a8q`."""
+        """The move in UCI, as it was read or appended: `g1f3`, `e1g1` for castling, `a7a8q`."""
         try:
             return self._played.ucis[self._at]
         except AttributeError:
             return self._played.find_ucis()[self._at]
 
-    @property
+    @view
     def nags(self) -> List[int]:
         """The NAGs behind the move."""
-        return [it for it in self.notes if isinstance(it, int)]
+        return ViewList(it for it in self.notes if isinstance(it, int))
 
-    @property
+    @view
     def comments(self) -> List[str]:
         """The comments behind the move."""
-        return [it for it in self.notes if isinstance(it, str)]
+        return ViewList(it for it in self.notes if isinstance(it, str))
 
-    @property
+    @view
     def variations(self) -> "List[Line]":
         """The variations that replace the move."""
-        return [it for it in self.notes if isinstance(it, Line)]
+        return ViewList(it for it in self.notes if isinstance(it, Line))
 
-    @property
+    @view
     def clock(self) -> Optional[float]:
         """The seconds that the mover has left, by `[%clk 0:05:00]`; None without it."""
         return seconds_of(CLOCK, self.comments)
 
-    @property
+    @view
     def emt(self) -> Optional[float]:
         """The seconds that the move took, by `[%emt 0:00:02]`; None without it."""
         return seconds_of(ELAPSED, self.comments)
 
-    @property
+    @view
     def eval(self) -> Optional[Evaluation]:
         """The evaluation after the move, by `[%eval 0.17]` or `[%eval #3]`; None without it."""
         return evaluation_of(self.comments)
 
-    @property
+    @view
     def arrows(self) -> List[Arrow]:
         """The arrows on the board after the move, by `[%cal Ge2e4]`: colour, origin and target."""
-        return arrows_of(self.comments)
+        return ViewList(arrows_of(self.comments))
 
-    @property
+    @view
     def squares(self) -> List[MarkedSquare]:
         """The marked squares of the board after the move, by `[%csl Gd4]`: colour and square."""
-        return squares_of(self.comments)
+        return ViewList(squares_of(self.comments))
+
+    def add_variation(self, move: str, *, nags: Iterable[int] = (), comment: Optional[str] = None,
+                      uci: bool = False) -> "Line":
+        """Adds a variation behind the notes, of a move that replaces this one; returns its Line.
+
+        The arguments and errors are those of `Line.append`, by which the variation goes on.
+
+        >>> line = Line()
+        >>> line.append("e4").add_variation("d4", comment="also good").append("d5")
+        Ply(2, 'd5')
+        >>> line.plies[0].variations
+        [Line(d4 d5)]
+        """
+        before = self._played.fen_before(self._at)
+        variation = _line(before)
+        variation.plies.append(_appended(before, self.number, move, uci, nags, comment))
+        self.notes.append(variation)
+        return variation
 
 
-class _PlacedPly(Ply):
+class _ReadPly(Ply):
+    """A ply that the package makes: Ply itself refuses to be called."""
+
+    __slots__ = ()
+    # that of object, which costs no call
+    __init__ = object.__init__
+
+
+class _PlacedPly(_ReadPly):
     """A ply that was made with its position, in a slot: that is read sooner than a property."""
 
     __slots__ = {"fen": "The FEN of the position after the move, as it was read."}
@@ -216,9 +271,13 @@ class _UnnamedPly(_PlacedPly):
         self._san = san
 
 
+# messages and `help` say Ply
+_ReadPly.__name__ = _PlacedPly.__name__ = _UnnamedPly.__name__ = Ply.__name__
+
+
 def _ply(at: int, san: str, played: _Played) -> Ply:
     """A move of a line, before which so many were played."""
-    ply = Ply()
+    ply: Ply = _ReadPly()
     ply._at, ply.san, ply._played = at, san, played
     return ply
 
@@ -227,7 +286,7 @@ def _ply(at: int, san: str, played: _Played) -> Ply:
 
 
 def _plies(sans: List[str], played: _Played) -> List[Ply]:
-    plies = list(starmap(Ply, repeat((), len(sans))))
+    plies: List[Ply] = list(starmap(_ReadPly, repeat((), len(sans))))
     for at, ply in enumerate(plies):
         ply._at = at
         ply.san = sans[at]
@@ -257,20 +316,24 @@ def _unnamed_plies(fens: List[str], played: _Played) -> List[_UnnamedPly]:
 class Line:
     """A line of play: the main line of a game, or a variation.
 
-    It is iterated over its plies. A copy of a variation, or what pickle makes of it, has the
-    position before it in place of the moves before.
+    It is iterated over its plies. `Line()` begins from the initial position, and `Line(fen)` from
+    that of a FEN; a bad one is a FenFault. A copy of a variation, or what pickle makes of it, has
+    the position before it in place of the moves before.
     """
 
     __slots__ = {
         "notes": "NAGs (int) and comments (str) before the first move.",
         "plies": "The moves of this line: a list of Ply.",
-        "start": "The Ply before the line; where there is none, the FEN of its position.",
+        "start": "The Ply before the line, with which it was read; else the FEN of its position.",
     }
+    notes: List[Note]
+    plies: List[Ply]
+    start: Union[Ply, str]
 
-    def __init__(self, start: "Union[Ply, str]") -> None:
-        self.notes: List[Note] = []
-        self.plies: List[Ply] = []
-        self.start = start
+    def __init__(self, fen: Optional[str] = None) -> None:
+        self.notes = []
+        self.plies = []
+        self.start = INITIAL_FEN if fen is None else _calls.normalize_fen(fen)
 
     def __iter__(self) -> Iterator[Ply]:
         return iter(self.plies)
@@ -288,6 +351,59 @@ class Line:
     def fen(self) -> str:
         """The FEN of the position that the line begins from."""
         return self.start if isinstance(self.start, str) else self.start.fen
+
+    def append(self, move: str, *, nags: Iterable[int] = (), comment: Optional[str] = None,
+               uci: bool = False) -> Ply:
+        """Plays a move at the end of the line, and returns its Ply.
+
+        `move` is read as `san` reads it: in SAN, freely written, or with `uci` in UCI. `nags` and
+        `comment` are the first notes of the ply.
+
+        Raises MoveFault if the text is no legal move there, ValueError for a NAG above 255 or a
+        comment with a closing brace, and TypeError for other types.
+
+        >>> line = Line()
+        >>> line.append("e2e4", nags=[1]), line.append("e7e5", uci=True, comment="classical")
+        (Ply(1, 'e4'), Ply(2, 'e5'))
+        >>> line.append("Ke3")
+        Traceback (most recent call last):
+        gillspoon.MoveFault: move is not legal: Ke3
+        """
+        last = self.plies[-1] if self.plies else self.start
+        before, number = (last, 1) if isinstance(last, str) else (last.fen, last.number + 1)
+        ply = _appended(before, number, move, uci, nags, comment)
+        self.plies.append(ply)
+        return ply
+
+
+def _line(start: Union[Ply, str]) -> Line:
+    """A line behind a ply, or from the position of a FEN in canonical form."""
+    line = Line.__new__(Line)
+    line.notes = []
+    line.plies = []
+    line.start = start
+    return line
+
+
+def _appended(before: str, number: int, move: str, uci: bool, nags: Iterable[int],
+              comment: Optional[str]) -> Ply:
+    """A ply with its number, of a move that the library accepts in the position of a FEN."""
+    notes: List[Note] = []
+    for nag in nags:
+        if not isinstance(nag, int):
+            raise TypeError("a NAG is an int such as 1, not %s" % type_of(nag))
+        notes.append(nag)
+    if comment is not None:
+        if not isinstance(comment, str):
+            raise TypeError("a comment is a str, not %s" % type_of(comment))
+        notes.append(comment)
+    _put_notes([], notes)
+    san, fen, its_uci = _calls.san(before, move, uci=uci)
+    played = _Played(before, number, [san], Habit())
+    played.fens, played.ucis = [fen], [its_uci]
+    ply = _ply(0, san, played)
+    ply.notes = notes
+    return ply
 
 
 # ---- what pickle gets: no links between plies, which would be a chain
@@ -328,7 +444,7 @@ def _unpacked_ply(fen: str, number: int, sans: List[str], san: str, notes: List[
 
 def _unpacked_line(fen: Optional[str], notes: List[object], groups: List[_Group],
                    *, link: Union[Ply, str] = "") -> Line:
-    line = Line(link if fen is None else fen)
+    line = _line(link if fen is None else fen)
     line.notes, before = _unpacked_notes(notes, line.start), line.start
     for start, first, sans, packed in groups:
         played = _Played(line.start if start is None else start, first, sans, Habit())
@@ -351,7 +467,7 @@ def read_moves(movetext: str, fen: str, habit: Habit) -> Line:
     """The moves of the movetext of a game in export format."""
     if "{" in movetext or "$" in movetext or "(" in movetext:
         return _read_noted_moves(movetext, fen, habit)
-    line = Line(fen)
+    line = _line(fen)
     if habit.fens:
         line.plies = _foreseen_plies(movetext, fen, habit)
     else:
@@ -399,7 +515,7 @@ def _read_noted_moves(movetext: str, fen: str, habit: Habit) -> Line:
     """The same where there are NAGs, comments or variations."""
     words = movetext.replace("\n", " ").split(" ")
     sans: List[str] = []
-    line, played = Line(fen), _Played(fen, 1, sans, habit)
+    line, played = _line(fen), _Played(fen, 1, sans, habit)
     opened: List[Tuple[Line, _Played, List[str]]] = []
     noted: Union[Line, Ply] = line
     at = 0
@@ -422,7 +538,7 @@ def _read_noted_moves(movetext: str, fen: str, habit: Habit) -> Line:
         elif first == "(":
             opened.append((line, played, sans))
             start = line.plies[-2] if len(line.plies) > 1 else line.start
-            variation = Line(start)
+            variation = _line(start)
             line.plies[-1].notes.append(variation)
             noted = line = variation
             number, sans = played.first + len(sans) - 1, []
@@ -445,17 +561,46 @@ def write_moves(line: Line) -> str:
         raise TypeError("a line is a Line, as game.moves() gives it, not %s" % type_of(line))
     words: List[str] = []
     _put_notes(words, line.notes)
+    before = line.start
     for ply in line.plies:
         if not isinstance(ply.san, str):
             raise TypeError("the san of a ply is a str such as 'Nf3', not %s" % type_of(ply.san))
+        if not _is_behind(ply, before):
+            raise ValueError("%s was played in another position than that of its place in the line"
+                             % ply.san)
         words.append(ply.san)
-        _put_notes(words, ply.notes)
+        if ply.notes:
+            _check_variations(ply, before)
+            _put_notes(words, ply.notes)
+        before = ply
     return " ".join(words)
+
+
+def _is_behind(ply: Ply, before: Union[Ply, str]) -> bool:
+    """Whether a ply was played in the position after another ply, or in that of a FEN."""
+    played, at = ply._played, ply._at
+    if at == 0 and played.start is before:
+        return True
+    if isinstance(before, str):
+        return played.fen_before(at) == before
+    if before._played is played and before._at == at - 1:
+        return True
+    return played.fen_before(at) == before.fen
+
+
+def _check_variations(ply: Ply, before: Union[Ply, str]) -> None:
+    """Raises ValueError for a variation that begins in another position than that before a ply."""
+    for variation in ply.variations:
+        if variation.start is not before and variation.fen != ply._played.fen_before(ply._at):
+            raise ValueError("a variation of %s begins in another position: %s"
+                             % (ply.san, variation.fen))
 
 
 def _put_notes(words: List[str], notes: List[Note]) -> None:
     for note in notes:
         if isinstance(note, int):
+            if not 0 <= note <= 255:
+                raise ValueError("a NAG is from 0 to 255, not %d" % note)
             words.append("$%d" % note)
         elif isinstance(note, str):
             if "}" in note:

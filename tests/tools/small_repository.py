@@ -19,7 +19,8 @@ echo "rt builds" >&2
 [ -e ../../meanwhile ] && sleep 0.1 && touch src/lib.rt
 grep -q broken src/main.rt && exit 1
 mkdir -p out
-printf '#!/bin/sh\\necho "rt built %s, called with $*"\\n' "$(cat src/main.rt)" >out/pgn_tool
+printf '#!/bin/sh\\n%s\\necho "rt built %s, called with $*"\\n' \\
+  '[ "$1" = --version ] && exec echo pgn_tool 1.2.3' "$(cat src/main.rt)" >out/pgn_tool
 chmod 755 out/pgn_tool
 """
 CARGO = """#!/bin/sh
@@ -39,7 +40,8 @@ case $1 in
     [ -e ../../slow ] && sleep 32
     [ -e ../../meanwhile ] && sleep 0.1 && touch "$source/lib.rt"
     grep -q broken "$source/main.rt" && exit 101
-    printf '#!/bin/sh\\necho "cargo built %s, called with $*"\\n' "$(cat "$source/main.rt")" \\
+    printf '#!/bin/sh\\n%s\\necho "cargo built %s, called with $*"\\n' \\
+      '[ "$1" = --version ] && exec echo pgn_tool 1.2.3' "$(cat "$source/main.rt")" \\
       >target/release/pgn_tool
     chmod 755 target/release/pgn_tool ;;
   *) exit 9 ;;
@@ -88,6 +90,8 @@ class Repository:
             for form in ("man/man1/%s.1", "completions/%s.bash", "completions/_%s",
                          "completions/%s.fish"):
                 self.write("share/" + form % command, form % command)
+        self.write("share/man/man3/pgn_c.3", "pgn_c")
+        self.write("crates/pgn_arguments/src/arguments.rt", 'const VERSION: &str = "1.2.3";\n')
         os.mkdir(self.root + "/path")
         for name in SYSTEM:
             os.symlink(shutil.which(name), self.root + "/path/" + name)

@@ -254,6 +254,14 @@ class Installed:
         words = words.decode().replace("-lpgn_c", self.prefix + "/lib/libpgn_c.a").split()
         self.check_loop(self.compiled(words))
 
+    def test_a_program_that_is_all_static(self):
+        need("pkg-config")
+        env = dict(os.environ, PKG_CONFIG_PATH=self.prefix + "/lib/pkgconfig")
+        words = run(["pkg-config", "--cflags", "--libs", "--static", "pgn_c"], env=env).stdout
+        self.check_loop(self.compiled([*words.decode().split(), "-static"]))
+        said = run(["ldd", self.folder + "/loop"])
+        self.assertIn(b"not a dynamic executable", said.stdout + said.stderr)
+
     def test_a_small_stack(self):
         """Half of what is asked for, for each way to convert: bench/calls.c has them."""
         program = self.folder + "/calls"

@@ -11,7 +11,8 @@ INSTALL, UNINSTALL, LIST = "bin/install", "bin/uninstall", "share/pgn_tool/files
 MODULES = ROOT + "/python/gillspoon"
 FILES = [
     "bin/pgn_fmt", "bin/pgn_lint", "bin/pgn_sieve", "bin/pgn_tool", "bin/pgn_where",
-    "include/pgn.h", "lib/libpgn_c.a", "lib/libpgn_c.so", "lib/pkgconfig/pgn_c.pc",
+    "include/pgn.h", "lib/libpgn_c.a", "lib/libpgn_c.so", "lib/libpgn_c.so.1.2",
+    "lib/pkgconfig/pgn_c.pc",
     "share/bash-completion/completions/pgn_fmt", "share/bash-completion/completions/pgn_lint",
     "share/bash-completion/completions/pgn_sieve", "share/bash-completion/completions/pgn_tool",
     "share/bash-completion/completions/pgn_where",
@@ -21,7 +22,7 @@ FILES = [
     "share/fish/vendor_completions.d/pgn_tool.fish",
     "share/fish/vendor_completions.d/pgn_where.fish",
     "share/man/man1/pgn_fmt.1", "share/man/man1/pgn_lint.1", "share/man/man1/pgn_sieve.1",
-    "share/man/man1/pgn_tool.1", "share/man/man1/pgn_where.1",
+    "share/man/man1/pgn_tool.1", "share/man/man1/pgn_where.1", "share/man/man3/pgn_c.3",
     LIST, *("share/pgn_tool/gillspoon/" + it for it in sorted(os.listdir(MODULES) + ["VERSION"])
             if it != "__pycache__"),
     "share/pgn_tool/pgn_files.py", "share/pgn_tool/pgn_fmt", "share/pgn_tool/pgn_lint",
@@ -103,6 +104,7 @@ class Small(unittest.TestCase):
             self.assertEqual(status, 0, told)
             built = self.libraries()
             self.assertEqual(built[:2], (static, shared), options)
+            self.assertEqual(os.readlink(self.prefix + "/lib/libpgn_c.so"), "libpgn_c.so.1.2")
             self.assertEqual(built[2][0], "prefix=" + self.prefix)
             self.assertRegex(built[2][-1], r"^Libs.private:.*" + needs)
             self.assertNotIn("libpgn_c is", told)

@@ -1,4 +1,5 @@
 """Tests of the library for C (crates/pgn_c): its header, and the example in C."""
+import ctypes
 import glob
 import os
 import re
@@ -99,7 +100,7 @@ def c_parameters(rust):
     for parameter in filter(None, (it.strip() for it in rust.split(","))):
         kind = parameter.split(":", 1)[1].strip()
         if kind in ("&[u8]", "&mut [u8]"):
-            types += ["uint8_t *" if "mut" in kind else "const uint8_t *", "size_t"]
+            types += ["uint8_t *" if "mut" in kind else "const void *", "size_t"]
         elif kind.startswith("&mut "):
             types.append(STRUCTS[kind[5:]] + " *")
         else:
@@ -116,7 +117,7 @@ def exported():
                 r'#\[unsafe\(no_mangle\)\]\s*pub (?:unsafe )?extern "C" fn (\w+)\((.*?)\) -> (\w+)',
                 text.read(), re.S)
         for name, parameters, result in rows:
-            found_in[name] = (STRUCTS[result], c_parameters(parameters))
+            found_in[name] = (STRUCTS.get(result) or C_TYPES[result], c_parameters(parameters))
     return found_in
 
 
@@ -125,7 +126,8 @@ def declared():
     found_in = {}
     rows = re.findall(r"^(\w+)\s+(\w+)\((.*?)\);", bare_header(), re.S | re.M)
     for result, name, parameters in rows:
-        types = [re.sub(r"\w+$", "", it.strip()).strip() for it in parameters.split(",")]
+        types = [re.sub(r"\w+$", "", it.strip()).strip() for it in parameters.split(",")
+                 if it != "void"]
         found_in[name] = (result, types)
     return found_in
 
@@ -161,7 +163,20 @@ def c_structs():
 class HeaderTest(unittest.TestCase):
     def test_functions(self):
         self.assertEqual(declared(), exported())
-        self.assertEqual(len(exported()), 10)
+        self.assertEqual(len(exported()), 11)
+
+    def test_version(self):
+        """That of the program, as text and as the number that the library returns."""
+        text, number = re.search(r'#define PGN_VERSION "(.*)"\n#define PGN_VERSION_NUMBER (\d+)\n',
+                                 source("pgn.h")).groups()
+        major, minor, patch = map(int, text.split("."))
+        said = run([need_program(), "--version"]).stdout.decode()
+        self.assertEqual(said, "pgn_tool %s\n" % text)
+        self.assertEqual(int(number), 10000 * major + 100 * minor + patch)
+        for build in ("--cargo", "--proved"):
+            with self.subTest(build):
+                shared = ctypes.CDLL(need_library(build)[:-2] + ".so")
+                self.assertEqual(shared.pgn_version(), int(number))
 
     def test_structs(self):
         self.assertEqual(c_structs(), rust_structs())
@@ -184,7 +199,8 @@ class HeaderTest(unittest.TestCase):
                 rows = run(["nm", "-D", "--defined-only", shared]).stdout.decode().split("\n")
                 self.assertEqual({it.split()[-1] for it in rows if it}, set(exported()))
                 said = run(["readelf", "-d", shared]).stdout
-                self.assertIn(b"Library soname: [libpgn_c.so]", said)
+                minor = re.search(r'PGN_VERSION "(\d+\.\d+)\.', source("pgn.h"))[1]
+                self.assertIn(b"Library soname: [libpgn_c.so.%s]" % minor.encode(), said)
 
     def test_symbols(self):
         archive = need_library("--proved")
@@ -197,6 +213,19 @@ class HeaderTest(unittest.TestCase):
         self.assertEqual([it for it in rows if re.search(r" [BbCDdSs] ", it)], [])
         # what it calls neither allocates nor reads or writes a file
         self.assertLessEqual(wanted, {"memcpy", "memmove", "memset"})
+
+    def test_strings_and_bytes_are_texts(self):
+        """A text needs no cast, whatever it points to."""
+        need("cc", "c++")
+        text = ('#include "pgn.h"\n'
+                "uint64_t games(const char *text, const uint8_t *bytes, unsigned char *other) {\n"
+                "    return pgn_check(text, 1).games + pgn_check(bytes, 1).games\n"
+                '        + pgn_check(other, 1).games + pgn_check("*", 1).games;\n'
+                "}\n")
+        for words in (["cc", "-std=c99", "-x", "c"], ["c++", "-std=c++11", "-x", "c++"]):
+            ran = run([*words, "-pedantic", "-Wall", "-Wextra", "-Werror", "-fsyntax-only",
+                       "-I" + CRATE, "-"], input=text.encode())
+            self.assertEqual((ran.returncode, ran.stderr), (0, b""), words)
 
     def test_compiles_as_c_and_as_cpp(self):
         need("cc", "c++")

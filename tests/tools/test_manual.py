@@ -9,10 +9,12 @@ import subprocess
 import unittest
 
 import programs
+import test_library
 from programs import ROOT, Folder, run
 
 PAGES = ROOT + "/share/man/man1/"
 PAGE = PAGES + "pgn_tool.1"
+LIBRARY_PAGE = ROOT + "/share/man/man3/pgn_c.3"
 SCRIPTS = ("pgn_lint", "pgn_where", "pgn_sieve", "pgn_fmt")
 # Those that have completions; pgn_conform is not installed, so it has no page.
 COMPLETED = SCRIPTS + ("pgn_conform",)
@@ -112,8 +114,8 @@ class Page(Shell):
 
     def test_no_warnings_of_mandoc(self):
         programs.need("mandoc")
-        for name in ("pgn_tool", *SCRIPTS):
-            ran = run(["mandoc", "-Tlint", PAGES + name + ".1"])
+        for path in (*(PAGES + it + ".1" for it in ("pgn_tool", *SCRIPTS)), LIBRARY_PAGE):
+            ran = run(["mandoc", "-Tlint", path])
             lines = (ran.stdout + ran.stderr).decode().splitlines()
             # What is installed on this machine, and its index, are no matter of this page.
             elsewhere = ("mandoc.db", "referenced manual not found")
@@ -123,9 +125,9 @@ class Page(Shell):
         programs.need("groff")
         if b"DIAGNOSTICS" not in run(["groff", "-P-cbu", "-mandoc", "-Tascii", PAGE]).stdout:
             programs.not_tried("groff has no mdoc macros")
-        for name in ("pgn_tool", *SCRIPTS):
+        for path in (*(PAGES + it + ".1" for it in ("pgn_tool", *SCRIPTS)), LIBRARY_PAGE):
             for device in ("ascii", "utf8"):
-                ran = run(["groff", "-ww", "-mandoc", "-T" + device, PAGES + name + ".1"])
+                ran = run(["groff", "-ww", "-mandoc", "-T" + device, path])
                 self.assertEqual((ran.returncode, ran.stderr), (0, b""), device)
 
     def test_man_shows_each_page(self):
@@ -180,6 +182,41 @@ class Page(Shell):
         one = self.shell("pgn_tool export games.pgn | cmp - export.pgn")
         self.assertEqual((one.returncode, one.stderr), (0, b""))
         self.assertGreater(os.path.getsize(self.folder + "/export.pgn"), 100000)
+
+
+class LibraryPage(Folder, unittest.TestCase):
+    """The page of the library for C, against its header."""
+
+    def section(self, name):
+        return section(text_of(LIBRARY_PAGE), name)
+
+    def test_every_call_is_there(self):
+        calls, declared = {}, test_library.declared()
+        for result, text in re.findall(r"^\.Ft (\w+)\n(.*(?:\n\.Fa .*|\n\.Fc)*)",
+                                       self.section("SYNOPSIS"), re.M):
+            name = re.match(r"\.F[no] (\w+)", text)[1]
+            types = [re.sub(r"\w+$", "", it).strip() for it in re.findall('"(.*?)"', text)
+                     if it != "void"]
+            calls[name] = (result, types)
+        self.assertEqual(calls, declared)
+        self.assertEqual(list(calls), re.findall(r"^\.Nm (\w+)", self.section("NAME"), re.M))
+        self.assertEqual(list(calls), re.findall(r"^\.It Fn (\w+)", self.section("DESCRIPTION"), re.M))
+
+    def test_every_status_is_there(self):
+        enum = re.search(r"enum \{\s*(PGN_OK.*?)\}", test_library.bare_header(), re.S)[1]
+        self.assertEqual(re.findall(r"^\.It Dv (\w+)", self.section("RETURN VALUES"), re.M),
+                         re.findall(r"PGN_\w+", enum))
+
+    def test_the_example(self):
+        programs.need("cc")
+        text, said = re.findall(r"^\.Bd -literal.*?\n(.*?)^\.Ed", self.section("EXAMPLES"), re.M | re.S)
+        with open(self.folder + "/example.c", "w", encoding="ascii") as file:
+            file.write(text)
+        ran = run(["cc", "-std=c99", "-Wall", "-Wextra", "-Werror", "example.c", "-o", "example",
+                   "-I%s/crates/pgn_c" % ROOT, programs.need_library("--cargo")], cwd=self.folder)
+        self.assertEqual((ran.returncode, ran.stderr), (0, b""))
+        ran = run([self.folder + "/example"])
+        self.assertEqual((ran.returncode, ran.stdout.decode()), (0, said))
 
 
 class Scripts(unittest.TestCase):

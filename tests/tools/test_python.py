@@ -465,11 +465,7 @@ class LateTexts(Folder):
                         game.moves()
                     self.assertEqual((game.encoding, game.tags["White"]), (encoding, name), data)
 
-    def test_a_text_that_is_set(self):
-        game, other = gillspoon.games(b"e4 * d4 *")
-        game.text = gillspoon.convert(b'[White "Ada"] c4 *')
-        self.assertEqual((game.tags["White"], [it.san for it in game.mainline()]), ("Ada", ["c4"]))
-        self.assertEqual(other.text, gillspoon.convert(b"d4 *"))
+    def test_a_game_that_is_made(self):
         made = gillspoon.Game(1, 0, 4, "*", 1, "", gillspoon.convert(b'[White "Ada"] c4 *'))
         self.assertEqual((made.tags["White"], len(made.moves())), ("Ada", 1))
 
@@ -591,7 +587,7 @@ class Positions(unittest.TestCase):
             foreseen = 0
             for game, plies in zip(gillspoon.games(data), wanted):
                 line = game.moves()
-                foreseen += any(type(it) is not gillspoon.Ply for it in line)
+                foreseen += any(isinstance(it, gillspoon._moves._PlacedPly) for it in line)
                 self.assertEqual([it.fen for it in line], [it[2] for it in plies])
                 for make in (lambda it: it, copies.copy, copies.deepcopy,
                              lambda it: pickle.loads(pickle.dumps(it))):
@@ -638,9 +634,8 @@ class Positions(unittest.TestCase):
         one, other = next(gillspoon.games(b"e4 e5 *")).moves()
         one.notes.append("best")
         self.assertEqual((one.comments, other.comments), (["best"], []))
-        for name in ("note", "number", "fen", "uci"):
-            with self.assertRaises(AttributeError):
-                setattr(one, name, 7)
+        with self.assertRaises(AttributeError):
+            one.note = "good"
 
     def test_a_changed_san(self):
         """Positions are those of the game as it was read."""
@@ -669,6 +664,229 @@ class Positions(unittest.TestCase):
         for it in threads:
             it.join()
         self.assertEqual(found, [wanted] * 4)
+
+
+class Views(unittest.TestCase):
+    """What is a view of what was read cannot be set, and the error says what to do instead."""
+
+    def test_a_game(self):
+        for game in gillspoon.games(b"e4 e5 1-0 d4 d5 1-0", checked=True):
+            before = [getattr(game, it) for it in self.GAME]
+            for name in self.GAME:
+                with self.assertRaisesRegex(AttributeError, name + " cannot be set: give write_game"):
+                    setattr(game, name, getattr(game, name))
+            self.assertEqual([getattr(game, it) for it in self.GAME], before)
+
+    GAME = ("number", "offset", "end", "result", "plies", "fen", "text", "encoding", "tags")
+    LISTS = ("nags", "comments", "variations", "arrows", "squares")
+    PLY = ("number", "side", "move_number", "fen", "uci", "clock", "emt", "eval", *LISTS)
+
+    def test_a_ply(self):
+        line = next(gillspoon.games(b"e4 {[%clk 0:00:01]} (d4) $1 e5 *")).moves()
+        for ply in (*line, line.plies[0].variations[0].plies[0], gillspoon.Line().append("c4")):
+            before = [getattr(ply, it) for it in self.PLY]
+            for name in self.PLY:
+                with self.assertRaisesRegex(AttributeError, name + " cannot be set: change the no"):
+                    setattr(ply, name, getattr(ply, name))
+            self.assertEqual([getattr(ply, it) for it in self.PLY], before)
+
+    def test_the_lists_of_a_ply(self):
+        """Each change of one is refused, and a copy is a list like any other."""
+        ply = next(gillspoon.games(b"e4 {[%csl Ga1][%cal Ge2e4]} (d4) $1 {b} *")).moves().plies[0]
+
+        def assign(them):
+            them[0] = them[0]
+
+        def delete(them):
+            del them[0]
+
+        def add(them):
+            them += them
+
+        def multiply(them):
+            them *= 2
+
+        for name in self.LISTS:
+            for change in (assign, delete, add, multiply, lambda it: it.append(it[0]),
+                           lambda it: it.extend(it), lambda it: it.insert(0, it[0]),
+                           lambda it: it.pop(), lambda it: it.remove(it[0]), lambda it: it.clear(),
+                           lambda it: it.reverse(), lambda it: it.sort()):
+                with self.assertRaisesRegex(TypeError, r"ply\.notes\.append"):
+                    change(getattr(ply, name))
+        comments = ["[%csl Ga1][%cal Ge2e4]", "b"]
+        self.assertEqual((ply.nags, ply.comments), ([1], comments))
+        for copy in (ply.comments.copy(), ply.comments + [], list(ply.comments),
+                     pickle.loads(pickle.dumps(ply.comments)), copies.deepcopy(ply.comments)):
+            copy.append("c")
+            self.assertEqual((type(copy), copy), (list, [*comments, "c"]))
+
+    def test_a_ply_is_not_made_by_hand(self):
+        with self.assertRaisesRegex(TypeError, r'line\.append\("Nf3"\) makes one'):
+            gillspoon.Ply()
+
+
+class Turns(unittest.TestCase):
+    """The side of a ply, and its number in the movetext."""
+
+    def turns(self, line):
+        return [(it.san, it.side, it.move_number) for it in line]
+
+    def test_a_game(self):
+        line = next(gillspoon.games(b"1. e4 e5 (1... c5 2. Nf3 (2. c3 d5)) 2. Ke2 (2. d4) *")).moves()
+        self.assertEqual(self.turns(line),
+                         [("e4", "white", 1), ("e5", "black", 1), ("Ke2", "white", 2)])
+        sicilian, = line.plies[1].variations
+        self.assertEqual(self.turns(sicilian), [("c5", "black", 1), ("Nf3", "white", 2)])
+        inner, = sicilian.plies[1].variations
+        self.assertEqual(self.turns(inner), [("c3", "white", 2), ("d5", "black", 2)])
+        for copy in (pickle.loads(pickle.dumps(inner)), copies.deepcopy(inner)):
+            self.assertEqual(self.turns(copy), self.turns(inner))
+        self.assertEqual((inner.plies[1].number, line.plies[2].variations[0].plies[0].side),
+                         (4, "white"))
+
+    def test_from_a_position(self):
+        text = b'[FEN "4k3/8/8/8/8/8/4P3/4K3 b - - 5 99"] Kd7 (Kf7 e3) e4 *'
+        line = next(gillspoon.games(text)).moves()
+        self.assertEqual(self.turns(line), [("Kd7", "black", 99), ("e4", "white", 100)])
+        self.assertEqual(self.turns(line.plies[0].variations[0]),
+                         [("Kf7", "black", 99), ("e3", "white", 100)])
+        self.assertEqual([it.number for it in line], [1, 2])
+
+    def check(self, line):
+        """Each is what the FEN before the ply says."""
+        before, count = line.fen, 0
+        for ply in line:
+            _, side, _, _, _, number = before.split()
+            self.assertEqual((ply.side[0], ply.move_number), (side, int(number)))
+            count += 1 + sum(map(self.check, ply.variations))
+            before = ply.fen
+        return count
+
+    def test_archives(self):
+        for style in ("plain", "annotated"):
+            count = sum(self.check(it.moves()) for it in gillspoon.games(archive(30, style)))
+            self.assertGreater(count, 1000)
+
+
+class Built(unittest.TestCase):
+    """Lines that are built move by move: the library checks each move when it is put in."""
+
+    def movetext(self, line, **tags):
+        return gillspoon.write_game(tags, line).decode().partition("\n\n")[2]
+
+    def test_a_line(self):
+        line = gillspoon.Line()
+        e4 = line.append("e2e4", nags=[1, 14], comment="best")
+        line.append("e7e5", uci=True)
+        line.append("Ng1f3", comment="")
+        line.notes.append("first")
+        self.assertEqual(
+            (e4.number, e4.san, e4.uci, e4.fen, e4.notes), (1, "e4", "e2e4",
+             "rnbqkbnr/pppppppp/8/8/4P3/8/PPPP1PPP/RNBQKBNR b KQkq e3 0 1", [1, 14, "best"]))
+        self.assertEqual([(it.number, it.san, it.uci) for it in line][1:],
+                         [(2, "e5", "e7e5"), (3, "Nf3", "g1f3")])
+        self.assertEqual((line.fen, len(line)), (INITIAL, 3))
+        self.assertEqual(self.movetext(line, Result="1-0"), (
+            "{ first } 1. e4 $1 $14 { best } 1... e5 2. Nf3 { } 1-0\n\n"))
+
+    def test_variations(self):
+        line = gillspoon.Line()
+        e4, e5 = line.append("e4"), line.append("e5")
+        first = e4.add_variation("d2d4", uci=True, nags=(5,), comment="or so")
+        knight = first.append("Nf6")
+        inner = knight.add_variation("d5")
+        inner.append("c4").notes.append(3)
+        e5.add_variation("c5")
+        e5.add_variation("e6")
+        self.assertEqual([it.number for it in (*first, *inner)], [1, 2, 2, 3])
+        self.assertEqual((first.fen, inner.fen, e5.variations[1].fen),
+                         (INITIAL, first.plies[0].fen, e4.fen))
+        self.assertEqual(self.movetext(line), (
+            "1. e4 ( 1. d4 $5 { or so } 1... Nf6 ( 1... d5 2. c4 $3 ) ) 1... e5 ( 1... c5 )\n"
+            "( 1... e6 ) *\n\n"))
+        for copy in (pickle.loads(pickle.dumps(line)), copies.deepcopy(line)):
+            self.assertEqual(self.movetext(copy), self.movetext(line))
+
+    def test_from_a_position(self):
+        line = gillspoon.Line("4k3/8/8/8/8/8/4P3/4K3 b - - 05 99")
+        self.assertEqual(line.fen, "4k3/8/8/8/8/8/4P3/4K3 b - - 5 99")
+        line.append("Kd7").add_variation("Kf7")
+        self.assertEqual((line.plies[0].side, line.append("e4").move_number), ("black", 100))
+        self.assertEqual(gillspoon.write_game({}, line).decode().partition("[Result ")[2], (
+            '"*"]\n[FEN "4k3/8/8/8/8/8/4P3/4K3 b - - 5 99"]\n[SetUp "1"]\n\n'
+            "99... Kd7 ( 99... Kf7 ) 100. e4 *\n\n"))
+        self.assertEqual(gillspoon.Line(INITIAL).fen, gillspoon.Line().fen)
+
+    def test_what_is_refused(self):
+        """The line stays as it was."""
+        line = gillspoon.Line()
+        ply = line.append("e4")
+        for call in (line.append, ply.add_variation):
+            for words, options, error, said in (
+                    (("Ke3",), {}, gillspoon.MoveFault, "move is not legal: Ke3"),
+                    (("e9",), {}, gillspoon.MoveFault, "not a move: e9"),
+                    (("Nf6 d4",), {}, gillspoon.MoveFault, "not a move"),
+                    (("",), {}, gillspoon.MoveFault, "not a move"),
+                    (("O-O",), {"uci": True}, gillspoon.MoveFault, "not a move"),
+                    ((7,), {}, TypeError, "a move is a str, not int"),
+                    ((b"e5",), {}, TypeError, "a move is a str, not bytes"),
+                    (("Nf6",), {"nags": "!"}, TypeError, "a NAG is an int such as 1, not str"),
+                    (("Nf6",), {"nags": [256]}, ValueError, "from 0 to 255, not 256"),
+                    (("Nf6",), {"nags": [-1]}, ValueError, "from 0 to 255, not -1"),
+                    (("Nf6",), {"comment": 7}, TypeError, "a comment is a str, not int"),
+                    (("Nf6",), {"comment": "a}"}, ValueError, "closing brace")):
+                with self.assertRaisesRegex(error, said):
+                    call(*words, **options)
+        self.assertEqual((len(line), ply.notes), (1, []))
+        with self.assertRaises(gillspoon.MoveFault) as raised:
+            line.append("e4")
+        self.assertEqual(raised.exception.fen, ply.fen)
+        with self.assertRaises(gillspoon.MoveFault) as raised:
+            ply.add_variation("e5")
+        self.assertEqual(raised.exception.fen, INITIAL)
+        with self.assertRaises(gillspoon.FenFault):
+            gillspoon.Line("4k3/8 w")
+        with self.assertRaisesRegex(TypeError, "a FEN is a str, not Ply"):
+            gillspoon.Line(ply)
+
+    def test_a_line_that_was_read_goes_on(self):
+        """Also one whose positions were foreseen, and a variation."""
+        for game in gillspoon.games(b"e4 e5 (c5 Nf3) * e4 e5 *"):
+            self.assertTrue([it.fen for it in game.mainline()])
+            line = game.moves()
+            self.assertEqual((line.append("Nc3").number, line.append("Nc6").number), (3, 4))
+            line.plies[1].add_variation("e6").append("d4")
+            for variation in line.plies[1].variations:
+                variation.append(variation.plies[0].san.replace("c5", "Nc6").replace("e6", "d5"))
+            sicilian = "( 1... c5 2. Nf3 Nc6 ) " if game.number == 1 else ""
+            self.assertEqual(self.movetext(line).replace("\n", " "), (
+                "1. e4 e5 %s( 1... e6 2. d4 d5 ) 2. Nc3 Nc6 *  " % sicilian))
+
+    def build(self, plies, line):
+        """Appends the same plies to a line, with their notes and variations."""
+        for ply in plies:
+            self.note(ply.notes, line.append(ply.san))
+
+    def note(self, notes, ply):
+        """Adds the same notes to a ply."""
+        for note in notes:
+            if isinstance(note, gillspoon.Line):
+                first, *others = note
+                variation = ply.add_variation(first.uci, uci=True)
+                self.note(first.notes, variation.plies[0])
+                self.build(others, variation)
+            else:
+                ply.notes.append(note)
+
+    def test_games_are_built_again(self):
+        variations = 0
+        for game in gillspoon.games(archive(40, "annotated")):
+            read, line = game.moves(), gillspoon.Line()
+            line.notes += read.notes
+            self.build(read, line)
+            self.assertEqual(gillspoon.write_game(game.tags, line), game.text)
+            variations += sum(len(it.variations) for it in line)
+        self.assertGreater(variations, 50)
 
 
 class Commands(unittest.TestCase):
@@ -1663,6 +1881,97 @@ class Written(unittest.TestCase):
                 gillspoon.write_game(tags, moves)
 
 
+class WrittenFromPositions(unittest.TestCase):
+    """A line is written as a game from its own position."""
+
+    FEN = "4k3/8/8/8/8/8/4P3/4K3 w - - 5 9"
+
+    def variations(self, line):
+        for ply in line:
+            for variation in ply.variations:
+                yield variation
+                yield from self.variations(variation)
+
+    def check(self, source):
+        """Each variation becomes a game with its moves and positions."""
+        count = 0
+        for game in gillspoon.games(source):
+            tags = {name: it for name, it in game.tags.items() if name not in ("FEN", "SetUp")}
+            for line in self.variations(game.moves()):
+                count += 1
+                text = gillspoon.write_game(tags, line, encoding=game.encoding)
+                written, = gillspoon.games(text)
+                self.assertEqual(written.position_at(0), line.fen)
+                self.assertEqual([(it.san, it.fen) for it in written.mainline()],
+                                 [(it.san, it.fen) for it in line])
+                self.assertEqual("FEN" in written.tags, line.fen != INITIAL)
+        return count
+
+    def test_variations(self):
+        self.assertGreater(self.check(archive(60, "annotated")), 300)
+        self.assertGreater(self.check(Pieces(RandomGames(2).source(1000))), 500)
+
+    def test_a_move_that_is_legal_from_both(self):
+        """The knight's move is legal from the initial position too."""
+        game = next(gillspoon.games(b"1. e4 e5 (1... Nf6) 2. Nf3 (2. Nc3 Nc6) *"))
+        text = gillspoon.write_game({}, game.moves().plies[2].variations[0]).decode()
+        self.assertTrue(text.endswith(
+            '[FEN "rnbqkbnr/pppp1ppp/8/4p3/4P3/8/PPPP1PPP/RNBQKBNR w KQkq e6 0 2"]\n'
+            '[SetUp "1"]\n\n2. Nc3 Nc6 *\n\n'), text)
+
+    def test_tags(self):
+        line = gillspoon.Line(self.FEN)
+        line.append("e4")
+        wanted = gillspoon.write_game({"FEN": self.FEN}, "e4")
+        self.assertIn(b'[FEN "%s"]\n[SetUp "1"]\n\n9. e4 *' % self.FEN.encode(), wanted)
+        for tags in ({}, {"FEN": self.FEN}, {"SetUp": "1"}, {"FEN": self.FEN, "SetUp": "1"}):
+            self.assertEqual(gillspoon.write_game(tags, line), wanted)
+        spelled = {"FEN": self.FEN.replace("5 9", "05 009")}
+        self.assertEqual(gillspoon.write_game(spelled, line), gillspoon.write_game(spelled, "e4"))
+        for tags, moves, error, said in (
+                ({"FEN": INITIAL}, line, ValueError, "FEN tag is not the position of the line, 4k3"),
+                ({"FEN": self.FEN}, gillspoon.Line(), ValueError, "FEN tag is not the position"),
+                ({"FEN": self.FEN.replace("w", "b")}, line, ValueError, "FEN tag is not"),
+                ({"FEN": self.FEN.replace("5 9", "5 8")}, line, ValueError, "FEN tag is not"),
+                ({"SetUp": "0"}, line, ValueError, "has the SetUp tag '1', not '0'"),
+                ({"FEN": self.FEN, "SetUp": ""}, line, ValueError, "has the SetUp tag '1', not ''"),
+                ({"FEN": "4k3"}, line, gillspoon.FenFault, "4k3"),
+                ({"FEN": 7}, line, TypeError, "the tag FEN is a str"),
+                ({"SetUp": "1"}, gillspoon.Line(), gillspoon.PgnFault, "without a FEN")):
+            with self.assertRaisesRegex(error, said):
+                gillspoon.write_game(tags, moves)
+        initial = gillspoon.Line()
+        initial.append("e4")
+        self.assertNotIn(b"FEN", gillspoon.write_game({"SetUp": "0"}, initial))
+        self.assertIn(b'[SetUp "1"]', gillspoon.write_game({"FEN": INITIAL}, initial))
+
+    def test_plies_in_another_place(self):
+        """A ply or a variation that was played in another position is refused, not replayed."""
+        def line():
+            return next(gillspoon.games(b"Nf3 (Nc3) Nf6 Ng1 (Nc3) Ng8 Nf3 *")).moves()
+
+        for count, said in ((1, "Nf6"), (2, "Ng1"), (4, "Nf3")):
+            shorter = line()
+            del shorter.plies[:count]
+            with self.assertRaisesRegex(ValueError, said + " was played in another position"):
+                gillspoon.write_game({}, shorter)
+        joined = line()
+        del joined.plies[1:4]
+        with self.assertRaisesRegex(ValueError, "Nf3 was played in another position"):
+            gillspoon.write_game({}, joined)
+        moved = line()
+        moved.plies[4].notes.append(moved.plies[0].variations[0])
+        with self.assertRaisesRegex(ValueError, "a variation of Nf3 begins in another position"):
+            gillspoon.write_game({}, moved)
+        # a variation in place of the line's own moves, also after pickle
+        for make in (lambda it: it, copies.deepcopy, lambda it: pickle.loads(pickle.dumps(it))):
+            longer = make(line())
+            longer.plies[2:] = longer.plies[2].variations[0].plies
+            longer.append("e5")
+            self.assertTrue(gillspoon.write_game({}, longer).endswith(
+                b"\n\n1. Nf3 ( 1. Nc3 ) 1... Nf6 2. Nc3 e5 *\n\n"))
+
+
 class WrittenAgain(unittest.TestCase):
     """The text of what was parsed and written again is the same bytes."""
 
@@ -1891,15 +2200,21 @@ class Typed(unittest.TestCase):
                  "bad: List[gillspoon.PgnFault] = []",
                  "path: str = gillspoon.__version__"]
         lines += ["gillspoon.write_game({'White': 'Ada'}, '1. e4').decode()"]
-        lines += ["read(%s, bad.append)" % it for it in (*good, *bad)]
-        lines += ["next(gillspoon.games(path)).tags['A'] = 'b'"]
+        lines += ["read(%s, bad.append)" % it for it in good]
+        lines += ["line = gillspoon.Line()",
+                  "line.append('e4', nags=[1], comment='a').add_variation('d4', uci=False).append('d5')",
+                  "side: str = line.plies[0].side",
+                  "number: int = line.plies[0].move_number"]
+        changes = ("next(gillspoon.games(path)).tags['A'] = 'b'",
+                   "next(gillspoon.games(path)).result = '1-0'", "line.plies[0].nags = [1]")
+        lines += [*changes, *("read(%s, bad.append)" % it for it in bad)]
         with tempfile.TemporaryDirectory() as folder:
             with open(folder + "/caller.py", "w", encoding="utf-8") as file:
                 file.write("\n".join(lines) + "\n")
             ran = run(["mypy", "--strict", "--cache-dir", folder + "/cache", folder + "/caller.py"],
                       env=dict(os.environ, PATH=programs.PATH, MYPYPATH=PACKAGE))
         told = re.findall(r"(?m)^.*caller\.py:(\d+): error", ran.stdout.decode())
-        refused = {len(lines) - it for it in range(len(bad) + 1)}
+        refused = {len(lines) - it for it in range(len(bad) + len(changes))}
         self.assertEqual({int(it) for it in told}, refused, ran.stdout)
 
     def test_examples_of_docstrings(self):
@@ -2049,7 +2364,8 @@ class Documents(Folder):
         self.assertEqual(lines[4:], [
             '[White "Silva, J."]', '[Black "Nowak, A."]', '[Result "1-0"]', '[WhiteElo "1850"]', "",
             "1. e4 e5 2. Bc4 Nc6 3. Qh5 Nf6 4. Qxf7# 1-0", "",
-            "e4 e5 Nf3 rnbqkbnr/pppp1ppp/8/4p3/4P3/5N2/PPPP1PPP/RNBQKB1R b KQkq - 1 2"])
+            "1. e4 e5 2. Bc4 Nc6 3. Qh5 Nf6 $4 ( 3... g6 $1 { defends } 4. Qf3 ) 4. Qxf7#", "1-0",
+            "4 white Qxf7# h5f7", "move is not legal: Kxf7"])
 
     def test_comments(self):
         self.sample("Take out comments and variations")

@@ -62,6 +62,16 @@ const TAGS: usize = 64;
 /// The levels of movetext: the game's own, and variations to depth 32.
 const LEVELS: usize = 33;
 
+/// Returns the version of the library, as `PGN_VERSION_NUMBER` of `pgn.h` has it.
+///
+/// It is 10,000 times the major number, plus 100 times the minor one, plus the patch level.
+#[unsafe(no_mangle)]
+pub extern "C" fn pgn_version() -> u32
+    ensures { result ≡ 100 }
+{
+    100
+}
+
 /// Checks the games of a text (PGN import format), and counts them.
 ///
 /// The result has no written bytes. Its status is 0 with the numbers of games and plies, or 1 with
