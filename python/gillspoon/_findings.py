@@ -4,7 +4,7 @@ All that is said of a text comes from the library: the faults and their places, 
 game, and whether a Result is missing, which is so if the game is accepted without one.
 """
 import re
-from typing import Callable, Iterator, List, NamedTuple, Optional, Tuple, Union
+from typing import Callable, Iterable, Iterator, List, NamedTuple, Optional, Tuple, Union
 
 from . import _calls, _library
 from ._bad_games import TAG_IN_MOVETEXT
@@ -16,7 +16,7 @@ from ._places import LINE_END
 from ._sections import has_movetext
 from ._sources import Source, Window
 from ._texts import printable
-from ._warnings import Watcher
+from ._warnings import Said, Watcher
 
 # After how many games a step is reported.
 STEP = 256
@@ -122,13 +122,13 @@ class Linter(Reader):
         try:
             for game in self.games(self._add):
                 if self._watcher:
-                    self._watch(self._watcher, game)
+                    self._watch(game, self._watcher.game(game))
                 if self.found:
                     yield from self._taken()
                 if not game.number % STEP:
                     step(game.number)
             if self._watcher:
-                self._watch_end(self._watcher)
+                self._watch(None, self._watcher.file(self.number > 1, self.at))
         except PgnFault as fault:
             # nothing is read behind a fault that would be met again
             fault.end = self.window.base + len(self.window.data)
@@ -140,24 +140,15 @@ class Linter(Reader):
 
     def watched(self) -> "Linter":
         """The same, and it warns."""
-        self._watcher = Watcher()
+        self._watcher = Watcher(self.window)
         return self
 
-    def _watch(self, watcher: Watcher, game: Game) -> None:
-        base = self.window.base
-        text = self.window.data[game.offset - base:game.end - base]
-        for it in watcher.game(game, text):
-            line, column = self.window.place(it.offset)
+    def _watch(self, game: Optional[Game], warnings: Iterable[Said]) -> None:
+        for it in warnings:
+            number, tags = (game.number, game.tags) if game else (None, {})
             self.found.append(Warned(
-                self.name, line, column, it.offset, it.reason, game.number,
-                printable(game.tags.get("White", "?")), printable(game.tags.get("Black", "?"))))
-
-    def _watch_end(self, watcher: Watcher) -> None:
-        at = min(self.at, self.window.base + len(self.window.data))
-        rest = self.window.data[at - self.window.base:]
-        for it in watcher.file(self.number > 1, rest, at):
-            line, column = self.window.place(it.offset)
-            self.found.append(Warned(self.name, line, column, it.offset, it.reason, None, "?", "?"))
+                self.name, it.line, it.column, it.offset, it.reason, number,
+                printable(tags.get("White", "?")), printable(tags.get("Black", "?"))))
 
     def _taken(self) -> "List[Union[Finding, Warned]]":
         taken, self.found = self.found, []

@@ -95,19 +95,17 @@ class _WatchingMender(Mender):
     def __init__(self, opened: Opened, task: Task) -> None:
         super().__init__(opened, task.checked, task.chosen)
         self.warnings = 0
-        self._watcher = Watcher() if task.counts_warnings else None
+        self._watcher = Watcher(self.window) if task.counts_warnings else None
 
     def games(self, on_fault: Optional[OnFault]) -> Iterator[Game]:
         """The games in turn, as a Reader gives them."""
-        window, watcher = self.window, self._watcher
+        watcher = self._watcher
         for game in super().games(on_fault):
             if watcher:
-                text = window.data[game.offset - window.base:game.end - window.base]
-                self.warnings += sum(1 for _ in watcher.game(game, text))
+                self.warnings += sum(1 for _ in watcher.game(game))
             yield game
         if watcher:
-            rest = window.data[max(self.at - window.base, 0):]
-            self.warnings += sum(1 for _ in watcher.file(self.number > 1, rest, self.at))
+            self.warnings += sum(1 for _ in watcher.file(self.number > 1, self.at))
 
 
 def mend(opened: Opened, task: Task, out: Callable[[], IO[bytes]]) -> Mended:

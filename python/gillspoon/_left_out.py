@@ -56,7 +56,7 @@ def left_out(source: Source, checked: bool, reduced: bool) -> LeftOut:
             text = window.data[game.offset - window.base:game.end - window.base]
             text = text.removeprefix(BYTE_ORDER_MARK)
             if b"{" in text or b";" in text or b"%" in text:
-                head = _end_of_head(text)
+                head = end_of_head(text)
                 for part in PART.finditer(text):
                     comments += bool(part[1]) and part.start() < head
                     escapes += bool(part[2])
@@ -66,7 +66,7 @@ def left_out(source: Source, checked: bool, reduced: bool) -> LeftOut:
     return LeftOut(comments, escapes, len(behind.removeprefix(BYTE_ORDER_MARK)))
 
 
-def _end_of_head(text: bytes) -> int:
+def end_of_head(text: bytes) -> int:
     """Where a game's last tag pair ends, or what is before its first token if it has none."""
     end = 0
     while True:

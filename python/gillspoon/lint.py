@@ -51,8 +51,10 @@ text has one reading and nothing is lost; --unsafe-fixes adds the others. What n
 it is, byte for byte. --fix replaces a file whole, and leaves read-only files alone. What is left is
 reported by the lines of the text after the edits, and warnings are counted alone.
 
-A warning is about a valid game: a comment in which a game may be, text that export drops, a value
-whose form the standard does not know, a mix of encodings, a Variant tag, or a file without games.
+A warning is about a valid game: a comment in which a game or moves may be, text that export drops,
+numbers that do not run, 0000, a Pf3 that may be Nf3, a variation of marks, a tag name that is
+likely another one, a value whose form the standard does not know, a second marker, a mix of
+encodings, a Variant tag, or a file without games.
 
 status:
   0  no fault is left, and with --diff nothing would change

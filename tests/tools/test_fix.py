@@ -357,6 +357,75 @@ class Warnings(Lint):
                         "Ada won by resignation", "", r"a \"draw\""))):
             self.warned(b"[%s]\n\n*\n" % tag.encode())
 
+    def test_doubts(self):
+        """What is read without a word and may mean something else, and what is like it."""
+        lower = "move number 1 behind 2: perhaps a marker or moves are missing"
+        marks, null = "a variation has marks and no move", "0000 is read as a move number: PGN has " \
+            "no null move"
+        line = "a comment from ; to the end of the line begins with the next moves"
+        for text, place, reason in (
+                ("1. e4 e5 2. Nf3 Nc6 1. d4 d6 *", "1:21", lower),
+                ("1. e4 e5 2. Nf3 Nc6 {9.} (2... d6) 1. d4 d6 2. c4 *", "1:36", lower),
+                ('[White "a"]\n\n1.e4 e5 2.Nf3 Nc6\n\n1.d4 d6 *', "5:1", lower),
+                ("1. e4 e5 4. Nf3 Nc6 5. d4 *", "1:10",
+                 "move number 4 behind 1: perhaps a marker or moves are missing"),
+                ("1. e4 0000 2. d5 *", "1:7", null), ("1. e4 (1. d4 0000 2. d5) *", "1:14", null),
+                ("1. e4 (!) e5 *", "1:7", marks), ("1. e4 ( $1 !?) e5 *", "1:7", marks),
+                ("1. e4 ; e5 2. Nf3 Nc6\n *", "1:7", line),
+                ("1. e4 e5 ; 2. Nf3! Nc6 3. Bb5 was played\n *", "1:10", line),
+                ("1. e4 (1. d4 ;d5 c4 e6\n ) *", "1:14", line),
+                ("1. Pf3 *", "1:4", "Pf3 is read as a pawn's move, and Nf3 is legal too")):
+            white = "a" if "White" in text else "?"
+            self.warned(text.encode(), "%s: warning: %s (game 1, %s \u2013 ?)" % (
+                place, reason, white))
+        for text in (
+                # the numbers run, or there are none with a period
+                "e4 e5 Nf3 *", "1 e4 e5 1 Nf3 *", "1. e4 e5 {7.} (1... c5 9. d4) 2. Nf3 *",
+                '[FEN "4k3/8/8/8/8/8/8/4K3 w - - 0 30"]\n\n30. Kd2 Kd7 31. Kd3 *',
+                '[FEN "4k3/8/8/8/8/8/8/4K3 b - - 0 30"]\n\n1... Kd7 2. Kd2 Kc6 3. Kd3 *',
+                "1. e4 2. e5 3. Nf3 4. Nc6 *",
+                "1. e4 1... e5 2. Nf3 2... Nc6 3. d4 (3. c3 a6 4. d4) *",
+                "1. e4 e5 Nf3 Nc6 3. d4 *",
+                # the last one is right
+                "1. e4 e5 7. Nf3 Nc6 3. d4 *",
+                "1. e4 {0000} *", '[White "0000"]\n\n1. e4 *', "1. e4 00000 e5 *",
+                "1. e4 (1. d4!) {(!)} *", "1. e4 () *", "1. e4 ({!}) *",
+                # too few plies, other numbers, no legal moves, words, or no such comment
+                "1. e4 ; e5 2. Nf3\n *", "1. e4 ; e5 3. Nf3 Nc6\n *", "1. e4 ; 1. e5 2. Nf3 Nc6\n *",
+                "1. e4 ; e5 2. Nf3 Nf3\n *", "1. e4 ; best by test\n *", "1. e4 {; e5 2. Nf3 Nc6} *",
+                "1. Pe4 *"):
+            self.warned(text.encode())
+
+    def test_names_of_tags(self):
+        for name, meant in (("event", "Event"), ("fen", "FEN"), ("Setup", "SetUp"),
+                            ("RESULT", "Result"), ("Evnt", "Event"), ("Rounds", "Round"), ("Whitt", "White"),
+                            ("Dat", "Date")):
+            self.warned(b'[%s "x"]\n\n*\n' % name.encode(), "1:1: warning: tag %s: perhaps %s is "
+                        "meant (game 1, ? \u2013 ?)" % (name, meant))
+        for tags in ('[Event "x"]\n[Evnt "y"]', '[Wihte "a"]', '[Opening "x"]', '[Dates "x"]\n[Date "?'
+                     '???.??.??"]', '[SetUpp "x"]', '[WhiteElo "-"]'):
+            self.warned(b"%s\n\n*\n" % tags.encode())
+
+    def test_a_game_of_nothing(self):
+        nothing = "warning: a game without tags and moves behind a marker (game %d, ? \u2013 ?)"
+        self.warned(b"****\n", *("1:%d: %s" % (at, nothing % at) for at in (2, 3, 4)))
+        self.warned(b"1. e4 *\n\n*\n1. d4 *\n", "3:1: " + nothing % 2)
+        for text in (b"*\n", b'*\n\n[White "?"]\n\n*\n', b"* 1. e4 *\n"):
+            self.warned(text)
+
+    def test_what_export_drops_once_a_file(self):
+        game = b"%%a\n[White {%%x} \"a\"]\n\n1. e4 {\n%%b} e5\n%%c\n*\n"
+        self.warned(b"%a\n1. e4 *\n", "1:1: warning: 1 line begins with %, and export drops it")
+        self.warned(b"1. e4 *\r\n%a\r\n", "2:1: warning: 1 line begins with %, and export drops it")
+        self.warned(b'[White {x} "a"]\n\n1. e4 *\n', "1:8: warning: 1 comment is inside a tag pair, "
+                    "and export drops it")
+        self.warned(3 * (game % ()) + b"%d\n",
+                    "1:1: warning: 7 lines begin with %, and export drops them",
+                    "2:8: warning: 3 comments are inside tag pairs, and export drops them")
+        for text in (b"1. e4 {\n%a} e5 *\n", b'[White "{x} ; %"]\n\n1. e4 {%} *\n',
+                     b'[White "a"] {x}\n\n1. e4 *\n'):
+            self.warned(text)
+
     def test_results_of_a_forfeit(self):
         """They are no Result of PGN 8.1.1.7, and the message says which one there is."""
         note = ("bad result value: of a forfeit PGN 8.1.1.7 has the result alone, * if there is no "
