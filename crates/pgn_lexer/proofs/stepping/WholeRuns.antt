@@ -5,7 +5,7 @@ use Rattle.pgn_lexer.specs.declared.class.Single.TheVariants.{Period}
 use Rattle.pgn_lexer.specs.declared.partial_token.SuffixRun.TheVariants as suffix_runs
 use Rattle.pgn_lexer.specs.declared.partial_token.LexMode.TheVariants as modes
 use Rattle.pgn_lexer.specs.Scanned.{token as token_scanned}
-use Rattle.pgn_lexer.proofs.Words.{◌≡◌, Bool, ℕ, zero, suc, ◌+◌, ◌-◌, ◌*◌, ◌<◌, ◌≤◌, ◌⊎◌, inl, inr, List, [], ◌∷◌, ◌++◌, length, get_or, take, drop, refl, sym, ap, subst, ◌∙◌, add-one, arith, true, false, take_all, length-take-le, LexMode, Class, LineEnd, Space, SymbolStart, Alone, LineStart, Outside, Symbol, is_digit, is_suffix, is_space, class, comment_class, symbol, str, glyph, comment_close, word, Token, TokenForm, ByteResult, Ends, Kind, PartialToken, tokens_to_come, token_of, IsSound, HasNotFailed, begin, begin_line, IsOutside, IsAfterByte, after_byte, Ran, RunsOut, RunsToToken, Standing, standing_at, Scans, IsSymbolIn, IsNumberIn, IsWordIn, rules, common_steps, take-suc, get_or-take, get_or-drop, length-drop, IsTrue, if◌then◌else◌, ◌==◌, list_all, glyph_of, into, second_suffix, SuffixRun, kind_in, tokens_to_come_in, pending_in, end, IsBetween, IsWhole, IsStringIn, comment_mode, Passes, ReadsBehind, is_passed, none, over_space, over_token}
+use Rattle.pgn_lexer.proofs.Words.{◌≡◌, Bool, ℕ, zero, suc, ◌+◌, ◌-◌, ◌*◌, ◌<◌, ◌≤◌, ◌⊎◌, inl, inr, List, [], ◌∷◌, ◌++◌, length, get_or, take, drop, refl, sym, ap, subst, ◌∙◌, add-one, arith, true, false, take_all, length-take-le, LexMode, Class, LineEnd, Space, SymbolStart, Alone, LineStart, Outside, Symbol, is_digit, is_suffix, is_space, class, comment_class, symbol, str, glyph, comment_close, word, Token, TokenForm, ByteResult, Ends, Kind, PartialToken, tokens_to_come, token_of, IsSound, HasNotFailed, begin, begin_line, IsOutside, IsAfterByte, after_byte, Ran, RunsOut, RunsToToken, Standing, standing_at, Scans, IsSymbolIn, IsNumberIn, IsWordIn, rules, common_steps, take-suc, get_or-take, get_or-drop, length-drop, IsTrue, if◌then◌else◌, ◌==◌, list_all, glyph_of, into, second_suffix, SuffixRun, tokens_to_come_in, pending_in, IsBetween, IsWhole, IsStringIn, comment_mode, Passes, ReadsBehind, is_passed, none, over_space, over_token}
 use Rattle.pgn_lexer.proofs.bytes.ClassToTest.{ClassSays, class_says}
 use Rattle.pgn_lexer.proofs.stepping.PieceByByte.{ran_none, ran_uses, ran_ends, ran_ends_before, takes_outside, takes_symbol_byte, takes_symbol_end, takes_plain, takes_quote, takes_dollar, takes_digit, takes_glyph_end, takes_second, takes_suffix_end, takes_gap, takes_word_start, takes_close, takes_word_byte, takes_word_end, inside}
 use Rattle.pgn_lexer.proofs.stepping.StandsAfterCalls.{scans_nothing, scans_token}
@@ -175,32 +175,29 @@ one_more p xs n h last i less = grind arith
 
 -- ---- the tokens that a piece begins with, outside comments
 
-no_end_form : (form : TokenForm) (text : List ℕ) → kind_in form text ≡ end → ⊥
-no_end_form form text e = grind arith
-
 module _ (piece : List ℕ) where
   -- a token that the piece begins with, wherever it is read
-  whole_of : (n : ℕ) (mode : LexMode) (k : Kind) (text : PartialToken → List ℕ) → 0 < n → n ≤ length piece → IsBetween mode → (k ≡ end → ⊥)
+  whole_of : (n : ℕ) (mode : LexMode) (k : Kind) (text : PartialToken → List ℕ) → 0 < n → n ≤ length piece → IsBetween mode
       → ((place : ℕ) (old : PartialToken) → IsSound place old → IsOutside old.mode → RunsTo place old piece k mode (text old) n) → IsWhole piece n mode k
-  whole_of n mode k text some within between no_end runs =
+  whole_of n mode k text some within between runs =
       record {
         some = some;
         within = within;
-        inside = record { between = between; no_end = no_end };
+        between = between;
         runs = λ place old sound outside at y room. held_as place old piece k mode (text old) n between (runs place old sound outside) at y room;
       }
 
   pub whole_symbol : (n : ℕ) → IsSymbolIn piece n → IsWhole piece n Outside (symbol (take n piece))
   whole_symbol n is =
       let within = is.within in
-      whole_of n _ _ (λ old. take n piece) is.some (omega arith) tt (λ e. cc)
+      whole_of n _ _ (λ old. take n piece) is.some (omega arith) tt
       (λ place old sound outside. symbol_runs place old piece sound outside n is)
 
   pub whole_string : (n : ℕ) → IsStringIn piece n → class (get_or piece 0 0) ≡ classes.Quote
       → IsWhole piece (n + 1) Outside (str (take (n - 1) (drop 1 piece)))
   whole_string n is quote =
       let within = is.within in
-      whole_of (n + 1) _ _ (λ old. take (n - 1) (drop 1 piece)) (omega arith) (omega arith) tt (λ e. cc)
+      whole_of (n + 1) _ _ (λ old. take (n - 1) (drop 1 piece)) (omega arith) (omega arith) tt
       (λ place old sound outside. string_runs place old piece sound outside n is quote)
 
   pub whole_single : (c : Class) (m : LexMode) (form : TokenForm) → 0 < length piece → class (get_or piece 0 0) ≡ c → IsBetween m
@@ -208,7 +205,7 @@ module _ (piece : List ℕ) where
       → ((place : ℕ) (old : PartialToken) → begin_line place old (get_or piece 0 0) c ≡ begin place old (get_or piece 0 0) c)
       → (k : Kind) → ((at : ℕ) (text : List ℕ) → token_of form (record { mode = m; at = at; text = text }) ≡ record { at = at; kind = k }) → IsWhole piece 1 m k
   whole_single c m form some is between begins same k kind =
-      whole_of 1 m k (λ old. old.text) (omega arith) (omega arith) between (λ e. no_end_form form [] (ap (λ (t : Token). t.kind) (kind 0 []) ∙ e))
+      whole_of 1 m k (λ old. old.text) (omega arith) (omega arith) between
       (λ place old sound outside. rw (kind (place + 0) old.text) at
       (single_runs place old piece sound outside c m form some is (begins (place + 0) old) (same (place + 0) old)))
 
@@ -232,7 +229,7 @@ module _ (piece : List ℕ) where
   pub whole_glyph : (n number : ℕ) → 0 < n → n < length piece → is_digit (get_or piece n 0) ≡ false → GlyphSoFar n number
       → IsWhole piece n Outside (glyph number)
   whole_glyph n number some within ends so =
-      whole_of n _ _ (λ old. old.text) some (omega arith) tt (λ e. cc)
+      whole_of n _ _ (λ old. old.text) some (omega arith) tt
       (λ place old sound outside. glyph_runs place old piece sound outside n number within ends (so.ran place old sound outside))
 
   abbrev pub first_run : SuffixRun
@@ -241,7 +238,7 @@ module _ (piece : List ℕ) where
   pub whole_suffix : 1 < length piece → class (get_or piece 0 0) ≡ classes.Suffix → is_suffix (get_or piece 1 0) ≡ false
       → (run : SuffixRun) → first_run ≡ run → IsWhole piece 1 Outside (glyph (glyph_of run))
   whole_suffix long is ends run same =
-      whole_of 1 _ _ (λ old. old.text) (omega arith) (omega arith) tt (λ e. cc)
+      whole_of 1 _ _ (λ old. old.text) (omega arith) (omega arith) tt
       (λ place old sound outside. suffix_runs_to place old piece sound outside 1 run long ends
       (rw same at (ran_suffix place old piece sound outside (omega arith) is)))
 
@@ -250,7 +247,7 @@ module _ (piece : List ℕ) where
       → ((h : PartialToken) → second_suffix h first_run (get_or piece 1 0) ≡ into h (modes.Suffix run) ByteResult.Used)
       → IsWhole piece 2 Outside (glyph (glyph_of run))
   whole_suffix_of_two long is more ends run second =
-      whole_of 2 _ _ (λ old. old.text) (omega arith) (omega arith) tt (λ e. cc)
+      whole_of 2 _ _ (λ old. old.text) (omega arith) (omega arith) tt
       (λ place old sound outside. suffix_runs_to place old piece sound outside 2 run long ends
       (ran_uses place old piece _ 1 (get_or piece 1 0) (omega arith) refl (ran_suffix place old piece sound outside (omega arith) is) _
       (takes_second _ _ _ _ first_run run refl more second refl)))

@@ -2,7 +2,7 @@
 
 ghost use Rattle.std.specs.Prelude.{◌≡◌, Bool, ℕ, ◌+◌, ◌<◌, ◌≤◌, ◌^◌, length, get_or, IsTrue, IfSome};
 ghost use Rattle.pgn_lexer.specs.Bytes as bytes;
-ghost use Rattle.pgn_lexer.specs.Runs.{IsInside, IsNumberIn, IsStringIn, IsSymbolIn, IsWhole, IsWordIn};
+ghost use Rattle.pgn_lexer.specs.Runs.{IsNumberIn, IsStringIn, IsSymbolIn, IsWhole, IsWordIn};
 ghost use Rattle.pgn_lexer.specs.Runs.{comment_mode, standing_at};
 ghost use Rattle.pgn_lexer.specs.Scanned.{kind_of};
 ghost use Rattle.pgn_lexer.specs.Spelling as spelling;
@@ -53,7 +53,6 @@ impl PartialToken {
         requires sound { IsSound place self.old }
         ensures used { result.0 ≤ length piece.now }
         ensures sound { IsSound (place + result.0) self.new }
-        ensures token { IfSome result.1 (λ token. IsInside self.new.mode (kind_of token.kind)) }
         ensures reads { ReadsWhole skips_numbers (standing_at place self.old) piece.now
             (standing_at (place + result.0) self.new) result.0 result.1 }
     {
@@ -82,7 +81,6 @@ impl PartialToken {
         requires outside { IsOutside self.old.mode }
         ensures used { result.0 ≤ length piece.now }
         ensures sound { IsSound (place + result.0) self.new }
-        ensures token { IfSome result.1 (λ token. IsInside self.new.mode (kind_of token.kind)) }
         ensures reads { ReadsWhole skips_numbers (standing_at place self.old) piece.now
             (standing_at (place + result.0) self.new) result.0 result.1 }
     {
@@ -152,7 +150,6 @@ impl PartialToken {
         requires comment { self.old.mode ≡ comment_mode is_line }
         ensures used { result.0 ≤ length piece.now }
         ensures sound { IsSound (place + result.0) self.new }
-        ensures token { IfSome result.1 (λ token. IsInside self.new.mode (kind_of token.kind)) }
         ensures reads { (skips : Bool) → ReadsWhole skips (standing_at place self.old) piece.now
             (standing_at (place + result.0) self.new) result.0 result.1 }
     {
