@@ -24,6 +24,11 @@ pub record IsNumberIn (piece : List ℕ) (n : ℕ) : Type 0 where
   pub is_symbol : IsSymbolIn piece n
   pub digits : (i : ℕ) → i < n → is_digit (get_or piece i 0) ≡ true
 
+-- neither a period nor a number, of which the end is in the piece too
+pub record BeginsUnpassed (piece : List ℕ) : Type 0 where
+  pub no_period : get_or piece 0 0 ≡ 46 → ⊥
+  pub no_number : (n : ℕ) → IsNumberIn piece n → ⊥
+
 pub record IsWordIn (piece : List ℕ) (n : ℕ) : Type 0 where
   pub some : 0 < n
   pub few : n ≤ 79

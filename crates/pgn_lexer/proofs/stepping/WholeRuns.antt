@@ -5,7 +5,7 @@ use Rattle.pgn_lexer.specs.declared.class.Single.TheVariants.{Period}
 use Rattle.pgn_lexer.specs.declared.partial_token.SuffixRun.TheVariants as suffix_runs
 use Rattle.pgn_lexer.specs.declared.partial_token.LexMode.TheVariants as modes
 use Rattle.pgn_lexer.specs.Scanned.{token as token_scanned}
-use Rattle.pgn_lexer.proofs.Words.{◌≡◌, Bool, ℕ, zero, suc, ◌+◌, ◌-◌, ◌*◌, ◌<◌, ◌≤◌, ◌⊎◌, inl, inr, List, [], ◌∷◌, ◌++◌, length, get_or, take, drop, refl, sym, ap, subst, ◌∙◌, add-one, arith, true, false, take_all, length-take-le, LexMode, Class, LineEnd, Space, SymbolStart, Alone, LineStart, Outside, Symbol, is_digit, is_suffix, is_space, class, comment_class, symbol, str, glyph, comment_close, word, Token, TokenForm, ByteResult, Ends, Kind, PartialToken, tokens_to_come, token_of, IsSound, HasNotFailed, begin, begin_line, IsOutside, IsAfterByte, after_byte, Ran, RunsOut, RunsToToken, Standing, standing_at, Scans, IsSymbolIn, IsNumberIn, IsWordIn, rules, common_steps, take-suc, get_or-take, get_or-drop, length-drop, IsTrue, if◌then◌else◌, ◌==◌, list_all, glyph_of, into, second_suffix, SuffixRun, tokens_to_come_in, pending_in, IsBetween, IsWhole, IsStringIn, comment_mode, Passes, ReadsBehind, is_passed, none, over_space, over_token}
+use Rattle.pgn_lexer.proofs.Words.{◌≡◌, Bool, ℕ, zero, suc, ◌+◌, ◌-◌, ◌*◌, ◌<◌, ◌≤◌, ◌⊎◌, inl, inr, List, [], ◌∷◌, ◌++◌, length, get_or, take, drop, refl, sym, ap, subst, ◌∙◌, add-one, arith, true, false, take_all, length-take-le, LexMode, Class, LineEnd, Space, SymbolStart, Alone, LineStart, Outside, Symbol, is_digit, is_suffix, is_space, class, comment_class, symbol, str, glyph, comment_close, word, Token, TokenForm, ByteResult, Ends, Kind, PartialToken, tokens_to_come, token_of, IsSound, HasNotFailed, begin, begin_line, IsOutside, IsAfterByte, after_byte, Ran, RunsOut, RunsToToken, Standing, standing_at, Scans, IsSymbolIn, IsNumberIn, IsWordIn, rules, common_steps, take-suc, get_or-take, get_or-drop, length-drop, IsTrue, IsFalse, if◌then◌else◌, ◌==◌, list_all, glyph_of, into, second_suffix, SuffixRun, tokens_to_come_in, pending_in, IsBetween, IsWhole, IsStringIn, comment_mode, Passes, ReadsBehind, is_passed, BeginsUnpassed, Single, kind_of_single, and_parts, eqb-true, none, over_space, over_token}
 use Rattle.pgn_lexer.proofs.bytes.ClassToTest.{ClassSays, class_says}
 use Rattle.pgn_lexer.proofs.stepping.PieceByByte.{ran_none, ran_uses, ran_ends, ran_ends_before, takes_outside, takes_symbol_byte, takes_symbol_end, takes_plain, takes_quote, takes_dollar, takes_digit, takes_glyph_end, takes_second, takes_suffix_end, takes_gap, takes_word_start, takes_close, takes_word_byte, takes_word_end, inside}
 use Rattle.pgn_lexer.proofs.stepping.StandsAfterCalls.{scans_nothing, scans_token}
@@ -259,6 +259,24 @@ all_digits zero xs h = refl
 all_digits (suc n) [] h = refl
 all_digits (suc n) (x ∷ xs) h = rw (h 0 (omega arith)) (all_digits n xs (λ i less. h (suc i) (omega arith)))
 
+digits_all : (n : ℕ) (xs : List ℕ) → n ≤ length xs → list_all is_digit (take n xs) ≡ true → (i : ℕ) → i < n → is_digit (get_or xs i 0) ≡ true
+digits_all zero xs within h i less = absurd (omega arith)
+digits_all (suc n) [] within h i less = absurd (omega arith)
+digits_all (suc n) (x ∷ xs) within h zero less = (and_parts (is_digit x) _ h).0
+digits_all (suc n) (x ∷ xs) within h (suc i) less = digits_all n xs (omega arith) (and_parts (is_digit x) _ h).1 i (omega arith)
+
+-- a symbol that is no number
+pub symbol_unpassed : (n : ℕ) (xs : List ℕ) → IsSymbolIn xs n → BeginsUnpassed xs → (b : Bool) → list_all is_digit (take n xs) ≡ b → IsFalse b
+symbol_unpassed n xs is unpassed false e = refl
+symbol_unpassed n xs is unpassed true e =
+    let within = is.within in
+    absurd (unpassed.no_number n (record { is_symbol = is; digits = digits_all n xs (omega arith) e }))
+
+-- a token of one byte that is no period
+pub single_unpassed : (s : Single) (b : ℕ) → class b ≡ Alone s → (b ≡ 46 → ⊥) → IsFalse (is_passed (kind_of_single s))
+single_unpassed Period b is no_period = absurd (no_period (eqb-true b 46 (subst (ClassSays b) is (class_says b))))
+single_unpassed _ b is no_period = refl
+
 -- ---- what is passed, and the token behind it
 
 pub sound_outside : (place : ℕ) (h : PartialToken) → IsOutside h.mode → length h.text ≤ 255 → IsSound place h
@@ -299,8 +317,8 @@ module _ (skips : Bool) (before : Standing) (place : ℕ) (h : PartialToken) (pi
   further n = omega arith
 
   behind : m < length piece → (n : ℕ) (t : Token) (mode : LexMode) → 0 < n → RunsToToken (place + m) h rest t (into_mode h mode) n
-      → ReadsBehind skips before piece (standing_at (place + (m + n)) (into_mode h mode)) (m + n) t
-  behind within n t mode more runs =
+      → (IsTrue skips → IsFalse (is_passed t.kind)) → ReadsBehind skips before piece (standing_at (place + (m + n)) (into_mode h mode)) (m + n) t
+  behind within n t mode more runs not_passed =
       record {
         mid = standing_at (place + m) h;
         passed = m;
@@ -311,16 +329,17 @@ module _ (skips : Bool) (before : Standing) (place : ℕ) (h : PartialToken) (pi
         passes = passes;
         reads = subst (λ k. Scans (standing_at (place + m) h) rest (standing_at k (into_mode h mode)) n (token_scanned t)) (further n)
             (scans_token _ _ _ rest n t runs);
+        not_passed = not_passed;
       }
 
   -- a token outside comments
   pub reads_whole : IsOutside h.mode → length h.text ≤ 255 → (n : ℕ) (mode : LexMode) (k : Kind) → IsWhole rest n mode k
-      → ReadsBehind skips before piece (standing_at (place + (m + n)) (into_mode h mode)) (m + n) (record { at = place + m; kind = k })
-  reads_whole outside room n mode k is =
+      → (IsTrue skips → IsFalse (is_passed k)) → ReadsBehind skips before piece (standing_at (place + (m + n)) (into_mode h mode)) (m + n) (record { at = place + m; kind = k })
+  reads_whole outside room n mode k is not_passed =
       let some = is.some in
       let within = is.within in
       behind (omega (arith, length-drop m piece)) n _ mode is.some
-      (is.runs (place + m) h (sound_outside (place + m) h outside room) outside h.at h.text room)
+      (is.runs (place + m) h (sound_outside (place + m) h outside room) outside h.at h.text room) not_passed
 
   module _ (within : m < length piece) (room : length h.text ≤ 255) where
     here : get_or rest 0 0 ≡ get_or piece m 0
@@ -389,11 +408,11 @@ module _ (skips : Bool) (before : Standing) (place : ℕ) (h : PartialToken) (pi
           → ReadsBehind skips before piece (standing_at (place + (m + n)) (into_mode h (comment_mode l))) (m + n) (record { at = place + m; kind = word (take n rest) })
       reads_word n is =
           behind within n _ (comment_mode l) is.some
-          (held_as (place + m) h rest _ (comment_mode l) _ n (comment_between l) (word_runs (place + m) h rest sound_there l in_comment n is) h.at h.text room)
+          (held_as (place + m) h rest _ (comment_mode l) _ n (comment_between l) (word_runs (place + m) h rest sound_there l in_comment n is) h.at h.text room) (λ skipped. refl)
 
       pub reads_close : (mode : LexMode)
           → ((comment_class (get_or piece m 0) ≡ comment_classes.CloseBrace) × (l ≡ false) × (mode ≡ Outside)) ⊎ ((comment_class (get_or piece m 0) ≡ comment_classes.LineEnd) × (l ≡ true) × (mode ≡ LineStart))
           → IsBetween mode → ReadsBehind skips before piece (standing_at (place + (m + 1)) (into_mode h mode)) (m + 1) (record { at = place + m; kind = comment_close })
       reads_close mode is between =
           behind within 1 _ mode (omega arith)
-          (held_as (place + m) h rest _ mode _ 1 between (close_runs (place + m) h rest sound_there l in_comment mode some (rw (sym here) at is)) h.at h.text room)
+          (held_as (place + m) h rest _ mode _ 1 between (close_runs (place + m) h rest sound_there l in_comment mode some (rw (sym here) at is)) h.at h.text room) (λ skipped. refl)
