@@ -1,4 +1,4 @@
-//! The condition of `Lexer::next`, `whole_token` and `read_on`. Written for Cargo.
+//! The condition of `Lexer::next` and `whole_token`. Written for Cargo.
 
 use super::Lexer;
 use crate::Outcome;
@@ -22,13 +22,6 @@ fn the_last_byte_of_2_to_62_is_read() {
     let mut lexer = lexer_at((1 << 62) - 3);
     assert_eq!(lexer.next(b"Nf3").outcome, Outcome::NeedMore);
     assert_eq!(lexer.count(), 1 << 62);
-}
-
-#[test]
-#[should_panic(expected = "a text has at most 2^62 bytes")]
-#[cfg(debug_assertions)]
-fn a_byte_after_2_to_62_is_refused_by_read_on() {
-    lexer_at((1 << 62) - 3).read_on(b"Nf3 ");
 }
 
 #[test]

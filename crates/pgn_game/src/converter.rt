@@ -766,7 +766,7 @@ impl<const T: usize, const L: usize> Converter<T, L> {
             (sink_of self.old.reading W.taken W.failures out.old out.new) }
         ensures silent { KeepsSilence self.old.reading self.new.reading out.old out.new }
     {
-        let scan = self.lexer.read_on(piece);
+        let scan = self.lexer.next(piece);
         let used = scan.used;
         match scan.outcome {
             Outcome::NeedMore => Step {

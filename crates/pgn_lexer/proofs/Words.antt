@@ -6,7 +6,7 @@ pub use Rattle.std.proofs.lemmas.List.{drop-drop, drop_at, length-replicate, len
 pub use Rattle.std.proofs.lemmas.List.Sums.{fold-append, take_while-cons}
 pub use Rattle.std.specs.Cmp.Derive.{both_true}
 pub use Rattle.std.specs.List.{AllByRecursion, list_all}
-pub use Rattle.std.specs.Prelude.{None, Option, Some, bytes_eq, codes, decimal, filter, if◌then◌else◌, map, nat_le, nat_lt, not, replicate, IsTrue, take_while, ◌==◌, ◌||◌, ◌⊎◌}
+pub use Rattle.std.specs.Prelude.{None, Option, Some, bytes_eq, codes, decimal, filter, if◌then◌else◌, map, nat_le, nat_lt, not, replicate, IsFalse, IsTrue, take_while, ◌==◌, ◌||◌, ◌⊎◌}
 pub use Rattle.pgn_lexer.specs.ByteResult.{AfterByte, IsAfterByte, IsAfterEnd, after_byte_in, after_end_in, begin, begin_line, fails, grown, into, glyph_of, second_suffix, string}
 unfoldable pub use Rattle.pgn_lexer.specs.ByteResult.{after_byte, after_end}
 pub use Rattle.pgn_lexer.specs.Bytes.{continues_symbol, continues_word, is_blank, is_control, is_digit, is_letter, is_line_end, is_space, is_suffix, starts_symbol}
@@ -16,7 +16,7 @@ pub use Rattle.pgn_lexer.specs.Lexes.{Cuts, Data, IsAtLineEnd, IsRun, IsSingle, 
 pub use Rattle.pgn_lexer.specs.PartialToken.{HasNotFailed, IsSound, PartialToken, fault_met, kind_in, pending, pending_in, refusal, spelling, tokens_to_come_in, token_of, tokens_to_come, with_front}
 pub use Rattle.pgn_lexer.specs.WholeTokens.{Passes, ReadsBehind, none, over_space, over_token, is_passed}
 pub use Rattle.pgn_lexer.specs.RunResult.{EndsBeforeByte, EndsWithByte, IsOutside, Ran, RunGives, RunsOut, RunsToFault, RunsToToken, StoodAt, reached_after, used_after}
-pub use Rattle.pgn_lexer.specs.Runs.{IsNumberIn, IsSymbolIn, IsWordIn, standing_at, IsBetween, IsStringIn, IsWhole, comment_mode}
+pub use Rattle.pgn_lexer.specs.Runs.{BeginsUnpassed, IsNumberIn, IsSymbolIn, IsWordIn, standing_at, IsBetween, IsStringIn, IsWhole, comment_mode}
 pub use Rattle.pgn_lexer.specs.Scanned.{Scanned, fault, more, kind_of}
 pub use Rattle.pgn_lexer.specs.Sound.{AreSoundTokens, CommentsClose, IsData, IsSoundKind, IsSymbol, IsWord}
 pub use Rattle.pgn_lexer.specs.Spelling.{Found, Reading, broken, class, closed, comment_class, datum, gives, glyph_at, kind_of_single, number_from, number_of, numbered_at, reading, stops, string_at, string_class, suffix_at, symbol_at, word_at}

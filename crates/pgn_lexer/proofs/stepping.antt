@@ -12,4 +12,3 @@ pub mod RunOfBytes
 pub mod StandsAfterCalls
 pub mod StepGives
 pub mod WholeRuns
-pub mod PassesToScans

@@ -7,7 +7,7 @@ use Rattle.pgn_lexer.specs.declared.partial_token.LexMode.{LexMode}
 use Rattle.pgn_lexer.specs.declared.partial_token.LexMode.TheVariants.{LineStart, Outside, Brace, Line}
 use Rattle.pgn_lexer.specs.Bytes.{continues_symbol, is_digit, starts_symbol}
 use Rattle.pgn_lexer.specs.Spelling.{comment_class, string_class}
-use Rattle.pgn_lexer.specs.Tokens.{Kind, end}
+use Rattle.pgn_lexer.specs.Tokens.{Kind}
 use Rattle.pgn_lexer.specs.PartialToken.{PartialToken, IsSound}
 use Rattle.pgn_lexer.specs.RunResult.{IsOutside, RunsToToken}
 use Rattle.pgn_lexer.specs.Standing.{Standing}
@@ -23,6 +23,11 @@ pub record IsSymbolIn (piece : List ℕ) (n : ℕ) : Type 0 where
 pub record IsNumberIn (piece : List ℕ) (n : ℕ) : Type 0 where
   pub is_symbol : IsSymbolIn piece n
   pub digits : (i : ℕ) → i < n → is_digit (get_or piece i 0) ≡ true
+
+-- neither a period nor a number, of which the end is in the piece too
+pub record BeginsUnpassed (piece : List ℕ) : Type 0 where
+  pub no_period : get_or piece 0 0 ≡ 46 → ⊥
+  pub no_number : (n : ℕ) → IsNumberIn piece n → ⊥
 
 pub record IsWordIn (piece : List ℕ) (n : ℕ) : Type 0 where
   pub some : 0 < n
@@ -52,17 +57,12 @@ abbrev pub comment_mode : Bool → LexMode
 comment_mode true = Line
 comment_mode false = Brace
 
--- a token of a piece, behind which the lexer is in the mode
-pub record IsInside (mode : LexMode) (kind : Kind) : Type 0 where
-  pub between : IsBetween mode
-  pub no_end : kind ≡ end → ⊥
-
 -- Wherever a lexer stands between tokens, the first n bytes of the piece are this token. It then is
 -- in the mode, where the place and the text that it stores say nothing.
 pub record IsWhole (piece : List ℕ) (n : ℕ) (mode : LexMode) (kind : Kind) : Type 0 where
   pub some : 0 < n
   pub within : n ≤ length piece
-  pub inside : IsInside mode kind
+  pub between : IsBetween mode
   pub runs : (place : ℕ) (old : PartialToken) → IsSound place old → IsOutside old.mode → (at : ℕ) (text : List ℕ) → length text ≤ 255
       → RunsToToken place old piece (record { at = place; kind = kind }) (record { mode = mode; at = at; text = text }) n
 

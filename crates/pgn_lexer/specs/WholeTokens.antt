@@ -1,6 +1,6 @@
 -- **Definition**: what a call does that gives a token which lies in the piece as a whole.
 -- Letters: l is a lexer, t a token, m and n are numbers of bytes.
-use Rattle.std.specs.Prelude.{◌≡◌, ℕ, ◌+◌, ◌<◌, ◌≤◌, Bool, true, false, IsTrue, List, length, get_or, take, drop, Option, None, Some}
+use Rattle.std.specs.Prelude.{◌≡◌, ℕ, ◌+◌, ◌<◌, ◌≤◌, Bool, true, false, IsTrue, IsFalse, List, length, get_or, take, drop, Option, None, Some}
 use Rattle.std.specs.List.{list_all}
 use Rattle.pgn_lexer.specs.declared.token.Token.{Token as TokenGiven}
 use Rattle.pgn_lexer.specs.Bytes.{is_digit, is_space}
@@ -25,7 +25,8 @@ pub data Passes (skips_numbers : Bool) (old : Standing) (piece : List ℕ) : Sta
   over_token : (l new : Standing) (m n : ℕ) (t : Token) → Passes skips_numbers old piece l m → m < length piece → 0 < n → Scans l (drop m piece) new n (token t)
       → IsTrue skips_numbers → IsTrue (is_passed t.kind) → Passes skips_numbers old piece new (m + n)
 
--- Behind those comes a token that `next` reads in the rest of the piece.
+-- Behind those comes a token that `next` reads in the rest of the piece. If numbers are skipped, it
+-- is none.
 pub record ReadsBehind (skips_numbers : Bool) (old : Standing) (piece : List ℕ) (new : Standing) (used : ℕ) (t : Token) : Type 0 where
   pub mid : Standing
   pub passed : ℕ
@@ -35,6 +36,7 @@ pub record ReadsBehind (skips_numbers : Bool) (old : Standing) (piece : List ℕ
   pub some : 0 < count
   pub passes : Passes skips_numbers old piece mid passed
   pub reads : Scans mid (drop passed piece) new count (token t)
+  pub not_passed : IsTrue skips_numbers → IsFalse (is_passed t.kind)
 
 -- what `whole_token` does
 abbrev pub ReadsWhole : Bool → Standing → List ℕ → Standing → ℕ → Option TokenGiven → Type 0

@@ -1,5 +1,5 @@
 //! The lexer.
-ghost use Rattle.std.specs.Prelude.{◌≡◌, ◌+◌, ◌≤◌, ◌^◌, [], length, IfSome, None};
+ghost use Rattle.std.specs.Prelude.{◌≡◌, ◌+◌, ◌≤◌, ◌^◌, [], length, None};
 ghost use Rattle.std.specs.Borrow.{sem};
 
 use crate::partial_token::{PartialToken, PieceResult};
@@ -48,8 +48,7 @@ impl Model for Lexer {
 impl Lexer {
     ghost use Rattle.pgn_lexer.specs.WhiteSpace.{white_space};
     ghost use Rattle.pgn_lexer.specs.WholeTokens.{ReadsWhole};
-    ghost use Rattle.pgn_lexer.specs.Runs.{IsInside};
-    ghost use Rattle.pgn_lexer.specs.Scanned.{kind_of, scanned};
+    ghost use Rattle.pgn_lexer.specs.Scanned.{scanned};
     ghost use Rattle.pgn_lexer.specs.Standing.{fault_of, waiting};
     ghost use Rattle.pgn_lexer.specs.Stands.{StandsAfter, Scans, Finishes, Leaves};
 
@@ -101,28 +100,28 @@ impl Lexer {
     ///
     /// `Fault` as soon as the bytes show that the text is rejected. Each later call returns the
     /// same and uses no byte.
+    #[inline(always)]
     pub fn next(&mut self, piece: &[u8]) -> Scan<'_>
         requires { self.old.count + length piece.now ≤ 2 ^ 62 }
         ensures used { result.used ≤ length piece.now }
         ensures* after { sem 𝓛 (Leaves self.entry
             (λ new. Scans self.old piece.now new result.used (scanned result.outcome))) }
     {
-        let (passed, token) = self.whole(piece, false);
-        match token {
-            Some(token) => {
-                let form = self.partial.hold(token);
-                Scan {
-                    used: passed,
-                    outcome: Outcome::Token(self.partial.token(form)),
-                }
-            }
-            None => {
-                let rest = self.read_on(&piece[passed..]);
-                Scan {
-                    used: passed + rest.used,
-                    outcome: rest.outcome,
-                }
-            }
+        let (used, reached) = self.partial.run(piece, self.count);
+        self.count += used as u64;
+        match reached {
+            PieceResult::End => Scan {
+                used,
+                outcome: Outcome::NeedMore,
+            },
+            PieceResult::Token(form) => Scan {
+                used,
+                outcome: Outcome::Token(self.partial.token(form)),
+            },
+            PieceResult::Fault => Scan {
+                used,
+                outcome: Outcome::Fault(self.partial.fault_met()),
+            },
         }
     }
 
@@ -133,7 +132,7 @@ impl Lexer {
     /// continue it. So that byte has to be in the piece too; it is not used. If numbers are
     /// skipped, symbols of digits alone and periods are passed as white space is.
     ///
-    /// With `None` the bytes used were passed, and what comes is left to `read_on`. It began in an
+    /// With `None` the bytes used were passed, and what comes is left to `next`. It began in an
     /// earlier piece or may go on behind this one. Or it has an escape, is rejected, is an escape
     /// line, or is the start of the text. `count` and the length of the piece must be together at
     /// most 2^62.
@@ -167,52 +166,9 @@ impl Lexer {
         ensures used { result.0 ≤ length piece.now }
         ensures reads { ReadsWhole skips_numbers self.old piece.now self.new result.0 result.1 }
     {
-        self.whole(piece, skips_numbers)
-    }
-
-    /// What `whole_token` does.
-    #[inline(always)]
-    fn whole<'a>(&mut self, piece: &'a [u8], skips_numbers: bool) -> (usize, Option<Token<'a>>)
-        requires { self.old.count + length piece.now ≤ 2 ^ 62 }
-        ensures used { result.0 ≤ length piece.now }
-        ensures token { IfSome result.1 (λ token.
-            IsInside self.new.held.mode (kind_of token.kind)) }
-        ensures reads { ReadsWhole skips_numbers self.old piece.now self.new result.0 result.1 }
-    {
         let read = self.partial.whole_token(piece, self.count, skips_numbers);
         self.count += read.0 as u64;
         read
-    }
-
-    /// Reads the piece as `next` does, and gives the same, but byte by byte: for what `whole_token`
-    /// leaves. The text of a token is borrowed from the lexer's buffer.
-    ///
-    /// # Errors
-    ///
-    /// As `next`.
-    #[inline(always)]
-    pub fn read_on(&mut self, piece: &[u8]) -> Scan<'_>
-        requires { self.old.count + length piece.now ≤ 2 ^ 62 }
-        ensures used { result.used ≤ length piece.now }
-        ensures* after { sem 𝓛 (Leaves self.entry
-            (λ new. Scans self.old piece.now new result.used (scanned result.outcome))) }
-    {
-        let (used, reached) = self.partial.run(piece, self.count);
-        self.count += used as u64;
-        match reached {
-            PieceResult::End => Scan {
-                used,
-                outcome: Outcome::NeedMore,
-            },
-            PieceResult::Token(form) => Scan {
-                used,
-                outcome: Outcome::Token(self.partial.token(form)),
-            },
-            PieceResult::Fault => Scan {
-                used,
-                outcome: Outcome::Fault(self.partial.fault_met()),
-            },
-        }
     }
 
     /// Ends the text: returns the tokens that are left, one a call, and then `End` at every call.

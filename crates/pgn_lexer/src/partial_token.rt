@@ -3,10 +3,8 @@
 ghost use Rattle.std.specs.Prelude.{◌≡◌, ◌==◌, ◌≤◌, [], if◌then◌else◌, length, MatchOption};
 ghost use Rattle.pgn_lexer.specs.ByteResult as byte_result;
 ghost use Rattle.pgn_lexer.specs.PartialToken.{PartialToken};
-ghost use Rattle.pgn_lexer.specs.Runs.{IsBetween};
 ghost use Rattle.pgn_lexer.specs.Scanned.{kind_of};
 ghost use Rattle.pgn_lexer.specs.Spelling as spelling;
-ghost use Rattle.pgn_lexer.specs.Tokens.{HasLength, end};
 ghost use Rattle.pgn_lexer.specs.declared.partial_token.SuffixRun.TheVariants as suffix_runs;
 ghost use Rattle.pgn_lexer.specs.declared.token.LexReason.TheVariants.{BadSuffix};
 
@@ -185,44 +183,6 @@ impl PartialToken {
         };
         Token { at: self.at, kind }
     }
-
-    /// Stores the place of the token, and a copy of its text. Returns its form.
-    #[inline(always)]
-    pub(crate) fn hold(&mut self, token: Token<'_>) -> TokenForm
-        requires between { IsBetween self.old.mode }
-        requires length { HasLength (kind_of token.kind) }
-        requires no_end { kind_of token.kind ≡ end → ⊥ }
-        ensures mode { self.new.mode ≡ self.old.mode }
-        ensures room { length self.new.text ≤ 255 }
-        ensures at { self.new.at ≡ token.entry.at }
-        ensures kind { kind_in result self.new.text ≡ kind_of token.entry.kind }
-    {
-        self.at = token.at;
-        match token.kind {
-            TokenKind::LeftBracket => TokenForm::Single(Single::LeftBracket),
-            TokenKind::RightBracket => TokenForm::Single(Single::RightBracket),
-            TokenKind::LeftParen => TokenForm::Single(Single::LeftParen),
-            TokenKind::RightParen => TokenForm::Single(Single::RightParen),
-            TokenKind::Period => TokenForm::Single(Single::Period),
-            TokenKind::Asterisk => TokenForm::Single(Single::Asterisk),
-            TokenKind::Symbol(text) => {
-                copy(text, &mut self.buffer);
-                TokenForm::Symbol
-            }
-            TokenKind::Str(text) => {
-                copy(text, &mut self.buffer);
-                TokenForm::Str
-            }
-            TokenKind::Word(text) => {
-                copy(text, &mut self.buffer);
-                TokenForm::Word
-            }
-            TokenKind::Glyph(number) => TokenForm::Glyph(number),
-            TokenKind::CommentOpen => TokenForm::CommentOpen,
-            // Never the end: it lies in no piece.
-            TokenKind::CommentClose | TokenKind::End => TokenForm::CommentClose,
-        }
-    }
 }
 
 // Empties the buffer. Emptying writes a blank over each byte, so an empty one is left alone.
@@ -232,15 +192,6 @@ fn clear(buffer: &mut ArrayVec<u8, LONGEST_TEXT>)
     if !buffer.is_empty() {
         buffer.clear();
     }
-}
-
-// Copies the text into the buffer.
-fn copy(text: &[u8], buffer: &mut ArrayVec<u8, LONGEST_TEXT>)
-    requires { length text.now ≤ 255 }
-    ensures { buffer.new.items ≡ text.now }
-{
-    clear(buffer);
-    let _ = buffer.try_extend_from_slice(text);
 }
 
 /// The NAG of a suffix (PGN 8.2.3.8, 10).

@@ -1,5 +1,5 @@
-//! Each text is read whole, byte by byte, and in two pieces at every cut. All this is done in four
-//! ways: by `next` alone, by `read_on` alone, and by `whole_token` where that gives a token.
+//! Each text is read whole, byte by byte, and in two pieces at every cut. All this is done in three
+//! ways: by `next` alone, and by `whole_token` where that gives a token, past numbers or not.
 use TokenKind::{
     Asterisk, CommentClose, CommentOpen, End, Glyph, LeftBracket, LeftParen, Period, RightBracket,
     RightParen, Str, Symbol, Word,
@@ -20,14 +20,13 @@ fn refused(at: u64, reason: LexReason) -> Outcome<'static> {
 #[derive(Clone, Copy, PartialEq, Eq)]
 enum Way {
     Next,
-    ReadOn,
     /// By `whole_token` where that gives a token, else by `next`.
     Whole,
-    /// By `whole_token` past numbers where that gives a token, else by `read_on`.
+    /// By `whole_token` past numbers where that gives a token, else by `next`.
     PastNumbers,
 }
 
-const WAYS: [Way; 4] = [Way::Next, Way::ReadOn, Way::Whole, Way::PastNumbers];
+const WAYS: [Way; 3] = [Way::Next, Way::Whole, Way::PastNumbers];
 
 /// How many of the outcomes are seen where the numbers and periods between the places were passed.
 fn passed(outcomes: &[Outcome<'_>], seen: usize, begin: u64, end: u64) -> Option<usize> {
@@ -68,7 +67,7 @@ fn feed(
         if lexer.count() > LONGEST as u64 || rest.len() > LONGEST {
             return None;
         }
-        if way == Way::Whole || way == Way::PastNumbers {
+        if way != Way::Next {
             let begin = lexer.count();
             let (used, token) = lexer.whole_token(rest, way == Way::PastNumbers);
             from = from.checked_add(used)?;
@@ -88,11 +87,7 @@ fn feed(
         if lexer.count() > LONGEST as u64 || rest.len() > LONGEST {
             return None;
         }
-        let scan = if way == Way::Next || way == Way::Whole {
-            lexer.next(rest)
-        } else {
-            lexer.read_on(rest)
-        };
+        let scan = lexer.next(rest);
         if scan.outcome == Outcome::NeedMore {
             return if scan.used == rest.len() {
                 Some(seen)
@@ -844,7 +839,7 @@ fn no_whole_token_at_the_start_or_inside_another(rt: HostRuntime) {
     assert!(rt; gives_nothing(&mut lexer, b"e4 "));
     assert!(rt; feed(Way::Next, &mut lexer, b"1-", &outcomes, 0) == Some(0));
     assert!(rt; gives_nothing(&mut lexer, b"0 "));
-    assert!(rt; feed(Way::ReadOn, &mut lexer, b"0 ", &outcomes, 0) == Some(1));
+    assert!(rt; feed(Way::Next, &mut lexer, b"0 ", &outcomes, 0) == Some(1));
 }
 
 #[test]

@@ -5,7 +5,7 @@ use Rattle.pgn_lexer.specs.declared.class.Single.TheVariants.{Period}
 use Rattle.pgn_lexer.specs.declared.partial_token.SuffixRun.TheVariants as suffix_runs
 use Rattle.pgn_lexer.specs.declared.partial_token.LexMode.TheVariants as modes
 use Rattle.pgn_lexer.specs.Scanned.{token as token_scanned}
-use Rattle.pgn_lexer.proofs.Words.{◌≡◌, Bool, ℕ, zero, suc, ◌+◌, ◌-◌, ◌*◌, ◌<◌, ◌≤◌, ◌⊎◌, inl, inr, List, [], ◌∷◌, ◌++◌, length, get_or, take, drop, refl, sym, ap, subst, ◌∙◌, add-one, arith, true, false, take_all, length-take-le, LexMode, Class, LineEnd, Space, SymbolStart, Alone, LineStart, Outside, Symbol, is_digit, is_suffix, is_space, class, comment_class, symbol, str, glyph, comment_close, word, Token, TokenForm, ByteResult, Ends, Kind, PartialToken, tokens_to_come, token_of, IsSound, HasNotFailed, begin, begin_line, IsOutside, IsAfterByte, after_byte, Ran, RunsOut, RunsToToken, Standing, standing_at, Scans, IsSymbolIn, IsNumberIn, IsWordIn, rules, common_steps, take-suc, get_or-take, get_or-drop, length-drop, IsTrue, if◌then◌else◌, ◌==◌, list_all, glyph_of, into, second_suffix, SuffixRun, kind_in, tokens_to_come_in, pending_in, end, IsBetween, IsWhole, IsStringIn, comment_mode, Passes, ReadsBehind, is_passed, none, over_space, over_token}
+use Rattle.pgn_lexer.proofs.Words.{◌≡◌, Bool, ℕ, zero, suc, ◌+◌, ◌-◌, ◌*◌, ◌<◌, ◌≤◌, ◌⊎◌, inl, inr, List, [], ◌∷◌, ◌++◌, length, get_or, take, drop, refl, sym, ap, subst, ◌∙◌, add-one, arith, true, false, take_all, length-take-le, LexMode, Class, LineEnd, Space, SymbolStart, Alone, LineStart, Outside, Symbol, is_digit, is_suffix, is_space, class, comment_class, symbol, str, glyph, comment_close, word, Token, TokenForm, ByteResult, Ends, Kind, PartialToken, tokens_to_come, token_of, IsSound, HasNotFailed, begin, begin_line, IsOutside, IsAfterByte, after_byte, Ran, RunsOut, RunsToToken, Standing, standing_at, Scans, IsSymbolIn, IsNumberIn, IsWordIn, rules, common_steps, take-suc, get_or-take, get_or-drop, length-drop, IsTrue, IsFalse, if◌then◌else◌, ◌==◌, list_all, glyph_of, into, second_suffix, SuffixRun, tokens_to_come_in, pending_in, IsBetween, IsWhole, IsStringIn, comment_mode, Passes, ReadsBehind, is_passed, BeginsUnpassed, Single, kind_of_single, and_parts, eqb-true, none, over_space, over_token}
 use Rattle.pgn_lexer.proofs.bytes.ClassToTest.{ClassSays, class_says}
 use Rattle.pgn_lexer.proofs.stepping.PieceByByte.{ran_none, ran_uses, ran_ends, ran_ends_before, takes_outside, takes_symbol_byte, takes_symbol_end, takes_plain, takes_quote, takes_dollar, takes_digit, takes_glyph_end, takes_second, takes_suffix_end, takes_gap, takes_word_start, takes_close, takes_word_byte, takes_word_end, inside}
 use Rattle.pgn_lexer.proofs.stepping.StandsAfterCalls.{scans_nothing, scans_token}
@@ -175,32 +175,29 @@ one_more p xs n h last i less = grind arith
 
 -- ---- the tokens that a piece begins with, outside comments
 
-no_end_form : (form : TokenForm) (text : List ℕ) → kind_in form text ≡ end → ⊥
-no_end_form form text e = grind arith
-
 module _ (piece : List ℕ) where
   -- a token that the piece begins with, wherever it is read
-  whole_of : (n : ℕ) (mode : LexMode) (k : Kind) (text : PartialToken → List ℕ) → 0 < n → n ≤ length piece → IsBetween mode → (k ≡ end → ⊥)
+  whole_of : (n : ℕ) (mode : LexMode) (k : Kind) (text : PartialToken → List ℕ) → 0 < n → n ≤ length piece → IsBetween mode
       → ((place : ℕ) (old : PartialToken) → IsSound place old → IsOutside old.mode → RunsTo place old piece k mode (text old) n) → IsWhole piece n mode k
-  whole_of n mode k text some within between no_end runs =
+  whole_of n mode k text some within between runs =
       record {
         some = some;
         within = within;
-        inside = record { between = between; no_end = no_end };
+        between = between;
         runs = λ place old sound outside at y room. held_as place old piece k mode (text old) n between (runs place old sound outside) at y room;
       }
 
   pub whole_symbol : (n : ℕ) → IsSymbolIn piece n → IsWhole piece n Outside (symbol (take n piece))
   whole_symbol n is =
       let within = is.within in
-      whole_of n _ _ (λ old. take n piece) is.some (omega arith) tt (λ e. cc)
+      whole_of n _ _ (λ old. take n piece) is.some (omega arith) tt
       (λ place old sound outside. symbol_runs place old piece sound outside n is)
 
   pub whole_string : (n : ℕ) → IsStringIn piece n → class (get_or piece 0 0) ≡ classes.Quote
       → IsWhole piece (n + 1) Outside (str (take (n - 1) (drop 1 piece)))
   whole_string n is quote =
       let within = is.within in
-      whole_of (n + 1) _ _ (λ old. take (n - 1) (drop 1 piece)) (omega arith) (omega arith) tt (λ e. cc)
+      whole_of (n + 1) _ _ (λ old. take (n - 1) (drop 1 piece)) (omega arith) (omega arith) tt
       (λ place old sound outside. string_runs place old piece sound outside n is quote)
 
   pub whole_single : (c : Class) (m : LexMode) (form : TokenForm) → 0 < length piece → class (get_or piece 0 0) ≡ c → IsBetween m
@@ -208,7 +205,7 @@ module _ (piece : List ℕ) where
       → ((place : ℕ) (old : PartialToken) → begin_line place old (get_or piece 0 0) c ≡ begin place old (get_or piece 0 0) c)
       → (k : Kind) → ((at : ℕ) (text : List ℕ) → token_of form (record { mode = m; at = at; text = text }) ≡ record { at = at; kind = k }) → IsWhole piece 1 m k
   whole_single c m form some is between begins same k kind =
-      whole_of 1 m k (λ old. old.text) (omega arith) (omega arith) between (λ e. no_end_form form [] (ap (λ (t : Token). t.kind) (kind 0 []) ∙ e))
+      whole_of 1 m k (λ old. old.text) (omega arith) (omega arith) between
       (λ place old sound outside. rw (kind (place + 0) old.text) at
       (single_runs place old piece sound outside c m form some is (begins (place + 0) old) (same (place + 0) old)))
 
@@ -232,7 +229,7 @@ module _ (piece : List ℕ) where
   pub whole_glyph : (n number : ℕ) → 0 < n → n < length piece → is_digit (get_or piece n 0) ≡ false → GlyphSoFar n number
       → IsWhole piece n Outside (glyph number)
   whole_glyph n number some within ends so =
-      whole_of n _ _ (λ old. old.text) some (omega arith) tt (λ e. cc)
+      whole_of n _ _ (λ old. old.text) some (omega arith) tt
       (λ place old sound outside. glyph_runs place old piece sound outside n number within ends (so.ran place old sound outside))
 
   abbrev pub first_run : SuffixRun
@@ -241,7 +238,7 @@ module _ (piece : List ℕ) where
   pub whole_suffix : 1 < length piece → class (get_or piece 0 0) ≡ classes.Suffix → is_suffix (get_or piece 1 0) ≡ false
       → (run : SuffixRun) → first_run ≡ run → IsWhole piece 1 Outside (glyph (glyph_of run))
   whole_suffix long is ends run same =
-      whole_of 1 _ _ (λ old. old.text) (omega arith) (omega arith) tt (λ e. cc)
+      whole_of 1 _ _ (λ old. old.text) (omega arith) (omega arith) tt
       (λ place old sound outside. suffix_runs_to place old piece sound outside 1 run long ends
       (rw same at (ran_suffix place old piece sound outside (omega arith) is)))
 
@@ -250,7 +247,7 @@ module _ (piece : List ℕ) where
       → ((h : PartialToken) → second_suffix h first_run (get_or piece 1 0) ≡ into h (modes.Suffix run) ByteResult.Used)
       → IsWhole piece 2 Outside (glyph (glyph_of run))
   whole_suffix_of_two long is more ends run second =
-      whole_of 2 _ _ (λ old. old.text) (omega arith) (omega arith) tt (λ e. cc)
+      whole_of 2 _ _ (λ old. old.text) (omega arith) (omega arith) tt
       (λ place old sound outside. suffix_runs_to place old piece sound outside 2 run long ends
       (ran_uses place old piece _ 1 (get_or piece 1 0) (omega arith) refl (ran_suffix place old piece sound outside (omega arith) is) _
       (takes_second _ _ _ _ first_run run refl more second refl)))
@@ -261,6 +258,24 @@ all_digits : (n : ℕ) (xs : List ℕ) → ((i : ℕ) → i < n → is_digit (ge
 all_digits zero xs h = refl
 all_digits (suc n) [] h = refl
 all_digits (suc n) (x ∷ xs) h = rw (h 0 (omega arith)) (all_digits n xs (λ i less. h (suc i) (omega arith)))
+
+digits_all : (n : ℕ) (xs : List ℕ) → n ≤ length xs → list_all is_digit (take n xs) ≡ true → (i : ℕ) → i < n → is_digit (get_or xs i 0) ≡ true
+digits_all zero xs within h i less = absurd (omega arith)
+digits_all (suc n) [] within h i less = absurd (omega arith)
+digits_all (suc n) (x ∷ xs) within h zero less = (and_parts (is_digit x) _ h).0
+digits_all (suc n) (x ∷ xs) within h (suc i) less = digits_all n xs (omega arith) (and_parts (is_digit x) _ h).1 i (omega arith)
+
+-- a symbol that is no number
+pub symbol_unpassed : (n : ℕ) (xs : List ℕ) → IsSymbolIn xs n → BeginsUnpassed xs → (b : Bool) → list_all is_digit (take n xs) ≡ b → IsFalse b
+symbol_unpassed n xs is unpassed false e = refl
+symbol_unpassed n xs is unpassed true e =
+    let within = is.within in
+    absurd (unpassed.no_number n (record { is_symbol = is; digits = digits_all n xs (omega arith) e }))
+
+-- a token of one byte that is no period
+pub single_unpassed : (s : Single) (b : ℕ) → class b ≡ Alone s → (b ≡ 46 → ⊥) → IsFalse (is_passed (kind_of_single s))
+single_unpassed Period b is no_period = absurd (no_period (eqb-true b 46 (subst (ClassSays b) is (class_says b))))
+single_unpassed _ b is no_period = refl
 
 -- ---- what is passed, and the token behind it
 
@@ -302,8 +317,8 @@ module _ (skips : Bool) (before : Standing) (place : ℕ) (h : PartialToken) (pi
   further n = omega arith
 
   behind : m < length piece → (n : ℕ) (t : Token) (mode : LexMode) → 0 < n → RunsToToken (place + m) h rest t (into_mode h mode) n
-      → ReadsBehind skips before piece (standing_at (place + (m + n)) (into_mode h mode)) (m + n) t
-  behind within n t mode more runs =
+      → (IsTrue skips → IsFalse (is_passed t.kind)) → ReadsBehind skips before piece (standing_at (place + (m + n)) (into_mode h mode)) (m + n) t
+  behind within n t mode more runs not_passed =
       record {
         mid = standing_at (place + m) h;
         passed = m;
@@ -314,16 +329,17 @@ module _ (skips : Bool) (before : Standing) (place : ℕ) (h : PartialToken) (pi
         passes = passes;
         reads = subst (λ k. Scans (standing_at (place + m) h) rest (standing_at k (into_mode h mode)) n (token_scanned t)) (further n)
             (scans_token _ _ _ rest n t runs);
+        not_passed = not_passed;
       }
 
   -- a token outside comments
   pub reads_whole : IsOutside h.mode → length h.text ≤ 255 → (n : ℕ) (mode : LexMode) (k : Kind) → IsWhole rest n mode k
-      → ReadsBehind skips before piece (standing_at (place + (m + n)) (into_mode h mode)) (m + n) (record { at = place + m; kind = k })
-  reads_whole outside room n mode k is =
+      → (IsTrue skips → IsFalse (is_passed k)) → ReadsBehind skips before piece (standing_at (place + (m + n)) (into_mode h mode)) (m + n) (record { at = place + m; kind = k })
+  reads_whole outside room n mode k is not_passed =
       let some = is.some in
       let within = is.within in
       behind (omega (arith, length-drop m piece)) n _ mode is.some
-      (is.runs (place + m) h (sound_outside (place + m) h outside room) outside h.at h.text room)
+      (is.runs (place + m) h (sound_outside (place + m) h outside room) outside h.at h.text room) not_passed
 
   module _ (within : m < length piece) (room : length h.text ≤ 255) where
     here : get_or rest 0 0 ≡ get_or piece m 0
@@ -392,11 +408,11 @@ module _ (skips : Bool) (before : Standing) (place : ℕ) (h : PartialToken) (pi
           → ReadsBehind skips before piece (standing_at (place + (m + n)) (into_mode h (comment_mode l))) (m + n) (record { at = place + m; kind = word (take n rest) })
       reads_word n is =
           behind within n _ (comment_mode l) is.some
-          (held_as (place + m) h rest _ (comment_mode l) _ n (comment_between l) (word_runs (place + m) h rest sound_there l in_comment n is) h.at h.text room)
+          (held_as (place + m) h rest _ (comment_mode l) _ n (comment_between l) (word_runs (place + m) h rest sound_there l in_comment n is) h.at h.text room) (λ skipped. refl)
 
       pub reads_close : (mode : LexMode)
           → ((comment_class (get_or piece m 0) ≡ comment_classes.CloseBrace) × (l ≡ false) × (mode ≡ Outside)) ⊎ ((comment_class (get_or piece m 0) ≡ comment_classes.LineEnd) × (l ≡ true) × (mode ≡ LineStart))
           → IsBetween mode → ReadsBehind skips before piece (standing_at (place + (m + 1)) (into_mode h mode)) (m + 1) (record { at = place + m; kind = comment_close })
       reads_close mode is between =
           behind within 1 _ mode (omega arith)
-          (held_as (place + m) h rest _ mode _ 1 between (close_runs (place + m) h rest sound_there l in_comment mode some (rw (sym here) at is)) h.at h.text room)
+          (held_as (place + m) h rest _ mode _ 1 between (close_runs (place + m) h rest sound_there l in_comment mode some (rw (sym here) at is)) h.at h.text room) (λ skipped. refl)

@@ -1,12 +1,13 @@
 //! Reads a token that lies in the piece as a whole, without a copy of its text.
 
-ghost use Rattle.std.specs.Prelude.{◌≡◌, Bool, ℕ, ◌+◌, ◌<◌, ◌≤◌, ◌^◌, length, get_or, IsTrue, IfSome};
+ghost use Rattle.std.specs.Prelude.{◌≡◌, Bool, ℕ, ◌+◌, ◌<◌, ◌≤◌, ◌^◌, drop, length, get_or, IsTrue, IsFalse, IfSome, MatchOption};
 ghost use Rattle.pgn_lexer.specs.Bytes as bytes;
-ghost use Rattle.pgn_lexer.specs.Runs.{IsInside, IsNumberIn, IsStringIn, IsSymbolIn, IsWhole, IsWordIn};
+ghost use Rattle.pgn_lexer.specs.Runs.{BeginsUnpassed, IsNumberIn, IsStringIn, IsSymbolIn, IsWhole, IsWordIn};
 ghost use Rattle.pgn_lexer.specs.Runs.{comment_mode, standing_at};
 ghost use Rattle.pgn_lexer.specs.Scanned.{kind_of};
 ghost use Rattle.pgn_lexer.specs.Spelling as spelling;
 ghost use Rattle.pgn_lexer.specs.Tokens.{glyph};
+ghost use Rattle.pgn_lexer.specs.WholeTokens.{is_passed};
 ghost use Rattle.pgn_lexer.specs.declared.class.Class.TheVariants as classes;
 ghost use Rattle.pgn_lexer.specs.declared.class.CommentClass.TheVariants.{WordByte};
 
@@ -53,7 +54,6 @@ impl PartialToken {
         requires sound { IsSound place self.old }
         ensures used { result.0 ≤ length piece.now }
         ensures sound { IsSound (place + result.0) self.new }
-        ensures token { IfSome result.1 (λ token. IsInside self.new.mode (kind_of token.kind)) }
         ensures reads { ReadsWhole skips_numbers (standing_at place self.old) piece.now
             (standing_at (place + result.0) self.new) result.0 result.1 }
     {
@@ -82,7 +82,6 @@ impl PartialToken {
         requires outside { IsOutside self.old.mode }
         ensures used { result.0 ≤ length piece.now }
         ensures sound { IsSound (place + result.0) self.new }
-        ensures token { IfSome result.1 (λ token. IsInside self.new.mode (kind_of token.kind)) }
         ensures reads { ReadsWhole skips_numbers (standing_at place self.old) piece.now
             (standing_at (place + result.0) self.new) result.0 result.1 }
     {
@@ -110,6 +109,7 @@ impl PartialToken {
         ensures room { length self.new.text ≤ 255 }
         ensures passes { Passes skips_numbers (standing_at place self.old) piece.now
             (standing_at (place + result) self.new) result }
+        ensures stops { IsTrue skips_numbers → BeginsUnpassed (drop result piece.now) }
     {
         let mut used = 0;
         while used < piece.len() {
@@ -152,7 +152,6 @@ impl PartialToken {
         requires comment { self.old.mode ≡ comment_mode is_line }
         ensures used { result.0 ≤ length piece.now }
         ensures sound { IsSound (place + result.0) self.new }
-        ensures token { IfSome result.1 (λ token. IsInside self.new.mode (kind_of token.kind)) }
         ensures reads { (skips : Bool) → ReadsWhole skips (standing_at place self.old) piece.now
             (standing_at (place + result.0) self.new) result.0 result.1 }
     {
@@ -195,8 +194,10 @@ impl PartialToken {
 // an escape, or is rejected.
 #[inline(always)]
 fn whole_at(piece: &[u8]) -> Option<Whole<'_>>
-    ensures { IfSome result (λ whole. IsWhole piece.now whole.length whole.mode
+    ensures whole { IfSome result (λ whole. IsWhole piece.now whole.length whole.mode
         (kind_of whole.kind)) }
+    ensures not_passed { BeginsUnpassed piece.now → IfSome result
+        (λ whole. IsFalse (is_passed (kind_of whole.kind))) }
 {
     if piece.is_empty() {
         return None;
@@ -291,7 +292,8 @@ fn symbol_length(piece: &[u8]) -> Option<usize>
 fn number_length(piece: &[u8]) -> Option<usize>
     requires some { 0 < length piece.now }
     requires first { IsTrue (bytes.is_digit (get_or piece.now 0 0)) }
-    ensures { IfSome result (λ n. IsNumberIn piece.now n) }
+    ensures { MatchOption result ((n : ℕ) → IsNumberIn piece.now n → ⊥)
+        (λ n. IsNumberIn piece.now n) }
 {
     let end = piece.len().min(LONGEST_TEXT + 1);
     let mut length = 1;

@@ -12,4 +12,4 @@ returns-clause-reads c =
     (standing_at (c.args.place + (c.pass-passed.result + c.in-Some.whole.length)) h) (c.pass-passed.result + c.in-Some.whole.length)
     (record { at = c.args.place + c.pass-passed.result; kind = kind_of c.in-Some.whole.kind }))
     (sym (ap (λ h. into_mode h c.in-Some.whole.mode) c.self.view_is))
-    (reads_whole _ _ _ _ _ _ passed.passes passed.outside passed.room _ _ _ (rw take_rest at c.in-Some.ensures))
+    (reads_whole _ _ _ _ _ _ passed.passes passed.outside passed.room _ _ _ (rw take_rest at c.in-Some.ensures.whole) (λ skipped. rw take_rest at c.in-Some.ensures.not_passed (passed.stops skipped)))

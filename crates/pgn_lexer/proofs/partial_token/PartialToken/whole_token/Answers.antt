@@ -12,6 +12,5 @@ pub returns-in_default : goal.returns-in_default
 returns-in_default c = record {
   used = omega arith;
   sound = subst (λ (n : ℕ). IsSound n c.args.self.now) (omega arith) c.requires.sound;
-  token = tt;
   reads = passes_none _ _ _ _ _ refl;
 }
