@@ -83,7 +83,7 @@ pub use Rattle.pgn_lexer.specs.Standing.{Standing, coming, waiting}
 pub use Rattle.pgn_lexer.specs.Stands.{AfterScan, FinishGivesToken, Follows, HasLeft, IsDecided, IsNext, StandsAfter, first, still, Scans}
 pub use Rattle.pgn_game.specs.state.Readings.{BothSoFar, HasMarkers, HasMatched, Reading, changed_reason, model_marker, AfterMarker, AllRead, ComesNext, EndComes, FirstFails, GameRead, GameWritten, HasCome, HasGiven, MarkerComes, ReadFails, ReadingStops, ReadsUpToMarker, SecondFails, StandsBetween, StandsIn, WhyFirst, WhySecond, WritesGame, as_changed, at_read, no_sink}
 pub use Rattle.pgn_game.specs.calls.MostTried.{CostsIf, CostsToAdd, CostsToFind, CostsToWrite, MostFrom, MostTried, Raises, Tries, CostsUnlessRefused, is_sought, TriesUnwritten, added, is_written, none}
-pub use Rattle.pgn_game.specs.calls.GamesCalls.{AfterNext, CountsNext, Games, HasReadAll, HaveRead, NextGame, NextStops, NoGame, ReadSoFar, at_end, ReadsNext, ReadsNoGame, games_of, most_left, within}
+pub use Rattle.pgn_game.specs.calls.GamesCalls.{AfterNext, CountsNext, Games, HasReadAll, HaveRead, NextFault, NextGame, NextStops, NoGame, ReadSoFar, at_end, ReadsNext, ReadsNoGame, games_of, most_left, within}
 pub use Rattle.pgn_game.specs.export.Due.{Gains, gain, text_next}
 pub use Rattle.pgn_game.specs.state.ConverterSteps.{AfterStep, AfterStepAtEnd, AllSoFar, AtEndSoFar, EndsGame, EndsWithin, FaultAtEnd, FeedsAllSoFar, FeedsSoFar, FinishesSoFar, GainsAs, IsGoing, Meets, NotTaken, OneGame, Reaches, ReadsMore, SameGames, SoFar, StaysBetween, due_as, ended_by, fault_of, next_at, outcome_at, part_after, AfterEndToMarker, AfterStepsInPiece, CountsGame, EndsSoFar, EndsToMarker, FailsAtEnd, FailsIn, GoesToMarker, IsBeforePiece, IsBeforeToken, IsReadyAfter, KeepsRest, LeftSoFar, ReadsPiece, ReadsToEnd, ReadsToLeftMarker, ReadsToMarker, StepAdvances, StepAtEndAdvances, StepGoes, StepsInPiece, StepsAtEnd, StepsOn, TakesStepsInPiece, announcing, is_ended, taking_announced_marker}
 pub use Rattle.pgn_game.specs.calls.Checked.{Comparison, PlacedMarker, checked_profile, compared, compared_from, earlier_fault, is_changed, is_other, marker_at, markers, markers_after, markers_from, torn_before, with_marker, written_by}

@@ -258,7 +258,7 @@ fn is_other(found: PlacedMarker, expected: PlacedMarker) -> bool
     ensures { result ≡ not (bytes_eq (marker_text found.marker) (marker_text expected.marker)
         && (found.at == expected.at)) }
 {
-    found.marker.text() != expected.marker.text() || found.at != expected.at
+    found.marker != expected.marker || found.at != expected.at
 }
 
 // The fault of the second reading: its own faults show that the input has changed.

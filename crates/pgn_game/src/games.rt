@@ -95,6 +95,7 @@ impl<const T: usize, const L: usize> Games<T, L> {
     /// - `Reason::WriteFault` if a write failed, at the first token with text missing.
     /// - `Reason::InputTooLong` if the input has a byte at place 2^62.
     ///
+    /// After an error no game is just finished. `games` and `most_probes` keep what was counted before.
     /// Each later call returns the same error, and touches neither the source nor the sink.
     pub fn next<R: Source, W: Sink>(&mut self, source: &mut R, out: &mut W) -> Result<bool, Fault>
         ensures reads { ReadsNext self.old self.new result
@@ -102,6 +103,8 @@ impl<const T: usize, const L: usize> Games<T, L> {
             (sink_of self.old.converter.reading W.taken W.failures out.old out.new) }
         ensures fewer { result ≡ Ok true → most_left self.new < most_left self.old }
         ensures fault { KeepsFault self.new.converter result }
+        ensures probes { self.old.converter.reading.most_probes
+            ≤ self.new.converter.reading.most_probes }
         ensures at_end { NextAtEnd self.old self.new result source.old source.new out.old out.new }
         ensures again { NextAgain self.old self.new result source.old source.new out.old out.new }
         ensures counted { self.old.converter.fault ≡ None

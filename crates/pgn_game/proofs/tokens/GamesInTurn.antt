@@ -1,5 +1,5 @@
 -- Games read in turn from a source.
-use Rattle.pgn_game.proofs.Words.{bytes_seen, WriteFault, Token, Fault, Profile, Game, no_part, ◌≡◌, ℕ, ◌^◌, ◌≤◌, Bool, true, false, List, [], ◌∷◌, ◌++◌, length, Option, None, Some, Result, Ok, Err, refl, sym, ap, subst, ◌∙◌, inl, inr, append-nil, length-append, arith, Consumes-nil, tokens_of, decided, coming, first, Gains, Games, games_of, HasReadAll, HaveRead, within, at_end, NextGame, NoGame, NextStops, AfterNext, IsTrue, is_ok, text_of_games as text_of, whole, next, Progress, read, read_from, written_so_far as written, Converter, AfterFinish, Finishes, FinishesToFault, rules, going, finished_game_of, HasRead, no_progress, Device, FinishedGame, IsKnown, Stands, MoreSoFar, StandsWithin, EndsGame, ReadsNoGame, MeetsNext, ReadsAllOf, StopsBefore, UsesAll, CountsGame, common_steps}
+use Rattle.pgn_game.proofs.Words.{bytes_seen, WriteFault, Token, Fault, Profile, Game, no_part, ◌≡◌, ℕ, ◌^◌, ◌≤◌, Bool, true, false, List, [], ◌∷◌, ◌++◌, length, Option, None, Some, Result, Ok, Err, refl, sym, ap, subst, ◌∙◌, inl, inr, append-nil, length-append, arith, Consumes-nil, tokens_of, decided, coming, first, Gains, Games, games_of, HasReadAll, HaveRead, within, at_end, NextGame, NoGame, NextStops, NextFault, OnErr, AfterNext, IsTrue, is_ok, text_of_games as text_of, whole, next, Progress, read, read_from, written_so_far as written, Converter, AfterFinish, Finishes, FinishesToFault, rules, going, finished_game_of, HasRead, no_progress, Device, FinishedGame, IsKnown, Stands, MoreSoFar, StandsWithin, EndsGame, ReadsNoGame, MeetsNext, ReadsAllOf, StopsBefore, UsesAll, CountsGame, common_steps}
 use Rattle.pgn_game.specs.declared.marker.PlacedMarker.{PlacedMarker}
 use Rattle.pgn_game.specs.calls.GamesCalls as games_calls
 use Rattle.pgn_game.specs.state.GamesSteps as games_steps
@@ -230,16 +230,21 @@ module _ (p : Profile) (silent : Bool) (known : silent ≡ false → IsKnown p) 
         by_game true is (inl same) = absurd (omega (arith, fed.game.0 (rw is (cc)), ap (length {A = Game}) same))
         by_game true is (inr (passes, (g, more))) = one g more is
 
-    ended_at_fault : (f : Fault) → FinishesToFault p so.stands.used so.tokens new f c d
-        → length (u ++ so.more) ≤ 2 ^ 62 → NextStops p u given left_old left new.reading taken d f
-    ended_at_fault f fed short =
-        games_calls.at_end f so.more so.consumed uses.at_end short (rw all_used (record {
-          stops = stops_more gained fed.stops;
-          no_game = games_still gained fed.stops ∙ fed.no_game ∙ so.reads.no_game;
-          counts = counts_still gained fed.stops fed.counts;
-        }))
+    ended_at_fault : (f : Fault) → FinishesToFault p so.stands.used so.tokens new f c d → new.just_finished ≡ None
+        → length (u ++ so.more) ≤ 2 ^ 62 → NextFault p u given left_old left (games_of new now.unused) f taken d
+    ended_at_fault f fed none short =
+        record {
+          stops = games_calls.at_end f so.more so.consumed uses.at_end short (rw all_used (record {
+            stops = stops_more gained fed.stops;
+            no_game = games_still gained fed.stops ∙ fed.no_game ∙ so.reads.no_game;
+            counts = counts_still gained fed.stops fed.counts;
+          }));
+          games = fed.games ∙ ap (length {A = Game}) (fed.no_game ∙ so.reads.no_game);
+          none_just_finished = none;
+        }
 
     pub finished : (r : Result Bool Fault) → AfterFinish p so.stands.used so.tokens new r c d
-        → new.is_finished ≡ is_ok r → now.converter.lexer.count ≤ 2 ^ 62 → AfterNext p u given left_old left (games_of new now.unused) r taken d
-    finished (Ok is_game) fed ends few = ended fed ends few
-    finished (Err f) fed ends few = ended_at_fault f fed (short few)
+        → new.is_finished ≡ is_ok r → OnErr r (new.just_finished ≡ None) → now.converter.lexer.count ≤ 2 ^ 62
+        → AfterNext p u given left_old left (games_of new now.unused) r taken d
+    finished (Ok is_game) fed ends none few = ended fed ends few
+    finished (Err f) fed ends none few = ended_at_fault f fed none (short few)

@@ -97,4 +97,4 @@ games_join p left before first old new taken (Ok false) source sink begins calls
 games_join p left before first old new taken (Err f) source sink begins calls reads =
     let so = so_far p left before first begins calls in
     games_stop p left source.before source.after old before sink.before sink.after so.reads
-    (reads p so.reads.bytes so.reads.tokens so.reads.have_read)
+    (reads p so.reads.bytes so.reads.tokens so.reads.have_read).stops

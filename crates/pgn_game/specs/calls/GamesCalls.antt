@@ -136,11 +136,17 @@ pub data NextStops (p : Profile) (u : List ℕ) (given : List Token) (left_old l
       → ReadsNoGame p given front before after
       → NextStops p u given left_old left_new r before after (record { at = 2 ^ 62; reason = InputTooLong })
 
+-- Reading stopped. The games finished before the call stay counted, and none is just finished.
+pub record NextFault (p : Profile) (u : List ℕ) (given : List Token) (left_old left_new : Option (List ℕ)) (new : Games) (f : Fault) (before after : Option (List ℕ)) : Type 0 where
+  pub stops : NextStops p u given left_old left_new new.converter.reading before after f
+  pub games : new.converter.games ≡ length (read p given).progress.games
+  pub none_just_finished : new.converter.just_finished ≡ None
+
 -- What `next` results in: a game was read (`true`), no game was left (`false`), or reading stopped.
 abbrev pub AfterNext : Profile → List ℕ → List Token → Option (List ℕ) → Option (List ℕ) → Games → Result Bool Fault → Option (List ℕ) → Option (List ℕ) → Type 0
 AfterNext p u given left_old left_new new (Ok true) before after = NextGame p u given left_old left_new new before after
 AfterNext p u given left_old left_new new (Ok false) before after = NoGame p u given left_old left_new new before after
-AfterNext p u given left_old left_new new (Err f) before after = NextStops p u given left_old left_new new.converter.reading before after f
+AfterNext p u given left_old left_new new (Err f) before after = NextFault p u given left_old left_new new f before after
 
 -- What `next` does to games that have read any bytes of the source.
 abbrev pub ReadsNext : Games → Games → Result Bool Fault → Device → Device → Type 0

@@ -138,4 +138,5 @@ pub record GoesToNextGame (old new : Games) (result : Result Bool Fault) (source
   pub reads : ReadsNext old new result source sink
   pub fewer : result ≡ Ok true → most_left new < most_left old
   pub fault : KeepsFault new.converter result
+  pub probes : old.converter.reading.most_probes ≤ new.converter.reading.most_probes
   pub counted : old.converter.fault ≡ None → CountsNext result source sink

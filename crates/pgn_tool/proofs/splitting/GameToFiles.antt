@@ -288,7 +288,7 @@ module _ {A : Type 0} (taken : A → Option (List ℕ)) (failures : A → ℕ) (
       let (f, answer, is) = stopped call.file call.answer why call.settles in
       let next = rw answer at call.reads in
       let counted = rw answer at call.counted in (
-        rw is at (split_stops taken failures _ _ _ _ new _ _ _ so call.file call.begun call.logged _ f _ _ (next _ _ _ so.have_read) counted),
+        rw is at (split_stops taken failures _ _ _ _ new _ _ _ so call.file call.begun call.logged _ f _ _ (next _ _ _ so.have_read).stops counted),
         rw is at (files_stop taken failures _ _ source.after _ new _ _ _ so call.file call.begun call.logged f _ _ counted),
         rw is at (counts_source taken failures log call.file f _ _ call.begun counted),
       )

@@ -50,7 +50,7 @@ returns-in_err-next_game-clause-converts g c =
     let next = rw c.in_err-next_game.was at (reads g after) in
     rw (e.1, e.2) (λ p stands.
     let have = so.read p stands in
-    games_stop _ _ _ _ (games_of c.loop.converter c.loop.buffer) _ _ _ have (next _ _ _ have.have_read))
+    games_stop _ _ _ _ (games_of c.loop.converter c.loop.buffer) _ _ _ have (next _ _ _ have.have_read).stops)
 
 pub returns-clause-converts : goal.returns-clause-converts
 returns-clause-converts g c =

@@ -21,13 +21,18 @@ returns-in_err-marker-clause-goes g c =
     rw (error_returned _ c.from_residual.ensures.1) (record {
       reads = λ p u given have.
           let begun = begins p u given _ _ have c.requires.not_finished in
-          stops_before p _ begun.0 u given _ _ _ c.next_marker.new.converter _ _
-          (λ silent. no_write_seen {A = Unit} (Err c.in_err-marker.field-0.0)
-          (device g.R.Source.left g.R.Source.failures c.args.source.now c.next_marker.new.source)
-          (device g.W.Sink.taken g.W.Sink.failures c.args.out.now c.next_marker.new.out) _ silent c.in_err-marker.ensures.goes.counted)
-          (c.in_err-marker.ensures.reads p u given begun.1 begun.2);
+          record {
+            stops = stops_before p _ begun.0 u given _ _ _ c.next_marker.new.converter _ _
+                (λ silent. no_write_seen {A = Unit} (Err c.in_err-marker.field-0.0)
+                (device g.R.Source.left g.R.Source.failures c.args.source.now c.next_marker.new.source)
+                (device g.W.Sink.taken g.W.Sink.failures c.args.out.now c.next_marker.new.out) _ silent c.in_err-marker.ensures.goes.counted)
+                (c.in_err-marker.ensures.reads p u given begun.1 begun.2);
+            games = c.in_err-marker.ensures.goes.keeps.games ∙ begun.2.games;
+            none_just_finished = c.in_err-marker.ensures.goes.keeps.none_just_finished;
+          };
       fewer = λ same. absurd (cc);
       fault = c.in_err-marker.ensures.goes.keeps.fault;
+      probes = c.in_err-marker.ensures.goes.keeps.probes;
       counted = λ free. c.in_err-marker.ensures.goes.counted;
     })
 
@@ -42,12 +47,17 @@ returns-in_err-end_game-in-Some g c =
       goes = rw (error_returned _ c.from_residual-in_err-end_game-in-Some.ensures.1) (record {
         reads = λ p u given have.
             let begun = begins p u given _ _ have c.requires.not_finished in
-            marker_stops p _ begun.0 u given _ _ _ c.in-Some.marker _ (seen _ sink)
-            (rw c.in-Some.is at (c.in_ok-marker.ensures.reads p u given begun.1 begun.2)) c.end_game.new.self f
-            (λ silent. none_fails {A = Unit} _ (Err f) sink silent counted)
-            (seen_alike (EndsGame _ _ _ _) _ _ sink same c.in_err-end_game-in-Some.ensures.ends);
+            record {
+              stops = marker_stops p _ begun.0 u given _ _ _ c.in-Some.marker _ (seen _ sink)
+                  (rw c.in-Some.is at (c.in_ok-marker.ensures.reads p u given begun.1 begun.2)) c.end_game.new.self f
+                  (λ silent. none_fails {A = Unit} _ (Err f) sink silent counted)
+                  (seen_alike (EndsGame _ _ _ _) _ _ sink same c.in_err-end_game-in-Some.ensures.ends);
+              games = c.in_err-end_game-in-Some.ensures.counts.games ∙ c.next_marker.ensures.goes.keeps.games ∙ begun.2.games;
+              none_just_finished = c.in_err-end_game-in-Some.ensures.counts.just_finished;
+            };
         fewer = λ same. absurd (cc);
         fault = c.in_err-end_game-in-Some.ensures.counts.fault;
+        probes = omega (arith, c.in_err-end_game-in-Some.ensures.counts.probes, c.next_marker.ensures.goes.keeps.probes);
         counted = λ free. behind_still f.reason _ _ _ _ _ _ goes.0 goes.1 (reader_reason f.reason _ _ _ counted);
       });
       silent = silence_then _ _ _ _ _ _ c.next_marker.ensures.silent c.end_game.ensures.silent;
@@ -69,6 +79,7 @@ returns-in_ok-end_game-in-Some g c =
         fewer = λ same.
             rw (counts.not_finished, c.requires.not_finished) (omega (arith, counts.few, counts.games, c.next_marker.ensures.goes.keeps.games));
         fault = counts.fault;
+        probes = omega (arith, counts.probes, c.next_marker.ensures.goes.keeps.probes);
         counted = λ free. (c.in_ok-marker.ensures.goes.counted.0, counts.counted ∙ c.in_ok-marker.ensures.goes.counted.1);
       };
       silent = silence_then _ _ _ _ _ _ c.next_marker.ensures.silent c.end_game.ensures.silent;
@@ -86,9 +97,10 @@ returns-in-None g c =
             finished p _ begun.0 u given _ _ _ _ _ same uses c.finish.new.self _ c.finish.result
             (seen_alike (λ (d : Device). Ends c.next_marker.new.converter c.finish.new.self c.finish.result d) _ _ sink same c.finish.ensures.ends
             p _ _ _ (stands_at_end p _ begun.0 u given _ _ _ _ _ same uses))
-            c.finish.ensures.finished c.in_ok-marker.ensures.goes.short;
+            c.finish.ensures.finished c.finish.ensures.none_just_finished c.in_ok-marker.ensures.goes.short;
         fewer = λ same. rw (c.finish.ensures.finished, same, c.requires.not_finished) (omega arith);
         fault = c.finish.ensures.fault;
+        probes = omega (arith, c.finish.ensures.probes, c.next_marker.ensures.goes.keeps.probes);
         counted = λ free. counts_result c.finish.result _ _ _ c.in_ok-marker.ensures.goes.counted.0 c.in_ok-marker.ensures.goes.counted.1 refl
             (seen_alike (CountsFault c.finish.result) _ _ sink same (c.finish.ensures.counted c.in_ok-marker.ensures.goes.keeps.fault));
       };

@@ -1,4 +1,4 @@
-use Rattle.pgn_game.proofs.Words.{refl, sym, ◌∙◌, games_of}
+use Rattle.pgn_game.proofs.Words.{le_refl, refl, sym, ◌∙◌, games_of}
 use Rattle.pgn_game.proofs.ReaderFitsInMemory.{fits_alike}
 use Rattle.pgn_game.proofs.tokens.GamesInTurn.{at_end_again}
 use Rattle.pgn_game.proofs.games.next_game.Goals as goal
@@ -20,6 +20,7 @@ returns-then-is_finished-clause-goes g c =
           (sym c.is_finished.ensures ∙ c.if-is_finished.true) c.forget_game.ensures;
       fewer = λ same. absurd (cc);
       fault = rw c.forget_game.ensures (sym c.fault.ensures ∙ c.in_default.is);
+      probes = rw c.forget_game.ensures (le_refl _);
       counted = λ none. (refl, refl);
     }
 

@@ -31,7 +31,7 @@ returns-in-Err-clause-lists g c =
     let source = device g.R.Source.left g.R.Source.failures c.loop-fault.source c.next.new.source in
     let next = silently (λ (d : Device). ReadsNext c.loop-fault.games c.next.new.self (Err c.in-Err.fault) source d) _ nowhere
     c.loop-fault.invariant.silent c.in-Err.ensures.reads in
-    list_stops _ _ _ c.loop-fault.games c.next.new.self _ _ so _ c.in-Err.fault _ _ (next _ _ _ so.have_read)
+    list_stops _ _ _ c.loop-fault.games c.next.new.self _ _ so _ c.in-Err.fault _ _ (next _ _ _ so.have_read).stops
     (silently (λ (d : Device). CountsNext (Err c.in-Err.fault) source d) _ nowhere c.loop-fault.invariant.silent
     (c.in-Err.ensures.counted c.loop-fault.invariant.fault))
 

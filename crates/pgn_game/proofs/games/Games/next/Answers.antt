@@ -18,3 +18,6 @@ returns-clause-counted g c = rw (← c.self.view_is) c.next_game.ensures.goes.co
 
 pub returns-clause-silent : goal.returns-clause-silent
 returns-clause-silent g c = rw (← c.self.view_is) c.next_game.ensures.silent
+
+pub returns-clause-probes : goal.returns-clause-probes
+returns-clause-probes g c = rw (← c.self.view_is) c.next_game.ensures.goes.probes
