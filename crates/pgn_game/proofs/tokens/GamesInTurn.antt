@@ -1,5 +1,6 @@
 -- Games read in turn from a source.
-use Rattle.pgn_game.proofs.Words.{bytes_seen, WriteFault, Token, Fault, Profile, Game, no_part, ◌≡◌, ℕ, ◌^◌, ◌≤◌, Bool, true, false, List, [], ◌∷◌, ◌++◌, length, Option, None, Some, Result, Ok, Err, refl, sym, ap, subst, ◌∙◌, inl, inr, append-nil, length-append, arith, Consumes-nil, tokens_of, decided, coming, first, Gains, Games, games_of, HasReadAll, HaveRead, within, at_end, NextGame, NoGame, NextStops, NextFault, OnErr, AfterNext, IsTrue, is_ok, text_of_games as text_of, whole, next, Progress, read, read_from, written_so_far as written, Converter, AfterFinish, Finishes, FinishesToFault, rules, going, finished_game_of, HasRead, no_progress, Device, FinishedGame, IsKnown, Stands, MoreSoFar, StandsWithin, EndsGame, ReadsNoGame, MeetsNext, ReadsAllOf, StopsBefore, UsesAll, CountsGame, common_steps}
+use Rattle.std.specs.Prelude.{OnErr}
+use Rattle.pgn_game.proofs.Words.{bytes_seen, WriteFault, Token, Fault, Profile, Game, no_part, ◌≡◌, ℕ, ◌^◌, ◌≤◌, Bool, true, false, List, [], ◌∷◌, ◌++◌, length, Option, None, Some, Result, Ok, Err, refl, sym, ap, subst, ◌∙◌, inl, inr, append-nil, length-append, arith, Consumes-nil, tokens_of, decided, coming, first, Gains, Games, games_of, HasReadAll, HaveRead, within, at_end, NextGame, NoGame, NextStops, NextFault, AfterNext, IsTrue, is_ok, text_of_games as text_of, whole, next, Progress, read, read_from, written_so_far as written, Converter, AfterFinish, Finishes, FinishesToFault, rules, going, finished_game_of, HasRead, no_progress, Device, FinishedGame, IsKnown, Stands, MoreSoFar, StandsWithin, EndsGame, ReadsNoGame, MeetsNext, ReadsAllOf, StopsBefore, UsesAll, CountsGame, common_steps}
 use Rattle.pgn_game.specs.declared.marker.PlacedMarker.{PlacedMarker}
 use Rattle.pgn_game.specs.calls.GamesCalls as games_calls
 use Rattle.pgn_game.specs.state.GamesSteps as games_steps
