@@ -28,7 +28,7 @@ ARCHIVE_GAMES = 12500
 MEGABYTE = 1000000
 # Keys, as WebDriver names them.
 TAB, ENTER, CONTROL, UP, DOWN = "\ue004", "\ue007", "\ue009", "\ue013", "\ue015"
-END, HOME, LEFT, RIGHT = "\ue010", "\ue011", "\ue012", "\ue014"
+END, HOME, TO_LEFT, TO_RIGHT = "\ue010", "\ue011", "\ue012", "\ue014"
 INITIAL = "rnbqkbnr/pppppppp/8/8/8/8/PPPPPPPP/RNBQKBNR w KQkq - 0 1"
 # Texts at the edges of rules, beside the rows of spellings.py.
 EDGES = [
@@ -1210,12 +1210,13 @@ class MainLine(Case):
             "bishops c8, f8; knights c6, g8; pawns e5, a7, b7, c7, d7, f7, g7, h7. "
             "White to move."))
         self.assertEqual(self.board(), begin)
-        for key, said in ((RIGHT, "After 1. e4: ply 1 of 4"), (RIGHT, "After 1... e5: ply 2 of 4"),
-                          (RIGHT, "After 2. Nf3: ply 3 of 4"), (LEFT, "After 1... e5: ply 2 of 4")):
+        for key, said in (
+                (TO_RIGHT, "After 1. e4: ply 1 of 4"), (TO_RIGHT, "After 1... e5: ply 2 of 4"),
+                (TO_RIGHT, "After 2. Nf3: ply 3 of 4"), (TO_LEFT, "After 1... e5: ply 2 of 4")):
             self.press(key)
             self.assertEqual(self.text("line-at"), said)
         self.picture("main-line")
-        for key, shown in ((END, end), (RIGHT, end), (HOME, begin), (LEFT, begin)):
+        for key, shown in ((END, end), (TO_RIGHT, end), (HOME, begin), (TO_LEFT, begin)):
             self.press(key)
             self.assertEqual(self.board(), shown)
         for button, shown in (("to-end", end), ("forward", end), ("to-start", begin),
@@ -1231,7 +1232,7 @@ class MainLine(Case):
     def test_marks(self):
         """The squares that the last move began and ended on."""
         self.open(self.GAME.replace("[White", '[Result "1/2-1/2"]\n[White'))
-        self.press(RIGHT)
+        self.press(TO_RIGHT)
         marked = self.browser.run(
             "return [...document.querySelectorAll('#line-board .moved')].map(it => "
             "[it.getAttribute('x'), it.getAttribute('y')])")
@@ -1249,7 +1250,7 @@ class MainLine(Case):
 
     def test_no_move(self):
         self.open("*\n")
-        for key in (RIGHT, END):
+        for key in (TO_RIGHT, END):
             self.press(key)
             self.assertEqual(self.text("line-at"),
                              "The position before the first move: ply 0 of 0")
@@ -1385,7 +1386,8 @@ class Rest(Case):
         self.picture("forfeit")
         self.assertEqual(self.text("notes"), (
             "Notes\nIn 1 game the Termination is not time forfeit, or another word of the standard "
-            "(PGN 9.8.1).\nGame 1, “Ada” against “?” “won by forfeit”"))
+            "(PGN 9.8.1).\nGame 1, “Ada” against “?” “won by forfeit”\n"
+            "The keys Up, Down, Home and End go through the list."))
         self.browser.run("document.querySelector('#notes button').click()")
         self.browser.wait_for("return !document.getElementById('game').hidden")
         self.assertEqual(self.text("game-title"), "Game 1")
