@@ -181,42 +181,45 @@ class Ply:
     @view
     def nags(self) -> List[int]:
         """The NAGs behind the move."""
-        return ViewList(it for it in self.notes if isinstance(it, int))
+        return ViewList([it for it in self.notes if isinstance(it, int)])
 
     @view
     def comments(self) -> List[str]:
         """The comments behind the move."""
-        return ViewList(it for it in self.notes if isinstance(it, str))
+        return ViewList(self._texts())
+
+    def _texts(self) -> List[str]:
+        return [it for it in self.notes if isinstance(it, str)]
 
     @view
     def variations(self) -> "List[Line]":
         """The variations that replace the move."""
-        return ViewList(it for it in self.notes if isinstance(it, Line))
+        return ViewList([it for it in self.notes if isinstance(it, Line)])
 
     @view
     def clock(self) -> Optional[float]:
         """The seconds that the mover has left, by `[%clk 0:05:00]`; None without it."""
-        return seconds_of(CLOCK, self.comments)
+        return seconds_of(CLOCK, self._texts())
 
     @view
     def emt(self) -> Optional[float]:
         """The seconds that the move took, by `[%emt 0:00:02]`; None without it."""
-        return seconds_of(ELAPSED, self.comments)
+        return seconds_of(ELAPSED, self._texts())
 
     @view
     def eval(self) -> Optional[Evaluation]:
         """The evaluation after the move, by `[%eval 0.17]` or `[%eval #3]`; None without it."""
-        return evaluation_of(self.comments)
+        return evaluation_of(self._texts())
 
     @view
     def arrows(self) -> List[Arrow]:
         """The arrows on the board after the move, by `[%cal Ge2e4]`: colour, origin and target."""
-        return ViewList(arrows_of(self.comments))
+        return ViewList(arrows_of(self._texts()))
 
     @view
     def squares(self) -> List[MarkedSquare]:
         """The marked squares of the board after the move, by `[%csl Gd4]`: colour and square."""
-        return ViewList(squares_of(self.comments))
+        return ViewList(squares_of(self._texts()))
 
     def add_variation(self, move: str, *, nags: Iterable[int] = (), comment: Optional[str] = None,
                       uci: bool = False) -> "Line":

@@ -20,7 +20,7 @@ echo "rt builds" >&2
 grep -q broken src/main.rt && exit 1
 mkdir -p out
 printf '#!/bin/sh\\n%s\\necho "rt built %s, called with $*"\\n' \\
-  '[ "$1" = --version ] && exec echo pgn_tool 1.2.3' "$(cat src/main.rt)" >out/pgn_tool
+  '[ "$1" = --version ] && echo pgn_tool 1.2.3 && exit' "$(cat src/main.rt)" >out/pgn_tool
 chmod 755 out/pgn_tool
 """
 CARGO = """#!/bin/sh
@@ -41,7 +41,7 @@ case $1 in
     [ -e ../../meanwhile ] && sleep 0.1 && touch "$source/lib.rt"
     grep -q broken "$source/main.rt" && exit 101
     printf '#!/bin/sh\\n%s\\necho "cargo built %s, called with $*"\\n' \\
-      '[ "$1" = --version ] && exec echo pgn_tool 1.2.3' "$(cat "$source/main.rt")" \\
+      '[ "$1" = --version ] && echo pgn_tool 1.2.3 && exit' "$(cat "$source/main.rt")" \\
       >target/release/pgn_tool
     chmod 755 target/release/pgn_tool ;;
   *) exit 9 ;;

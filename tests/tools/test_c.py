@@ -254,6 +254,14 @@ class Installed:
         words = words.decode().replace("-lpgn_c", self.prefix + "/lib/libpgn_c.a").split()
         self.check_loop(self.compiled(words))
 
+    def test_version(self):
+        """That of the header, which is in the name of the shared library too."""
+        with open(self.prefix + "/include/pgn.h", encoding="utf-8") as header:
+            minor, number = re.search(r'PGN_VERSION "(\d+\.\d+).*"\n.*_NUMBER (\d+)',
+                                      header.read()).groups()
+        self.assertEqual(self.library.calls.pgn_version(), int(number))
+        self.assertEqual(os.readlink(self.prefix + "/lib/libpgn_c.so"), "libpgn_c.so." + minor)
+
     def test_a_program_that_is_all_static(self):
         need("pkg-config")
         env = dict(os.environ, PKG_CONFIG_PATH=self.prefix + "/lib/pkgconfig")
@@ -658,7 +666,8 @@ class InstalledByCargo(Installed, unittest.TestCase):
                  "pgn_read_game": (*text, 0, 0, 0, *room), "pgn_tag_at": (*text, 0),
                  "pgn_explain": fen + move, "pgn_next_section": (game, *text, 1)}
         with open(ROOT + "/crates/pgn_c/pgn.h", encoding="utf-8") as header:
-            self.assertEqual(set(calls), set(re.findall(r"(?m)^\w+ (\w+)\(", header.read())))
+            self.assertEqual({*calls, "pgn_version"},
+                             set(re.findall(r"(?m)^\w+ (\w+)\(", header.read())))
         before, tried = (buffer.raw, bytes(bad)), 0
         for name, words in calls.items():
             call = getattr(self.library.calls, name)

@@ -1,5 +1,4 @@
 """Tests of the library for C (crates/pgn_c): its header, and the example in C."""
-import ctypes
 import glob
 import os
 import re
@@ -166,17 +165,13 @@ class HeaderTest(unittest.TestCase):
         self.assertEqual(len(exported()), 11)
 
     def test_version(self):
-        """That of the program, as text and as the number that the library returns."""
+        """That of the program, as text and as a number."""
         text, number = re.search(r'#define PGN_VERSION "(.*)"\n#define PGN_VERSION_NUMBER (\d+)\n',
                                  source("pgn.h")).groups()
         major, minor, patch = map(int, text.split("."))
         said = run([need_program(), "--version"]).stdout.decode()
         self.assertEqual(said, "pgn_tool %s\n" % text)
         self.assertEqual(int(number), 10000 * major + 100 * minor + patch)
-        for build in ("--cargo", "--proved"):
-            with self.subTest(build):
-                shared = ctypes.CDLL(need_library(build)[:-2] + ".so")
-                self.assertEqual(shared.pgn_version(), int(number))
 
     def test_structs(self):
         self.assertEqual(c_structs(), rust_structs())
