@@ -22,11 +22,15 @@ from ._warnings import Said, Watcher
 STEP = 256
 # How many bytes of a line are shown before a fault, and behind it.
 SHOWN = 60
-UNCLOSED_COMMENT, BAD_RESULT, MOVE_LIMIT, RESULT_DIFFERS = 12, 25, 36, 41
+STRAY_BYTE, UNCLOSED_COMMENT, TAG_TWICE, BAD_RESULT, MOVE_LIMIT, RESULT_DIFFERS = (
+    1, 12, 22, 25, 36, 41)
 # What a message leaves out, by the number of the fault.
 NOTES = {
+    3: "PGN 7 keeps < and > for later",
     42: "the last game has no result at its end",
 }
+TAGS_ALONE = "the game before may have tags alone, without moves and a result"
+EMPTY_LINE = re.compile(rb"(?:\r\n|\r(?!\n)|\n)[ \t]*[\r\n]")
 COMMENT_AMONG_TAGS = "a comment behind a tag pair begins the movetext"
 NO_RESULT_BEFORE = "the game before may have no result at its end"
 NO_RESULT = "there is no Result tag, which counts as *; --checked takes the result at the end"
@@ -172,16 +176,21 @@ class Linter(Reader):
 
     def _note(self, fault: PgnFault) -> str:
         """What the reason leaves out."""
+        at = fault.offset - self.window.base
+        if fault.number == STRAY_BYTE:
+            return named(character_at(self.window.data, at))
         if fault.number == UNCLOSED_COMMENT:
             return self._begin_of_comment()
-        if fault.number == BAD_RESULT and FORFEIT.match(
-                self.window.data, fault.offset - self.window.base):
+        if fault.number == BAD_RESULT and FORFEIT.match(self.window.data, at):
             return OF_FORFEIT
         if fault.number == RESULT_DIFFERS and self._passes_without_result():
             return NO_RESULT
         if fault.number == TAG_IN_MOVETEXT:
-            before = self.window.data[self.at - self.window.base:fault.offset - self.window.base]
+            before = self.window.data[self.at - self.window.base:at]
             return NO_RESULT_BEFORE if has_movetext(before) else COMMENT_AMONG_TAGS
+        if fault.number == TAG_TWICE:
+            before = self.window.data[self.at - self.window.base:at].lstrip()
+            return TAGS_ALONE if EMPTY_LINE.search(before) else ""
         return NOTES.get(fault.number, "")
 
     def _begin_of_comment(self) -> str:
@@ -227,6 +236,29 @@ class _BadGame(NamedTuple):
 
 
 # ---- the line
+
+
+def character_at(data: bytes, at: int) -> str:
+    """The character at a place: of UTF-8, or else of Latin-1.
+
+    >>> ascii(character_at(b"1. \\xe2\\x80\\x9c", 3)), ascii(character_at(b"1. \\xbd", 3))
+    ("'\\\\u201c'", "'\\\\xbd'")
+    """
+    for size in range(1, 5):
+        try:
+            return data[at:at + size].decode("utf-8")
+        except UnicodeDecodeError:
+            pass
+    return data[at:at + 1].decode("latin-1")
+
+
+def named(character: str) -> str:
+    """A character with its number.
+
+    >>> named("&")
+    '& (U+0026)'
+    """
+    return "%s (U+%04X)" % (printable(character), ord(character))
 
 
 def line_around(data: bytes, at: int) -> Tuple[str, str]:

@@ -25,7 +25,7 @@ def _tags(tags, old, new, name, behind="\n\n1. e4 *\n"):
 LONG, SIGN, LETTER, PROMOTION = "long notation", "capture sign", "missing letter", "promotion"
 CASTLING, CHECK, WORD_OF_MATE, PASSING = "castling", "word of check", "word of mate", "en passant"
 NUMBER, SMALL, FIGURINE, COMMA = "joined number", "small letter", "figurine", "comma"
-RESULT, TAG = "spelling of the result", "missing Result tag"
+RESULT, TAG, QUOTES = "spelling of the result", "missing Result tag", "quotes around a value"
 DRAW, WON, LOST = ('[Result "%s"]\n\n' % it for it in ("1/2-1/2", "1-0", "0-1"))
 
 SAFE = [
@@ -85,6 +85,8 @@ SAFE = [
     _move(PAWN, "a8=(Q)", "a8=Q", PROMOTION),
     _move(PAWN, "a8 =Q", "a8=Q", PROMOTION),
     _move(PAWN, "a8= N", "a8=N", PROMOTION),
+    _move(PAWN, "a8=3DQ", "a8=Q", PROMOTION),
+    _move(TAKES, "axb8=3DN", "axb8=N", PROMOTION),
     _move(PAWN, "a8(r)", "a8=R", PROMOTION),
     _move(PAWN, "a8/b+", "a8=B+", PROMOTION),
     _move(PAWN, "a8=\u2655", "a8=Q", FIGURINE),
@@ -172,6 +174,16 @@ SAFE = [
     ('[Result "1/2"]\n\n1. e4 1/2-1/2\n',
      [('[Result "1/2"', '[Result "1/2-1/2"', "spelling of the Result tag")],
      DRAW + "1. e4 1/2-1/2\n"),
+    *(_move(WON + "1. e4 ", it, "1-0", RESULT, "\n") for it in ("l-0", "I-O", "1-O", "(1-0)")),
+    *(_move(LOST + "1. e4 ", it, "0-1", RESULT, " {a}\n") for it in ("O-1", "0-l", "( 0-1 )")),
+    _move(DRAW + "1. e4 ", "l/2-I/2", "1/2-1/2", RESULT, "\n"),
+    # quotes, and signs between a tag's name and its value
+    *((old + "]\n\n1. e4 *\n", [(old, '[White "a, b"', QUOTES)], '[White "a, b"]\n\n1. e4 *\n')
+      for old in ("[White \u201ca, b\u201d", "[White \u201ea, b\u201c", '[White \u201ca, b"',
+                  '[White "a, b\u201d', "[White 'a, b'", "[White \u2018a, b\u2019")),
+    *(('%s"a"]\r\n\r\n1. e4 *\r\n' % it, [(it, "[White ", "sign behind a tag's name")],
+       '[White "a"]\r\n\r\n1. e4 *\r\n') for it in (
+           "[White: ", "[White=", "[White = ", "[White :")),
     # tags
     _tags('[Event "OLD"]', 'The "Open"', r"The \"Open\"", "quotes in a value"),
     _tags('[Event "OLD"]', '"Rapid" Cup', r"\"Rapid\" Cup", "quotes in a value"),
@@ -182,6 +194,9 @@ SAFE = [
      '[White "x"]\r\n[Site "a"]\r\n[Round "1"]\r\n\r\n*\n'),
     ('[Event "a\tb"]\n\n*\n', [("\t", " ", "white space")], '[Event "a b"]\n\n*\n'),
     _move("1. e4", "\u00a0", " ", "white space", "e5 *"),
+    _move("1. e4", "&nbsp;", " ", "white space", "e5 *"),
+    _move("1. e4", "\u00ad", "", "soft hyphen", " e5 *"),
+    _move("1. e4 ", "1\u2026", "1...", "dots of a number", " e5 *"),
     ("1. e4 *\n\x1a", [("\x1a", "", "end of a DOS file")], "1. e4 *\n"),
     ("*\n\n\ufeff[White \"Ada\"]\n\n*\n", [("\ufeff", "", "byte order mark")],
      '*\n\n[White "Ada"]\n\n*\n'),
@@ -258,6 +273,21 @@ UNSAFE = [
      '[White "Ada"]\n\n1. e4 {Black resigns } *\n\n[White "Bob"]\n\n1. d4 {\n} *\n'),
     ("1. e4 {Black resigns\n", [("", "} *", "comment never closed, no marker")],
      "1. e4 {Black resigns} *\n"),
+    _move("1. e4", "<br>", " ", "line break of a page", "e5 *"),
+    _move("1. e4 ", "<BR />", " ", "line break of a page", "\ne5 *"),
+    ("[White Smith, J]\n\n1. e4 *\n",
+     [("[White Smith, J]", '[White "Smith, J"]', "value without quotes")],
+     '[White "Smith, J"]\n\n1. e4 *\n'),
+    ("[Date 2020.01.02] \n\n1. e4 *\n",
+     [("[Date 2020.01.02]", '[Date "2020.01.02"]', "value without quotes")],
+     '[Date "2020.01.02"] \n\n1. e4 *\n'),
+    ("1. e4 (0:03) e5 (12:34) 2. d4 (1:02:03) *",
+     [("(0:03)", "{[%emt 0:00:03]}", "time of a move"),
+      ("(12:34)", "{[%emt 0:12:34]}", "time of a move"),
+      ("(1:02:03)", "{[%emt 1:02:03]}", "time of a move")],
+     "1. e4 {[%emt 0:00:03]} e5 {[%emt 0:12:34]} 2. d4 {[%emt 1:02:03]} *"),
+    _move(RUY + "4. ", "Kg1", "O-O", "castling as a king's move"),
+    _move(CASTLES, "Kc1", "O-O-O", "castling as a king's move"),
     # a knight's letter, if the rest is no move alone
     _move("1. e4 d6 2. Nf3 ", "N\nbd7", "Nbd7", APART),
     _move("1. e4 d6 2. Nf3 ", "N\u200bbd7", "Nbd7", APART),
@@ -296,6 +326,14 @@ LEFT = [
     "1. N f3 *",
     '[Result "0-1"]\n\n1. e4 1/2',
     '[FEN "4k3/8/8/8/8/8/8/4K3 w - - x y"]\n\n*\n',
+    # two values, a quote inside, or none at one end
+    '[White \u201ca\u201d] [Black \u201cb\u201d]\n\n*\n',
+    "[White 'O'Brien']\n\n*\n", "[White \u2018O\u2019Brien\u2019]\n\n*\n",
+    "[White \u201ca]\n\n*\n", '[White: "a"] [Black: "b"]\n\n*\n', '[White: "a"b"]\n\n*\n',
+    "1. e4 1-0\u2026 *", "1. e4\u00ade5 *",
+    # a result inside a game, or another one than that of the tag
+    WON + "1. e4 l-0 e5 1-0\n", WON + "1. e4 (1-0) e5 1-0\n", WON + "1. e4 O-1\n",
+    WON + "1. e4 (0-1)\n",
     # it may be a result that no game has
     *("1. e4 e5 2. Nf3 Nf6 3. Be2 Be7 %s" % it for it in (
         "0 - 0", "0 - 0\n", "0 -0 {drawn}\n", "0\u20130\n", "00", "0 - 0! $10\n",
@@ -348,6 +386,9 @@ DOUBTFUL = [
     TAKES_C4 + "3. bxc4 nc6 *",
     TAKES_C4 + "3. Bxc4 (3. bxc4) nc6 *",
     "1. e4 c5 2. n-f3 c4 3. b3 n-c6 4. b:c4 *",
+    # castling that is not legal, no time, a time of no move, another tag of a page, two values
+    "1. e4 e5 2. Kg1 *", RUY + "4. Kc1 *", "1. e4 (0:63) e5 *", "1. (0:03) e4 *", "1. e4 <b> e5 *",
+    "[White Ada\n\n*\n", "[White Ada] [Black Bob]\n\n*\n", '[White "a" Ada]\n\n*\n',
     # a game goes on behind a marker
     "1. e4 e5 2. Nf3 Nc6 1-0 3. Nc3 Nf6 1-0\n",
     WON + "1. e4 e5 2. Nf3 Nc6 1-0 3. Nc3 Nf6 1-0\n",

@@ -529,7 +529,7 @@ class Command(Lint):
         said = ("a.pgn:1:1: fixed: missing Result tag: added [Result \"1-0\"]\n"
                 "a.pgn:1:4: fixed: long notation: e2-e4 \u2192 e2e4\n"
                 "a.pgn:6:4: fixed: long notation: e2-e4 \u2192 e2e4\n"
-                "a.pgn:8:9: stray byte (game 2, Ada \u2013 Bob)\n"
+                "a.pgn:8:9: stray byte: - (U+002D) (game 2, Ada \u2013 Bob)\n"
                 "1 file, 2 games, 1 fault in 1 file, 3 edits, 1 more with --unsafe-fixes\n")
         self.assertEqual(self.lint("--fix", "a.pgn"), (1, said, ""))
         self.assertEqual(self.get("a.pgn"), b'[Result "1-0"]\n\n1. e2e4 1-0\n\n' + wanted)

@@ -39,7 +39,7 @@ WAYS = {
     "two knights": (b'[FEN "4k3/8/8/8/1N3N2/8/8/4K3 w - - 0 1"]\n\n1. Nd3 *\n',
                     ["3:4: move is ambiguous (game 1, ? \u2013 ?)"]),
     "no move": (b"1. e4 e9 *\n", ["1:7: not a move (game 1, ? \u2013 ?)"]),
-    "a null move": (b"1. e4 -- *\n", ["1:7: stray byte (game 1, ? \u2013 ?)"]),
+    "a null move": (b"1. e4 -- *\n", ["1:7: stray byte: - (U+002D) (game 1, ? \u2013 ?)"]),
     "a move in a variation": (b"1. e4 (1. Ke3) *\n", ["1:11: " + ILLEGAL]),
     "a parenthesis": (PLAYERS + b"1. e4 ) *\n", [
         "3:7: closing parenthesis without an open one (game 1, Ada \u2013 Bob)"]),
@@ -58,6 +58,15 @@ WAYS = {
         "1:8: string is not closed (game 1, ? \u2013 ?)"]),
     "quotes in a tag": (b'[Event "a "b""]\n' + GOOD, [
         "1:12: closing bracket expected (game 1, Ada \u2013 Bob)"]),
+    "a curly quote": ("[White \u201ca\n".encode(), [
+        "1:8: stray byte: \u201c (U+201C) (game 1, ? \u2013 ?)"]),
+    "a fraction of Latin-1": (b"1. e4 \xbd", [
+        "1:7: stray byte: \xbd (U+00BD) (game 1, ? \u2013 ?)"]),
+    "an angle bracket": (b"1. e4 <2> *\n", [
+        "1:7: reserved character: PGN 7 keeps < and > for later (game 1, ? \u2013 ?)"]),
+    "tags alone": (b'\n\n[White "Ada"]\n\n[White "Bob"]\n\n1. e4 *\n', [
+        "5:2: tag is given twice: the game before may have tags alone, without moves and a result "
+        "(game 1, Ada \u2013 ?)"]),
     "a tag twice": (b'[White "Ada"]\n[White "Bob"]\n\n1. e4 *\n', [
         "2:2: tag is given twice (game 1, Ada \u2013 ?)"]),
     "a bad result": (b'[White "Ada"]\n[Result "1"]\n[Black "Bob"]\n\n1. e4 *\n', [
@@ -429,7 +438,7 @@ class Faults(Lint):
 
     def test_doctests(self):
         sys.path.insert(0, PACKAGE)
-        for name in ("_findings", "_kinds", "_reports", "lint"):
+        for name in ("_doubts", "_findings", "_kinds", "_reports", "_warnings", "lint"):
             module = importlib.import_module("gillspoon." + name)
             self.assertEqual(doctest.testmod(module).failed, 0, name)
 
