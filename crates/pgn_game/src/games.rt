@@ -95,8 +95,8 @@ impl<const T: usize, const L: usize> Games<T, L> {
     /// - `Reason::WriteFault` if a write failed, at the first token with text missing.
     /// - `Reason::InputTooLong` if the input has a byte at place 2^62.
     ///
-    /// After an error no game is just finished. `games` and `most_probes` keep what was counted before.
-    /// Each later call returns the same error, and touches neither the source nor the sink.
+    /// After an error no game is just finished, and `games` keeps the number of those finished
+    /// before. Each later call returns the same error, and touches neither the source nor the sink.
     pub fn next<R: Source, W: Sink>(&mut self, source: &mut R, out: &mut W) -> Result<bool, Fault>
         ensures reads { ReadsNext self.old self.new result
             (device R.left R.failures source.old source.new)
