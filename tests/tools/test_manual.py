@@ -200,7 +200,8 @@ class LibraryPage(Folder, unittest.TestCase):
             calls[name] = (result, types)
         self.assertEqual(calls, declared)
         self.assertEqual(list(calls), re.findall(r"^\.Nm (\w+)", self.section("NAME"), re.M))
-        self.assertEqual(list(calls), re.findall(r"^\.It Fn (\w+)", self.section("DESCRIPTION"), re.M))
+        rows = re.findall(r"^\.It Fn (\w+)", self.section("DESCRIPTION"), re.M)
+        self.assertEqual(list(calls), rows)
 
     def test_every_status_is_there(self):
         enum = re.search(r"enum \{\s*(PGN_OK.*?)\}", test_library.bare_header(), re.S)[1]
@@ -209,7 +210,8 @@ class LibraryPage(Folder, unittest.TestCase):
 
     def test_the_example(self):
         programs.need("cc")
-        text, said = re.findall(r"^\.Bd -literal.*?\n(.*?)^\.Ed", self.section("EXAMPLES"), re.M | re.S)
+        text, said = re.findall(r"^\.Bd -literal.*?\n(.*?)^\.Ed", self.section("EXAMPLES"),
+                                re.M | re.S)
         with open(self.folder + "/example.c", "w", encoding="ascii") as file:
             file.write(text)
         ran = run(["cc", "-std=c99", "-Wall", "-Wextra", "-Werror", "example.c", "-o", "example",
