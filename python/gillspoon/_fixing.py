@@ -2,11 +2,12 @@
 
 A file is replaced whole, by a temporary file beside it. Without an edit nothing is written.
 """
+import collections
 import contextlib
 import errno
 import os
 import sys
-from typing import IO, Any, Callable, Iterator, List, NamedTuple, Optional
+from typing import IO, Any, Callable, Counter, Iterator, List, NamedTuple, Optional
 
 from ._edits import Choice, Edit, Mender
 from ._games import Game, OnFault
@@ -28,6 +29,8 @@ class HeldEdits:
 
     def __init__(self, most: Optional[int]) -> None:
         self._most, self._count, self._held = most, 0, 0
+        self.names: Counter[str] = collections.Counter()
+        """How many edits each fix has."""
         self._file: Any = None
 
     def add(self, edit: Edit) -> None:
@@ -35,6 +38,7 @@ class HeldEdits:
         import pickle
         import tempfile
         self._count += 1
+        self.names.update(edit.name.split(", "))
         if self._most is None or self._held < self._most:
             self._file = self._file or tempfile.SpooledTemporaryFile(MOST_HELD)
             pickle.dump(edit, self._file)

@@ -42,6 +42,18 @@ class Summary(NamedTuple):
     """How many further edits --unsafe-fixes would make."""
     warnings: Optional[int] = None
     """How many warnings there are, if any."""
+    reasons: Optional[Dict[str, int]] = None
+    """With --statistics the number of faults for each reason."""
+    fixes: Optional[Dict[str, int]] = None
+    """With --statistics, and --fix or --diff, the number of edits for each fix."""
+
+    def statistics(self) -> List[str]:
+        """A line for each reason and each fix, the most frequent first."""
+        lines = []
+        for word, counts in ("", self.reasons), ("fix: ", self.fixes):
+            for name, count in sorted((counts or {}).items(), key=lambda it: (-it[1], it[0])):
+                lines.append("%7s  %s%s" % (format(count, ","), word, name))
+        return lines
 
     def __str__(self) -> str:
         words = [_count(self.files, "file"), _count(self.games, "game"),
@@ -56,7 +68,7 @@ class Summary(NamedTuple):
             words.append("%s more with --unsafe-fixes" % format(self.more, ","))
         return ", ".join(words)
 
-    def record(self) -> "Dict[str, int]":
+    def record(self) -> "Dict[str, object]":
         """The counts that there are, by their names."""
         return {name: it for name, it in self._asdict().items() if it is not None}
 
@@ -169,7 +181,9 @@ class Report:
         return colour + text + PLAIN if self.has_colours else text
 
     def end(self, summary: Summary, unread: List[Unread]) -> None:
-        """Writes the summary."""
+        """Writes the statistics, if there are any, and the summary."""
+        for line in summary.statistics():
+            self._put(line)
         if not self.is_quiet:
             self._put(str(summary))
 

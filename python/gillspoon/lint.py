@@ -3,10 +3,11 @@
     python3 -m gillspoon.lint [OPTION]... [FILE or FOLDER or -]...
 """
 import argparse
+import collections
 import os
 import signal
 import sys
-from typing import (TYPE_CHECKING, Dict, Iterator, List, NamedTuple, NoReturn, Optional, Tuple,
+from typing import (TYPE_CHECKING, Counter, Dict, Iterator, List, NamedTuple, NoReturn, Optional, Tuple,
                     Union)
 
 from ._edits import BadGames, Choice, Edit
@@ -101,6 +102,8 @@ def arguments(words: Optional[List[str]]) -> argparse.Namespace:
     parser.add_argument("--strict", action="store_true", help="the status is 1 with a warning too")
     parser.add_argument("--checked", action="store_true",
                         help="a missing Result tag takes the result at the end of its game")
+    parser.add_argument("--statistics", action="store_true",
+                        help="write at the end how many faults each reason has, and edits each fix")
     parser.add_argument("--max", metavar="N", type=_number, help="write the first N faults alone")
     _add_fix_options(parser)
     parser.add_argument("-j", "--jobs", metavar="N", type=_number, default=1,
@@ -112,6 +115,8 @@ def arguments(words: Optional[List[str]]) -> argparse.Namespace:
     given.paths += words[end + 1:]
     if given.board and (given.json or given.sarif):
         parser.error("--board goes with neither --json nor --sarif, which have all that it shows")
+    if given.statistics and (given.quiet or given.sarif):
+        parser.error("--statistics goes with neither --quiet nor --sarif, which have no summary")
     error = _wrong_fixing(given)
     if error:
         parser.error(error)
@@ -191,6 +196,8 @@ class Checked(NamedTuple):
     games: int
     fixed: int
     more: int
+    reasons: Counter[str]
+    fixes: Counter[str]
     unread: List[Unread]
     own_errors: List[Unread]
 
@@ -233,7 +240,7 @@ def check_file(path: str, given: argparse.Namespace) -> Checked:
     run = Run(given, record, [path])
     run.check()
     return Checked(record.written, run.read, run.faults, run.bad_files, run.warnings, run.games,
-                   run.fixed, run.more, run.unread, run.own_errors)
+                   run.fixed, run.more, run.reasons, run.fixes, run.unread, run.own_errors)
 
 
 class Writer:
@@ -324,6 +331,10 @@ class Run:
         self.progress = Progress(len(self.files), is_shown)
         self.read = self.games = self.faults = self.bad_files = self.fixed = self.more = 0
         self.warnings = 0
+        self.reasons: Counter[str] = collections.Counter()
+        """How many faults each reason has."""
+        self.fixes: Counter[str] = collections.Counter()
+        """How many edits each fix has."""
         self.is_fixing: bool = given.fix or given.diff
         self.unread: List[Unread] = []
         self.own_errors: List[Unread] = []
@@ -347,7 +358,9 @@ class Run:
         """What all files had."""
         return Summary(self.read, self.games, self.faults, self.bad_files,
                        *((self.fixed, self.more) if self.is_fixing else (None, None)),
-                       self.warnings or None)
+                       self.warnings or None,
+                       *((self.reasons, self.fixes if self.is_fixing else None)
+                         if self.given.statistics else (None, None)))
 
     def _check_here(self, file: AnyFile) -> None:
         """Checks a file in this process, and writes each fault when it is found."""
@@ -419,6 +432,7 @@ class Run:
             _fixing.write_all(source, mended, text.end)
         self._write_edits(text, task.held)
         self.fixed, self.more = self.fixed + mended.edits, self.more + mended.more
+        self.fixes += task.held.names
         if mended.faults:
             linter = Linter(mended.again() or source.again(), text.name, given.checked)
             self._lint(linter.watched() if task.counts_warnings else linter)
@@ -484,7 +498,7 @@ class Run:
                 seen.add(key)
 
     def _take(self, checked: Checked) -> None:
-        faults, warnings = self.faults, self.warnings
+        faults, warnings, reasons = self.faults, self.warnings, self.reasons.copy()
         for it in checked.written:
             self.progress.clear()
             if isinstance(it, (Finding, Warned)):
@@ -496,6 +510,7 @@ class Run:
             else:
                 self.writer.edit(*it, self.given.fix)
         self.faults, self.warnings = faults + checked.faults, warnings + checked.warnings
+        self.reasons, self.fixes = reasons + checked.reasons, self.fixes + checked.fixes
         self.bad_files += checked.bad_files
         self.games += checked.games
         self.fixed, self.more = self.fixed + checked.fixed, self.more + checked.more
@@ -504,7 +519,9 @@ class Run:
         self.own_errors += checked.own_errors
 
     def _found(self, finding: Union[Finding, Warned]) -> None:
-        self.faults += isinstance(finding, Finding)
+        if isinstance(finding, Finding):
+            self.faults += 1
+            self.reasons[finding.reason] += 1
         self.warnings += isinstance(finding, Warned)
         if self.is_fixing and isinstance(finding, Warned):
             return

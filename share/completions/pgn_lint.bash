@@ -16,7 +16,7 @@ _pgn_lint() {
         while IFS= read -r i; do
             COMPREPLY+=("$i")
         done < <(compgen -W '-h --help --version --board --json --sarif --quiet --verbose --strict
-            --checked --max -j --jobs --fix --diff --fixes --unsafe-fixes --select --ignore
+            --statistics --checked --max -j --jobs --fix --diff --fixes --unsafe-fixes --select --ignore
             --language' -- "$word")
     else
         compopt -o filenames 2>/dev/null

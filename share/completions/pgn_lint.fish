@@ -7,6 +7,8 @@ complete -c pgn_lint -l sarif -d 'Write a log of SARIF 2.1.0'
 complete -c pgn_lint -l quiet -d 'Write faults alone: no summary, no progress, no edits'
 complete -c pgn_lint -l verbose -d 'Write all edits of a file, and not the first 200 alone'
 complete -c pgn_lint -l strict -d 'The status is 1 with a warning too'
+complete -c pgn_lint -l statistics \
+    -d 'Write how many faults each reason has, and edits each fix'
 complete -c pgn_lint -l checked \
     -d 'A missing Result tag takes the result at the end of its game'
 complete -c pgn_lint -l max -x -d 'Write the first N faults alone'

@@ -510,6 +510,37 @@ class CountedWarnings(Lint):
                              "3 files, 6 games, 0 faults, 6 warnings, 3 edits")
 
 
+class Statistics(Lint):
+    """pgn_lint --statistics: how many faults each reason has, and edits each fix."""
+
+    def test_counts(self):
+        self.put("all/a.pgn", b"1. e2-e4 e7-e5 2. Ke3 *\n")
+        self.put("all/b.pgn", b"1. e2-e4 e5 *\n[White \"a\"]\n\n1. e2-e4, -- *\n")
+        for words in ([], ["-j", "2"], ["--max", "1"]):
+            out = self.lint("--statistics", "all", *words)[1]
+            self.assertEqual(out.splitlines()[-2:], [
+                "      3  not a move", "2 files, 3 games, 3 faults in 2 files"], words)
+            out = self.lint("--statistics", "--diff", "all", *words)[2]
+            self.assertEqual(out.splitlines()[-5:-1], [
+                "      1  move is not legal", "      1  stray byte", "      4  fix: long notation",
+                "      1  fix: comma"], words)
+        self.assertNotIn("  3  not a move", self.lint("all")[1])
+
+    def test_records(self):
+        self.put("a.pgn", b"1. e2-e4 e7-e5 2. Ke3 *\n")
+        self.assertEqual(self.records("--statistics", "a.pgn")[-1]["reasons"], {"not a move": 1})
+        self.assertNotIn("fixes", self.records("--statistics", "a.pgn")[-1])
+        self.assertNotIn("reasons", self.records("a.pgn")[-1])
+        summary = self.records("--statistics", "--fix", "a.pgn")[-1]
+        self.assertEqual((summary["reasons"], summary["fixes"]),
+                         ({"move is not legal": 1}, {"long notation": 2}))
+
+    def test_refused(self):
+        for word in ("--quiet", "--sarif"):
+            status, out, said = self.lint("--statistics", word, "a.pgn")
+            self.assertEqual((status, out, said.count("\n")), (2, "", 1))
+
+
 class Command(Lint):
     """pgn_lint --fix, --diff and --fixes."""
 

@@ -290,7 +290,7 @@ class SieveTest(unittest.TestCase):
             out.write(sound(b"A"))
         os.link(file, link)
         for words in ([file, file, other], [file, other, link], [file, other, other], [file],
-                      [file, other, folder],
+                      [file, other, folder], [file, other, "-"], [file, "-", other],
                       ["/dev/null", folder + "/g", other], [file, "/dev/zero", other]):
             ran = call([*words])
             self.assertEqual((ran.returncode, ran.stdout, ran.stderr.count(b"\n")), (2, b"", 1),
