@@ -74,8 +74,8 @@ pub(crate) fn pawns_to(by: Colour, target: Square) -> Squares
     }
 }
 
-// The squares from which a piece with this code reaches the target, if all squares between are empty.
-// A pawn's code has none.
+// The squares from which a piece with this code reaches the target, if all squares between are
+// empty. A pawn's code has none.
 pub(crate) fn origins_by_code(code: usize, target: Square) -> Squares
     requires { code < 8 }
     ensures { Places result (λ s. code_reaches code s target) }

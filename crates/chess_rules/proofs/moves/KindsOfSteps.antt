@@ -127,8 +127,8 @@ module _ (p : Parts) (m : Move) where
   unfolding step_kind
   pawn_kind pawn = grind (arith, no_far_pawn)
 
-  -- a pawn's step that is plain obeys the rules of pawns, and that of another piece than a king those
-  -- of pieces
+  -- a plain step of a pawn obeys the rules of pawns, and that of a rook, bishop, queen or knight
+  -- those of pieces
   pub pawn_decides : own p Pawn m.from ≡ true → Plain ≡ step_kind p m → is_pawn_step p m ≡ is_some (board_after p m)
   pawn_decides pawn plain = grind (arith, obeys_if_step Plain plain)
 
