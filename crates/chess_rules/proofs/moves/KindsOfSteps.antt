@@ -3,7 +3,7 @@ use Rattle.chess_rules.proofs.Words.{King, Rook, Pawn, Kind, Colour, Piece, Move
 use Rattle.chess_rules.proofs.moves.WaysToStep.{PieceStep, PawnStep, Passing, Castles, piece_step_means, pawn_step_means, passing_means, castles_means, way_of, by_piece, by_pawn, by_passing, by_short, by_long, some_of}
 use Rattle.chess_rules.proofs.sets.AllSquares.{first_true, second_true, same_tests, equal_tests}
 use Rattle.chess_rules.proofs.lines.AttackToReach.{kinds_same, colours_same}
-use Rattle.chess_rules.proofs.moves.StepsKeepBoard.{colour_of_piece, one_kind, not_both, attacks_as}
+use Rattle.chess_rules.proofs.moves.StepsKeepBoard.{colour_of_piece, one_kind, attacks_as}
 
 -- a king goes further than to the next file
 abbrev king_goes_far : Parts → Move → Bool
@@ -12,23 +12,6 @@ king_goes_far p m = nat_lt 1 (gap m.from.file m.to.file) && own p King m.from
 -- a pawn goes to the en passant target, which is empty, and leaves its file
 abbrev pawn_passes : Parts → Move → Bool
 pawn_passes p m = (is_target p.target m.to && own p Pawn m.from) && (not (m.from.file == m.to.file) && is_empty p.board m.to)
-
--- Nothing goes to a square with a piece of its side.
-
-module _ (p : Parts) (m : Move) (mine : has_colour p.side (at p.board m.to) ≡ true) where
-  not_empty_there : is_empty p.board m.to ≡ true → ⊥
-  not_empty_there h = grind arith
-
-  no_pawn_there : is_pawn_way p m ≡ true → ⊥
-  no_pawn_there h = grind (arith, nat_tests, not_empty_there, not_both)
-
-  pub none_there : false ≡ (is_piece_step p m || is_pawn_step p m)
-  none_there =
-      neither (false_from_ne_true (is_piece_step p m) (λ h. false≢true (sym (piece_step_means p m h).free ∙ mine)))
-      (false_from_ne_true (is_pawn_step p m) (λ h. no_pawn_there (pawn_step_means p m h).way))
-    where
-      neither : is_piece_step p m ≡ false → is_pawn_step p m ≡ false → false ≡ (is_piece_step p m || is_pawn_step p m)
-      neither g h = grind arith
 
 -- The rules of a kind, and its board.
 

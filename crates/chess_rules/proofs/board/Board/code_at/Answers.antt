@@ -1,7 +1,5 @@
-use Rattle.std.proofs.lemmas.Grind.{common_steps}
 use mir.Val.{bool_byte}
-use Rattle.chess_rules.specs.declared.board.Board.TheInside.{Inside}
-use Rattle.chess_rules.proofs.Words.{Square, Board, Option, Piece, None, Some, at, cell_of, has, cells, code_of, straight_of, diagonal_of, is_near, AreWords, square_at, get_or, ◌≡◌, ◌<◌, ◌+◌, ◌*◌, ℕ, Bool, true, false, refl, sym, ap, ◌∙◌, arith, if◌then◌else◌}
+use Rattle.chess_rules.proofs.Words.{Option, Piece, None, Some, at, cell_of, has, code_of, straight_of, diagonal_of, is_near, ◌≡◌, ◌<◌, ◌+◌, ◌*◌, ℕ, Bool, true, false, refl, ◌∙◌, arith, if◌then◌else◌}
 use Rattle.chess_rules.proofs.sets.WordsToCells.{bits_there, BitsOf}
 use Rattle.chess_rules.proofs.board.Board.code_at.Goals as goal
 
