@@ -3,6 +3,7 @@ pub use Rattle.chess_rules.specs.Attacks.{attacks, cell_attacks, is_ahead, is_at
 pub use Rattle.chess_rules.specs.Board.{Board, at, cell_of, has_colour, has_piece, is_empty, is_pawn, kings, other, put, same_colour, same_kind, some_piece}
 pub use Rattle.chess_rules.specs.Candidate.{candidates, is_candidate, kinds, lone, sees}
 unfoldable pub use Rattle.chess_rules.specs.Candidate.{pair_count}
+pub use Rattle.chess_rules.specs.Codes.{code_of, code_reaches, kind_code}
 pub use Rattle.chess_rules.specs.Laws.{CandidatesComplete, CasesApart, FewCandidates, LeavesPosition, PromotionsAlike, StepsFromCandidates}
 pub use Rattle.chess_rules.specs.Legal.{every_promotion, has_legal_move, if_safe, is_check, is_legal, legal}
 pub use Rattle.chess_rules.specs.Pairs.{Counts, is_king_step, is_untried, is_untried_aligned, one_move, HasAttacker, MeetsAttack}

@@ -7,6 +7,7 @@ pub mod Position
 pub mod Step
 pub mod Legal
 pub mod Candidate
+pub mod Codes
 pub mod Laws
 pub mod Reach
 pub mod StepKinds

@@ -2,6 +2,7 @@
 
 ghost use Rattle.std.specs.Prelude.{◌≡◌, ◌<◌, ◌*◌, ◌++◌, if◌then◌else◌, is_some, length, replicate, take, drop, None};
 ghost use Rattle.chess_rules.specs.Board as spec;
+ghost use Rattle.chess_rules.specs.Codes.{code_of};
 ghost use Rattle.chess_rules.specs.Position.{initial_board, one_king};
 ghost use Rattle.chess_rules.specs.RankNumbers as numbers;
 ghost use Rattle.chess_rules.specs.Reach as reach;
@@ -41,6 +42,11 @@ use std::marker::Model;
 /// let position = Position::build_on(board, Colour::White, rights, None, 0, 1);
 /// assert_eq!(position.err(), Some(PositionFault::KingCapturable));
 /// ```
+// The codes of a pawn and of a king: see `code_at`.
+pub(crate) const PAWN_CODE: usize = 4;
+
+pub(crate) const KING_CODE: usize = 6;
+
 // Three sets tell the kinds of pieces apart. A rook is in `straight`, a bishop in `diagonal`, a
 // queen in both. Pieces that do not slide are in `near`: a pawn there alone, a knight in `straight`
 // too, a king in `diagonal` too. `black` has the black pieces. No set has an empty square.
@@ -157,6 +163,18 @@ impl Board {
             Colour::White
         };
         Some(Piece { colour, kind })
+    }
+
+    // The code of what is on the square, without its colour: 1 if it is in `straight`, 2 if in
+    // `diagonal` and 4 if in `near`, added. So it is 0 for an empty square.
+    #[inline(always)]
+    pub(crate) fn code_at(&self, square: Square) -> usize
+        ensures value { result ≡ code_of (spec.at self.now square) }
+        ensures below { result < 8 }
+    {
+        usize::from(self.straight.has(square))
+            + 2 * usize::from(self.diagonal.has(square))
+            + 4 * usize::from(self.near.has(square))
     }
 
     // What is on the squares of a rank, a number in each byte, from file a on.

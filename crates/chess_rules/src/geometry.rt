@@ -1,6 +1,7 @@
 //! The empty board: what a piece reaches on it, the lines through a square, what lies between two.
 
-ghost use Rattle.std.specs.Prelude.{◌≡◌};
+ghost use Rattle.std.specs.Prelude.{◌≡◌, ◌<◌};
+ghost use Rattle.chess_rules.specs.Codes.{code_reaches};
 ghost use Rattle.chess_rules.specs.Reach as reach;
 ghost use Rattle.chess_rules.specs.Square as square;
 ghost use Rattle.chess_rules.specs.Words.{Places};
@@ -10,7 +11,7 @@ use crate::piece::Colour;
 use crate::square::Square;
 use crate::squares::Squares;
 use crate::tables::{
-    ADJACENT, BETWEEN, BLACK_PAWNS, DIAGONALS, KNIGHT_JUMPS, LINES, STEEP, WHITE_PAWNS,
+    ADJACENT, BETWEEN, BLACK_PAWNS, DIAGONALS, KNIGHT_JUMPS, LINES, REACH, STEEP, WHITE_PAWNS,
 };
 
 // The squares a knight's jump away from the target.
@@ -71,6 +72,15 @@ pub(crate) fn pawns_to(by: Colour, target: Square) -> Squares
         Colour::White => Squares::of_bits(WHITE_PAWNS[target.index()]),
         Colour::Black => Squares::of_bits(BLACK_PAWNS[target.index()]),
     }
+}
+
+// The squares from which a piece with this code reaches the target, if all squares between are
+// empty. A pawn's code has none.
+pub(crate) fn origins_by_code(code: usize, target: Square) -> Squares
+    requires { code < 8 }
+    ensures { Places result (λ s. code_reaches code s target) }
+{
+    Squares::of_bits(REACH[64 * code + target.index()])
 }
 
 // The squares strictly between the two; none if they are not on one rank, file or diagonal.

@@ -3,12 +3,17 @@
 ghost use Rattle.std.specs.Prelude.{IsTrue, ◌≡◌, ◌+◌, ◌<◌, ◌≤◌, ◌^◌, Some, true, false};
 ghost use Rattle.chess_rules.specs.Candidate.{pair_count};
 ghost use Rattle.chess_rules.specs.Legal as spec;
+ghost use Rattle.chess_rules.specs.Step.{own};
+ghost use Rattle.chess_rules.specs.declared.piece.Kind.TheVariants.{Pawn};
 
 use crate::attack::evasion_targets;
+use crate::board::{KING_CODE, PAWN_CODE};
 use crate::pairs::{has_king_step, has_other_move_to, rule_out_moves_to};
 use crate::position::{Move, Position};
 use crate::probes::Probes;
-use crate::step::{is_step_of_kind, kind_of_step};
+use crate::step::{
+    StepKind, goes_en_passant, is_pawn_step, is_piece_step, is_step_of_kind, kind_of_step,
+};
 
 /// Returns the position after the move, or `None` if the move is not legal. (FIDE Laws 3.10.1)
 ///
@@ -55,9 +60,48 @@ pub fn position_after(position: &Position, mv: &Move) -> Position
 }
 
 // Whether the move is legal.
-#[tactic(auto, using(crate::proofs::moves::PlainStepAttacks::none_unless_step))]
+//
+// A pawn and a king have rules of their own. Any other piece goes where it would go on an empty
+// board, if the way is clear.
+#[tactic(auto, using(crate::proofs::moves::codes, crate::proofs::moves::decided))]
 #[inline(never)]
 fn is_legal(position: &Position, mv: &Move) -> bool
+    ensures { result ≡ spec.is_legal position.now mv.now }
+{
+    let board = position.board();
+    if !board.has_colour(mv.from, position.side()) {
+        return false;
+    }
+    mv.from.recall_invariant();
+    mv.to.recall_invariant();
+    let code = board.code_at(mv.from);
+    if code == PAWN_CODE {
+        return is_legal_for_pawn(position, mv);
+    }
+    if code == KING_CODE {
+        return is_legal_for_king(position, mv);
+    }
+    is_piece_step(position, mv, code) && position.is_safe_after(mv, StepKind::Plain)
+}
+
+// Whether the move is legal, if a pawn of the side to move is on its origin.
+#[tactic(auto, using(crate::proofs::moves::decided))]
+#[inline(never)]
+fn is_legal_for_pawn(position: &Position, mv: &Move) -> bool
+    requires { IsTrue (own position.now Pawn mv.now.from) }
+    ensures { result ≡ spec.is_legal position.now mv.now }
+{
+    if goes_en_passant(position, mv) {
+        return is_step_of_kind(position, mv, StepKind::EnPassant)
+            && position.is_safe_after(mv, StepKind::EnPassant);
+    }
+    is_pawn_step(position, mv) && position.is_safe_after(mv, StepKind::Plain)
+}
+
+// Whether the move is legal, whatever is on its origin. It is called for a king's moves alone.
+#[tactic(auto, using(crate::proofs::moves::PlainStepAttacks::none_unless_step))]
+#[inline(never)]
+fn is_legal_for_king(position: &Position, mv: &Move) -> bool
     ensures { result ≡ spec.is_legal position.now mv.now }
 {
     let step_kind = kind_of_step(position, mv);

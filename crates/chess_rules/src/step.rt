@@ -1,14 +1,17 @@
 //! One step (pseudo-legal move) of the side to move: its kind, its rules, and the board after it.
 
-ghost use Rattle.std.specs.Prelude.{◌≡◌, ◌<◌, ◌||◌, IsTrue, None, Some, is_some};
+ghost use Rattle.std.specs.Prelude.{◌≡◌, ◌≢◌, ◌<◌, ◌||◌, IsTrue, None, Some, false, is_some, true};
+ghost use Rattle.chess_rules.specs.Board.{at, has_colour};
+ghost use Rattle.chess_rules.specs.Codes.{code_of};
 ghost use Rattle.chess_rules.specs.Legal.{legal};
 ghost use Rattle.chess_rules.specs.Step as spec;
 ghost use Rattle.chess_rules.specs.StepKinds as step_kinds;
 ghost use Rattle.chess_rules.specs.declared.piece.Kind.TheVariants.{Pawn};
+ghost use Rattle.chess_rules.specs.declared.step.StepKind.TheVariants.{EnPassant, Plain};
 
-use crate::attack::{is_attacked, is_clear, possible_attackers};
-use crate::board::Board;
-use crate::geometry::pawns_to;
+use crate::attack::{is_attacked, is_clear};
+use crate::board::{Board, PAWN_CODE};
+use crate::geometry::{origins_by_code, pawns_to};
 use crate::piece::{Colour, Kind, Piece, Promotion, rank_from};
 use crate::position::{Move, Position};
 use crate::square::Square;
@@ -152,8 +155,35 @@ pub(crate) fn kind_of_step(position: &Position, mv: &Move) -> StepKind
     }
 }
 
+// Whether the move is en passant, if it is a step of the pawn on its origin.
+#[tactic(auto, using(crate::proofs::moves::KindsOfSteps::pawn_kind))]
+#[inline(always)]
+pub(crate) fn goes_en_passant(position: &Position, mv: &Move) -> bool
+    requires { IsTrue (spec.own position.now Pawn mv.now.from) }
+    ensures passing { result ≡ true → step_kinds.IsKindOfStep EnPassant position.now mv.now }
+    ensures plain { result ≡ false → step_kinds.IsKindOfStep Plain position.now mv.now }
+{
+    mv.from.recall_invariant();
+    mv.to.recall_invariant();
+    if !is_target(position, mv.to) {
+        return false;
+    }
+    mv.from.file() != mv.to.file() && position.board().is_empty(mv.to)
+}
+
+// Whether the square is the en passant target.
+fn is_target(position: &Position, square: Square) -> bool
+    ensures { result ≡ spec.is_target position.now.target square }
+{
+    match position.target() {
+        None => false,
+        Some(target) => target.is(square),
+    }
+}
+
 // Whether the move is a step of the pawn on the origin, except for en passant. (FIDE Laws 3.7)
-fn is_pawn_step(position: &Position, mv: &Move) -> bool
+#[inline(always)]
+pub(crate) fn is_pawn_step(position: &Position, mv: &Move) -> bool
     requires { IsTrue (spec.own position.now Pawn mv.now.from) }
     ensures { result ≡ spec.is_pawn_step position.now mv.now }
 {
@@ -169,23 +199,42 @@ fn is_pawn_step(position: &Position, mv: &Move) -> bool
     is_ahead && board.is_empty(mv.to) || is_double_step(position, mv)
 }
 
-// Whether the move is a step, but neither en passant nor castling. The cheapest tests are first.
+// Whether the move is a step of the piece on the origin, except for castling. The piece has this
+// code, is of the side to move, and is no pawn. (FIDE Laws 3.2 to 3.6, 3.8.1)
+#[tactic(auto, using(crate::proofs::moves::codes))]
+#[inline(always)]
+pub(crate) fn is_piece_step(position: &Position, mv: &Move, code: usize) -> bool
+    requires own { IsTrue (has_colour position.now.side (at position.now.board mv.now.from)) }
+    requires code { code ≡ code_of (at position.now.board mv.now.from) }
+    requires no_pawn { code ≢ 4 }
+    ensures { result ≡ spec.is_piece_step position.now mv.now }
+{
+    if mv.promotion.is_some() {
+        return false;
+    }
+    let board = position.board();
+    if board.has_colour(mv.to, position.side()) {
+        return false;
+    }
+    origins_by_code(code, mv.to).has(mv.from) && is_clear(board, mv.from, mv.to)
+}
+
+// Whether the move is a step, but neither en passant nor castling.
+#[tactic(auto, using(crate::proofs::moves::codes))]
 #[inline(always)]
 fn is_plain_step(position: &Position, mv: &Move) -> bool
     ensures { result
         ≡ (spec.is_piece_step position.now mv.now || spec.is_pawn_step position.now mv.now) }
 {
     let board = position.board();
-    let side = position.side();
-    if board.has_colour(mv.to, side) {
+    if !board.has_colour(mv.from, position.side()) {
         return false;
     }
-    if board.has_piece(mv.from, side, Kind::Pawn) {
+    let code = board.code_at(mv.from);
+    if code == PAWN_CODE {
         return is_pawn_step(position, mv);
     }
-    mv.promotion.is_none()
-        && possible_attackers(board, side, mv.to).has(mv.from)
-        && is_clear(board, mv.from, mv.to)
+    is_piece_step(position, mv, code)
 }
 
 /// Returns whether a move that is not legal is a step (pseudo-legal move). (FIDE Laws 3.1 to 3.8)

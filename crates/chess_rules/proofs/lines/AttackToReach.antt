@@ -116,7 +116,7 @@ attack_is Bishop c b s t = refl
 attack_is Knight c b s t = with_second _ _ (jump_clear b s t)
 attack_is Pawn c b s t = with_second _ _ (pawn_clear c b s t)
 
-cell_attack_is : (cell : Option Piece) (b : Board) (s t : Square) → cell_attacks cell b s t ≡ (reaches_from cell s t && is_clear b s t)
+pub cell_attack_is : (cell : Option Piece) (b : Board) (s t : Square) → cell_attacks cell b s t ≡ (reaches_from cell s t && is_clear b s t)
 cell_attack_is None b s t = refl
 cell_attack_is (Some x) b s t = attack_is x.kind x.colour b s t
 

@@ -3,7 +3,7 @@ use Rattle.chess_rules.proofs.Words.{King, Rook, Pawn, Kind, Colour, Piece, Move
 use Rattle.chess_rules.proofs.moves.WaysToStep.{PieceStep, PawnStep, Passing, Castles, piece_step_means, pawn_step_means, passing_means, castles_means, way_of, by_piece, by_pawn, by_passing, by_short, by_long, some_of}
 use Rattle.chess_rules.proofs.sets.AllSquares.{first_true, second_true, same_tests, equal_tests}
 use Rattle.chess_rules.proofs.lines.AttackToReach.{kinds_same, colours_same}
-use Rattle.chess_rules.proofs.moves.StepsKeepBoard.{one_kind, not_both, attacks_as}
+use Rattle.chess_rules.proofs.moves.StepsKeepBoard.{colour_of_piece, one_kind, attacks_as}
 
 -- a king goes further than to the next file
 abbrev king_goes_far : Parts → Move → Bool
@@ -12,23 +12,6 @@ king_goes_far p m = nat_lt 1 (gap m.from.file m.to.file) && own p King m.from
 -- a pawn goes to the en passant target, which is empty, and leaves its file
 abbrev pawn_passes : Parts → Move → Bool
 pawn_passes p m = (is_target p.target m.to && own p Pawn m.from) && (not (m.from.file == m.to.file) && is_empty p.board m.to)
-
--- Nothing goes to a square with a piece of its side.
-
-module _ (p : Parts) (m : Move) (mine : has_colour p.side (at p.board m.to) ≡ true) where
-  not_empty_there : is_empty p.board m.to ≡ true → ⊥
-  not_empty_there h = grind arith
-
-  no_pawn_there : is_pawn_way p m ≡ true → ⊥
-  no_pawn_there h = grind (arith, nat_tests, not_empty_there, not_both)
-
-  pub none_there : false ≡ (is_piece_step p m || is_pawn_step p m)
-  none_there =
-      neither (false_from_ne_true (is_piece_step p m) (λ h. false≢true (sym (piece_step_means p m h).free ∙ mine)))
-      (false_from_ne_true (is_pawn_step p m) (λ h. no_pawn_there (pawn_step_means p m h).way))
-    where
-      neither : is_piece_step p m ≡ false → is_pawn_step p m ≡ false → false ≡ (is_piece_step p m || is_pawn_step p m)
-      neither g h = grind arith
 
 -- The rules of a kind, and its board.
 
@@ -120,6 +103,41 @@ module _ (p : Parts) (m : Move) where
       there EnPassant h = made (inr (inl h))
       there ShortCastling h = made (inr (inr (inl h)))
       there LongCastling h = made (inr (inr (inr h)))
+
+  -- the kind of a pawn's step
+  pub pawn_kind : own p Pawn m.from ≡ true
+      → step_kind p m ≡ (if (is_target p.target m.to && not (m.from.file == m.to.file)) && is_empty p.board m.to then EnPassant else Plain)
+  unfolding step_kind
+  pawn_kind pawn = grind (arith, no_far_pawn)
+
+  -- a plain step of a pawn obeys the rules of pawns, and that of a rook, bishop, queen or knight
+  -- those of pieces
+  pub pawn_decides : own p Pawn m.from ≡ true → Plain ≡ step_kind p m → is_pawn_step p m ≡ is_some (board_after p m)
+  pawn_decides pawn plain = grind (arith, obeys_if_step Plain plain)
+
+  pub piece_kind : own p King m.from ≡ false → own p Pawn m.from ≡ false → Plain ≡ step_kind p m
+  unfolding step_kind
+  piece_kind king pawn = grind arith
+
+  pub piece_decides : own p King m.from ≡ false → own p Pawn m.from ≡ false → is_piece_step p m ≡ is_some (board_after p m)
+  piece_decides king pawn = no_pawn_step (is_piece_step p m) (own p Pawn m.from) _ _ pawn (obeys_if_step Plain (piece_kind king pawn))
+    where
+      no_pawn_step : (piece pawn way is : Bool) → pawn ≡ false → (piece || (pawn && way)) ≡ is → piece ≡ is
+      no_pawn_step piece pawn way is none h = grind arith
+
+  -- the piece that makes a step is of the side to move
+  pub step_is_own : has_colour p.side (at p.board m.from) ≡ false → is_some (board_after p m) ≡ false
+  step_is_own none = false_from_ne_true (is_some (board_after p m)) (λ h. let (b, stepped) = stepped_board h in absurd (false≢true (sym none ∙ own_of b stepped)))
+    where
+      own_of : (b : Board) → board_after p m ≡ Some b → has_colour p.side (at p.board m.from) ≡ true
+      own_of b h =
+          elim (way_of p m b h) [
+            | by_piece w _ ↦ (piece_step_means p m w).mine
+            | by_pawn w _ ↦ colour_of_piece p.side Pawn (at p.board m.from) (pawn_step_means p m w).pawn
+            | by_passing w _ ↦ colour_of_piece p.side Pawn (at p.board m.from) (passing_means p m w).pawn
+            | by_short w _ ↦ colour_of_piece p.side King (at p.board m.from) (castles_means p m (short_right p.side p.rights) short_wing w).king
+            | by_long w _ ↦ colour_of_piece p.side King (at p.board m.from) (castles_means p m (long_right p.side p.rights) long_wing w).king
+          ]
 
   pub board_of_step : (k : StepKind) → k ≡ step_kind p m → is_some (board_after p m) ≡ true → board_after p m ≡ Some (board_of k p m)
   board_of_step k is h = grind (arith, common_steps, stepped_board, step_of_kind)

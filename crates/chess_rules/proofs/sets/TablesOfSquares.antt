@@ -1,6 +1,6 @@
 -- The tables of squares hold what is said of each square.
 use Rattle.chess_rules.proofs.sets.WordsToCells.{has_word}
-use Rattle.chess_rules.proofs.Words.{Square, has, word, Places, square_at, ◌≡◌, ℕ, zero, suc, ◌+◌, ◌<◌, Bool, List, [], ◌∷◌, ◌∙◌, ap, arith, get_or, map, range_with_len, get_or-range_with_len, length-range_with_len}
+use Rattle.chess_rules.proofs.Words.{Square, has, word, Places, square_at, ◌≡◌, ℕ, zero, suc, ◌+◌, ◌<◌, ◌*◌, ◌/◌, ◌%◌, Bool, List, [], ◌∷◌, ◌∙◌, ap, ap₂, arith, get_or, map, range_with_len, get_or-range_with_len, length-range_with_len}
 
 -- What the tables hold.
 
@@ -45,3 +45,15 @@ pub table_places : (lies : Square → Square → Bool) (table : List ℕ) (t : S
 unfolding mask_to
 table_places lies table t i n are is low again =
     places (λ s. lies s t) n (is ∙ (table_at (mask_to lies) table 64 i are low ∙ ap (λ u. mask (λ s. lies s u)) again))
+
+-- a table of the squares that lie to each square so, for each number
+pub table_of_pairs : (lies : ℕ → Square → Square → Bool) (table : List ℕ) (long : ℕ) (t : Square) (k i n : ℕ)
+    → table ≡ map (λ j. mask_to (lies (j / 64)) (j % 64)) (numbers long 0) → n ≡ get_or table (64 * k + i) 0
+    → 64 * k + i < long → i < 64 → square_at i ≡ t → Places n (λ s. lies k s t)
+unfolding mask_to
+table_of_pairs lies table long t k i n are is inside low again =
+    let first : (64 * k + i) / 64 ≡ k = omega arith in
+    let second : (64 * k + i) % 64 ≡ i = omega arith in
+    places (λ s. lies k s t) n
+    (is ∙ (table_at (λ j. mask_to (lies (j / 64)) (j % 64)) table long (64 * k + i) are inside
+    ∙ (ap₂ (λ a b. mask (λ s. lies a s (square_at b))) first second ∙ ap (λ u. mask (λ s. lies k s u)) again)))
