@@ -118,9 +118,9 @@ impl Lexer {
                 used,
                 outcome: Outcome::Token(self.partial.token(form)),
             },
-            PieceResult::Fault => Scan {
+            PieceResult::Fault(reason) => Scan {
                 used,
-                outcome: Outcome::Fault(self.partial.fault_met()),
+                outcome: Outcome::Fault(self.partial.fault(reason)),
             },
         }
     }
@@ -186,7 +186,7 @@ impl Lexer {
                 kind: TokenKind::End,
             }),
             PieceResult::Token(form) => Outcome::Token(self.partial.token(form)),
-            PieceResult::Fault => Outcome::Fault(self.partial.fault_met()),
+            PieceResult::Fault(reason) => Outcome::Fault(self.partial.fault(reason)),
         }
     }
 }
