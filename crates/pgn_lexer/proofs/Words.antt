@@ -20,8 +20,8 @@ pub use Rattle.pgn_lexer.specs.Runs.{BeginsUnpassed, IsNumberIn, IsSymbolIn, IsW
 pub use Rattle.pgn_lexer.specs.Scanned.{Scanned, fault, more, kind_of}
 pub use Rattle.pgn_lexer.specs.Sound.{AreSoundTokens, CommentsClose, IsData, IsSoundKind, IsSymbol, IsWord}
 pub use Rattle.pgn_lexer.specs.Spelling.{Found, Reading, broken, class, closed, comment_class, datum, gives, glyph_at, kind_of_single, number_from, number_of, numbered_at, reading, stops, string_at, string_class, suffix_at, symbol_at, word_at}
-pub use Rattle.pgn_lexer.specs.Standing.{Standing, fault_in_mode, fault_of, coming, waiting}
-pub use Rattle.pgn_lexer.specs.Stands.{AfterScan, EndsNoSooner, Finishes, Follows, HasLeft, IsNext, Scans, StandsAfter, first, still, Advances, IsDecided, Reads}
+pub use Rattle.pgn_lexer.specs.Standing.{Standing, fault_in_mode, fault_of}
+pub use Rattle.pgn_lexer.specs.Stands.{AfterScan, EndsNoSooner, Finishes, Follows, HasLeft, IsNext, Scans, StandsAfter, first, still}
 pub use Rattle.pgn_lexer.specs.Tokens.{EndsAt, HasLength, Kind, Token, asterisk, comment_close, comment_open, end, glyph, is_run, left_bracket, left_paren, period, refused, right_bracket, right_paren, str, symbol, word}
 pub use Rattle.pgn_lexer.specs.TokensOf.{Within, after_brace, after_class, after_first, after_line, after_run, at_end, begins, begins_after, begins_brace, begins_class, begins_first, begins_line, brace, column, has_mark, in_escape_line, in_glyph, in_suffix, in_symbol, line, next, onto, outside, quotes, tokens_from, tokens_of}
 pub use Rattle.pgn_lexer.specs.Written.{AreEnded, IsEndedBy, IsPiece, IsReadable, Piece, kinds_in, space, text_of_pieces, token, tokens_at, written}

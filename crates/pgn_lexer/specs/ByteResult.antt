@@ -51,7 +51,7 @@ grown h mode b = set_at mode h.at (h.text ++ b ∷ []) Used
 
 -- the lexer rejects the text at this place, for good
 abbrev pub fails : PartialToken → ℕ → LexReason → AfterByte
-fails h at reason = set_at (Failed reason) at h.text Fault
+fails h at reason = set_at (Failed reason) at h.text (Fault reason)
 
 -- that, if the token has fewer bytes than the most that it may have
 abbrev pub if_room : ℕ → LexReason → PartialToken → AfterByte → AfterByte
@@ -165,7 +165,7 @@ after_byte_in Brace place h b = brace place h b (comment_class b)
 after_byte_in BraceWord place h b = word Brace h b (comment_class b)
 after_byte_in Line place h b = line place h b (comment_class b)
 after_byte_in LineWord place h b = word Line h b (comment_class b)
-after_byte_in (Failed reason) place h b = record { held = h; step = Fault }
+after_byte_in (Failed reason) place h b = record { held = h; step = Fault reason }
 
 -- the byte b at the place
 unfoldable pub after_byte : ℕ → PartialToken → ℕ → AfterByte

@@ -4,7 +4,6 @@
 use Rattle.std.specs.Prelude.{◌≡◌, ℕ, ◌+◌, ◌<◌, ◌≤◌, true, false, List, [], ◌∷◌, ◌++◌, take_while, length, codes}
 use Rattle.pgn_lexer.specs.declared.token.LexFault.{LexFault}
 use Rattle.pgn_lexer.specs.declared.token.LexReason.{LexReason}
-use Rattle.pgn_lexer.specs.declared.token.LexReason.TheVariants.{StrayByte}
 use Rattle.pgn_lexer.specs.declared.partial_token.LexMode.{LexMode}
 use Rattle.pgn_lexer.specs.declared.partial_token.LexMode.TheVariants.{Start, AfterEf, AfterEfBb, LineStart, Outside, EscapeLine, Symbol, Str, AfterBackslash, Dollar, Glyph, Suffix, Brace, BraceWord, Line, LineWord, Failed}
 use Rattle.pgn_lexer.specs.declared.partial_token.SuffixRun.{SuffixRun}
@@ -115,13 +114,9 @@ abbrev pub HasNotFailed : LexMode → Type 0
 HasNotFailed (Failed reason) = ⊥
 HasNotFailed _ = Unit {0}
 
--- the reason of a rejection, in mode Failed; the place of the fault is that of the partial token
-abbrev pub reason_in_mode : LexMode → LexReason
-reason_in_mode (Failed reason) = reason
-reason_in_mode _ = StrayByte
-
-abbrev pub fault_met : PartialToken → LexFault
-fault_met h = record { at = h.at; reason = reason_in_mode h.mode }
+-- the rejection for a reason, at the place of the partial token
+abbrev pub fault_met : LexReason → PartialToken → LexFault
+fault_met reason h = record { at = h.at; reason = reason }
 
 -- how many tokens come with no byte more, but for the end
 abbrev pub pending_in : LexMode → ℕ

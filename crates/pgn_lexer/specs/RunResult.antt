@@ -74,7 +74,7 @@ pub record RunsToFault (place : ℕ) (old : PartialToken) (piece : List ℕ) (f 
 abbrev pub RunGives : ℕ → PartialToken → List ℕ → PartialToken → ℕ → PieceResult → Type 0
 RunGives place old piece new used reached.End = RunsOut place old piece new used
 RunGives place old piece new used (reached.Token form) = RunsToToken place old piece (token_of form new) new used
-RunGives place old piece new used reached.Fault = RunsToFault place old piece (fault_met new) new used
+RunGives place old piece new used (reached.Fault reason) = RunsToFault place old piece (fault_met reason new) new used
 
 -- no token ended in the first i bytes of the piece, and h is held after them
 pub record Ran (place : ℕ) (old : PartialToken) (piece : List ℕ) (h : PartialToken) (i : ℕ) : Type 0 where
@@ -99,4 +99,4 @@ abbrev pub reached_after : ByteResult → PieceResult
 reached_after Used = reached.End
 reached_after (Ends form) = reached.Token form
 reached_after (EndsBefore form) = reached.Token form
-reached_after Fault = reached.Fault
+reached_after (Fault reason) = reached.Fault reason

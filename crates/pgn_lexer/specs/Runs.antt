@@ -24,7 +24,7 @@ pub record IsNumberIn (piece : List ℕ) (n : ℕ) : Type 0 where
   pub is_symbol : IsSymbolIn piece n
   pub digits : (i : ℕ) → i < n → is_digit (get_or piece i 0) ≡ true
 
--- neither a period nor a number, of which the end is in the piece too
+-- the piece begins with no period, and with no number that ends in it
 pub record BeginsUnpassed (piece : List ℕ) : Type 0 where
   pub no_period : get_or piece 0 0 ≡ 46 → ⊥
   pub no_number : (n : ℕ) → IsNumberIn piece n → ⊥

@@ -25,8 +25,8 @@ pub data Passes (skips_numbers : Bool) (old : Standing) (piece : List ℕ) : Sta
   over_token : (l new : Standing) (m n : ℕ) (t : Token) → Passes skips_numbers old piece l m → m < length piece → 0 < n → Scans l (drop m piece) new n (token t)
       → IsTrue skips_numbers → IsTrue (is_passed t.kind) → Passes skips_numbers old piece new (m + n)
 
--- Behind those comes a token that `next` reads in the rest of the piece. If numbers are skipped, it
--- is none.
+-- Behind those comes a token that `next` reads in the rest of the piece. If numbers are skipped,
+-- that token is neither a number nor a period.
 pub record ReadsBehind (skips_numbers : Bool) (old : Standing) (piece : List ℕ) (new : Standing) (used : ℕ) (t : Token) : Type 0 where
   pub mid : Standing
   pub passed : ℕ

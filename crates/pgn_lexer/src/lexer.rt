@@ -118,9 +118,9 @@ impl Lexer {
                 used,
                 outcome: Outcome::Token(self.partial.token(form)),
             },
-            PieceResult::Fault => Scan {
+            PieceResult::Fault(reason) => Scan {
                 used,
-                outcome: Outcome::Fault(self.partial.fault_met()),
+                outcome: Outcome::Fault(self.partial.fault(reason)),
             },
         }
     }
@@ -130,7 +130,7 @@ impl Lexer {
     ///
     /// A symbol, a word of a comment, a NAG or a suffix ends where the byte behind it does not
     /// continue it. So that byte has to be in the piece too; it is not used. If numbers are
-    /// skipped, symbols of digits alone and periods are passed as white space is.
+    /// skipped, symbols of digits alone and periods are passed as white space is, and not returned.
     ///
     /// With `None` the bytes used were passed, and what comes is left to `next`. It began in an
     /// earlier piece or may go on behind this one. Or it has an escape, is rejected, is an escape
@@ -186,7 +186,7 @@ impl Lexer {
                 kind: TokenKind::End,
             }),
             PieceResult::Token(form) => Outcome::Token(self.partial.token(form)),
-            PieceResult::Fault => Outcome::Fault(self.partial.fault_met()),
+            PieceResult::Fault(reason) => Outcome::Fault(self.partial.fault(reason)),
         }
     }
 }

@@ -92,8 +92,8 @@ pub(crate) enum ByteResult {
     Ends(TokenForm),
     /// It was not used: a token ends before it.
     EndsBefore(TokenForm),
-    /// The text is rejected, as the mode says.
-    Fault,
+    /// The text is rejected for this reason, which the mode keeps.
+    Fault(LexReason),
 }
 
 /// What is reached in a piece, or after the last one.
@@ -103,8 +103,8 @@ pub(crate) enum PieceResult {
     End,
     /// The end of a token.
     Token(TokenForm),
-    /// The text is rejected, as the mode says.
-    Fault,
+    /// The text is rejected for this reason.
+    Fault(LexReason),
 }
 
 /// The current token: its place, and what was read of it.
@@ -151,14 +151,10 @@ impl PartialToken {
         }
     }
 
-    /// Returns the error that was met.
-    pub(crate) fn fault_met(&self) -> LexFault
-        ensures { result ≡ fault_met self.now }
+    /// Returns the error of this reason, at the place in the partial token.
+    pub(crate) fn fault(&self, reason: LexReason) -> LexFault
+        ensures { result ≡ fault_met reason self.now }
     {
-        let reason = match self.mode {
-            LexMode::Failed(reason) => reason,
-            _ => LexReason::StrayByte,
-        };
         LexFault {
             at: self.at,
             reason,

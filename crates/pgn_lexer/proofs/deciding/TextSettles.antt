@@ -46,8 +46,8 @@ settles (suc n) (b ∷ u) place h enough sound not_failed =
     by_step new (EndsBefore form) g on again =
         let less : pending new < pending h = g.less in
         after_token _ _ (token_of form new) (λ s. g.comes (u ++ s)) (again new (omega arith) g.sound g.not_failed)
-    by_step new Fault g on again =
-        record { given = refusal (fault_met new) ∷ []; later = λ s. []; comes = λ s. g.comes (u ++ s); none = refl }
+    by_step new (Fault reason) g on again =
+        record { given = refusal (fault_met reason new) ∷ []; later = λ s. []; comes = λ s. g.comes (u ++ s); none = refl }
 
 abbrev at_start : PartialToken
 at_start = record { mode = LexMode.Start; at = 0; text = [] }

@@ -1,5 +1,5 @@
 -- Each byte, and the end of the text, gives the tokens that come.
-use Rattle.pgn_lexer.proofs.Words.{◌≡◌, ℕ, ◌<◌, ◌≤◌, List, [], ◌∷◌, length, refl, arith, Some, LexFault, LexMode, TokenForm, HasLength, end, PartialToken, IsSound, HasNotFailed, tokens_to_come, kind_in, token_of, refusal, pending, fault_met, fault_in_mode, after_byte, after_byte_in, after_end, after_end_in, AfterByte, IsAfterEnd, reached_after, common_steps, PieceResult}
+use Rattle.pgn_lexer.proofs.Words.{◌≡◌, ℕ, ◌<◌, ◌≤◌, List, [], ◌∷◌, length, refl, arith, Some, LexFault, LexMode, LexReason, TokenForm, HasLength, end, PartialToken, IsSound, HasNotFailed, tokens_to_come, kind_in, token_of, refusal, pending, fault_met, fault_in_mode, after_byte, after_byte_in, after_end, after_end_in, AfterByte, IsAfterEnd, reached_after, common_steps, PieceResult}
 use Rattle.pgn_lexer.proofs.stepping.StepGives.{Gives, GivesIn, front_of, holds}
 use Rattle.pgn_lexer.proofs.stepping.RunOfBytes.{run_closes}
 use Rattle.pgn_lexer.proofs.stepping.ByteOutside.{begin_gives, begin_line_gives, start_gives, escape_line_gives}
@@ -32,11 +32,11 @@ pub record ClosesToken (place : ℕ) (h : PartialToken) (form : TokenForm) (new 
   pub less : pending new < pending h
   pub comes : tokens_to_come place h [] ≡ token_of form new ∷ tokens_to_come place new []
 
-pub record ClosesFault (place : ℕ) (h new : PartialToken) : Type 0 where
+pub record ClosesFault (place : ℕ) (h : PartialToken) (reason : LexReason) (new : PartialToken) : Type 0 where
   pub sound : IsSound place new
-  pub fails : fault_in_mode new.mode new.at ≡ Some (fault_met new)
-  pub stays : (g : LexFault) → fault_in_mode h.mode h.at ≡ Some g → (fault_met new ≡ g) × (new ≡ h)
-  pub comes : tokens_to_come place h [] ≡ refusal (fault_met new) ∷ []
+  pub fails : fault_in_mode new.mode new.at ≡ Some (fault_met reason new)
+  pub stays : (g : LexFault) → fault_in_mode h.mode h.at ≡ Some g → (fault_met reason new ≡ g) × (new ≡ h)
+  pub comes : tokens_to_come place h [] ≡ refusal (fault_met reason new) ∷ []
 
 pub record ClosesEnd (place : ℕ) (h new : PartialToken) : Type 0 where
   pub not_failed : HasNotFailed h.mode
@@ -46,7 +46,7 @@ pub record ClosesEnd (place : ℕ) (h new : PartialToken) : Type 0 where
 abbrev CloseGives : ℕ → PartialToken → PartialToken → PieceResult → Type 0
 CloseGives place h new PieceResult.End = ClosesEnd place h new
 CloseGives place h new (PieceResult.Token form) = ClosesToken place h form new
-CloseGives place h new PieceResult.Fault = ClosesFault place h new
+CloseGives place h new (PieceResult.Fault reason) = ClosesFault place h reason new
 
 abbrev ClosedGives : ℕ → PartialToken → AfterByte → Type 0
 ClosedGives place h t = CloseGives place h t.held (reached_after t.step)

@@ -1,5 +1,5 @@
 -- The end of the text gives what is left.
-use Rattle.pgn_lexer.proofs.Words.{◌≡◌, ℕ, List, [], ◌∷◌, ◌++◌, LexFault, TokenForm, Token, end, PartialToken, kind_in, fault_met, Scanned, fault, Standing, IsNext, HasLeft, Finishes, arith, common_steps}
+use Rattle.pgn_lexer.proofs.Words.{◌≡◌, ℕ, List, [], ◌∷◌, ◌++◌, LexFault, LexReason, TokenForm, Token, end, PartialToken, kind_in, fault_met, Scanned, fault, Standing, IsNext, HasLeft, Finishes, arith, common_steps}
 use Rattle.pgn_lexer.specs.Scanned.{token}
 use Rattle.pgn_lexer.proofs.stepping.ByteGives.{ClosesToken, ClosesFault, ClosesEnd}
 use Rattle.pgn_lexer.proofs.stepping.StandsAfterCalls.{same_parts}
@@ -23,8 +23,8 @@ module _ (count : ℕ) (old new : PartialToken) where
   finishes_token form t at kind h = grind (arith, common_steps, same_parts, next_form)
 
   -- the fault that is told is the one that was met
-  pub finishes_told : (told : LexFault) → told ≡ fault_met new → ClosesFault count old new → Finishes before after (fault told)
-  finishes_told told is h = grind arith
+  pub finishes_told : (reason : LexReason) (told : LexFault) → told ≡ fault_met reason new → ClosesFault count old reason new → Finishes before after (fault told)
+  finishes_told reason told is h = grind arith
 
 -- what is said of one view of a lexer, of the other
 pub finishes_of : (old old' new : Standing) (seen : Scanned) → old ≡ old' → Finishes old new seen → Finishes old' new seen

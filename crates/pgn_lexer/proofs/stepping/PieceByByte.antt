@@ -98,8 +98,9 @@ module _ (place : ℕ) (old : PartialToken) (piece : List ℕ) (h : PartialToken
         });
       }
 
-  ran_fails : (new : PartialToken) → IsAfterByte (after_byte (place + i) h b) new Fault → RunsToFault place old piece (fault_met new) new (i + 1)
-  ran_fails new t =
+  ran_fails : (reason : LexReason) (new : PartialToken) → IsAfterByte (after_byte (place + i) h b) new (Fault reason)
+      → RunsToFault place old piece (fault_met reason new) new (i + 1)
+  ran_fails reason new t =
       let g = takes_gives _ h b new _ ran.sound t in
       record {
         within = omega arith;

@@ -1,5 +1,5 @@
 -- What a step must give, of the tokens that come.
-use Rattle.pgn_lexer.proofs.Words.{◌≡◌, ℕ, ◌+◌, ◌<◌, ◌≤◌, List, [], ◌∷◌, true, false, Some, TokenForm, ByteResult, Used, Ends, EndsBefore, Fault, Token, HasLength, EndsAt, is_run, Within, tokens_from, PartialToken, tokens_to_come, kind_in, token_of, refusal, IsSound, HasNotFailed, LexMode, pending, fault_met, fault_in_mode, AfterByte}
+use Rattle.pgn_lexer.proofs.Words.{◌≡◌, ℕ, ◌+◌, ◌<◌, ◌≤◌, List, [], ◌∷◌, true, false, Some, TokenForm, ByteResult, Used, Ends, EndsBefore, Fault, Token, HasLength, EndsAt, is_run, Within, tokens_from, PartialToken, tokens_to_come, kind_in, token_of, refusal, IsSound, HasNotFailed, LexMode, LexReason, pending, fault_met, fault_in_mode, AfterByte}
 
 -- What comes from a byte b at the place: `front s` where s follows b, and `ended` where the text
 -- ends before b; `waits` tokens at most came with no byte more.
@@ -43,16 +43,16 @@ pub record EndsAhead (f : Front) (form : TokenForm) (new : PartialToken) : Type 
   pub at_end : f.ended ≡ token_of form new ∷ tokens_to_come f.place new []
 
 -- the byte is rejected
-pub record Fails (f : Front) (new : PartialToken) : Type 0 where
+pub record Fails (f : Front) (reason : LexReason) (new : PartialToken) : Type 0 where
   pub sound : IsSound (f.place + 1) new
-  pub fails : fault_in_mode new.mode new.at ≡ Some (fault_met new)
-  pub comes : (s : List ℕ) → f.front s ≡ refusal (fault_met new) ∷ []
+  pub fails : fault_in_mode new.mode new.at ≡ Some (fault_met reason new)
+  pub comes : (s : List ℕ) → f.front s ≡ refusal (fault_met reason new) ∷ []
 
 abbrev pub StepGives : Front → PartialToken → ByteResult → Type 0
 StepGives f new Used = Uses f new
 StepGives f new (Ends form) = EndsIn f form new
 StepGives f new (EndsBefore form) = EndsAhead f form new
-StepGives f new Fault = Fails f new
+StepGives f new (Fault reason) = Fails f reason new
 
 abbrev pub Gives : Front → AfterByte → Type 0
 Gives f t = StepGives f t.held t.step

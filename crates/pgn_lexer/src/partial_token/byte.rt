@@ -41,7 +41,7 @@ impl PartialToken {
             LexMode::BraceWord => self.word(LexMode::Brace, byte),
             LexMode::Line => self.line(byte, place),
             LexMode::LineWord => self.word(LexMode::Line, byte),
-            LexMode::Failed(_) => ByteResult::Fault,
+            LexMode::Failed(reason) => ByteResult::Fault(reason),
         }
     }
 
@@ -50,7 +50,7 @@ impl PartialToken {
     {
         self.at = at;
         self.mode = LexMode::Failed(reason);
-        ByteResult::Fault
+        ByteResult::Fault(reason)
     }
 
     fn start(&mut self, byte: u8, place: u64) -> ByteResult

@@ -35,7 +35,7 @@ impl PartialToken {
                 self.give(LexMode::Outside, TokenForm::CommentClose)
             }
             LexMode::LineWord => self.give(LexMode::Line, TokenForm::Word),
-            LexMode::Failed(_) => PieceResult::Fault,
+            LexMode::Failed(reason) => PieceResult::Fault(reason),
         }
     }
 
@@ -44,7 +44,7 @@ impl PartialToken {
     {
         self.at = at;
         self.mode = LexMode::Failed(reason);
-        PieceResult::Fault
+        PieceResult::Fault(reason)
     }
 
     fn give(&mut self, mode: LexMode, form: TokenForm) -> PieceResult

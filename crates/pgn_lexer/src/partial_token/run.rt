@@ -22,8 +22,8 @@ impl PartialToken {
         requires sound { IsSound place self.old }
         ensures { RunGives place self.old piece.now self.new result.0 result.1 }
     {
-        if let LexMode::Failed(_) = self.mode {
-            return (0, PieceResult::Fault);
+        if let LexMode::Failed(reason) = self.mode {
+            return (0, PieceResult::Fault(reason));
         }
         let used = self.copy_text(piece, 0, place);
         if used == piece.len() {
@@ -163,6 +163,6 @@ fn ended(step: ByteResult, used: usize) -> (usize, PieceResult)
         ByteResult::Used => (used + 1, PieceResult::End),
         ByteResult::Ends(form) => (used + 1, PieceResult::Token(form)),
         ByteResult::EndsBefore(form) => (used, PieceResult::Token(form)),
-        ByteResult::Fault => (used + 1, PieceResult::Fault),
+        ByteResult::Fault(reason) => (used + 1, PieceResult::Fault(reason)),
     }
 }

@@ -29,4 +29,4 @@ returns-in-Token c =
 pub returns-in-Fault : goal.returns-in-Fault
 returns-in-Fault c =
     let h = closes_gives _ _ _ _ c.self.invariant c.in-Fault.ensures in
-    ((refl, λ _. tt, finishes_of _ _ _ _ c.self.view_is (finishes_told _ _ _ _ c.fault_met.ensures h)), record { after = tt })
+    ((refl, λ _. tt, finishes_of _ _ _ _ c.self.view_is (finishes_told _ _ _ _ _ c.fault.ensures h)), record { after = tt })

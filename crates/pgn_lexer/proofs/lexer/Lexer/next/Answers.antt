@@ -17,6 +17,6 @@ returns-in-Token c =
 pub returns-in-Fault : goal.returns-in-Fault
 returns-in-Fault c =
     let ran = rw c.in-Fault.is at c.run-used.ensures in (
-      (refl, λ _. tt, scans_of _ _ _ _ _ _ c.self.view_is (scans_told _ _ _ _ _ _ _ c.fault_met.ensures ran)),
+      (refl, λ _. tt, scans_of _ _ _ _ _ _ c.self.view_is (scans_told _ _ _ _ _ _ _ c.fault.ensures ran)),
       record { used = ran.within; after = tt },
     )
