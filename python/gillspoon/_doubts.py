@@ -13,6 +13,8 @@ from ._reading import GameReader
 from ._sections import PAIR
 from ._suspects import MARKS_ALONE, PAWN_MOVE, has_last_number, has_odd_token, main_line
 
+# The lines that pgn_sieve writes before a bad game.
+OF_SIEVE = re.compile(rb"% bytes? \d+")
 # A string, a comment in braces, or an escape line; a comment to the end of its line; a
 # parenthesis; or a word, which is a number, a move or a marker, and the period behind it.
 TOKEN = re.compile(
@@ -139,8 +141,15 @@ def _is_next(fen: str, number: bytes, periods: bytes) -> bool:
 
 
 def escapes(data: bytes, begin: int, end: int) -> Iterator[int]:
-    """Where lines begin with % in a part of a text, which begins outside comments."""
-    return (it.start() for it in PART.finditer(data, begin, end) if it[2])
+    """Where lines begin with % in a part of a text, which begins outside comments.
+
+    Those that pgn_sieve writes before a bad game are left out.
+
+    >>> list(escapes(b"% byte 122: move is not legal\n%a\n1. e4 *", 0, 40))
+    [30]
+    """
+    return (it.start() for it in PART.finditer(data, begin, end)
+            if it[2] and not OF_SIEVE.match(data, it.start()))
 
 
 def comments_in_pairs(text: bytes) -> Iterator[int]:

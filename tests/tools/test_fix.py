@@ -423,7 +423,9 @@ class Warnings(Lint):
                     "1:1: warning: 7 lines begin with %, and export drops them",
                     "2:8: warning: 3 comments are inside tag pairs, and export drops them")
         for text in (b"1. e4 {\n%a} e5 *\n", b'[White "{x} ; %"]\n\n1. e4 {%} *\n',
-                     b'[White "a"] {x}\n\n1. e4 *\n'):
+                     b'[White "a"] {x}\n\n1. e4 *\n',
+                     # of pgn_sieve
+                     b"% byte 9: move is not legal; line 1\n% bytes 0 to 9, up to the end\n1. e4 *\n"):
             self.warned(text)
 
     def test_results_of_a_forfeit(self):
