@@ -97,8 +97,10 @@ class Watcher:
         text = self._window.data[game.offset - base:game.end - base]
         find, section = text.find, section_of(game)
         # behind the empty line after the tags, if there is one
-        head, other = find(b'"]\n\n'), find(b'"]\r\n\r\n')
-        begin = head + 4 if head >= 0 else other + 6 if other >= 0 else 0
+        begin = find(b'"]\n\n') + 4
+        if begin == 3:
+            begin = find(b'"]\r\n\r\n') + 6
+            begin = begin if begin != 5 else 0
         found: List[Tuple[int, str]] = []
         if text[:1] in b"{;":
             found.append((0, DROPPED))
