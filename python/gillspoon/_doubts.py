@@ -145,7 +145,7 @@ def escapes(data: bytes, begin: int, end: int) -> Iterator[int]:
 
     Those that pgn_sieve writes before a bad game are left out.
 
-    >>> list(escapes(b"% byte 122: move is not legal\n%a\n1. e4 *", 0, 40))
+    >>> list(escapes(b"% byte 122: move is not legal\\n%a\\n1. e4 *", 0, 40))
     [30]
     """
     return (it.start() for it in PART.finditer(data, begin, end)

@@ -96,9 +96,11 @@ class Watcher:
         base = self._window.base
         text = self._window.data[game.offset - base:game.end - base]
         find, section = text.find, section_of(game)
-        # most games have a quote in no comment, and an empty line after their tags
-        head = find(b'"]\n\n')
-        begin = head + 4 if head >= 0 else max(find(b'"]\r\n\r\n') + 6, 0)
+        # after the empty line after the tags, if there is one
+        begin = find(b'"]\n\n') + 4
+        if begin == 3:
+            begin = find(b'"]\r\n\r\n') + 6
+            begin = begin if begin != 5 else 0
         found: List[Tuple[int, str]] = []
         if text[:1] in b"{;":
             found.append((0, DROPPED))
@@ -119,11 +121,13 @@ class Watcher:
         return [self._said(game.offset + at, reason) for at, reason in found]
 
     def _doubts(self, text: bytes, plies: int) -> "List[Doubt]":
+        """What is in doubt about the movetext of a game."""
         # most files need none of it
         from ._doubts import doubts
         return list(doubts(text, plies, self._reader))
 
     def _count_in_pairs(self, offset: int, text: bytes) -> None:
+        """Counts the comments inside the tag pairs of a game at an offset."""
         from ._doubts import comments_in_pairs
         for at in comments_in_pairs(text):
             self._in_pairs.add(offset + at, self._window)

@@ -419,6 +419,8 @@ class Warnings(Lint):
         self.warned(b"1. e4 *\r\n%a\r\n", "2:1: warning: 1 line begins with %, and export drops it")
         self.warned(b'[White {x} "a"]\n\n1. e4 *\n', "1:8: warning: 1 comment is inside a tag pair, "
                     "and export drops it")
+        self.warned(b'[White {x} "a"] 1. e4 *\n', "1:8: warning: 1 comment is inside a tag pair, "
+                    "and export drops it")
         self.warned(3 * (game % ()) + b"%d\n",
                     "1:1: warning: 7 lines begin with %, and export drops them",
                     "2:8: warning: 3 comments are inside tag pairs, and export drops them")
