@@ -16,6 +16,11 @@ use crate::squares::Squares;
 use crate::tables::{BYTES_OF_BITS, BYTES_OF_RUNS};
 use std::marker::Model;
 
+// The codes of a pawn and of a king: see `code_at`.
+pub(crate) const PAWN_CODE: usize = 4;
+
+pub(crate) const KING_CODE: usize = 6;
+
 /// A board: the content of each of the 64 squares.
 ///
 /// It is built rank by rank, from rank 8 on, and need not be the board of a position.
@@ -42,11 +47,6 @@ use std::marker::Model;
 /// let position = Position::build_on(board, Colour::White, rights, None, 0, 1);
 /// assert_eq!(position.err(), Some(PositionFault::KingCapturable));
 /// ```
-// The codes of a pawn and of a king: see `code_at`.
-pub(crate) const PAWN_CODE: usize = 4;
-
-pub(crate) const KING_CODE: usize = 6;
-
 // Three sets tell the kinds of pieces apart. A rook is in `straight`, a bishop in `diagonal`, a
 // queen in both. Pieces that do not slide are in `near`: a pawn there alone, a knight in `straight`
 // too, a king in `diagonal` too. `black` has the black pieces. No set has an empty square.
