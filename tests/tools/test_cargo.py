@@ -162,7 +162,7 @@ class Built(unittest.TestCase):
         self.check_conditions({}, wanted)
         # In release builds all but those of debug_assert!.
         checked_in_debug = sum(read(it).count("#[cfg(debug_assertions)]\nfn ") for it in files)
-        self.assertEqual(checked_in_debug, 5)
+        self.assertEqual(checked_in_debug, 4)
         self.check_conditions({"CARGO_PROFILE_DEV_DEBUG_ASSERTIONS": "false"},
                               wanted - checked_in_debug)
 

@@ -335,8 +335,8 @@ class Faults(Lint):
             self.put("ways/" + name + ".pgn", text)
         wanted = ["ways/%s.pgn:%s" % (name, it) for name in sorted(WAYS, key="{}.pgn".format)
                   for it in WAYS[name][1]]
-        # 25 files have a game each, but one has a second game, and one has five
-        wanted.append("25 files, 30 games, 27 faults in 25 files")
+        # 29 files have a game each, but one has a second game, and one has five
+        wanted.append("29 files, 34 games, 31 faults in 29 files")
         for words in ([], ["-j", "3"]):
             status, out, told = self.lint("ways", *words)
             self.assertEqual((status, out.splitlines(), told), (1, wanted, ""))
@@ -1004,7 +1004,7 @@ class Options(Lint):
         log = json.loads(self.lint("--sarif", "ways")[1])
         jsonschema.validate(log, SARIF)
         ran, = log["runs"]
-        self.assertEqual(len(ran["results"]), 28)
+        self.assertEqual(len(ran["results"]), 32)
         rules = {it["id"] for it in ran["tool"]["driver"]["rules"]}
         self.assertEqual({it["ruleId"] for it in ran["results"]}, rules)
         self.assertIn("ways/a%0A%25%C3%BC.pgn", json.dumps(ran["results"]))
