@@ -181,9 +181,9 @@ SAFE = [
     *((old + "]\n\n1. e4 *\n", [(old, '[White "a, b"', QUOTES)], '[White "a, b"]\n\n1. e4 *\n')
       for old in ("[White \u201ca, b\u201d", "[White \u201ea, b\u201c", '[White \u201ca, b"',
                   '[White "a, b\u201d', "[White 'a, b'", "[White \u2018a, b\u2019")),
-    *(('%s"a"]\r\n\r\n1. e4 *\r\n' % it, [(it, "[White ", "sign behind a tag's name")],
-       '[White "a"]\r\n\r\n1. e4 *\r\n') for it in (
-           "[White: ", "[White=", "[White = ", "[White :")),
+    *((it + end.join(('"a"]', "", "1. e4 *", "")), [(it, "[White ", "sign behind a tag's name")],
+       end.join(('[White "a"]', "", "1. e4 *", "")))
+      for it in ("[White: ", "[White=", "[White = ", "[White :") for end in ("\n", "\r\n")),
     # tags
     _tags('[Event "OLD"]', 'The "Open"', r"The \"Open\"", "quotes in a value"),
     _tags('[Event "OLD"]', '"Rapid" Cup', r"\"Rapid\" Cup", "quotes in a value"),
