@@ -16,7 +16,9 @@ pub use Rattle.pgn_lexer.specs.Lexes.{Cuts, Data, IsAtLineEnd, IsRun, IsSingle, 
 pub use Rattle.pgn_lexer.specs.PartialToken.{HasNotFailed, IsSound, PartialToken, fault_met, kind_in, pending, pending_in, refusal, spelling, tokens_to_come_in, token_of, tokens_to_come, with_front}
 pub use Rattle.pgn_lexer.specs.WholeTokens.{Passes, ReadsBehind, none, over_space, over_token, is_passed}
 pub use Rattle.pgn_lexer.specs.RunResult.{EndsBeforeByte, EndsWithByte, IsOutside, Ran, RunGives, RunsOut, RunsToFault, RunsToToken, StoodAt, reached_after, used_after}
-pub use Rattle.pgn_lexer.specs.Runs.{BeginsUnpassed, IsNumberIn, IsSymbolIn, IsWordIn, standing_at, IsBetween, IsStringIn, IsWhole, comment_mode}
+pub use Rattle.pgn_lexer.specs.Runs.{BeginsUnpassed, IsNumberIn, IsRunIn, bits_of, is_in, standing_at, IsBetween, IsWhole}
+pub use Rattle.pgn_lexer.specs.Comments.{Closes, comment_mode, gap_of}
+pub use Rattle.pgn_lexer.specs.Texts.{BeginsWithEscape, IsInText, bytes_of, longest_of}
 pub use Rattle.pgn_lexer.specs.Scanned.{Scanned, fault, more, kind_of}
 pub use Rattle.pgn_lexer.specs.Sound.{AreSoundTokens, CommentsClose, IsData, IsSoundKind, IsSymbol, IsWord}
 pub use Rattle.pgn_lexer.specs.Spelling.{Found, Reading, broken, class, closed, comment_class, datum, gives, glyph_at, kind_of_single, number_from, number_of, numbered_at, reading, stops, string_at, string_class, suffix_at, symbol_at, word_at}
@@ -27,13 +29,16 @@ pub use Rattle.pgn_lexer.specs.TokensOf.{Within, after_brace, after_class, after
 pub use Rattle.pgn_lexer.specs.Written.{AreEnded, IsEndedBy, IsPiece, IsReadable, Piece, kinds_in, space, text_of_pieces, token, tokens_at, written}
 pub use Rattle.pgn_lexer.specs.declared.class.Class.{Class}
 pub use Rattle.pgn_lexer.specs.declared.class.Class.TheVariants.{Alone, Dollar, LineEnd, OpenBrace, Percent, Quote, Refused, Semicolon, Space, Suffix, SymbolStart}
-pub use Rattle.pgn_lexer.specs.declared.class.CommentClass.{CommentClass}
+pub use Rattle.pgn_lexer.specs.CommentClass.{CommentClass}
+pub use Rattle.pgn_lexer.specs.declared.class.Set.{Set}
 pub use Rattle.pgn_lexer.specs.declared.class.Single.{Single}
-pub use Rattle.pgn_lexer.specs.declared.class.StringClass.{StringClass}
+pub use Rattle.pgn_lexer.specs.StringClass.{StringClass}
+pub use Rattle.pgn_lexer.specs.declared.partial_token.Close.{Close}
 pub use Rattle.pgn_lexer.specs.declared.partial_token.LexMode.{LexMode}
 pub use Rattle.pgn_lexer.specs.declared.partial_token.LexMode.TheVariants.{AfterBackslash, Brace, BraceWord, Failed, LineStart, LineWord, Outside, Start, Str, Symbol, Glyph}
 pub use Rattle.pgn_lexer.specs.declared.partial_token.ByteResult.{ByteResult}
 pub use Rattle.pgn_lexer.specs.declared.partial_token.ByteResult.TheVariants.{Ends, EndsBefore, Fault, Used}
+pub use Rattle.pgn_lexer.specs.declared.partial_token.Text.{Text}
 pub use Rattle.pgn_lexer.specs.declared.partial_token.TokenForm.{TokenForm}
 pub use Rattle.pgn_lexer.specs.declared.token.LexFault.{LexFault}
 pub use Rattle.pgn_lexer.specs.declared.token.LexReason.{LexReason}

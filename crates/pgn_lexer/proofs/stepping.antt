@@ -9,6 +9,7 @@ pub mod CopiedBytes
 pub mod EndGives
 pub mod PieceByByte
 pub mod RunOfBytes
+pub mod RunsInPiece
 pub mod StandsAfterCalls
 pub mod StepGives
 pub mod WholeRuns

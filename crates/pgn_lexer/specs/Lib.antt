@@ -1,5 +1,7 @@
 -- **Bookkeeping**: the list of this crate's files of definitions.
 pub mod Bytes
+pub mod CommentClass
+pub mod Comments
 pub mod Decided
 pub mod PartialToken
 pub mod Laws
@@ -12,6 +14,8 @@ pub mod Spelling
 pub mod Standing
 pub mod Stands
 pub mod ByteResult
+pub mod StringClass
+pub mod Texts
 pub mod Tokens
 pub mod TokensOf
 pub mod WhiteSpace

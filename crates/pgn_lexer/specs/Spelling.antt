@@ -6,10 +6,10 @@ use Rattle.pgn_lexer.specs.declared.class.Single.{Single}
 use Rattle.pgn_lexer.specs.declared.class.Single.TheVariants as singles
 use Rattle.pgn_lexer.specs.declared.class.Class.{Class}
 use Rattle.pgn_lexer.specs.declared.class.Class.TheVariants.{LineEnd, Space, Percent, SymbolStart, Quote, Dollar, Suffix, OpenBrace, Semicolon, Alone, Refused}
-use Rattle.pgn_lexer.specs.declared.class.CommentClass.{CommentClass}
-use Rattle.pgn_lexer.specs.declared.class.CommentClass.TheVariants as comment_classes
-use Rattle.pgn_lexer.specs.declared.class.StringClass.{StringClass}
-use Rattle.pgn_lexer.specs.declared.class.StringClass.TheVariants as string_classes
+use Rattle.pgn_lexer.specs.CommentClass.{CommentClass}
+use Rattle.pgn_lexer.specs.CommentClass as comment_classes
+use Rattle.pgn_lexer.specs.StringClass.{StringClass}
+use Rattle.pgn_lexer.specs.StringClass as string_classes
 use Rattle.pgn_lexer.specs.Bytes.{is_line_end, is_blank, is_control, starts_symbol, is_suffix, continues_word}
 use Rattle.pgn_lexer.specs.Tokens.{Kind, left_bracket, right_bracket, left_paren, right_paren, period, asterisk, symbol, str, glyph, word}
 

@@ -3,10 +3,10 @@ use Rattle.std.specs.Prelude.{ℕ, ◌+◌, Bool, true, false, ◌&&◌, drop, L
 use Rattle.pgn_lexer.specs.declared.token.LexReason.TheVariants.{StrayByte, ControlByte, BraceInLineComment, UnclosedComment}
 use Rattle.pgn_lexer.specs.declared.class.Class.{Class}
 use Rattle.pgn_lexer.specs.declared.class.Class.TheVariants.{LineEnd, Space, Percent, SymbolStart, Quote, Dollar, Suffix, OpenBrace, Semicolon, Alone, Refused}
-use Rattle.pgn_lexer.specs.declared.class.CommentClass.{CommentClass}
-use Rattle.pgn_lexer.specs.declared.class.CommentClass.TheVariants as comment_classes
-use Rattle.pgn_lexer.specs.declared.class.StringClass.{StringClass}
-use Rattle.pgn_lexer.specs.declared.class.StringClass.TheVariants as string_classes
+use Rattle.pgn_lexer.specs.CommentClass.{CommentClass}
+use Rattle.pgn_lexer.specs.CommentClass as comment_classes
+use Rattle.pgn_lexer.specs.StringClass.{StringClass}
+use Rattle.pgn_lexer.specs.StringClass as string_classes
 use Rattle.pgn_lexer.specs.Bytes.{is_line_end, is_digit, continues_symbol, is_suffix, continues_word}
 use Rattle.pgn_lexer.specs.Tokens.{Token, comment_open, comment_close, end, refused}
 use Rattle.pgn_lexer.specs.Spelling.{class, kind_of_single, comment_class, string_class, Found, nothing, gives, stops, symbol_at, word_at, glyph_at, suffix_at, reading, string_at}

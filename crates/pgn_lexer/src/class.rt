@@ -1,8 +1,9 @@
-//! What a byte is outside strings and comments, in a comment, and in a string.
+//! The sets that a byte is in, by one table; runs of the bytes of a set; and what a byte is outside
+//! strings and comments.
 
-ghost use Rattle.std.specs.Prelude.{◌≡◌};
-ghost use Rattle.pgn_lexer.specs.Bytes as bytes;
+ghost use Rattle.std.specs.Prelude.{◌≡◌, ℕ, true, false, ◌<◌, ◌≤◌, ◌^◌, length, get_or, MatchOption};
 ghost use Rattle.pgn_lexer.specs.Lexes as lexes;
+ghost use Rattle.pgn_lexer.specs.Runs as runs;
 ghost use Rattle.pgn_lexer.specs.Spelling as spelling;
 
 use crate::token::LexReason;
@@ -34,207 +35,172 @@ pub(crate) enum Class {
     Refused(LexReason),
 }
 
-/// What a byte is in a comment.
+/// A set of bytes.
 #[derive(Clone, Copy)]
-pub(crate) enum CommentClass {
+pub(crate) enum Set {
+    /// A symbol begins with these: letters and digits.
+    SymbolStart,
+    /// A symbol continues with these.
+    Symbol,
+    Digit,
+    /// The bytes `!` and `?`.
+    Suffix,
+    /// The data of a string that are no escape.
+    Data,
+    /// The bytes of a word of a comment.
+    Word,
+    /// White space within a line.
+    Blank,
     LineEnd,
+    /// White space.
     Space,
-    CloseBrace,
-    /// Any byte of a word.
-    WordByte,
-    Control,
 }
 
-/// What a byte is in a string.
-#[derive(Clone, Copy)]
-pub(crate) enum StringClass {
-    Quote,
-    LineEnd,
-    Control,
-    Backslash,
-    Plain,
-}
+// A bit for each set, but for white space, which is the blanks and the ends of lines.
+const SYMBOL_START: u8 = 1;
 
-// The tables below have names of three letters. Outside strings and comments: END is the end of a
-// line, GAP is white space, SYM begins a symbol, SUF is `!` or `?`, PCT is `%`, QUO is `"`, DOL is
-// `$`, BRA is `{`, SEM is `;`. LBR and RBR are brackets, LPA and RPA parentheses, DOT is the
-// period, AST is `*`. Rejected are RES, a reserved character; CTL, a control byte; BAD, any other
-// byte.
-const END: Class = Class::LineEnd;
+const SYMBOL: u8 = 2;
 
-const GAP: Class = Class::Space;
+const DIGIT: u8 = 4;
 
-const SYM: Class = Class::SymbolStart;
+const SUFFIX: u8 = 8;
 
-const SUF: Class = Class::Suffix;
+const DATA: u8 = 16;
 
-const PCT: Class = Class::Percent;
+const WORD: u8 = 32;
 
-const QUO: Class = Class::Quote;
+const BLANK: u8 = 64;
 
-const DOL: Class = Class::Dollar;
+const LINE_END: u8 = 128;
 
-const BRA: Class = Class::OpenBrace;
+// The table below has names of three letters: LET is a letter, DIG a digit, JOI another byte with
+// which a symbol continues, SUF is `!` or `?`, ESC is `"` or a backslash, CLO is `}`, SPA is the
+// space, TAB is other white space within a line, END is the end of a line, CTL is a control byte,
+// and OTH is any other byte.
+const LET: u8 = SYMBOL_START | SYMBOL | DATA | WORD;
 
-const SEM: Class = Class::Semicolon;
+const DIG: u8 = LET | DIGIT;
 
-const LBR: Class = Class::Alone(Single::LeftBracket);
+const JOI: u8 = SYMBOL | DATA | WORD;
 
-const RBR: Class = Class::Alone(Single::RightBracket);
+const SUF: u8 = SUFFIX | DATA | WORD;
 
-const LPA: Class = Class::Alone(Single::LeftParen);
+const ESC: u8 = WORD;
 
-const RPA: Class = Class::Alone(Single::RightParen);
+const CLO: u8 = DATA;
 
-const DOT: Class = Class::Alone(Single::Period);
+const SPA: u8 = BLANK | DATA;
 
-const AST: Class = Class::Alone(Single::Asterisk);
+const TAB: u8 = BLANK;
 
-const RES: Class = Class::Refused(LexReason::Reserved);
+const END: u8 = LINE_END;
 
-const CTL: Class = Class::Refused(LexReason::ControlByte);
+const CTL: u8 = 0;
 
-const BAD: Class = Class::Refused(LexReason::StrayByte);
+const OTH: u8 = DATA | WORD;
 
-/// The class of each byte outside strings and comments, from byte 0 on.
-static CLASSES: [Class; 256] = [
-    CTL, CTL, CTL, CTL, CTL, CTL, CTL, CTL, CTL, GAP, END, GAP, GAP, END, CTL, CTL, CTL, CTL, CTL,
-    CTL, CTL, CTL, CTL, CTL, CTL, CTL, CTL, CTL, CTL, CTL, CTL, CTL, GAP, SUF, QUO, BAD, DOL, PCT,
-    BAD, BAD, LPA, RPA, AST, BAD, BAD, BAD, DOT, BAD, SYM, SYM, SYM, SYM, SYM, SYM, SYM, SYM, SYM,
-    SYM, BAD, SEM, RES, BAD, RES, SUF, BAD, SYM, SYM, SYM, SYM, SYM, SYM, SYM, SYM, SYM, SYM, SYM,
-    SYM, SYM, SYM, SYM, SYM, SYM, SYM, SYM, SYM, SYM, SYM, SYM, SYM, SYM, SYM, LBR, BAD, RBR, BAD,
-    BAD, BAD, SYM, SYM, SYM, SYM, SYM, SYM, SYM, SYM, SYM, SYM, SYM, SYM, SYM, SYM, SYM, SYM, SYM,
-    SYM, SYM, SYM, SYM, SYM, SYM, SYM, SYM, SYM, BRA, BAD, BAD, BAD, CTL, BAD, BAD, BAD, BAD, BAD,
-    BAD, BAD, BAD, BAD, BAD, BAD, BAD, BAD, BAD, BAD, BAD, BAD, BAD, BAD, BAD, BAD, BAD, BAD, BAD,
-    BAD, BAD, BAD, BAD, BAD, BAD, BAD, BAD, BAD, BAD, BAD, BAD, BAD, BAD, BAD, BAD, BAD, BAD, BAD,
-    BAD, BAD, BAD, BAD, BAD, BAD, BAD, BAD, BAD, BAD, BAD, BAD, BAD, BAD, BAD, BAD, BAD, BAD, BAD,
-    BAD, BAD, BAD, BAD, BAD, BAD, BAD, BAD, BAD, BAD, BAD, BAD, BAD, BAD, BAD, BAD, BAD, BAD, BAD,
-    BAD, BAD, BAD, BAD, BAD, BAD, BAD, BAD, BAD, BAD, BAD, BAD, BAD, BAD, BAD, BAD, BAD, BAD, BAD,
-    BAD, BAD, BAD, BAD, BAD, BAD, BAD, BAD, BAD, BAD, BAD, BAD, BAD, BAD, BAD, BAD, BAD, BAD, BAD,
-    BAD, BAD, BAD, BAD, BAD, BAD, BAD, BAD, BAD,
+/// The sets of each byte, from byte 0 on.
+static SETS: [u8; 256] = [
+    CTL, CTL, CTL, CTL, CTL, CTL, CTL, CTL, CTL, TAB, END, TAB, TAB, END, CTL, CTL, CTL, CTL, CTL,
+    CTL, CTL, CTL, CTL, CTL, CTL, CTL, CTL, CTL, CTL, CTL, CTL, CTL, SPA, SUF, ESC, JOI, OTH, OTH,
+    OTH, OTH, OTH, OTH, OTH, JOI, OTH, JOI, OTH, JOI, DIG, DIG, DIG, DIG, DIG, DIG, DIG, DIG, DIG,
+    DIG, JOI, OTH, OTH, JOI, OTH, SUF, OTH, LET, LET, LET, LET, LET, LET, LET, LET, LET, LET, LET,
+    LET, LET, LET, LET, LET, LET, LET, LET, LET, LET, LET, LET, LET, LET, LET, OTH, ESC, OTH, OTH,
+    JOI, OTH, LET, LET, LET, LET, LET, LET, LET, LET, LET, LET, LET, LET, LET, LET, LET, LET, LET,
+    LET, LET, LET, LET, LET, LET, LET, LET, LET, OTH, OTH, CLO, OTH, CTL, OTH, OTH, OTH, OTH, OTH,
+    OTH, OTH, OTH, OTH, OTH, OTH, OTH, OTH, OTH, OTH, OTH, OTH, OTH, OTH, OTH, OTH, OTH, OTH, OTH,
+    OTH, OTH, OTH, OTH, OTH, OTH, OTH, OTH, OTH, OTH, OTH, OTH, OTH, OTH, OTH, OTH, OTH, OTH, OTH,
+    OTH, OTH, OTH, OTH, OTH, OTH, OTH, OTH, OTH, OTH, OTH, OTH, OTH, OTH, OTH, OTH, OTH, OTH, OTH,
+    OTH, OTH, OTH, OTH, OTH, OTH, OTH, OTH, OTH, OTH, OTH, OTH, OTH, OTH, OTH, OTH, OTH, OTH, OTH,
+    OTH, OTH, OTH, OTH, OTH, OTH, OTH, OTH, OTH, OTH, OTH, OTH, OTH, OTH, OTH, OTH, OTH, OTH, OTH,
+    OTH, OTH, OTH, OTH, OTH, OTH, OTH, OTH, OTH, OTH, OTH, OTH, OTH, OTH, OTH, OTH, OTH, OTH, OTH,
+    OTH, OTH, OTH, OTH, OTH, OTH, OTH, OTH, OTH,
 ];
 
+/// The bits of a set.
+#[inline(always)]
+pub(crate) fn bits_of(set: Set) -> u8
+    ensures { result ≡ runs.bits_of set }
+{
+    match set {
+        Set::SymbolStart => SYMBOL_START,
+        Set::Symbol => SYMBOL,
+        Set::Digit => DIGIT,
+        Set::Suffix => SUFFIX,
+        Set::Data => DATA,
+        Set::Word => WORD,
+        Set::Blank => BLANK,
+        Set::LineEnd => LINE_END,
+        Set::Space => BLANK | LINE_END,
+    }
+}
+
+/// Whether the byte is in the set.
+#[inline(always)]
+pub(crate) fn is_in(byte: u8, set: Set) -> bool
+    ensures { result ≡ runs.is_in set byte }
+{
+    SETS[byte as usize] & bits_of(set) != 0
+}
+
+/// The index of the first byte, from this one on, that is not in the set. It is the length of the
+/// bytes if there is none.
+#[inline(always)]
+pub(crate) fn run_end(bytes: &[u8], from: usize, set: Set) -> usize
+    requires { from ≤ length bytes.now }
+    ensures from { from ≤ result }
+    ensures within { result ≤ length bytes.now }
+    ensures all { (i : ℕ) → from ≤ i → i < result → runs.is_in set (get_or bytes.now i 0) ≡ true }
+    ensures ends { result < length bytes.now → runs.is_in set (get_or bytes.now result 0) ≡ false }
+{
+    let mut end = from;
+    while end < bytes.len() && is_in(bytes[end], set) {
+        end += 1;
+    }
+    end
+}
+
+/// How many bytes a run has that begins with the first of these, and goes on with bytes of the set.
+/// `None` if it may go on behind these bytes, or is longer than the longest.
+#[inline(always)]
+pub(crate) fn run_length(bytes: &[u8], set: Set, longest: usize) -> Option<usize>
+    requires some { 0 < length bytes.now }
+    requires few { longest < 2 ^ 63 }
+    ensures { MatchOption result ((n : ℕ) → runs.IsRunIn set longest bytes.now n → ⊥)
+        (λ n. runs.IsRunIn set longest bytes.now n) }
+{
+    let limit = bytes.len().min(longest + 1);
+    let length = run_end(&bytes[..limit], 1, set);
+    (length < limit).then_some(length)
+}
+
 /// The class of a byte outside strings and comments.
+#[inline(always)]
 pub(crate) fn class_of(byte: u8) -> Class
     ensures { result ≡ spelling.class byte }
 {
-    CLASSES[byte as usize]
-}
-
-// In a comment: CEN is the end of a line, CGA is white space, CLO is `}`, CWB is any byte of a
-// word, CCT is a control byte.
-const CEN: CommentClass = CommentClass::LineEnd;
-
-const CGA: CommentClass = CommentClass::Space;
-
-const CLO: CommentClass = CommentClass::CloseBrace;
-
-const CWB: CommentClass = CommentClass::WordByte;
-
-const CCT: CommentClass = CommentClass::Control;
-
-/// The class of each byte in a comment, from byte 0 on.
-static COMMENT_CLASSES: [CommentClass; 256] = [
-    CCT, CCT, CCT, CCT, CCT, CCT, CCT, CCT, CCT, CGA, CEN, CGA, CGA, CEN, CCT, CCT, CCT, CCT, CCT,
-    CCT, CCT, CCT, CCT, CCT, CCT, CCT, CCT, CCT, CCT, CCT, CCT, CCT, CGA, CWB, CWB, CWB, CWB, CWB,
-    CWB, CWB, CWB, CWB, CWB, CWB, CWB, CWB, CWB, CWB, CWB, CWB, CWB, CWB, CWB, CWB, CWB, CWB, CWB,
-    CWB, CWB, CWB, CWB, CWB, CWB, CWB, CWB, CWB, CWB, CWB, CWB, CWB, CWB, CWB, CWB, CWB, CWB, CWB,
-    CWB, CWB, CWB, CWB, CWB, CWB, CWB, CWB, CWB, CWB, CWB, CWB, CWB, CWB, CWB, CWB, CWB, CWB, CWB,
-    CWB, CWB, CWB, CWB, CWB, CWB, CWB, CWB, CWB, CWB, CWB, CWB, CWB, CWB, CWB, CWB, CWB, CWB, CWB,
-    CWB, CWB, CWB, CWB, CWB, CWB, CWB, CWB, CWB, CWB, CWB, CLO, CWB, CCT, CWB, CWB, CWB, CWB, CWB,
-    CWB, CWB, CWB, CWB, CWB, CWB, CWB, CWB, CWB, CWB, CWB, CWB, CWB, CWB, CWB, CWB, CWB, CWB, CWB,
-    CWB, CWB, CWB, CWB, CWB, CWB, CWB, CWB, CWB, CWB, CWB, CWB, CWB, CWB, CWB, CWB, CWB, CWB, CWB,
-    CWB, CWB, CWB, CWB, CWB, CWB, CWB, CWB, CWB, CWB, CWB, CWB, CWB, CWB, CWB, CWB, CWB, CWB, CWB,
-    CWB, CWB, CWB, CWB, CWB, CWB, CWB, CWB, CWB, CWB, CWB, CWB, CWB, CWB, CWB, CWB, CWB, CWB, CWB,
-    CWB, CWB, CWB, CWB, CWB, CWB, CWB, CWB, CWB, CWB, CWB, CWB, CWB, CWB, CWB, CWB, CWB, CWB, CWB,
-    CWB, CWB, CWB, CWB, CWB, CWB, CWB, CWB, CWB, CWB, CWB, CWB, CWB, CWB, CWB, CWB, CWB, CWB, CWB,
-    CWB, CWB, CWB, CWB, CWB, CWB, CWB, CWB, CWB,
-];
-
-/// The class of a byte in a comment.
-pub(crate) fn comment_class_of(byte: u8) -> CommentClass
-    ensures { result ≡ spelling.comment_class byte }
-{
-    COMMENT_CLASSES[byte as usize]
-}
-
-// In a string: SQU is `"`, SEN is the end of a line, SCT is a control byte, SBA is a backslash, SPL
-// is any other byte, which stands for itself.
-const SQU: StringClass = StringClass::Quote;
-
-const SEN: StringClass = StringClass::LineEnd;
-
-const SCT: StringClass = StringClass::Control;
-
-const SBA: StringClass = StringClass::Backslash;
-
-const SPL: StringClass = StringClass::Plain;
-
-/// The class of each byte in a string, from byte 0 on.
-static STRING_CLASSES: [StringClass; 256] = [
-    SCT, SCT, SCT, SCT, SCT, SCT, SCT, SCT, SCT, SCT, SEN, SCT, SCT, SEN, SCT, SCT, SCT, SCT, SCT,
-    SCT, SCT, SCT, SCT, SCT, SCT, SCT, SCT, SCT, SCT, SCT, SCT, SCT, SPL, SPL, SQU, SPL, SPL, SPL,
-    SPL, SPL, SPL, SPL, SPL, SPL, SPL, SPL, SPL, SPL, SPL, SPL, SPL, SPL, SPL, SPL, SPL, SPL, SPL,
-    SPL, SPL, SPL, SPL, SPL, SPL, SPL, SPL, SPL, SPL, SPL, SPL, SPL, SPL, SPL, SPL, SPL, SPL, SPL,
-    SPL, SPL, SPL, SPL, SPL, SPL, SPL, SPL, SPL, SPL, SPL, SPL, SPL, SPL, SPL, SPL, SBA, SPL, SPL,
-    SPL, SPL, SPL, SPL, SPL, SPL, SPL, SPL, SPL, SPL, SPL, SPL, SPL, SPL, SPL, SPL, SPL, SPL, SPL,
-    SPL, SPL, SPL, SPL, SPL, SPL, SPL, SPL, SPL, SPL, SPL, SPL, SPL, SCT, SPL, SPL, SPL, SPL, SPL,
-    SPL, SPL, SPL, SPL, SPL, SPL, SPL, SPL, SPL, SPL, SPL, SPL, SPL, SPL, SPL, SPL, SPL, SPL, SPL,
-    SPL, SPL, SPL, SPL, SPL, SPL, SPL, SPL, SPL, SPL, SPL, SPL, SPL, SPL, SPL, SPL, SPL, SPL, SPL,
-    SPL, SPL, SPL, SPL, SPL, SPL, SPL, SPL, SPL, SPL, SPL, SPL, SPL, SPL, SPL, SPL, SPL, SPL, SPL,
-    SPL, SPL, SPL, SPL, SPL, SPL, SPL, SPL, SPL, SPL, SPL, SPL, SPL, SPL, SPL, SPL, SPL, SPL, SPL,
-    SPL, SPL, SPL, SPL, SPL, SPL, SPL, SPL, SPL, SPL, SPL, SPL, SPL, SPL, SPL, SPL, SPL, SPL, SPL,
-    SPL, SPL, SPL, SPL, SPL, SPL, SPL, SPL, SPL, SPL, SPL, SPL, SPL, SPL, SPL, SPL, SPL, SPL, SPL,
-    SPL, SPL, SPL, SPL, SPL, SPL, SPL, SPL, SPL,
-];
-
-/// The class of a byte in a string.
-pub(crate) fn string_class_of(byte: u8) -> StringClass
-    ensures { result ≡ spelling.string_class byte }
-{
-    STRING_CLASSES[byte as usize]
-}
-
-// YES where a symbol goes on, NOT where it does not.
-const YES: bool = true;
-
-const NOT: bool = false;
-
-/// Whether a symbol goes on with each byte, from byte 0 on.
-static CONTINUES: [bool; 256] = [
-    NOT, NOT, NOT, NOT, NOT, NOT, NOT, NOT, NOT, NOT, NOT, NOT, NOT, NOT, NOT, NOT, NOT, NOT, NOT,
-    NOT, NOT, NOT, NOT, NOT, NOT, NOT, NOT, NOT, NOT, NOT, NOT, NOT, NOT, NOT, NOT, YES, NOT, NOT,
-    NOT, NOT, NOT, NOT, NOT, YES, NOT, YES, NOT, YES, YES, YES, YES, YES, YES, YES, YES, YES, YES,
-    YES, YES, NOT, NOT, YES, NOT, NOT, NOT, YES, YES, YES, YES, YES, YES, YES, YES, YES, YES, YES,
-    YES, YES, YES, YES, YES, YES, YES, YES, YES, YES, YES, YES, YES, YES, YES, NOT, NOT, NOT, NOT,
-    YES, NOT, YES, YES, YES, YES, YES, YES, YES, YES, YES, YES, YES, YES, YES, YES, YES, YES, YES,
-    YES, YES, YES, YES, YES, YES, YES, YES, YES, NOT, NOT, NOT, NOT, NOT, NOT, NOT, NOT, NOT, NOT,
-    NOT, NOT, NOT, NOT, NOT, NOT, NOT, NOT, NOT, NOT, NOT, NOT, NOT, NOT, NOT, NOT, NOT, NOT, NOT,
-    NOT, NOT, NOT, NOT, NOT, NOT, NOT, NOT, NOT, NOT, NOT, NOT, NOT, NOT, NOT, NOT, NOT, NOT, NOT,
-    NOT, NOT, NOT, NOT, NOT, NOT, NOT, NOT, NOT, NOT, NOT, NOT, NOT, NOT, NOT, NOT, NOT, NOT, NOT,
-    NOT, NOT, NOT, NOT, NOT, NOT, NOT, NOT, NOT, NOT, NOT, NOT, NOT, NOT, NOT, NOT, NOT, NOT, NOT,
-    NOT, NOT, NOT, NOT, NOT, NOT, NOT, NOT, NOT, NOT, NOT, NOT, NOT, NOT, NOT, NOT, NOT, NOT, NOT,
-    NOT, NOT, NOT, NOT, NOT, NOT, NOT, NOT, NOT, NOT, NOT, NOT, NOT, NOT, NOT, NOT, NOT, NOT, NOT,
-    NOT, NOT, NOT, NOT, NOT, NOT, NOT, NOT, NOT,
-];
-
-/// Whether a symbol goes on with the byte.
-pub(crate) fn continues_symbol(byte: u8) -> bool
-    ensures { result ≡ bytes.continues_symbol byte }
-{
-    CONTINUES[byte as usize]
-}
-
-pub(crate) fn is_digit(byte: u8) -> bool
-    ensures { result ≡ bytes.is_digit byte }
-{
-    b'0' <= byte && byte <= b'9'
-}
-
-pub(crate) fn is_suffix(byte: u8) -> bool
-    ensures { result ≡ bytes.is_suffix byte }
-{
-    byte == b'!' || byte == b'?'
+    if is_in(byte, Set::SymbolStart) {
+        return Class::SymbolStart;
+    }
+    match byte {
+        b'\n' | b'\r' => Class::LineEnd,
+        b' ' | b'\t' | 11 | 12 => Class::Space,
+        b'!' | b'?' => Class::Suffix,
+        b'%' => Class::Percent,
+        b'"' => Class::Quote,
+        b'$' => Class::Dollar,
+        b'{' => Class::OpenBrace,
+        b';' => Class::Semicolon,
+        b'[' => Class::Alone(Single::LeftBracket),
+        b']' => Class::Alone(Single::RightBracket),
+        b'(' => Class::Alone(Single::LeftParen),
+        b')' => Class::Alone(Single::RightParen),
+        b'.' => Class::Alone(Single::Period),
+        b'*' => Class::Alone(Single::Asterisk),
+        b'<' | b'>' => Class::Refused(LexReason::Reserved),
+        0..=31 | 127 => Class::Refused(LexReason::ControlByte),
+        _ => Class::Refused(LexReason::StrayByte),
+    }
 }
 
 /// Whether a backslash before the byte escapes it.
@@ -242,10 +208,4 @@ pub(crate) fn is_escaped(byte: u8) -> bool
     ensures { result ≡ lexes.is_escaped byte }
 {
     byte == b'"' || byte == b'\\'
-}
-
-pub(crate) fn is_line_end(byte: u8) -> bool
-    ensures { result ≡ bytes.is_line_end byte }
-{
-    byte == b'\n' || byte == b'\r'
 }

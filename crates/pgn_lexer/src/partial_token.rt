@@ -1,6 +1,6 @@
 //! The current token: its place, its mode, and what was read of it.
 
-ghost use Rattle.std.specs.Prelude.{◌≡◌, ◌==◌, ◌≤◌, [], if◌then◌else◌, length, MatchOption};
+ghost use Rattle.std.specs.Prelude.{◌≡◌, ◌==◌, ◌≤◌, [], if◌then◌else◌, length, IfSome, IsTrue, MatchOption};
 ghost use Rattle.pgn_lexer.specs.ByteResult as byte_result;
 ghost use Rattle.pgn_lexer.specs.PartialToken.{PartialToken};
 ghost use Rattle.pgn_lexer.specs.Scanned.{kind_of};
@@ -13,7 +13,7 @@ mod end;
 mod run;
 mod whole;
 
-use crate::class::Single;
+use crate::class::{Set, Single, is_escaped, is_in};
 use crate::token::{LexFault, LexReason, Token, TokenKind};
 use arrayvec::ArrayVec;
 use std::marker::Model;
@@ -36,6 +36,21 @@ pub(crate) enum SuffixRun {
     VeryPoor,
     Speculative,
     Questionable,
+}
+
+/// A kind of token whose bytes are stored.
+#[derive(Clone, Copy)]
+pub(crate) enum Text {
+    Symbol,
+    Str,
+    Word,
+}
+
+/// What ends a comment (PGN 5).
+#[derive(Clone, Copy)]
+pub(crate) enum Close {
+    Brace,
+    LineEnd,
 }
 
 /// What the next byte is inside of.
@@ -123,6 +138,82 @@ impl Model for PartialToken {
     ghost view = { λ h. record { mode = h.mode; at = h.at; text = h.buffer.items } };
 
     ghost invariant = { λ h. HasRoom h.mode h.buffer.items };
+}
+
+impl Text {
+    ghost use Rattle.pgn_lexer.specs.Texts.{bytes_of, longest_of, too_long_of, BeginsWithEscape};
+
+    /// The bytes that continue it.
+    #[inline(always)]
+    pub(crate) fn bytes(self) -> Set
+        ensures { result ≡ bytes_of self }
+    {
+        match self {
+            Text::Symbol => Set::Symbol,
+            Text::Str => Set::Data,
+            Text::Word => Set::Word,
+        }
+    }
+
+    /// The most bytes of it.
+    #[inline(always)]
+    pub(crate) fn longest(self) -> usize
+        ensures { result ≡ longest_of self }
+    {
+        match self {
+            Text::Symbol | Text::Str => LONGEST_TEXT,
+            Text::Word => LONGEST_WORD,
+        }
+    }
+
+    /// Why a longer one is rejected.
+    #[inline(always)]
+    pub(crate) fn too_long(self) -> LexReason
+        ensures { result ≡ too_long_of self }
+    {
+        match self {
+            Text::Symbol => LexReason::SymbolTooLong,
+            Text::Str => LexReason::StringTooLong,
+            Text::Word => LexReason::WordTooLong,
+        }
+    }
+
+    /// Whether it is a string, and the bytes begin with an escape.
+    #[inline(always)]
+    pub(crate) fn has_escape(self, bytes: &[u8]) -> bool
+        ensures { IsTrue result → BeginsWithEscape self bytes.now }
+    {
+        match self {
+            Text::Str => bytes.len() > 1 && bytes[0] == b'\\' && is_escaped(bytes[1]),
+            _ => false,
+        }
+    }
+}
+
+impl Close {
+    ghost use Rattle.pgn_lexer.specs.Comments.{gap_of, Closes};
+
+    /// The white space between the words of the comment.
+    #[inline(always)]
+    pub(crate) fn gap(self) -> Set
+        ensures { result ≡ gap_of self }
+    {
+        match self {
+            Close::Brace => Set::Space,
+            Close::LineEnd => Set::Blank,
+        }
+    }
+
+    /// The mode behind the comment, if the byte ends it.
+    #[inline(always)]
+    pub(crate) fn mode_behind(self, byte: u8) -> Option<LexMode>
+        ensures { IfSome result (λ mode. Closes self byte mode) }
+    {
+        match self {
+            Close::Brace => (byte == b'}').then_some(LexMode::Outside),
+            Close::LineEnd => is_in(byte, Set::LineEnd).then_some(LexMode::LineStart),
+        }
+    }
 }
 
 impl PartialToken {

@@ -1,5 +1,6 @@
 -- A byte outside strings and comments, also as the first of a text, and in an escape line.
-use Rattle.pgn_lexer.proofs.Words.{◌≡◌, ℕ, ◌≤◌, Bool, false, List, ◌∷◌, length, ◌==◌, if◌then◌else◌, eqb-true, ByteResult, Used, is_line_end, Token, class, column, tokens_from, tokens_of, has_mark, PartialToken, into, begin_line, arith, LexMode, ◌+◌, Class, begins_class, begins_first, after_class, after_first, onto, begin}
+use Rattle.pgn_lexer.proofs.Words.{after_byte}
+use Rattle.pgn_lexer.proofs.Words.{◌≡◌, ℕ, ◌≤◌, Bool, false, List, ◌∷◌, length, ◌==◌, if◌then◌else◌, eqb-true, ByteResult, Used, is_line_end, Token, class, column, tokens_from, tokens_of, has_mark, PartialToken, into, begin_line, arith, LexMode, ◌+◌, Class, begins_class, begins_first, after_class, after_first, onto, begin, IsAfterByte}
 use Rattle.pgn_lexer.proofs.stepping.StepGives.{Front, StepGives, GivesIn, Gives, front_by}
 
 module _ (c : Class) (place b : ℕ) (h : PartialToken) (ended : List Token) (waits : ℕ) where
@@ -31,3 +32,23 @@ start_gives at b text fits c e = grind (arith, begin_line_gives, eqb-true, other
 pub escape_line_gives : (place at b : ℕ) (text : List ℕ) → length text ≤ 255 → (c : Bool) → is_line_end b ≡ c
     → GivesIn LexMode.EscapeLine place at b text (λ h. if c then into h LexMode.LineStart Used else into h LexMode.EscapeLine Used)
 escape_line_gives place at b text h1 c h2 = grind arith
+
+-- a byte that begins no mark and no escape line
+unless_percent : (b : ℕ) → (b ≡ 37 → ⊥) → class b ≡ Class.Percent → ⊥
+unless_percent b h1 h2 = grind (arith, eqb-true)
+
+begins_on : (place b : ℕ) (h : PartialToken) (c : Class) → (c ≡ Class.Percent → ⊥) → begin_line place h b c ≡ begin place h b c
+begins_on place b h c h1 = grind arith
+
+module _ (place b : ℕ) (h new : PartialToken) (answer : ByteResult) (t : IsAfterByte (begin place h b (class b)) new answer) where
+  pub begins_outside : h.mode ≡ LexMode.Outside → IsAfterByte (after_byte place h b) new answer
+  unfolding after_byte
+  begins_outside is = rw is t
+
+  pub begins_line : h.mode ≡ LexMode.LineStart → (b ≡ 37 → ⊥) → IsAfterByte (after_byte place h b) new answer
+  unfolding after_byte
+  begins_line is other = rw (is, begins_on place b h (class b) (unless_percent b other)) t
+
+  pub begins_text : h.mode ≡ LexMode.Start → (b ≡ 239 → ⊥) → (b ≡ 37 → ⊥) → IsAfterByte (after_byte place h b) new answer
+  unfolding after_byte
+  begins_text is unmarked other = rw (is, begins_on place b h (class b) (unless_percent b other)) (grind (arith, eqb-true))

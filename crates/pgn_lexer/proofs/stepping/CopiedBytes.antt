@@ -1,5 +1,5 @@
 -- How far a loop has copied bytes of a piece into a buffer.
-use Rattle.pgn_lexer.proofs.Words.{ℕ, ◌+◌, ◌-◌, ◌≤◌, List, length, arith, common_steps}
+use Rattle.pgn_lexer.proofs.Words.{◌≡◌, ℕ, ◌+◌, ◌-◌, ◌<◌, ◌≤◌, true, List, length, get_or, take, drop, sym, ap, ◌∙◌, arith, common_steps, length-take-le, length-drop, get_or-take, get_or-drop, Text, BeginsWithEscape, is_escaped}
 
 -- It began at `from`, is at `used` and ends at `end`. The buffer holds `held` bytes, and has room
 -- for the rest: at most `most` in all.
@@ -13,3 +13,24 @@ pub record Copied (from used end : ℕ) (piece : List ℕ) (held most : ℕ) : T
 pub copied_on : {from used end held most : ℕ} {piece : List ℕ} (now now_held : ℕ) → Copied from used end piece held most
     → used ≤ now → now ≤ end → now_held + used ≤ held + now → Copied from now end piece now_held most
 copied_on now now_held so more within fewer = grind (arith, common_steps)
+
+-- an escape with which the bytes from one index to another begin
+pub record EscapeAt (piece : List ℕ) (from to : ℕ) : Type 0 where
+  pub within : from + 1 < to
+  pub backslash : get_or piece from 0 ≡ 92
+  pub escaped : is_escaped (get_or piece (from + 1) 0) ≡ true
+
+pub escape_at : (t : Text) (piece : List ℕ) (from to : ℕ) → from ≤ to → to ≤ length piece → BeginsWithEscape t (take (to - from) (drop from piece))
+    → EscapeAt piece from to
+escape_at t piece from to some within h =
+    let long : length (take (to - from) (drop from piece)) ≡ to - from = length-take-le (to - from) (drop from piece) (omega (arith, length-drop from piece)) in
+    let two = h.long in
+    let first : get_or (take (to - from) (drop from piece)) 0 0 ≡ get_or piece from 0 =
+    get_or-take (to - from) (drop from piece) 0 0 (omega arith) ∙ get_or-drop from piece 0 0 ∙ ap (λ i. get_or piece i 0) (omega arith) in
+    let second : get_or (take (to - from) (drop from piece)) 1 0 ≡ get_or piece (from + 1) 0 =
+    get_or-take (to - from) (drop from piece) 1 0 (omega arith) ∙ get_or-drop from piece 1 0 in
+    record {
+      within = omega arith;
+      backslash = sym first ∙ h.backslash;
+      escaped = ap is_escaped (sym second) ∙ h.escaped;
+    }

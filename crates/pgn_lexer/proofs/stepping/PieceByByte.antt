@@ -1,7 +1,9 @@
 -- A run over a piece, byte by byte.
 use Rattle.pgn_lexer.specs.ByteResult.{brace, line, symbol, word}
 use Rattle.pgn_lexer.specs.declared.partial_token.LexMode.TheVariants.{Dollar, Suffix}
-use Rattle.pgn_lexer.proofs.Words.{AfterBackslash, is_escaped, ◌≡◌, Bool, ℕ, suc, ◌+◌, ◌-◌, ◌*◌, ◌<◌, ◌≤◌, inl, inr, List, [], ◌∷◌, ◌++◌, length, get_or, take, drop, refl, sym, ap, ◌∙◌, add-one, arith, ◌⊎◌, true, false, Some, take_all, drop-cons, LexFault, LexMode, LexReason, Class, CommentClass, StringClass, LineStart, Outside, Symbol, Str, BraceWord, Failed, continues_symbol, is_digit, is_suffix, class, comment_class, string_class, TokenForm, ByteResult, Used, Ends, EndsBefore, Fault, PartialToken, tokens_to_come, token_of, IsSound, HasNotFailed, pending, fault_met, fault_in_mode, begin, begin_line, string, into, after_byte, IsAfterByte, IsOutside, Ran, RunsOut, StoodAt, RunGives, RunsToToken, RunsToFault, used_after, reached_after, common_steps, true≢false, AfterByte, glyph_of, second_suffix, comment_mode, SuffixRun, Glyph, LineWord}
+use Rattle.pgn_lexer.specs.PartialToken.{HasRoom}
+use Rattle.pgn_lexer.specs.declared.partial_token.LexMode.TheVariants as modes
+use Rattle.pgn_lexer.proofs.Words.{Close, Closes, gap_of, is_blank, is_line_end, is_space, AfterBackslash, Text, IsInText, bytes_of, longest_of, is_in, is_plain, continues_word, length-append, is_escaped, ◌≡◌, Bool, ℕ, suc, ◌+◌, ◌-◌, ◌*◌, ◌<◌, ◌≤◌, inl, inr, List, [], ◌∷◌, ◌++◌, length, get_or, take, drop, refl, sym, ap, ◌∙◌, add-one, arith, ◌⊎◌, true, false, Some, take_all, drop-cons, LexFault, LexMode, LexReason, Class, CommentClass, StringClass, Outside, Symbol, Str, BraceWord, Failed, continues_symbol, is_digit, is_suffix, class, comment_class, string_class, TokenForm, ByteResult, Used, Ends, EndsBefore, Fault, PartialToken, tokens_to_come, token_of, IsSound, HasNotFailed, pending, fault_met, fault_in_mode, begin, begin_line, string, into, after_byte, IsAfterByte, IsOutside, Ran, RunsOut, StoodAt, RunGives, RunsToToken, RunsToFault, used_after, reached_after, common_steps, AfterByte, glyph_of, second_suffix, comment_mode, SuffixRun, Glyph, LineWord}
 use Rattle.pgn_lexer.proofs.stepping.StepGives.{StepGives, front_of}
 use Rattle.pgn_lexer.proofs.stepping.ByteGives.{step_gives}
 
@@ -121,7 +123,7 @@ unfolding after_byte
 takes_symbol place b h new answer e t = grind arith
 
 module _ (place b : ℕ) (h new : PartialToken) where
-  pub takes_symbol_byte : h.mode ≡ Symbol → continues_symbol b ≡ true → length h.text < 255
+  takes_symbol_byte : h.mode ≡ Symbol → continues_symbol b ≡ true → length h.text < 255
       → new ≡ record { mode = h.mode; at = h.at; text = h.text ++ b ∷ [] } → IsAfterByte (after_byte place h b) new Used
   takes_symbol_byte e goes room grows = takes_symbol _ b h new _ e (grind arith)
 
@@ -144,7 +146,7 @@ unfolding after_byte
 taken_string place b h c e same = grind arith
 
 module _ (place b : ℕ) (h new : PartialToken) where
-  pub takes_plain : h.mode ≡ Str → string_class b ≡ StringClass.Plain → length h.text < 255
+  takes_plain : h.mode ≡ Str → string_class b ≡ StringClass.Plain → length h.text < 255
       → new ≡ record { mode = h.mode; at = h.at; text = h.text ++ b ∷ [] } → IsAfterByte (after_byte place h b) new Used
   takes_plain e same room grows = rw (taken_string _ b h _ e same) (grind arith)
 
@@ -196,65 +198,93 @@ takes_suffix_end place b h new run e ends is = rw (e, ends) (record { held = is;
 -- ---- in a comment, to the end of its line or in braces
 
 -- in a word of it
-abbrev pub inside : Bool → LexMode
-inside true = LineWord
-inside false = BraceWord
+abbrev pub inside : Close → LexMode
+inside Close.Brace = BraceWord
+inside Close.LineEnd = LineWord
 
-abbrev between : Bool → ℕ → PartialToken → ℕ → CommentClass → AfterByte
-between true place h b c = line place h b c
-between false place h b c = brace place h b c
+abbrev between : Close → ℕ → PartialToken → ℕ → CommentClass → AfterByte
+between Close.Brace place h b c = brace place h b c
+between Close.LineEnd place h b c = line place h b c
 
-takes_between : (l : Bool) (place b : ℕ) (h new : PartialToken) (answer : ByteResult) → h.mode ≡ comment_mode l
+takes_between : (l : Close) (place b : ℕ) (h new : PartialToken) (answer : ByteResult) → h.mode ≡ comment_mode l
     → IsAfterByte (between l place h b (comment_class b)) new answer → IsAfterByte (after_byte place h b) new answer
 unfolding after_byte
 takes_between l place b h new answer e t = grind arith
 
-pub takes_gap : (l : Bool) (place b : ℕ) (h new : PartialToken) → h.mode ≡ comment_mode l
-    → (comment_class b ≡ CommentClass.Space) ⊎ ((comment_class b ≡ CommentClass.LineEnd) × (l ≡ false))
+blank_class : (b : ℕ) → is_blank b ≡ true → comment_class b ≡ CommentClass.Space
+blank_class b e = grind (arith, common_steps)
+
+line_end_class : (b : ℕ) → is_line_end b ≡ true → comment_class b ≡ CommentClass.LineEnd
+line_end_class b e = grind arith
+
+-- white space in braces
+in_braces : (place b : ℕ) (h : PartialToken) (c : Bool) → is_line_end b ≡ c → is_space b ≡ true
+    → brace place h b (comment_class b) ≡ record { held = record { mode = modes.Brace; at = place; text = h.text }; step = Used }
+in_braces place b h true e is = rw (line_end_class b e) refl
+in_braces place b h false e is = rw (blank_class b (rw e at is)) refl
+
+pub takes_gap : (l : Close) (place b : ℕ) (h new : PartialToken) → h.mode ≡ comment_mode l → is_in (gap_of l) b ≡ true
     → new ≡ record { mode = comment_mode l; at = place; text = h.text } → IsAfterByte (after_byte place h b) new Used
-takes_gap true place b h new e (inl is) goes = takes_between true _ b h new _ e (rw is (record { held = goes; step = refl }))
-takes_gap false place b h new e (inl is) goes = takes_between false _ b h new _ e (rw is (record { held = goes; step = refl }))
-takes_gap true place b h new e (inr is) goes = absurd (true≢false is.1)
-takes_gap false place b h new e (inr is) goes = takes_between false _ b h new _ e (rw is.0 (record { held = goes; step = refl }))
+takes_gap Close.Brace place b h new e is goes = takes_between Close.Brace _ b h new _ e (rw (in_braces place b h _ refl is) (record { held = goes; step = refl }))
+takes_gap Close.LineEnd place b h new e is goes = takes_between Close.LineEnd _ b h new _ e (rw (blank_class b is) (record { held = goes; step = refl }))
 
-pub takes_word_start : (l : Bool) (place b : ℕ) (h new : PartialToken) → h.mode ≡ comment_mode l → comment_class b ≡ CommentClass.WordByte
+pub takes_word_start : (l : Close) (place b : ℕ) (h new : PartialToken) → h.mode ≡ comment_mode l → comment_class b ≡ CommentClass.WordByte
     → new ≡ record { mode = inside l; at = place; text = b ∷ [] } → IsAfterByte (after_byte place h b) new Used
-takes_word_start true place b h new e is goes = takes_between true _ b h new _ e (rw is (record { held = goes; step = refl }))
-takes_word_start false place b h new e is goes = takes_between false _ b h new _ e (rw is (record { held = goes; step = refl }))
+takes_word_start Close.Brace place b h new e is goes = takes_between Close.Brace _ b h new _ e (rw is (record { held = goes; step = refl }))
+takes_word_start Close.LineEnd place b h new e is goes = takes_between Close.LineEnd _ b h new _ e (rw is (record { held = goes; step = refl }))
 
-pub takes_close : (l : Bool) (place b : ℕ) (h new : PartialToken) (m : LexMode) → h.mode ≡ comment_mode l
-    → ((comment_class b ≡ CommentClass.CloseBrace) × (l ≡ false) × (m ≡ Outside)) ⊎ ((comment_class b ≡ CommentClass.LineEnd) × (l ≡ true) × (m ≡ LineStart))
+pub takes_close : (l : Close) (place b : ℕ) (h new : PartialToken) (m : LexMode) → h.mode ≡ comment_mode l → Closes l b m
     → new ≡ record { mode = m; at = place; text = h.text } → IsAfterByte (after_byte place h b) new (Ends TokenForm.CommentClose)
-takes_close true place b h new m e (inl is) goes = absurd (true≢false is.1)
-takes_close false place b h new m e (inl is) goes =
-    takes_between false _ b h new _ e (rw is.0 (record { held = goes ∙ ap (λ k. record { mode = k; at = place; text = h.text }) is.2; step = refl }))
-takes_close true place b h new m e (inr is) goes =
-    takes_between true _ b h new _ e (rw is.0 (record { held = goes ∙ ap (λ k. record { mode = k; at = place; text = h.text }) is.2; step = refl }))
-takes_close false place b h new m e (inr is) goes = absurd (true≢false (sym is.1))
+takes_close Close.Brace place b h new m e is goes =
+    takes_between Close.Brace _ b h new _ e (rw is.0 (record { held = goes ∙ ap (λ k. record { mode = k; at = place; text = h.text }) is.1; step = refl }))
+takes_close Close.LineEnd place b h new m e is goes =
+    takes_between Close.LineEnd _ b h new _ e (rw is.0 (record { held = goes ∙ ap (λ k. record { mode = k; at = place; text = h.text }) is.1; step = refl }))
 
-takes_word : (l : Bool) (place b : ℕ) (h new : PartialToken) (answer : ByteResult) → h.mode ≡ inside l
+takes_word : (l : Close) (place b : ℕ) (h new : PartialToken) (answer : ByteResult) → h.mode ≡ inside l
     → IsAfterByte (word (comment_mode l) h b (comment_class b)) new answer → IsAfterByte (after_byte place h b) new answer
 unfolding after_byte
-takes_word true place b h new answer e t = grind arith
-takes_word false place b h new answer e t = grind arith
+takes_word Close.Brace place b h new answer e t = grind arith
+takes_word Close.LineEnd place b h new answer e t = grind arith
 
-pub takes_word_byte : (l : Bool) (place b : ℕ) (h new : PartialToken) → h.mode ≡ inside l
+takes_word_byte : (l : Close) (place b : ℕ) (h new : PartialToken) → h.mode ≡ inside l
     → comment_class b ≡ CommentClass.WordByte → length h.text < 79
     → new ≡ record { mode = h.mode; at = h.at; text = h.text ++ b ∷ [] } → IsAfterByte (after_byte place h b) new Used
 takes_word_byte l place b h new e goes room grows = takes_word l _ b h new _ e (rw goes (grind arith))
-
-pub takes_word_on : (place b : ℕ) (h new : PartialToken) → (h.mode ≡ BraceWord) ⊎ (h.mode ≡ LineWord)
-    → comment_class b ≡ CommentClass.WordByte → length h.text < 79
-    → new ≡ record { mode = h.mode; at = h.at; text = h.text ++ b ∷ [] } → IsAfterByte (after_byte place h b) new Used
-takes_word_on place b h new (inl e) goes room grows = takes_word_byte false _ b h new e goes room grows
-takes_word_on place b h new (inr e) goes room grows = takes_word_byte true _ b h new e goes room grows
 
 word_ends : (m : LexMode) (h : PartialToken) (b : ℕ) (c : CommentClass) → (c ≡ CommentClass.WordByte → ⊥)
     → word m h b c ≡ into h m (EndsBefore TokenForm.Word)
 word_ends m h b c h1 = grind arith
 
-pub takes_word_end : (l : Bool) (place b : ℕ) (h new : PartialToken) → h.mode ≡ inside l
+pub takes_word_end : (l : Close) (place b : ℕ) (h new : PartialToken) → h.mode ≡ inside l
     → (comment_class b ≡ CommentClass.WordByte → ⊥) → new ≡ record { mode = comment_mode l; at = h.at; text = h.text }
     → IsAfterByte (after_byte place h b) new (EndsBefore TokenForm.Word)
 takes_word_end l place b h new e other is =
     takes_word l _ b h new _ e (rw (word_ends (comment_mode l) h b (comment_class b) other) (record { held = is; step = refl }))
+
+-- ---- a text of any kind
+
+plain_class : (b : ℕ) → is_plain b ≡ true → string_class b ≡ StringClass.Plain
+plain_class b e = grind arith
+
+pub word_byte : (b : ℕ) → continues_word b ≡ true → comment_class b ≡ CommentClass.WordByte
+word_byte b e = rw e refl
+
+-- a byte more of it
+pub takes_more : (t : Text) (place b : ℕ) (h new : PartialToken) → IsInText t h.mode → is_in (bytes_of t) b ≡ true → length h.text < longest_of t
+    → new ≡ record { mode = h.mode; at = h.at; text = h.text ++ b ∷ [] } → IsAfterByte (after_byte place h b) new Used
+takes_more Text.Symbol place b h new inside goes room grows = takes_symbol_byte _ _ _ _ inside goes room grows
+takes_more Text.Str place b h new inside goes room grows = takes_plain _ _ _ _ inside (plain_class b goes) room grows
+takes_more Text.Word place b h new (inl is) goes room grows = takes_word_byte Close.Brace _ _ _ _ is (word_byte b goes) room grows
+takes_more Text.Word place b h new (inr is) goes room grows = takes_word_byte Close.LineEnd _ _ _ _ is (word_byte b goes) room grows
+
+-- a word of either comment
+pub in_word : (l : Close) → IsInText Text.Word (inside l)
+in_word Close.Brace = inl refl
+in_word Close.LineEnd = inr refl
+
+pub longest_fits : (t : Text) → longest_of t ≤ 255
+longest_fits t = grind arith
+
+module _ (t : Text) (mode : LexMode) (inside : IsInText t mode) (text : List ℕ) where
+  pub grown_fits : (b : ℕ) → HasRoom mode text → length text < longest_of t → HasRoom mode (text ++ b ∷ [])
+  grown_fits b room short = grind (arith, length-append)

@@ -1,13 +1,13 @@
 -- Tokens and white space that lie in a piece as a whole: byte after byte gives the same.
-use Rattle.pgn_lexer.specs.declared.class.CommentClass.TheVariants as comment_classes
 use Rattle.pgn_lexer.specs.declared.class.Class.TheVariants as classes
 use Rattle.pgn_lexer.specs.declared.class.Single.TheVariants.{Period}
 use Rattle.pgn_lexer.specs.declared.partial_token.SuffixRun.TheVariants as suffix_runs
 use Rattle.pgn_lexer.specs.declared.partial_token.LexMode.TheVariants as modes
 use Rattle.pgn_lexer.specs.Scanned.{token as token_scanned}
-use Rattle.pgn_lexer.proofs.Words.{◌≡◌, Bool, ℕ, zero, suc, ◌+◌, ◌-◌, ◌*◌, ◌<◌, ◌≤◌, ◌⊎◌, inl, inr, List, [], ◌∷◌, ◌++◌, length, get_or, take, drop, refl, sym, ap, subst, ◌∙◌, add-one, arith, true, false, take_all, length-take-le, LexMode, Class, LineEnd, Space, SymbolStart, Alone, LineStart, Outside, Symbol, is_digit, is_suffix, is_space, class, comment_class, symbol, str, glyph, comment_close, word, Token, TokenForm, ByteResult, Ends, Kind, PartialToken, tokens_to_come, token_of, IsSound, HasNotFailed, begin, begin_line, IsOutside, IsAfterByte, after_byte, Ran, RunsOut, RunsToToken, Standing, standing_at, Scans, IsSymbolIn, IsNumberIn, IsWordIn, rules, common_steps, take-suc, get_or-take, get_or-drop, length-drop, IsTrue, IsFalse, if◌then◌else◌, ◌==◌, list_all, glyph_of, into, second_suffix, SuffixRun, tokens_to_come_in, pending_in, IsBetween, IsWhole, IsStringIn, comment_mode, Passes, ReadsBehind, is_passed, BeginsUnpassed, Single, kind_of_single, and_parts, eqb-true, none, over_space, over_token}
+use Rattle.pgn_lexer.proofs.Words.{Close, Closes, gap_of, is_in, ◌≡◌, Bool, ℕ, zero, suc, ◌+◌, ◌-◌, ◌*◌, ◌<◌, ◌≤◌, inl, inr, List, [], ◌∷◌, ◌++◌, length, get_or, take, drop, refl, sym, ap, subst, ◌∙◌, add-one, arith, true, false, take_all, length-take-le, LexMode, Class, LineEnd, Space, SymbolStart, Alone, LineStart, Outside, Symbol, is_digit, is_suffix, is_space, class, symbol, str, glyph, comment_close, word, Token, TokenForm, ByteResult, Ends, Kind, PartialToken, tokens_to_come, token_of, IsSound, HasNotFailed, begin, begin_line, IsOutside, IsAfterByte, after_byte, Ran, RunsOut, RunsToToken, Standing, standing_at, Scans, IsRunIn, IsNumberIn, Set, Text, continues_word, string_class, rules, common_steps, take-suc, get_or-take, get_or-drop, length-drop, IsTrue, IsFalse, if◌then◌else◌, ◌==◌, list_all, glyph_of, into, second_suffix, SuffixRun, tokens_to_come_in, pending_in, IsBetween, IsWhole, comment_mode, Passes, ReadsBehind, is_passed, BeginsUnpassed, Single, kind_of_single, and_parts, eqb-true, none, over_space, over_token}
 use Rattle.pgn_lexer.proofs.bytes.ClassToTest.{ClassSays, class_says}
-use Rattle.pgn_lexer.proofs.stepping.PieceByByte.{ran_none, ran_uses, ran_ends, ran_ends_before, takes_outside, takes_symbol_byte, takes_symbol_end, takes_plain, takes_quote, takes_dollar, takes_digit, takes_glyph_end, takes_second, takes_suffix_end, takes_gap, takes_word_start, takes_close, takes_word_byte, takes_word_end, inside}
+use Rattle.pgn_lexer.proofs.stepping.PieceByByte.{ran_none, ran_uses, ran_ends, ran_ends_before, takes_outside, takes_symbol_end, takes_more, in_word, word_byte, takes_quote, takes_dollar, takes_digit, takes_glyph_end, takes_second, takes_suffix_end, takes_gap, takes_word_start, takes_close, takes_word_end, inside}
+use Rattle.pgn_lexer.proofs.stepping.RunsInPiece.{digit_starts, digits_in, no_word, number_in, symbol_in}
 use Rattle.pgn_lexer.proofs.stepping.StandsAfterCalls.{scans_nothing, scans_token}
 
 -- ---- between tokens, and between the words of a comment
@@ -25,7 +25,7 @@ not_failed_between m h = grind arith
 outside_between : (m : LexMode) → IsOutside m → IsBetween m
 outside_between m h = grind arith
 
-comment_between : (l : Bool) → IsBetween (comment_mode l)
+comment_between : (l : Close) → IsBetween (comment_mode l)
 comment_between l = grind arith
 
 module _ (place : ℕ) (old : PartialToken) (piece : List ℕ) (used : ℕ) (m : LexMode) (between : IsBetween m) (a b : ℕ) (x y : List ℕ)
@@ -86,16 +86,15 @@ module _ (place : ℕ) (old : PartialToken) (piece : List ℕ) where
         ran_uses place old piece old 0 (get_or piece 0 0) some refl at_start new
         (takes_outside _ _ _ _ _ c outside is same (rw begins (record { held = refl; step = refl })))
 
-    symbol_runs : (n : ℕ) → IsSymbolIn piece n → RunsTo (symbol (take n piece)) Outside (take n piece) n
-    symbol_runs n is =
+    symbol_runs : (n : ℕ) → class (get_or piece 0 0) ≡ SymbolStart → IsRunIn Set.Symbol 255 piece n → RunsTo (symbol (take n piece)) Outside (take n piece) n
+    symbol_runs n starts is =
         let within = is.within in
         let few = is.few in
-        let starts : class (get_or piece 0 0) ≡ SymbolStart = rw is.first refl in
         let one : take 1 piece ≡ get_or piece 0 0 ∷ [] = take-suc piece 0 0 (omega arith) in
         let first = first_byte SymbolStart (holding Symbol (take 1 piece)) (omega arith) starts refl (rw one refl) in
         let ran = ran_on Symbol (λ k. take k piece) n is.some (omega arith) first (λ k some less.
         let long : length (take k piece) ≡ k = length-take-le k piece (omega arith) in
-        takes_symbol_byte _ _ _ _ refl (is.all k less) (omega (arith, long)) (rw (take-suc piece k 0 (omega arith)) refl)) in
+        takes_more Text.Symbol _ _ _ _ refl (is.all k some less) (omega (arith, long)) (rw (take-suc piece k 0 (omega arith)) refl)) in
         ran_ends_before place old piece _ n (get_or piece n 0) within refl ran TokenForm.Symbol _ (takes_symbol_end _ _ _ _ refl is.ends refl)
 
     -- a token of one byte
@@ -106,9 +105,9 @@ module _ (place : ℕ) (old : PartialToken) (piece : List ℕ) where
     single_runs c m form some is begins same = grind (arith, at_start, outside, place, ran_ends, same, some, takes_outside)
 
     -- a string without an escape
-    string_runs : (n : ℕ) → IsStringIn piece n → class (get_or piece 0 0) ≡ classes.Quote
+    string_runs : (n : ℕ) → IsRunIn Set.Data 256 piece n → get_or piece n 0 ≡ 34 → class (get_or piece 0 0) ≡ classes.Quote
         → RunsTo (str (take (n - 1) (drop 1 piece))) Outside (take (n - 1) (drop 1 piece)) (n + 1)
-    string_runs n is quote =
+    string_runs n is ends quote =
         let within = is.within in
         let few = is.few in
         let first = first_byte classes.Quote (holding modes.Str []) (omega arith) quote refl refl in
@@ -118,8 +117,8 @@ module _ (place : ℕ) (old : PartialToken) (piece : List ℕ) where
         let same : suc (k - 1) ≡ suc k - 1 = omega arith in
         let more : take (suc k - 1) (drop 1 piece) ≡ take (k - 1) (drop 1 piece) ++ get_or (drop 1 piece) (k - 1) 0 ∷ [] =
         rw same at (take-suc (drop 1 piece) (k - 1) 0 (omega (arith, length-drop 1 piece))) in
-        takes_plain _ _ _ _ refl (is.all k some less) (omega (arith, long)) (rw (more, next) refl)) in
-        ran_ends place old piece _ n (get_or piece n 0) within refl ran TokenForm.Str _ (takes_quote _ _ _ _ refl is.ends refl)
+        takes_more Text.Str _ _ _ _ refl (is.all k some less) (omega (arith, long)) (rw (more, next) refl)) in
+        ran_ends place old piece _ n (get_or piece n 0) within refl ran TokenForm.Str _ (takes_quote _ _ _ _ refl (ap string_class ends) refl)
 
     -- a NAG
     ran_dollar : 1 < length piece → class (get_or piece 0 0) ≡ classes.Dollar → is_digit (get_or piece 1 0) ≡ true
@@ -144,34 +143,31 @@ module _ (place : ℕ) (old : PartialToken) (piece : List ℕ) where
         ran_ends_before place old piece _ n (get_or piece n 0) within refl ran (TokenForm.Glyph (glyph_of run)) _
         (takes_suffix_end _ _ _ _ run refl ends refl)
 
-  module _ (sound : IsSound place old) (l : Bool) (in_comment : old.mode ≡ comment_mode l) where
+  module _ (sound : IsSound place old) (l : Close) (in_comment : old.mode ≡ comment_mode l) where
     at_start_comment : Ran place old piece old 0
     at_start_comment = grind (arith, comment_between, not_failed_between, place, ran_none, sound)
 
-    ran_gap : 0 < length piece → (comment_class (get_or piece 0 0) ≡ comment_classes.Space) ⊎ ((comment_class (get_or piece 0 0) ≡ comment_classes.LineEnd) × (l ≡ false))
+    ran_gap : 0 < length piece → is_in (gap_of l) (get_or piece 0 0) ≡ true
         → Ran place old piece (holding (comment_mode l) old.text) 1
-    ran_gap some is = grind (arith, at_start_comment, place, ran_uses, some, takes_gap)
+    ran_gap some is =
+        ran_uses place old piece old 0 (get_or piece 0 0) some refl at_start_comment _ (takes_gap l (place + 0) (get_or piece 0 0) old _ in_comment is refl)
 
-    word_runs : (n : ℕ) → IsWordIn piece n → RunsTo (word (take n piece)) (comment_mode l) (take n piece) n
-    word_runs n is =
+    word_runs : (n : ℕ) → continues_word (get_or piece 0 0) ≡ true → IsRunIn Set.Word 79 piece n → RunsTo (word (take n piece)) (comment_mode l) (take n piece) n
+    word_runs n begins is =
         let within = is.within in
         let few = is.few in
         let one : take 1 piece ≡ get_or piece 0 0 ∷ [] = take-suc piece 0 0 (omega arith) in
         let first = ran_uses place old piece old 0 (get_or piece 0 0) (omega arith) refl at_start_comment (holding (inside l) (take 1 piece))
-        (takes_word_start l _ _ _ _ in_comment (is.all 0 is.some) (rw one refl)) in
+        (takes_word_start l _ _ _ _ in_comment (word_byte (get_or piece 0 0) begins) (rw one refl)) in
         let ran = ran_on (inside l) (λ k. take k piece) n is.some (omega arith) first (λ k some less.
         let long : length (take k piece) ≡ k = length-take-le k piece (omega arith) in
-        takes_word_byte l _ _ _ _ refl (is.all k less) (omega (arith, long)) (rw (take-suc piece k 0 (omega arith)) refl)) in
-        ran_ends_before place old piece _ n (get_or piece n 0) within refl ran TokenForm.Word _ (takes_word_end l _ _ _ _ refl is.ends refl)
+        takes_more Text.Word _ _ _ _ (in_word l) (is.all k some less) (omega (arith, long)) (rw (take-suc piece k 0 (omega arith)) refl)) in
+        ran_ends_before place old piece _ n (get_or piece n 0) within refl ran TokenForm.Word _ (takes_word_end l _ _ _ _ refl (no_word (get_or piece n 0) is.ends) refl)
 
     close_runs : (m : LexMode) → 0 < length piece
-        → ((comment_class (get_or piece 0 0) ≡ comment_classes.CloseBrace) × (l ≡ false) × (m ≡ Outside)) ⊎ ((comment_class (get_or piece 0 0) ≡ comment_classes.LineEnd) × (l ≡ true) × (m ≡ LineStart))
+        → Closes l (get_or piece 0 0) m
         → RunsTo comment_close m old.text 1
     close_runs m some is = grind (arith, at_start_comment, place, ran_ends, some, takes_close)
-
-pub one_more : (p : ℕ → Bool) (xs : List ℕ) (n : ℕ) → ((i : ℕ) → i < n → p (get_or xs i 0) ≡ true) → p (get_or xs n 0) ≡ true
-    → (i : ℕ) → i < n + 1 → p (get_or xs i 0) ≡ true
-one_more p xs n h last i less = grind arith
 
 -- ---- the tokens that a piece begins with, outside comments
 
@@ -187,18 +183,18 @@ module _ (piece : List ℕ) where
         runs = λ place old sound outside at y room. held_as place old piece k mode (text old) n between (runs place old sound outside) at y room;
       }
 
-  pub whole_symbol : (n : ℕ) → IsSymbolIn piece n → IsWhole piece n Outside (symbol (take n piece))
-  whole_symbol n is =
+  pub whole_symbol : (n : ℕ) → class (get_or piece 0 0) ≡ SymbolStart → IsRunIn Set.Symbol 255 piece n → IsWhole piece n Outside (symbol (take n piece))
+  whole_symbol n starts is =
       let within = is.within in
       whole_of n _ _ (λ old. take n piece) is.some (omega arith) tt
-      (λ place old sound outside. symbol_runs place old piece sound outside n is)
+      (λ place old sound outside. symbol_runs place old piece sound outside n starts is)
 
-  pub whole_string : (n : ℕ) → IsStringIn piece n → class (get_or piece 0 0) ≡ classes.Quote
+  pub whole_string : (n : ℕ) → IsRunIn Set.Data 256 piece n → get_or piece n 0 ≡ 34 → class (get_or piece 0 0) ≡ classes.Quote
       → IsWhole piece (n + 1) Outside (str (take (n - 1) (drop 1 piece)))
-  whole_string n is quote =
+  whole_string n is ends quote =
       let within = is.within in
       whole_of (n + 1) _ _ (λ old. take (n - 1) (drop 1 piece)) (omega arith) (omega arith) tt
-      (λ place old sound outside. string_runs place old piece sound outside n is quote)
+      (λ place old sound outside. string_runs place old piece sound outside n is ends quote)
 
   pub whole_single : (c : Class) (m : LexMode) (form : TokenForm) → 0 < length piece → class (get_or piece 0 0) ≡ c → IsBetween m
       → ((place : ℕ) (old : PartialToken) → begin place old (get_or piece 0 0) c ≡ record { held = record { mode = m; at = place; text = old.text }; step = Ends form })
@@ -266,11 +262,11 @@ digits_all (suc n) (x ∷ xs) within h zero less = (and_parts (is_digit x) _ h).
 digits_all (suc n) (x ∷ xs) within h (suc i) less = digits_all n xs (omega arith) (and_parts (is_digit x) _ h).1 i (omega arith)
 
 -- a symbol that is no number
-pub symbol_unpassed : (n : ℕ) (xs : List ℕ) → IsSymbolIn xs n → BeginsUnpassed xs → (b : Bool) → list_all is_digit (take n xs) ≡ b → IsFalse b
+pub symbol_unpassed : (n : ℕ) (xs : List ℕ) → IsRunIn Set.Symbol 255 xs n → BeginsUnpassed xs → (b : Bool) → list_all is_digit (take n xs) ≡ b → IsFalse b
 symbol_unpassed n xs is unpassed false e = refl
 symbol_unpassed n xs is unpassed true e =
     let within = is.within in
-    absurd (unpassed.no_number n (record { is_symbol = is; digits = digits_all n xs (omega arith) e }))
+    absurd (unpassed.no_number n (number_in xs n (digits_all n xs (omega arith) e) is))
 
 -- a token of one byte that is no period
 pub single_unpassed : (s : Single) (b : ℕ) → class b ≡ Alone s → (b ≡ 46 → ⊥) → IsFalse (is_passed (kind_of_single s))
@@ -282,7 +278,7 @@ single_unpassed _ b is no_period = refl
 pub sound_outside : (place : ℕ) (h : PartialToken) → IsOutside h.mode → length h.text ≤ 255 → IsSound place h
 sound_outside place h outside room = sound_between h.mode (outside_between h.mode outside) place h.at h.text room
 
-pub sound_in_comment : (l : Bool) (place : ℕ) (h : PartialToken) → h.mode ≡ comment_mode l → length h.text ≤ 255 → IsSound place h
+pub sound_in_comment : (l : Close) (place : ℕ) (h : PartialToken) → h.mode ≡ comment_mode l → length h.text ≤ 255 → IsSound place h
 sound_in_comment l place h in_comment room = sound_between h.mode (rw in_comment (comment_between l)) place h.at h.text room
 
 white_line_end : (b : ℕ) → class b ≡ LineEnd → is_space b ≡ true
@@ -291,11 +287,12 @@ white_line_end b is = let e = subst (ClassSays b) is (class_says b) in rw e refl
 white_blank : (b : ℕ) → class b ≡ Space → is_space b ≡ true
 white_blank b is = let e = subst (ClassSays b) is (class_says b) in rw (e.0, e.1) refl
 
-white_in_comment : (b : ℕ) → (comment_class b ≡ comment_classes.Space) ⊎ (comment_class b ≡ comment_classes.LineEnd) → is_space b ≡ true
-white_in_comment b is = grind arith
+gap_is_white : (l : Close) (b : ℕ) → is_in (gap_of l) b ≡ true → is_space b ≡ true
+gap_is_white l b is = grind arith
 
-gap_is_white : (l : Bool) (b : ℕ) → (comment_class b ≡ comment_classes.Space) ⊎ ((comment_class b ≡ comment_classes.LineEnd) × (l ≡ false)) → is_space b ≡ true
-gap_is_white l b is = grind (arith, white_in_comment)
+closes_between : (l : Close) (b : ℕ) (m : LexMode) → Closes l b m → IsBetween m
+closes_between Close.Brace b m h = rw h.1 tt
+closes_between Close.LineEnd b m h = rw h.1 tt
 
 -- no token waits outside comments
 none_waits : (m : LexMode) → IsOutside m → pending_in m ≡ 0
@@ -393,26 +390,27 @@ module _ (skips : Bool) (before : Standing) (place : ℕ) (h : PartialToken) (pi
 
       pub passes_number : IsTrue skips → (n : ℕ) → IsNumberIn rest n → Passes skips before piece (standing_at (place + (m + n)) (into_mode h Outside)) (m + n)
       passes_number skipped n is =
-          over n _ Outside is.is_symbol.some (held_as (place + m) h rest _ Outside _ n tt (symbol_runs (place + m) h rest sound outside n is.is_symbol) h.at h.text room)
-          skipped (all_digits n rest is.digits)
+          over n _ Outside is.run.some (held_as (place + m) h rest _ Outside _ n tt (symbol_runs (place + m) h rest sound outside n (rw (digit_starts (get_or rest 0 0) is.first) refl) (symbol_in rest n is)) h.at h.text room)
+          skipped (all_digits n rest (digits_in rest n is))
 
-    module _ (l : Bool) (in_comment : h.mode ≡ comment_mode l) where
+    module _ (l : Close) (in_comment : h.mode ≡ comment_mode l) where
       sound_there : IsSound (place + m) h
       sound_there = sound_in_comment l (place + m) h in_comment room
 
-      pub passes_gap : (comment_class (get_or piece m 0) ≡ comment_classes.Space) ⊎ ((comment_class (get_or piece m 0) ≡ comment_classes.LineEnd) × (l ≡ false))
+      pub passes_gap : is_in (gap_of l) (get_or piece m 0) ≡ true
           → Passes skips before piece (standing_at (place + (m + 1)) (into_mode h (comment_mode l))) (m + 1)
       passes_gap is = grind (arith, common_steps, space, gap_is_white, get_or, out_alike, comment_between, one_long, ran_gap, sound_there, one_here)
 
-      pub reads_word : (n : ℕ) → IsWordIn rest n
+      pub reads_word : (n : ℕ) → continues_word (get_or piece m 0) ≡ true → IsRunIn Set.Word 79 rest n
           → ReadsBehind skips before piece (standing_at (place + (m + n)) (into_mode h (comment_mode l))) (m + n) (record { at = place + m; kind = word (take n rest) })
-      reads_word n is =
+      reads_word n begins is =
           behind within n _ (comment_mode l) is.some
-          (held_as (place + m) h rest _ (comment_mode l) _ n (comment_between l) (word_runs (place + m) h rest sound_there l in_comment n is) h.at h.text room) (λ skipped. refl)
+          (held_as (place + m) h rest _ (comment_mode l) _ n (comment_between l) (word_runs (place + m) h rest sound_there l in_comment n (ap continues_word here ∙ begins) is) h.at h.text room) (λ skipped. refl)
 
       pub reads_close : (mode : LexMode)
-          → ((comment_class (get_or piece m 0) ≡ comment_classes.CloseBrace) × (l ≡ false) × (mode ≡ Outside)) ⊎ ((comment_class (get_or piece m 0) ≡ comment_classes.LineEnd) × (l ≡ true) × (mode ≡ LineStart))
-          → IsBetween mode → ReadsBehind skips before piece (standing_at (place + (m + 1)) (into_mode h mode)) (m + 1) (record { at = place + m; kind = comment_close })
-      reads_close mode is between =
+          → Closes l (get_or piece m 0) mode
+          → ReadsBehind skips before piece (standing_at (place + (m + 1)) (into_mode h mode)) (m + 1) (record { at = place + m; kind = comment_close })
+      reads_close mode is =
+          let between = closes_between l (get_or piece m 0) mode is in
           behind within 1 _ mode (omega arith)
           (held_as (place + m) h rest _ mode _ 1 between (close_runs (place + m) h rest sound_there l in_comment mode some (rw (sym here) at is)) h.at h.text room) (λ skipped. refl)

@@ -3,12 +3,9 @@
 ghost use Rattle.std.specs.Prelude.{◌≡◌, true, false, [], ◌∷◌};
 ghost use Rattle.pgn_lexer.specs.ByteResult as byte_result;
 
-use crate::class::{
-    Class, CommentClass, StringClass, class_of, comment_class_of, continues_symbol, is_digit,
-    is_line_end, is_suffix, string_class_of,
-};
+use crate::class::{Class, Set, class_of, is_escaped, is_in};
 use crate::partial_token::{
-    ByteResult, LARGEST_GLYPH, LONGEST_WORD, LexMode, PartialToken, SuffixRun, TokenForm, clear,
+    ByteResult, LARGEST_GLYPH, LexMode, PartialToken, SuffixRun, Text, TokenForm, clear,
     first_suffix, glyph_of, longer_suffix,
 };
 use crate::token::LexReason;
@@ -17,6 +14,7 @@ impl PartialToken {
     ghost use Rattle.pgn_lexer.specs.Spelling as spelling;
     ghost use Rattle.pgn_lexer.specs.ByteResult.{IsAfterByte};
     ghost use Rattle.pgn_lexer.specs.PartialToken.{HasMore};
+    ghost use Rattle.pgn_lexer.specs.Texts.{IsInText, longest_of, too_long_of};
 
     /// Takes the byte at the place: gives it to the handler of the mode.
     #[inline(always)]
@@ -25,11 +23,15 @@ impl PartialToken {
         ensures { IsAfterByte (byte_result.after_byte place self.old byte) self.new result }
     {
         match self.mode {
-            LexMode::Start => self.start(byte, place),
+            LexMode::Start if byte == 0xEF => self.go(LexMode::AfterEf),
             LexMode::AfterEf => self.mark(0xBB, LexMode::AfterEfBb, byte),
             LexMode::AfterEfBb => self.mark(0xBF, LexMode::LineStart, byte),
-            LexMode::LineStart => self.begin_line(byte, place),
-            LexMode::Outside => self.begin(class_of(byte), byte, place),
+            LexMode::Start | LexMode::LineStart if byte == b'%' => self.go(LexMode::EscapeLine),
+            LexMode::Start | LexMode::LineStart | LexMode::Outside => self.begin(
+                class_of(byte),
+                byte,
+                place,
+            ),
             LexMode::EscapeLine => self.escape_line(byte),
             LexMode::Symbol => self.symbol(byte),
             LexMode::Str => self.string(byte, place),
@@ -53,16 +55,6 @@ impl PartialToken {
         ByteResult::Fault(reason)
     }
 
-    fn start(&mut self, byte: u8, place: u64) -> ByteResult
-        ensures { IsAfterByte (byte_result.start place self.old byte) self.new result }
-    {
-        if byte == 0xEF {
-            self.mode = LexMode::AfterEf;
-            return ByteResult::Used;
-        }
-        self.begin_line(byte, place)
-    }
-
     /// One byte more of a byte order mark.
     fn mark(&mut self, wanted: u8, mode: LexMode, byte: u8) -> ByteResult
         requires { HasMore mode self.old.text }
@@ -72,19 +64,6 @@ impl PartialToken {
             return self.fail(0, LexReason::StrayByte);
         }
         self.go(mode)
-    }
-
-    fn begin_line(&mut self, byte: u8, place: u64) -> ByteResult
-        ensures { IsAfterByte (byte_result.begin_line place self.old byte (spelling.class byte))
-            self.new result }
-    {
-        match class_of(byte) {
-            Class::Percent => {
-                self.mode = LexMode::EscapeLine;
-                ByteResult::Used
-            }
-            class => self.begin(class, byte, place),
-        }
     }
 
     fn begin(&mut self, class: Class, byte: u8, place: u64) -> ByteResult
@@ -110,7 +89,7 @@ impl PartialToken {
         requires { self.old.mode ≡ LexMode.EscapeLine }
         ensures { IsAfterByte (byte_result.escape_line self.old byte) self.new result }
     {
-        if is_line_end(byte) {
+        if is_in(byte, Set::LineEnd) {
             self.mode = LexMode::LineStart;
         }
         ByteResult::Used
@@ -120,12 +99,22 @@ impl PartialToken {
         requires { self.old.mode ≡ LexMode.Symbol }
         ensures { IsAfterByte (byte_result.symbol self.old byte) self.new result }
     {
-        if !continues_symbol(byte) {
+        if !is_in(byte, Set::Symbol) {
             self.mode = LexMode::Outside;
             return ByteResult::EndsBefore(TokenForm::Symbol);
         }
-        if self.buffer.is_full() {
-            return self.fail(self.at, LexReason::SymbolTooLong);
+        self.push(Text::Symbol, byte)
+    }
+
+    /// Stores one byte more of the text.
+    #[inline(always)]
+    fn push(&mut self, text: Text, byte: u8) -> ByteResult
+        requires { IsInText text self.old.mode }
+        ensures { IsAfterByte (byte_result.if_room (longest_of text) (too_long_of text) self.old
+            (byte_result.grown self.old self.old.mode byte)) self.new result }
+    {
+        if self.buffer.len() >= text.longest() {
+            return self.fail(self.at, text.too_long());
         }
         self.buffer.push(byte);
         ByteResult::Used
@@ -134,7 +123,7 @@ impl PartialToken {
     fn dollar(&mut self, byte: u8) -> ByteResult
         ensures { IsAfterByte (byte_result.dollar self.old byte) self.new result }
     {
-        if !is_digit(byte) {
+        if !is_in(byte, Set::Digit) {
             return self.fail(self.at, LexReason::LoneDollar);
         }
         self.mode = LexMode::Glyph(byte - b'0');
@@ -145,7 +134,7 @@ impl PartialToken {
     fn glyph(&mut self, number: u8, byte: u8) -> ByteResult
         ensures { IsAfterByte (byte_result.glyph self.old number byte) self.new result }
     {
-        if !is_digit(byte) {
+        if !is_in(byte, Set::Digit) {
             self.mode = LexMode::Outside;
             return ByteResult::EndsBefore(TokenForm::Glyph(number));
         }
@@ -160,7 +149,7 @@ impl PartialToken {
     fn suffix(&mut self, run: SuffixRun, byte: u8) -> ByteResult
         ensures { IsAfterByte (byte_result.suffix self.old run byte) self.new result }
     {
-        if !is_suffix(byte) {
+        if !is_in(byte, Set::Suffix) {
             self.mode = LexMode::Outside;
             return ByteResult::EndsBefore(TokenForm::Glyph(glyph_of(run)));
         }
@@ -179,27 +168,19 @@ impl PartialToken {
             (byte_result.string false place self.old byte (spelling.string_class byte)) self.new
             result }
     {
-        match string_class_of(byte) {
-            StringClass::Quote => {
-                self.mode = LexMode::Outside;
-                ByteResult::Ends(TokenForm::Str)
-            }
-            StringClass::LineEnd => self.fail(self.at, LexReason::UnclosedString),
-            StringClass::Control => self.fail(place, LexReason::ControlByte),
-            StringClass::Backslash => {
+        if is_in(byte, Set::Data) {
+            return self.push(Text::Str, byte);
+        }
+        match byte {
+            b'"' => self.end(LexMode::Outside, TokenForm::Str),
+            b'\\' => {
                 if self.buffer.is_full() {
                     return self.fail(self.at, LexReason::StringTooLong);
                 }
-                self.mode = LexMode::AfterBackslash;
-                ByteResult::Used
+                self.go(LexMode::AfterBackslash)
             }
-            StringClass::Plain => {
-                if self.buffer.is_full() {
-                    return self.fail(self.at, LexReason::StringTooLong);
-                }
-                self.buffer.push(byte);
-                ByteResult::Used
-            }
+            b'\n' | b'\r' => self.fail(self.at, LexReason::UnclosedString),
+            _ => self.fail(place, LexReason::ControlByte),
         }
     }
 
@@ -208,24 +189,24 @@ impl PartialToken {
         ensures { IsAfterByte (byte_result.string true place self.old byte
             (spelling.string_class byte)) self.new result }
     {
-        match string_class_of(byte) {
-            StringClass::Quote | StringClass::Backslash => {
-                self.buffer.push(byte);
-                self.mode = LexMode::Str;
-                ByteResult::Used
-            }
-            StringClass::LineEnd => self.fail(self.at, LexReason::UnclosedString),
-            StringClass::Control => self.fail(place, LexReason::ControlByte),
-            StringClass::Plain => {
-                if self.buffer.remaining_capacity() < 2 {
-                    return self.fail(self.at, LexReason::StringTooLong);
-                }
-                self.buffer.push(b'\\');
-                self.buffer.push(byte);
-                self.mode = LexMode::Str;
-                ByteResult::Used
-            }
+        if is_escaped(byte) {
+            self.buffer.push(byte);
+            self.mode = LexMode::Str;
+            return ByteResult::Used;
         }
+        if is_in(byte, Set::LineEnd) {
+            return self.fail(self.at, LexReason::UnclosedString);
+        }
+        if !is_in(byte, Set::Data) {
+            return self.fail(place, LexReason::ControlByte);
+        }
+        if self.buffer.remaining_capacity() < 2 {
+            return self.fail(self.at, LexReason::StringTooLong);
+        }
+        self.buffer.push(b'\\');
+        self.buffer.push(byte);
+        self.mode = LexMode::Str;
+        ByteResult::Used
     }
 
     fn brace(&mut self, byte: u8, place: u64) -> ByteResult
@@ -233,12 +214,16 @@ impl PartialToken {
             self.new result }
     {
         self.at = place;
-        match comment_class_of(byte) {
-            CommentClass::LineEnd | CommentClass::Space => self.go(LexMode::Brace),
-            CommentClass::CloseBrace => self.end(LexMode::Outside, TokenForm::CommentClose),
-            CommentClass::WordByte => self.begin_text(LexMode::BraceWord, byte),
-            CommentClass::Control => self.fail(place, LexReason::ControlByte),
+        if is_in(byte, Set::Word) {
+            return self.begin_text(LexMode::BraceWord, byte);
         }
+        if is_in(byte, Set::Space) {
+            return self.go(LexMode::Brace);
+        }
+        if byte == b'}' {
+            return self.end(LexMode::Outside, TokenForm::CommentClose);
+        }
+        self.fail(place, LexReason::ControlByte)
     }
 
     fn line(&mut self, byte: u8, place: u64) -> ByteResult
@@ -246,34 +231,33 @@ impl PartialToken {
             self.new result }
     {
         self.at = place;
-        match comment_class_of(byte) {
-            CommentClass::LineEnd => self.end(LexMode::LineStart, TokenForm::CommentClose),
-            CommentClass::Space => self.go(LexMode::Line),
-            CommentClass::CloseBrace => self.fail(place, LexReason::BraceInLineComment),
-            CommentClass::WordByte => self.begin_text(LexMode::LineWord, byte),
-            CommentClass::Control => self.fail(place, LexReason::ControlByte),
+        if is_in(byte, Set::Word) {
+            return self.begin_text(LexMode::LineWord, byte);
         }
+        if is_in(byte, Set::Blank) {
+            return self.go(LexMode::Line);
+        }
+        if is_in(byte, Set::LineEnd) {
+            return self.end(LexMode::LineStart, TokenForm::CommentClose);
+        }
+        if byte == b'}' {
+            return self.fail(place, LexReason::BraceInLineComment);
+        }
+        self.fail(place, LexReason::ControlByte)
     }
 
     /// One byte more of a word, or its end. `between` is the mode between the words.
     fn word(&mut self, between: LexMode, byte: u8) -> ByteResult
-        requires { HasMore between self.old.text }
+        requires between { HasMore between self.old.text }
+        requires word { IsInText Text.Word self.old.mode }
         ensures { IsAfterByte (byte_result.word between self.old byte (spelling.comment_class byte))
             self.new result }
     {
-        match comment_class_of(byte) {
-            CommentClass::WordByte => {
-                if self.buffer.len() >= LONGEST_WORD {
-                    return self.fail(self.at, LexReason::WordTooLong);
-                }
-                self.buffer.push(byte);
-                ByteResult::Used
-            }
-            _ => {
-                self.mode = between;
-                ByteResult::EndsBefore(TokenForm::Word)
-            }
+        if !is_in(byte, Set::Word) {
+            self.mode = between;
+            return ByteResult::EndsBefore(TokenForm::Word);
         }
+        self.push(Text::Word, byte)
     }
 
     fn go(&mut self, mode: LexMode) -> ByteResult

@@ -1,16 +1,15 @@
 //! Reads a piece byte by byte, up to the end of a token, and copies the bytes of its text.
 
-ghost use Rattle.std.specs.Prelude.{◌≡◌, ℕ, ◌+◌, ◌<◌, ◌≤◌, ◌⊎◌, ◌^◌, length};
+ghost use Rattle.std.specs.Prelude.{◌≡◌, ℕ, ◌+◌, ◌<◌, ◌≤◌, ◌^◌, length};
 ghost use Rattle.pgn_lexer.specs.RunResult.{used_after, reached_after};
 
-use crate::class::{
-    CommentClass, StringClass, comment_class_of, continues_symbol, is_escaped, string_class_of,
-};
-use crate::partial_token::{ByteResult, LONGEST_WORD, LexMode, PartialToken, PieceResult};
+use crate::class::is_in;
+use crate::partial_token::{ByteResult, LexMode, PartialToken, PieceResult, Text};
 
 impl PartialToken {
     ghost use Rattle.pgn_lexer.specs.PartialToken.{IsSound, PartialToken};
     ghost use Rattle.pgn_lexer.specs.RunResult.{Ran, RunGives};
+    ghost use Rattle.pgn_lexer.specs.Texts.{IsInText};
 
     /// Uses the piece, which begins at the place, up to the end of the first token. A rejected byte
     /// is used too.
@@ -64,85 +63,39 @@ impl PartialToken {
             → Ran place old piece.now self.new result }
     {
         match self.mode {
-            LexMode::Symbol => self.copy_symbol(piece, from, place),
-            LexMode::Str => self.copy_string(piece, from, place),
-            LexMode::BraceWord | LexMode::LineWord => self.copy_word(piece, from, place),
+            LexMode::Symbol => self.copy(Text::Symbol, piece, from, place),
+            LexMode::Str => self.copy(Text::Str, piece, from, place),
+            LexMode::BraceWord | LexMode::LineWord => self.copy(Text::Word, piece, from, place),
             _ => from,
         }
     }
 
-    /// In a symbol, copies the bytes that continue it.
+    /// In a text of this kind, copies the bytes with which the piece goes on after so many bytes,
+    /// and in a string also escapes of which both bytes are in the piece. Returns how many bytes of
+    /// the piece are used then.
+    ///
+    /// It stops at the end of the text, at what is rejected, and where the buffer may be full.
     #[inline(always)]
-    fn copy_symbol(&mut self, piece: &[u8], from: usize, place: u64) -> usize
+    fn copy(&mut self, text: Text, piece: &[u8], from: usize, place: u64) -> usize
         requires within { from ≤ length piece.now }
-        requires symbol { self.old.mode ≡ LexMode.Symbol }
+        requires text { IsInText text self.old.mode }
         ensures from { from ≤ result }
         ensures within { result ≤ length piece.now }
         ensures ran { (old : PartialToken) → Ran place old piece.now self.old from
             → Ran place old piece.now self.new result }
     {
-        let end = from + (piece.len() - from).min(self.buffer.remaining_capacity());
-        let mut used = from;
-        while used < end {
-            let byte = piece[used];
-            if !continues_symbol(byte) {
-                break;
-            }
-            self.buffer.push(byte);
-            used += 1;
-        }
-        used
-    }
-
-    /// In a word of a comment, copies the bytes that continue it.
-    #[inline(always)]
-    fn copy_word(&mut self, piece: &[u8], from: usize, place: u64) -> usize
-        requires within { from ≤ length piece.now }
-        requires word { (self.old.mode ≡ LexMode.BraceWord) ⊎ (self.old.mode ≡ LexMode.LineWord) }
-        ensures from { from ≤ result }
-        ensures within { result ≤ length piece.now }
-        ensures ran { (old : PartialToken) → Ran place old piece.now self.old from
-            → Ran place old piece.now self.new result }
-    {
-        let room = LONGEST_WORD.saturating_sub(self.buffer.len());
+        // As many bytes as have room for sure, even if none is a backslash.
+        let room = text.longest().saturating_sub(self.buffer.len());
         let end = from + (piece.len() - from).min(room);
         let mut used = from;
         while used < end {
             let byte = piece[used];
-            let CommentClass::WordByte = comment_class_of(byte) else {
-                break
-            };
-            self.buffer.push(byte);
-            used += 1;
-        }
-        used
-    }
-
-    /// In a string, copies the data with which the piece goes on after so many bytes, past escapes
-    /// of which both bytes are in the piece. Returns how many bytes of the piece are used then.
-    ///
-    /// It stops at the end of the string, at what is rejected, and where the buffer may be full.
-    /// `take` does the same with each of these bytes, and takes three times as long.
-    #[inline(always)]
-    fn copy_string(&mut self, piece: &[u8], from: usize, place: u64) -> usize
-        requires { from ≤ length piece.now }
-        ensures from { from ≤ result }
-        ensures within { result ≤ length piece.now }
-        ensures ran { (old : PartialToken) → Ran place old piece.now self.old from
-            → Ran place old piece.now self.new result }
-    {
-        let LexMode::Str = self.mode else { return from };
-        // As many bytes as have room for sure, even if none is a backslash.
-        let end = from + (piece.len() - from).min(self.buffer.remaining_capacity());
-        let mut used = from;
-        while used < end {
-            let byte = piece[used];
-            if let StringClass::Plain = string_class_of(byte) {
+            if is_in(byte, text.bytes()) {
                 self.buffer.push(byte);
                 used += 1;
                 continue;
             }
-            if byte != b'\\' || used + 1 >= end || !is_escaped(piece[used + 1]) {
+            if !text.has_escape(&piece[used..end]) {
                 break;
             }
             used += 1;

@@ -2,22 +2,19 @@
 
 ghost use Rattle.std.specs.Prelude.{◌≡◌, Bool, ℕ, ◌+◌, ◌<◌, ◌≤◌, ◌^◌, drop, length, get_or, IsTrue, IsFalse, IfSome, MatchOption};
 ghost use Rattle.pgn_lexer.specs.Bytes as bytes;
-ghost use Rattle.pgn_lexer.specs.Runs.{BeginsUnpassed, IsNumberIn, IsStringIn, IsSymbolIn, IsWhole, IsWordIn};
-ghost use Rattle.pgn_lexer.specs.Runs.{comment_mode, standing_at};
+ghost use Rattle.pgn_lexer.specs.Runs.{BeginsUnpassed, IsNumberIn, IsWhole};
+ghost use Rattle.pgn_lexer.specs.Comments.{comment_mode};
+ghost use Rattle.pgn_lexer.specs.Runs.{standing_at};
 ghost use Rattle.pgn_lexer.specs.Scanned.{kind_of};
 ghost use Rattle.pgn_lexer.specs.Spelling as spelling;
 ghost use Rattle.pgn_lexer.specs.Tokens.{glyph};
 ghost use Rattle.pgn_lexer.specs.WholeTokens.{is_passed};
 ghost use Rattle.pgn_lexer.specs.declared.class.Class.TheVariants as classes;
-ghost use Rattle.pgn_lexer.specs.declared.class.CommentClass.TheVariants.{WordByte};
 
-use crate::class::{
-    Class, CommentClass, StringClass, class_of, comment_class_of, continues_symbol, is_digit,
-    is_suffix, string_class_of,
-};
+use crate::class::{Class, Set, class_of, is_in, run_length};
 use crate::partial_token::{
-    LARGEST_GLYPH, LONGEST_TEXT, LONGEST_WORD, LexMode, PartialToken, first_suffix, glyph_of,
-    kind_of_single, longer_suffix,
+    Close, LARGEST_GLYPH, LONGEST_TEXT, LONGEST_WORD, LexMode, PartialToken, first_suffix,
+    glyph_of, kind_of_single, longer_suffix,
 };
 use crate::token::{Token, TokenKind};
 
@@ -63,8 +60,8 @@ impl PartialToken {
                 place,
                 skips_numbers,
             ),
-            LexMode::Brace => self.whole_in_comment(piece, place, false),
-            LexMode::Line => self.whole_in_comment(piece, place, true),
+            LexMode::Brace => self.whole_in_comment(piece, place, Close::Brace),
+            LexMode::Line => self.whole_in_comment(piece, place, Close::LineEnd),
             _ => (0, None),
         }
     }
@@ -120,19 +117,20 @@ impl PartialToken {
             if byte == b' ' || (skips_numbers && byte == b'.') {
                 self.mode = LexMode::Outside;
                 used += 1;
-            } else if skips_numbers && is_digit(byte) {
+            } else if skips_numbers && is_in(byte, Set::Digit) {
                 let Some(length) = number_length(&piece[used..]) else {
                     break;
                 };
                 self.mode = LexMode::Outside;
                 used += length;
-            } else {
-                match class_of(byte) {
-                    Class::LineEnd => self.mode = LexMode::LineStart,
-                    Class::Space => self.mode = LexMode::Outside,
-                    _ => break,
-                }
+            } else if is_in(byte, Set::LineEnd) {
+                self.mode = LexMode::LineStart;
                 used += 1;
+            } else if is_in(byte, Set::Blank) {
+                self.mode = LexMode::Outside;
+                used += 1;
+            } else {
+                break;
             }
         }
         used
@@ -145,46 +143,37 @@ impl PartialToken {
         &mut self,
         piece: &'a [u8],
         place: u64,
-        is_line: bool,
+        close: Close,
     ) -> (usize, Option<Token<'a>>)
         requires room { place + length piece.now ≤ 2 ^ 62 }
         requires sound { IsSound place self.old }
-        requires comment { self.old.mode ≡ comment_mode is_line }
+        requires comment { self.old.mode ≡ comment_mode close }
         ensures used { result.0 ≤ length piece.now }
         ensures sound { IsSound (place + result.0) self.new }
         ensures reads { (skips : Bool) → ReadsWhole skips (standing_at place self.old) piece.now
             (standing_at (place + result.0) self.new) result.0 result.1 }
     {
+        let gap = close.gap();
         let mut used = 0;
         while used < piece.len() {
             let at = place + used as u64;
-            match comment_class_of(piece[used]) {
-                CommentClass::Space => used += 1,
-                CommentClass::WordByte => {
-                    let Some(length) = word_length(&piece[used..]) else {
-                        break;
-                    };
-                    let kind = TokenKind::Word(&piece[used..used + length]);
-                    return (used + length, Some(Token { at, kind }));
-                }
-                CommentClass::LineEnd => {
-                    if is_line {
-                        self.mode = LexMode::LineStart;
-                        let kind = TokenKind::CommentClose;
-                        return (used + 1, Some(Token { at, kind }));
-                    }
-                    used += 1;
-                }
-                CommentClass::CloseBrace => {
-                    if is_line {
-                        break;
-                    }
-                    self.mode = LexMode::Outside;
-                    let kind = TokenKind::CommentClose;
-                    return (used + 1, Some(Token { at, kind }));
-                }
-                CommentClass::Control => break,
+            let byte = piece[used];
+            if is_in(byte, Set::Word) {
+                let Some(length) = run_length(&piece[used..], Set::Word, LONGEST_WORD) else {
+                    break;
+                };
+                let kind = TokenKind::Word(&piece[used..used + length]);
+                return (used + length, Some(Token { at, kind }));
             }
+            if !is_in(byte, gap) {
+                let Some(mode) = close.mode_behind(byte) else {
+                    break;
+                };
+                self.mode = mode;
+                let kind = TokenKind::CommentClose;
+                return (used + 1, Some(Token { at, kind }));
+            }
+            used += 1;
         }
         (used, None)
     }
@@ -204,7 +193,7 @@ fn whole_at(piece: &[u8]) -> Option<Whole<'_>>
     }
     match class_of(piece[0]) {
         Class::SymbolStart => {
-            let length = symbol_length(piece)?;
+            let length = run_length(piece, Set::Symbol, LONGEST_TEXT)?;
             let kind = TokenKind::Symbol(&piece[..length]);
             Some(Whole {
                 length,
@@ -213,7 +202,10 @@ fn whole_at(piece: &[u8]) -> Option<Whole<'_>>
             })
         }
         Class::Quote => {
-            let end = string_end(piece)?;
+            let end = run_length(piece, Set::Data, LONGEST_TEXT + 1)?;
+            if piece[end] != b'"' {
+                return None;
+            }
             let kind = TokenKind::Str(&piece[1..end]);
             Some(Whole {
                 length: end + 1,
@@ -267,25 +259,6 @@ fn whole_at(piece: &[u8]) -> Option<Whole<'_>>
     }
 }
 
-// The length of the symbol with which the bytes begin. `None` if it may go on behind them, or is
-// too long.
-#[inline(always)]
-fn symbol_length(piece: &[u8]) -> Option<usize>
-    requires some { 0 < length piece.now }
-    requires first { IsTrue (bytes.starts_symbol (get_or piece.now 0 0)) }
-    ensures { IfSome result (λ n. IsSymbolIn piece.now n) }
-{
-    let end = piece.len().min(LONGEST_TEXT + 1);
-    let mut length = 1;
-    while length < end {
-        if !continues_symbol(piece[length]) {
-            return Some(length);
-        }
-        length += 1;
-    }
-    None
-}
-
 // The length of the number with which the bytes begin. `None` if it may go on behind them, is no
 // number but a symbol that begins with digits, or is too long.
 #[inline(always)]
@@ -295,54 +268,8 @@ fn number_length(piece: &[u8]) -> Option<usize>
     ensures { MatchOption result ((n : ℕ) → IsNumberIn piece.now n → ⊥)
         (λ n. IsNumberIn piece.now n) }
 {
-    let end = piece.len().min(LONGEST_TEXT + 1);
-    let mut length = 1;
-    while length < end {
-        let byte = piece[length];
-        if !is_digit(byte) {
-            return (!continues_symbol(byte)).then_some(length);
-        }
-        length += 1;
-    }
-    None
-}
-
-// The index of the quote that ends the string with which the bytes begin. `None` if they have no
-// such quote, or the string has an escape or a byte that is rejected, or is too long.
-#[inline(always)]
-fn string_end(piece: &[u8]) -> Option<usize>
-    requires { 0 < length piece.now }
-    ensures { IfSome result (λ n. IsStringIn piece.now n) }
-{
-    let end = piece.len().min(LONGEST_TEXT + 2);
-    let mut at = 1;
-    while at < end {
-        match string_class_of(piece[at]) {
-            StringClass::Plain => at += 1,
-            StringClass::Quote => return Some(at),
-            _ => return None,
-        }
-    }
-    None
-}
-
-// The length of the word of a comment with which the bytes begin. `None` if it may go on behind
-// them, or is too long.
-#[inline(always)]
-fn word_length(piece: &[u8]) -> Option<usize>
-    requires some { 0 < length piece.now }
-    requires first { spelling.comment_class (get_or piece.now 0 0) ≡ WordByte }
-    ensures { IfSome result (λ n. IsWordIn piece.now n) }
-{
-    let end = piece.len().min(LONGEST_WORD + 1);
-    let mut length = 1;
-    while length < end {
-        match comment_class_of(piece[length]) {
-            CommentClass::WordByte => length += 1,
-            _ => return Some(length),
-        }
-    }
-    None
+    let length = run_length(piece, Set::Digit, LONGEST_TEXT)?;
+    (!is_in(piece[length], Set::Symbol)).then_some(length)
 }
 
 // The length and the number of the NAG with which the bytes begin. `None` if it may go on behind
@@ -352,14 +279,14 @@ fn glyph_in(piece: &[u8]) -> Option<(usize, u8)>
     requires first { spelling.class (get_or piece.now 0 0) ≡ classes.Dollar }
     ensures { IfSome result (λ r. IsWhole piece.now r.0 LexMode.Outside (glyph r.1)) }
 {
-    if piece.len() < 2 || !is_digit(piece[1]) {
+    if piece.len() < 2 || !is_in(piece[1], Set::Digit) {
         return None;
     }
     let mut number = piece[1] - b'0';
     let mut length = 2;
     while length < piece.len() {
         let byte = piece[length];
-        if !is_digit(byte) {
+        if !is_in(byte, Set::Digit) {
             return Some((length, number));
         }
         let longer = 10 * u16::from(number) + u16::from(byte - b'0');
@@ -383,11 +310,11 @@ fn suffix_in(piece: &[u8]) -> Option<(usize, u8)>
         return None;
     }
     let first = first_suffix(piece[0]);
-    if !is_suffix(piece[1]) {
+    if !is_in(piece[1], Set::Suffix) {
         return Some((1, glyph_of(first)));
     }
     let longer = longer_suffix(first, piece[1])?;
-    if piece.len() < 3 || is_suffix(piece[2]) {
+    if piece.len() < 3 || is_in(piece[2], Set::Suffix) {
         return None;
     }
     Some((2, glyph_of(longer)))

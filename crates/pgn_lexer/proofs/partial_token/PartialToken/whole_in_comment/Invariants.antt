@@ -5,7 +5,7 @@ abbrev pub invariant-loop-used : goal.invariant-loop-used
 invariant-loop-used l = record {
   within : l.used ≤ length l.piece;
   room : length l.self-inside.buffer.items ≤ 255;
-  comment : l.self-inside.mode ≡ comment_mode l.is_line;
+  comment : l.self-inside.mode ≡ comment_mode l.close;
   passes : (skips : Bool) → Passes skips (standing_at l.place l.fn.self) l.piece
       (standing_at (l.place + l.used) (record { mode = l.self-inside.mode; at = l.self-inside.at; text = l.self-inside.buffer.items })) l.used;
 }

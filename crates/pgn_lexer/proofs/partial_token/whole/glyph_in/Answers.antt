@@ -6,20 +6,13 @@ pub loop-length-init : goal.loop-length-init
 loop-length-init c = record {
   some = omega arith;
   small = omega (arith, c.type_inv.piece 1);
-  so = glyph_first _ (omega arith) c.requires.first (sym c.is_digit.ensures ∙ c.if-not-is_digit.false);
+  so = glyph_first _ (omega arith) c.requires.first (sym c.is_in.ensures ∙ c.if-not-is_in.false);
 }
 
-pub returns-then-not-is_digit-2 : goal.returns-then-not-is_digit-2
-returns-then-not-is_digit-2 c =
+pub returns-then-not-is_in-2 : goal.returns-then-not-is_in-2
+returns-then-not-is_in-2 c =
     let here = c.loop-length.invariant in
-    whole_glyph _ _ _ here.some c.loop-length-test.true (sym c.is_digit-in-loop-length.ensures ∙ c.if-not-is_digit-2.true) here.so
-
-pub overflow_mul-longer : goal.overflow_mul-longer
-overflow_mul-longer c = omega (arith, c.from.ensures, c.loop-length.invariant.small)
-
-pub overflow_add-longer : goal.overflow_add-longer
-overflow_add-longer c =
-    omega (arith, c.from.ensures, c.loop-length.invariant.small, c.from-in-loop-length.ensures, c.type_inv.piece c.loop-length.length)
+    whole_glyph _ _ _ here.some c.loop-length-test.true (sym c.is_in-in-loop-length.ensures ∙ c.if-not-is_in-2.true) here.so
 
 pub loop-length-preserved : goal.loop-length-preserved
 loop-length-preserved c =
@@ -29,6 +22,6 @@ loop-length-preserved c =
       some = omega arith;
       small = small;
       so = rw (c.from.ensures, c.from-in-loop-length.ensures)
-          (glyph_more _ _ _ c.loop-length-test.true (sym c.is_digit-in-loop-length.ensures ∙ c.if-not-is_digit-2.false)
+          (glyph_more _ _ _ c.loop-length-test.true (sym c.is_in-in-loop-length.ensures ∙ c.if-not-is_in-2.false)
           (rw (c.from.ensures, c.from-in-loop-length.ensures) at small) here.so);
     }

@@ -9,11 +9,11 @@ some (x ∷ xs) e = omega arith
 pub returns-in_ok-length-in-SymbolStart : goal.returns-in_ok-length-in-SymbolStart
 returns-in_ok-length-in-SymbolStart c =
     let is = c.in_ok-length-in-SymbolStart.ensures in
-    record { whole = whole_symbol _ _ is; not_passed = λ unpassed. symbol_unpassed _ _ is unpassed _ refl }
+    record { whole = whole_symbol _ _ (sym c.class_of.ensures ∙ c.in-SymbolStart.is) is; not_passed = λ unpassed. symbol_unpassed _ _ is unpassed _ refl }
 
-pub returns-in_ok-end-in-Quote : goal.returns-in_ok-end-in-Quote
-returns-in_ok-end-in-Quote c = record {
-  whole = whole_string _ _ c.in_ok-end-in-Quote.ensures (sym c.class_of.ensures ∙ c.in-Quote.is);
+pub returns-else-piece-end-ne34 : goal.returns-else-piece-end-ne34
+returns-else-piece-end-ne34 c = record {
+  whole = whole_string _ _ c.in_ok-end-in-Quote.ensures c.if-piece-end-ne34.false (sym c.class_of.ensures ∙ c.in-Quote.is);
   not_passed = λ unpassed. refl;
 }
 
