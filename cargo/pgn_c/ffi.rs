@@ -98,6 +98,26 @@ unsafe extern "C" fn pgn_fen_normalize(
 ///
 /// The conditions of `pgn.h` hold.
 #[no_mangle]
+unsafe extern "C" fn pgn_key(
+    fen: *const u8,
+    length: usize,
+    buffer: *mut u8,
+    capacity: usize,
+) -> PgnText {
+    match unsafe { (text_of(fen, length), buffer_of(buffer, capacity)) } {
+        (Some(fen), Some(buffer)) => crate::pgn_key(fen, buffer),
+        _ => PgnText {
+            status: NO_MODE,
+            field: 0,
+            length: 0,
+        },
+    }
+}
+
+/// # Safety
+///
+/// The conditions of `pgn.h` hold.
+#[no_mangle]
 unsafe extern "C" fn pgn_san(
     fen: *const u8,
     fen_length: usize,

@@ -63,6 +63,9 @@ enum {
 /* The same, for pgn_line, where the line of a ply is the FEN alone. */
 enum { PGN_SAN_FEN = 2, PGN_UCI_FEN = 3 };
 
+/* The same, where the line of a ply is the key of the position, as pgn_key writes it. */
+enum { PGN_SAN_KEY = 4, PGN_UCI_KEY = 5 };
+
 /* What a missing Result counts as, for pgn_next_game and pgn_read_game. */
 enum {
     PGN_RESULT_UNKNOWN = 0,   /* as *, like pgn_convert and `export` */
@@ -84,7 +87,7 @@ typedef struct pgn_result {
     uint8_t message[104]; /* "byte 77: move is not legal", ended by a zero; "" without a fault */
 } pgn_result;
 
-/* The result of pgn_fen_normalize. */
+/* The result of pgn_fen_normalize and pgn_key. */
 typedef struct pgn_text {
     uint32_t status; /* PGN_OK, PGN_FAULT, PGN_FULL, or PGN_NO_MODE for a null pointer */
     uint32_t field;  /* the field at fault, 1 to 6; 7: the six break a rule together; 0: none */
@@ -228,6 +231,18 @@ pgn_result pgn_convert(const void *text, size_t length,
 pgn_text pgn_fen_normalize(const void *fen, size_t length, uint8_t *buffer, size_t capacity);
 
 /*
+ * Writes the key of the position of a FEN into the front of a buffer.
+ *
+ * Two positions have the same key exactly if they are the same (FIDE Laws 9.2.3). The key has the
+ * first four fields of a FEN, but for two differences. It names a castling right only while the
+ * king and that rook are on their home squares, and an en passant target only if a legal move takes
+ * a pawn there. It has at most 81 bytes, and no zero after them.
+ *
+ * The result is as for pgn_fen_normalize.
+ */
+pgn_text pgn_key(const void *fen, size_t length, uint8_t *buffer, size_t capacity);
+
+/*
  * Finds the one legal move that a text names in the position of a FEN (PGN 8.2.3).
  *
  * `notation` is PGN_SAN or PGN_UCI. The result has the move's SAN, with the mark of check or mate,
@@ -262,6 +277,8 @@ pgn_move pgn_san(const void *fen, size_t fen_length, const void *text, size_t le
  * PGN_UCI       UCI       the same
  * PGN_SAN_FEN   SAN       the FEN and a line feed
  * PGN_UCI_FEN   UCI       the same
+ * PGN_SAN_KEY   SAN       the key of the position after it and a line feed
+ * PGN_UCI_KEY   UCI       the same
  *
  * PGN_OK: the buffer has the lines of all plies.
  * PGN_FAULT: `fault` says why:
@@ -271,7 +288,7 @@ pgn_move pgn_san(const void *fen, size_t fen_length, const void *text, size_t le
  * PGN_FULL: the buffer has as many lines, from the first one on, as there is room for. `fault` is
  *     51, and `place` is that of the next ply. Call again with a larger buffer, or with the FEN of
  *     the last line and the text from `place` on.
- * PGN_NO_MODE: `format` is above 3.
+ * PGN_NO_MODE: `format` is above 5.
  *
  * The bytes of the buffer after the first `written` are as they were.
  */

@@ -3,6 +3,7 @@
 
 mod fen_writer;
 mod form_origins;
+mod key;
 mod resolution;
 mod san;
 mod uci;

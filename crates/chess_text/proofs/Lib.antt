@@ -1,4 +1,5 @@
 mod forms
+mod keys
 mod names
 mod positions
 mod rows

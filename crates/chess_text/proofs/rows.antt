@@ -1,6 +1,7 @@
 -- Worked rows.
 pub mod FenRows
 pub mod FormRows
+pub mod KeyRows
 pub mod MoveSymbolRows
 pub mod MovesOfPieces
 pub mod ResolveRows

@@ -1,4 +1,6 @@
 -- **Bookkeeping**: the list of this crate's files of definitions.
+pub mod Key
+pub mod Beside
 pub mod Letter
 pub mod Placement
 pub mod Items

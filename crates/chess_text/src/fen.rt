@@ -173,7 +173,7 @@ fn push_all_but_full(text: &mut ArrayVec<u8, 93>, position: &Position)
 }
 
 // Adds a space and the field.
-fn push_field(text: &mut ArrayVec<u8, 93>, field: &[u8])
+pub(crate) fn push_field(text: &mut ArrayVec<u8, 93>, field: &[u8])
     requires { length text.old.items + 1 + length field.now ≤ 93 }
     ensures { text.new.items ≡ text.old.items ++ 32 ∷ field.now }
 {

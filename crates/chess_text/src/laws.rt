@@ -3,6 +3,7 @@
 
 ghost use Rattle.chess_text.specs.Laws.{CanonicalFits, CanonicalIsShortest, CanonicalSpells, FaultIsLowest, FenOnce, FieldsAreSpellings, FormOnce, NoMoveIsRead, ReadingAFormIsSpelling, ReadingIsSpelling, ShorterIsAmbiguous, SingleReading, TheOneMoveIsRead, TwoMovesAreAmbiguous};
 ghost use Rattle.chess_text.specs.FormOrigins.{LegalOriginsDecide};
+ghost use Rattle.chess_text.specs.Key.{KeysTell, SameMovesLegal};
 ghost use Rattle.chess_text.specs.Uci.{UciIsExact, UciTextsDiffer, WrittenUciIsRead};
 ghost use Rattle.chess_text.specs.WrittenMove.{WrittenMoveIsRead, WrittenMoveIsSymbol};
 
@@ -133,4 +134,19 @@ pub fn uci_texts_differ()
 /// The text of a legal move in UCI is read as this move, with the position after it.
 pub fn a_written_uci_is_read_as_itself()
     ensures { WrittenUciIsRead }
+{}
+
+/// Two positions have the same key exactly if they are the same (FIDE Laws 9.2.3).
+///
+/// They are if the same pieces are on the same squares, the same side is to move, and castling and
+/// en passant are possible in the same ways.
+#[tactic(auto, using(crate::proofs::keys::KeyToPosition::keys_tell))]
+pub fn keys_tell_positions_apart()
+    ensures { KeysTell }
+{}
+
+/// In two positions that are the same the same moves are legal (FIDE Laws 9.2.3).
+#[tactic(auto, using(crate::proofs::keys::SameMoves::same_moves_legal))]
+pub fn same_moves_are_legal()
+    ensures { SameMovesLegal }
 {}

@@ -3,13 +3,14 @@ use Rattle.pgn_c.proofs.Words.{◌≡◌, ℕ, ◌+◌, ◌<◌, ◌≤◌, List
 use Rattle.pgn_game.specs.calls.LineOfPlay.{Line, Ply, behind_ply}
 use Rattle.pgn_c.specs.LinesOfPlay.{WritesLine, line_result, ply_line, ply_lines}
 use Rattle.pgn_c.specs.declared.line_of_play.PgnPlies.{PgnPlies}
-use Rattle.pgn_c.specs.declared.line_of_play.PlyFields.TheVariants.{All, Fen}
+use Rattle.pgn_c.specs.declared.line_of_play.PlyFields.TheVariants.{All, Fen, Key}
 use Rattle.pgn_c.specs.declared.line_of_play.PlyFields.{PlyFields}
 
 -- the line of a ply ends with a line feed
 pub some_line : (fields : PlyFields) (x : Ply) → 0 < length (ply_line fields x)
 some_line All x = omega (arith, length-append {A = ℕ})
 some_line Fen x = omega (arith, length-append {A = ℕ})
+some_line Key x = omega (arith, length-append {A = ℕ})
 
 one_more_line : (fields : PlyFields) (xs : List Ply) (x : Ply) → ply_lines fields (xs ++ x ∷ []) ≡ ply_lines fields xs ++ ply_line fields x
 one_more_line fields [] x = append-nil (ply_line fields x)

@@ -5,6 +5,7 @@ use Rattle.std.specs.Prelude.{◌≡◌, ℕ, ◌+◌, ◌<◌, List, [], ◌∷
 use Rattle.chess_rules.specs.declared.position.Parts.{Parts}
 use Rattle.chess_text.specs.declared.fen.FenFault.{FenFault}
 use Rattle.chess_text.specs.Fen.{fen_text}
+use Rattle.chess_text.specs.Key.{position_key}
 use Rattle.chess_text.specs.Uci.{uci}
 use Rattle.pgn_game.specs.declared.notation.Notation.TheVariants.{San, Uci}
 use Rattle.pgn_game.specs.declared.reason.Fault.{Fault}
@@ -13,27 +14,31 @@ use Rattle.pgn_game.specs.games.Reason.{number_of}
 use Rattle.pgn_c.specs.declared.line_of_play.Format.{Format}
 use Rattle.pgn_c.specs.declared.line_of_play.PgnPlies.{PgnPlies}
 use Rattle.pgn_c.specs.declared.line_of_play.PlyFields.{PlyFields}
-use Rattle.pgn_c.specs.declared.line_of_play.PlyFields.TheVariants.{All, Fen}
+use Rattle.pgn_c.specs.declared.line_of_play.PlyFields.TheVariants.{All, Fen, Key}
 use Rattle.pgn_c.specs.Results.{IsFilled}
 
--- The format with this number. Moves are in SAN with 0 and 2, and in UCI with 1 and 3. The line of
--- a ply has all fields with 0 and 1, and the FEN alone with 2 and 3.
+-- The format with this number. Moves are in SAN with 0, 2 and 4, and in UCI with 1, 3 and 5. The
+-- line of a ply has all fields with 0 and 1, the FEN alone with 2 and 3, and the key alone with 4
+-- and 5.
 abbrev pub format_of : ℕ → Option Format
 format_of number =
     if number == 0 then Some (record { notation = San; fields = All })
     else (if number == 1 then Some (record { notation = Uci; fields = All })
     else (if number == 2 then Some (record { notation = San; fields = Fen })
-    else (if number == 3 then Some (record { notation = Uci; fields = Fen }) else None)))
+    else (if number == 3 then Some (record { notation = Uci; fields = Fen })
+    else (if number == 4 then Some (record { notation = San; fields = Key })
+    else (if number == 5 then Some (record { notation = Uci; fields = Key }) else None)))))
 
 -- a field of a line, and the byte behind it
 abbrev pub field : List ℕ → ℕ → List ℕ
 field text end = text ++ end ∷ []
 
 -- the line of a ply: its SAN and its UCI, each with a tab (9) behind it, and the FEN of the
--- position after it, with a line feed (10); or the last field alone
+-- position after it, with a line feed (10); or the last field alone, or the key of that position
 abbrev pub ply_line : PlyFields → Ply → List ℕ
 ply_line All x = field x.san 9 ++ field (uci x.played.mv) 9 ++ field (fen_text x.played.next) 10
 ply_line Fen x = field (fen_text x.played.next) 10
+ply_line Key x = field (position_key x.played.next) 10
 
 abbrev pub ply_lines : PlyFields → List Ply → List ℕ
 ply_lines fields [] = []

@@ -5,6 +5,7 @@ use Rattle.chess_rules.specs.declared.position.Parts.{Parts}
 use Rattle.chess_text.specs.declared.fen.FenFault.{FenFault}
 use Rattle.chess_text.specs.declared.resolution.Played.{Played}
 use Rattle.chess_text.specs.Fen.{fen_text}
+use Rattle.chess_text.specs.Key.{position_key}
 use Rattle.chess_text.specs.San.{san}
 use Rattle.chess_text.specs.Uci.{uci}
 use Rattle.pgn_game.specs.declared.notation.Notation.{Notation}
@@ -31,6 +32,12 @@ pub record Puts (text before after : List ℕ) (result : PgnText) : Type 0 where
 abbrev pub Normalizes : Result Parts FenFault → List ℕ → List ℕ → PgnText → Type 0
 Normalizes (Ok position) before after result = Puts (fen_text position) before after result
 Normalizes (Err fault) before after result =
+    (after ≡ before) × (result ≡ record { status = 1; field = fault.field; length = 0 })
+
+-- the same for the key of the position (FIDE 9.2.3)
+abbrev pub WritesKey : Result Parts FenFault → List ℕ → List ℕ → PgnText → Type 0
+WritesKey (Ok position) before after result = Puts (position_key position) before after result
+WritesKey (Err fault) before after result =
     (after ≡ before) × (result ≡ record { status = 1; field = fault.field; length = 0 })
 
 -- ---- a move

@@ -1,13 +1,14 @@
-//! A position's canonical text, as C gets it.
+//! A position's canonical text and its key, as C gets them.
 ghost use Rattle.std.specs.Prelude.{◌≡◌};
 ghost use Rattle.chess_text.specs.Fen.{fen_text};
+ghost use Rattle.chess_text.specs.Key.{position_key};
 ghost use Rattle.pgn_c.specs.Positions.{Puts};
 
 use crate::pgn_result::{FAULT, FULL, OK};
-use chess_rules::Position;
-use chess_text::write_fen;
+use chess_rules::{Position, Probes};
+use chess_text::{write_fen, write_position_key};
 
-/// The result for a FEN, `struct pgn_text` in C.
+/// The result for a FEN or a key, `struct pgn_text` in C.
 #[repr(C)]
 #[derive(Clone, Copy)]
 pub struct PgnText {
@@ -25,6 +26,14 @@ pub fn put_fen(position: &Position, buffer: &mut [u8]) -> PgnText
 {
     let text = write_fen(position);
     put(text.as_slice(), buffer)
+}
+
+/// Puts the key of the position into the front of the buffer, if it fits.
+pub fn put_key(position: &Position, buffer: &mut [u8]) -> PgnText
+    ensures { Puts (position_key position.now) buffer.old buffer.new result }
+{
+    let key = write_position_key(position, &mut Probes::new());
+    put(key.as_slice(), buffer)
 }
 
 // Puts the text into the front of the buffer, if it fits.

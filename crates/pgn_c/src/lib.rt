@@ -14,7 +14,7 @@
 ghost use Rattle.std.specs.Prelude.{◌≡◌};
 ghost use Rattle.chess_text.specs.Fen.{read};
 ghost use Rattle.pgn_c.specs.Explanation.{explanation};
-ghost use Rattle.pgn_c.specs.Positions.{Normalizes, notation_of, san_result_in};
+ghost use Rattle.pgn_c.specs.Positions.{Normalizes, WritesKey, notation_of, san_result_in};
 ghost use Rattle.pgn_c.specs.LinesOfPlay.{WritesLineIn, format_of};
 ghost use Rattle.pgn_c.specs.NextGame.{NextGameIn, ReadGameIn};
 ghost use Rattle.pgn_c.specs.NextSection.{NextSection, ends_with_number, is_set};
@@ -37,7 +37,7 @@ use crate::buffer_sink::{BufferBefore, BufferSink, Room};
 pub use crate::explanation::PgnExplanation;
 use crate::explanation::{explain, no_explanation};
 pub use crate::fen::PgnText;
-use crate::fen::{bad_text, put_fen};
+use crate::fen::{bad_text, put_fen, put_key};
 pub use crate::game_result::PgnGame;
 pub use crate::line_of_play::PgnPlies;
 use crate::line_of_play::{format_with_number, no_first_position, no_line_in_format, write_line};
@@ -124,6 +124,24 @@ pub extern "C" fn pgn_fen_normalize(fen: &[u8], buffer: &mut [u8]) -> PgnText
     }
 }
 
+/// Writes the key of the position of a FEN into the front of a buffer.
+///
+/// Two positions have the same key exactly if they are the same (FIDE Laws 9.2.3). The key has the
+/// first four fields of a FEN, but for two differences. It names a castling right only while the
+/// king and that rook are on their home squares, and an en passant target only if a legal move
+/// takes a pawn there. It has at most 81 bytes.
+///
+/// The result is as for `pgn_fen_normalize`.
+#[unsafe(no_mangle)]
+pub extern "C" fn pgn_key(fen: &[u8], buffer: &mut [u8]) -> PgnText
+    ensures { WritesKey (read fen.now) buffer.old buffer.new result }
+{
+    match read_fen(fen) {
+        Ok(position) => put_key(&position, buffer),
+        Err(fault) => bad_text(fault.field),
+    }
+}
+
 /// Returns the SAN and the UCI of the one legal move that a text names (PGN 8.2.3).
 ///
 /// The position before the move is that of the FEN. The result also has the FEN of the position
@@ -151,10 +169,10 @@ pub extern "C" fn pgn_san(fen: &[u8], text: &[u8], notation: u32) -> PgnMove
 /// buffer.
 ///
 /// The text has moves in one notation with white space between them. Move numbers and periods that
-/// stand alone, as `1.` and `12...`, are passed. Each ply is a line. Of the four formats, 0 and 2
-/// read SAN, and 1 and 3 read UCI. With 0 and 1 the line has the ply's SAN and its UCI, each with a
-/// tab behind it, and the FEN of the position after it, with LF. With 2 and 3 it has the FEN and LF
-/// alone.
+/// stand alone, as `1.` and `12...`, are passed. Each ply is a line. Of the six formats, 0, 2 and 4
+/// read SAN, and 1, 3 and 5 read UCI. With 0 and 1 the line has the ply's SAN and its UCI, each
+/// with a tab behind it, and the FEN of the position after it, with LF. With 2 and 3 it has the FEN
+/// and LF alone, and with 4 and 5 the key of that position (`pgn_key`) and LF.
 ///
 /// - Status 0: the buffer has the lines of all plies.
 /// - Status 1: the result has the number of a fault. It is 26 for the FEN, with its field. It is 33

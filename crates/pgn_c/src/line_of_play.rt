@@ -7,8 +7,8 @@ ghost use Rattle.pgn_c.specs.LinesOfPlay.{WritesLine, line_result};
 
 use crate::pgn_result::{FAULT, FULL, NO_MODE, OK};
 use arrayvec::ArrayVec;
-use chess_rules::Position;
-use chess_text::{FenWriter, write_uci};
+use chess_rules::{Position, Probes};
+use chess_text::{FenWriter, write_position_key, write_uci};
 use pgn_game::{Fault, LineOfPlay, Notation, Reason};
 
 /// What the line of a ply has.
@@ -18,6 +18,8 @@ pub enum PlyFields {
     All,
     /// The FEN alone.
     Fen,
+    /// The key of that position alone.
+    Key,
 }
 
 /// How a line of play is read, and what is written of it.
@@ -49,6 +51,14 @@ pub fn format_with_number(number: u32) -> Option<Format>
         3 => Some(Format {
             notation: Notation::Uci,
             fields: PlyFields::Fen,
+        }),
+        4 => Some(Format {
+            notation: Notation::San,
+            fields: PlyFields::Key,
+        }),
+        5 => Some(Format {
+            notation: Notation::Uci,
+            fields: PlyFields::Key,
         }),
         _ => None,
     }
@@ -142,6 +152,15 @@ fn push_next(
             Err(fault) => Err(fault),
             Ok(Some(found)) => {
                 push_field(text, fens.write(&found.played.next).as_slice(), b'\n');
+                Ok(Some(found.at))
+            }
+        },
+        PlyFields::Key => match line.next_move() {
+            Ok(None) => Ok(None),
+            Err(fault) => Err(fault),
+            Ok(Some(found)) => {
+                let key = write_position_key(&found.played.next, &mut Probes::new());
+                push_field(text, key.as_slice(), b'\n');
                 Ok(Some(found.at))
             }
         },

@@ -26,7 +26,7 @@ in_squares s h =
     (in_map (λ file. square file s.rank) lines s.file (in_lines s.file (ltb-true s.file 8 both.0)))
 
 -- no element stands twice in the list
-abbrev Apart : {X : Type 0} → List X → Type 0
+abbrev pub Apart : {X : Type 0} → List X → Type 0
 Apart [] = Unit {0}
 Apart {X} (x ∷ xs) = ((y : X) → Contains xs y → x ≢ y) × Apart xs
 
@@ -49,7 +49,7 @@ tested : all_apart squares ≡ true
 unfolding squares
 tested = refl
 
-squares_apart : Apart squares
+pub squares_apart : Apart squares
 squares_apart = apart_from_test squares tested
 
 moves_apart : (to : Square) (promotion : Option Promotion) (ss : List Square) → Apart ss → Apart (map (move_from to promotion) ss)

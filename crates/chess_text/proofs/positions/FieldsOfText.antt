@@ -43,13 +43,13 @@ six_fields a b c d e f ha hb hc hd he = grind (arith, common_steps, after_it, be
 
 -- The six fields of the canonical text, one after another, and how long they are.
 
-length-side_text : (c : Colour) → length (side_text c) ≡ 1
+pub length-side_text : (c : Colour) → length (side_text c) ≡ 1
 length-side_text c = grind arith
 
 pub length-target_text : (t : Option Square) → length (target_text t) ≤ 2
 length-target_text t = grind arith
 
-length-rights_text : (r : Rights) → length (rights_text r) ≤ 4
+pub length-rights_text : (r : Rights) → length (rights_text r) ≤ 4
 length-rights_text r = grind (arith, common_steps)
 
 pub length-number : (n : ℕ) → n ≤ 99999 → length (decimal n) ≤ 5
