@@ -1,6 +1,6 @@
 // What a person would try next, by the fault and by what is at its place.
 //
-// README.md has the same table. docs/TOOLS.md names what pgn_lint --fix mends, and which of it the
+// README.md has the same table. docs/TOOLS.md names what gillspoon lint --fix mends, and which of it the
 // button of the page does.
 import { DRAW, RESULTS } from "./text.js";
 
@@ -8,7 +8,7 @@ import { DRAW, RESULTS } from "./text.js";
 export const MARKERS_TOO = "Write missing results, and mend what is clear";
 
 const BUTTON = " The button “Mend what is clear” does it.";
-const UNSAFE = " pgn_lint --fix --unsafe-fixes does it.";
+const UNSAFE = " gillspoon lint --fix --unsafe-fixes does it.";
 const WRITE_MARKER = "It has to end with " + RESULTS + ". The button “" + MARKERS_TOO +
   "” writes what the Result tag says, or * without one.";
 const WRITE_DRAW = "Write a draw as " + DRAW + "." + BUTTON;
@@ -28,7 +28,7 @@ const ADVICE = [
   [(it) => it.number === 33 && /^[0-9]+[a-hKQRBNO]/.test(it.symbol), NUMBER_APART],
   [(it) => it.number === 33 && it.symbol === "1/2", WRITE_DRAW],
   [(it) => it.number === 33 && /^[SDTLCAF][a-h]?[1-8]?x?[a-h][1-8]/.test(it.symbol),
-    "Pieces have English letters here: K, Q, R, B, N. pgn_lint --fix --language de changes German " +
+    "Pieces have English letters here: K, Q, R, B, N. gillspoon lint --fix --language de changes German " +
     "letters to these, and it knows five other languages."],
   [(it) => it.number === 34 && /^([a-h][1-8]){2}/.test(it.symbol),
     "A move without a piece’s letter is a pawn’s: write Ng1f3, not g1f3." + BUTTON],
@@ -61,7 +61,7 @@ const ADVICE = [
   [(it) => it.number === 6,
     "A word of a comment has at most 79 bytes. Put a blank into a long address, and split a " +
     "long drawing command into several, as the button “Mend what is clear” does. " +
-    "pgn_lint --fix --unsafe-fixes cuts other words."],
+    "gillspoon lint --fix --unsafe-fixes cuts other words."],
   [(it) => it.number === 12,
     "A comment is never closed by }. By the braces it begins on line LINE." + UNSAFE],
   [(it) => it.number === 26, "Put the FEN into the field below, which says what is wrong with it. The button “Mend what " +
@@ -76,7 +76,7 @@ const ADVICE = [
     "A Result is one of " + RESULTS + ". The button “Mend what is clear” writes it if the " +
     "value is empty, a question mark, or another spelling of a result."],
   [(it) => it.number === 30, "Add the FEN tag, or take out the SetUp tag. " +
-    "pgn_lint --fix --unsafe-fixes takes it out."],
+    "gillspoon lint --fix --unsafe-fixes takes it out."],
   [(it) => it.number === 31, "The reduced format has no place for a position.", "full"],
   [(it) => it.number === 38, "Put the deepest variations into braces, as comments."],
 ];

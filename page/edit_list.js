@@ -33,7 +33,7 @@ export class EditList {
       edits.length > MOST_EDITS ? "The first " + MOST_EDITS + " are listed; all are applied." : "",
       !left ? "All games are then valid."
         : counted(left, "game") + (left === 1 ? " stays bad." : " stay bad.") +
-          " pgn_lint --fix has more fixes.",
+          " gillspoon lint --fix has more fixes.",
     ].join(" ").replace(/ {2}/g, " ");
     byId("mending").dataset.state = "listed";
     byId("mending-title").focus();

@@ -1,4 +1,4 @@
-// The fixes of pgn_lint that have their patterns in fixes.json, which pgn_lint reads too: each
+// The fixes of gillspoon lint that have their patterns in fixes.json, which gillspoon lint reads too: each
 // proposes one edit for a fault, or none. Text is a string here, with a character for each byte.
 import { OK } from "./module.js";
 import { RESULT_VALUES, encoded } from "./text.js";
@@ -33,8 +33,12 @@ export class Fixes {
     this.module = module;
     const steps = (row, flags) =>
       row.steps.map(([pattern, text]) => [this.pattern(pattern, flags), text]);
+    // a spelling that one token can have several times is tried as often
     this.moves = data.moves.filter((row) => row.safe !== false).map(
-      (row) => ({ ...row, steps: steps(row, "") }));
+      (row) => ({ ...row, steps: steps(row, "") })).flatMap(
+      (row) => Array(row.times || 1).fill(row));
+    this.otherReadings = data["other readings"].map(
+      ({ letter, piece }) => ({ letter: this.pattern("\\A(?:" + letter + ")\\Z", ""), piece }));
     this.texts = data.texts.filter((row) => row.safe).map(
       (row) => ({ ...row, steps: steps(row, "g") }));
     this.functions = data.functions.map((row) => ({
@@ -55,6 +59,12 @@ export class Fixes {
     this.movetext = part("movetext", "g");
     this.word = part("word", "g");
     this.firstNumber = part("first number", "y");
+    this.lettersOfALanguage = part("letters of a language", "");
+    this.oneMove = part("one move", "");
+    this.moveOfAPiece = part("move of a piece", "");
+    this.moveWithItsOrigin = part("move with its origin", "");
+    this.numberBefore = part("number before", "");
+    this.endOfAPair = part("end of a pair of moves", "y");
     this.move = this.pattern("\\AMOVE[+#]*(?![A-Za-z0-9_=:/-])", "");
     this.onlyMove = this.pattern("\\AMOVE[+#]*\\Z", "");
     this.wordBefore = this.pattern(
@@ -70,7 +80,7 @@ export class Fixes {
       found[0] === "[" ? found.replace(/\\s/g, "\\t-\\r ") : OTHER_SIGNS[found] || found), flags);
   }
 
-  // The edits that may mend a fault, in the order of pgn_lint; each has the names of its fixes.
+  // The edits that may mend a fault, in the order of gillspoon lint; each has the names of its fixes.
   *proposals(here, withSmallLetters) {
     if (REASONS_OF_MOVES.includes(here.fault)) {
       const edit = this.respelled(here, withSmallLetters);
@@ -246,6 +256,9 @@ export class Fixes {
     if (needs === "due") {
       return this.isDue(Number(token.match[1]), fen, token);
     }
+    if (needs === "look-alike") {
+      return !this.isOtherLetter(text, fen, token);
+    }
     const move = this.move.exec(text);
     const san = move ? this.played(fen, move[0]) : "";
     if (san === "" || needs === "castling") {
@@ -257,6 +270,19 @@ export class Fixes {
       "check": isCheck, "mate": isMate, "quiet": !isCheck,
       "en passant": /^[a-h]/.test(san) && san.slice(1, 4) === "x" + fen.split(" ")[3],
     }[needs];
+  }
+
+  // Whether a letter may be that of another piece in its language: a Russian knight, a Greek queen.
+  // It is one if the move is legal with it, or if its language is that of other moves.
+  isOtherLetter(text, fen, { here, match: [whole, before] }) {
+    const found = this.otherReadings.find(({ letter }) => letter.test(whole.slice(before.length)));
+    if (!found) {
+      return false;
+    }
+    const [token] = text.match(/[^\t-\r ]+/);
+    const other = before + found.piece + token.slice(before.length + 1);
+    return this.played(fen, other.replace(/[^KQRBNa-h1-8]/g, "")) !== "" ||
+      this.lettersOfALanguage.test(here.text.slice(here.begin));
   }
 
   // Whether castling is written with zeros as the last word of a section: `0 - 0`.
@@ -293,6 +319,29 @@ export class Fixes {
       (it) => ({ text: it[3], index: it.index }));
   }
 
+  // Whether a word from the fault up to a place is behind the number of the position, for White.
+  // Behind it the next number comes, or a marker, or the end of its variation. No move before it is
+  // written with its origin, as `e2e4`.
+  isBetweenNumbers(here, end, fen) {
+    const [, side, , , , due] = fen.split(" ");
+    const begin = Math.max(here.begin, here.place - BEHIND_MOVE);
+    const before = this.numberBefore.exec(here.text.slice(begin, here.place));
+    const behind = matchAt(this.endOfAPair, here.text, end);
+    return before !== null && behind !== null && side === "w" && Number(before[1]) === Number(due) &&
+      (!behind[1] || Number(behind[1]) === Number(due) + 1) &&
+      !this.words(here.text.slice(0, here.place), this.endOfHead(here)).some(
+        (it) => this.moveWithItsOrigin.test(it.text));
+  }
+
+  // Whether two texts are moves that are legal in turn.
+  areMoves(fen, first, second) {
+    if (!this.oneMove.test(first) || !this.oneMove.test(second)) {
+      return false;
+    }
+    const found = this.module.san(encoded(fen), encoded(first));
+    return found.status === OK && this.played(found.fen, second) !== "";
+  }
+
   // The SAN of a legal move, or an empty text.
   played(fen, move) {
     if (move.length > BEHIND_MOVE) {
@@ -306,7 +355,7 @@ export class Fixes {
 // Patterns that are looked for at one place alone.
 const FLAGS = {
   "Result tag from the marker": "", "missing Result tag": "y", "pair given twice": "y",
-  "spelling of a FEN": "y",
+  "spelling of a FEN": "y", "joined moves": "y",
 };
 
 // The edits of the fixes that have more than a pattern: of a fault, or none.
@@ -396,6 +445,20 @@ const FUNCTIONS = {
       ? { start: value.index + 1, stop: value.index + 1 + value[1].length, text } : null;
   },
 
+  // Parts two moves that are legal in turn, in one way, if they are no move of a piece.
+  "joined moves"(fixes, here, pattern) {
+    const match = matchAt(pattern, here.text, here.place);
+    const fen = match && !fixes.moveOfAPiece.test(match[0]) ? here.position(here.place) : "";
+    if (!fen || !fixes.isBetweenNumbers(here, endOf(match), fen)) {
+      return null;
+    }
+    const [word] = match;
+    const found = [...word].map((_, at) => [word.slice(0, at), word.slice(at)]).filter(
+      (it) => fixes.areMoves(fen, ...it));
+    return found.length === 1
+      ? { start: match.index, stop: endOf(match), text: found[0].join(" ") } : null;
+  },
+
   "long drawing command"(fixes, here, pattern) {
     const match = matchAtPlace(here, pattern);
     const marks = match ? match[2].split(",") : [];
@@ -408,7 +471,7 @@ const FUNCTIONS = {
   },
 };
 
-// Fixes that are not safe, since they choose what no text says. pgn_lint has more.
+// Fixes that are not safe, since they choose what no text says. gillspoon lint has more.
 const OTHERS = [
   // Adds the value of the Result tag, or *, behind the last word of a game.
   { name: NO_MARKER, reasons: [32, 42], propose(fixes, here) {

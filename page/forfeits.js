@@ -1,5 +1,5 @@
 // Games that were forfeited: how programs write that in place of a result, and in a Termination.
-// The patterns and the words are those of pgn_lint: python/gillspoon/_findings.py, _warnings.py.
+// The patterns and the words are those of gillspoon: python/gillspoon/_findings.py, _warnings.py.
 
 const RESULT = new RegExp(
   '^"[\\t-\\r ]*(?:[+-][\\t-\\r ]*[:/]?[\\t-\\r ]*[+-]|0[\\t-\\r ]*[-:/][\\t-\\r ]*0' +

@@ -6,7 +6,7 @@ const UNPACK = "Unpack it and choose the PGN files in it";
 
 function compressed(program, command) {
   return "is compressed with " + program + ". Unpack it, by " + command + ", and choose the file " +
-    "that comes out. The command pgn_fmt reads it as it is.";
+    "that comes out. The command gillspoon fmt reads it as it is.";
 }
 
 // The first bytes of a file, one character for each, and what is said of it.

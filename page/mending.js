@@ -1,4 +1,4 @@
-// Finds the edits that mend bad games, as pgn_lint --fix does: an edit is kept if the library then
+// Finds the edits that mend bad games, as gillspoon lint --fix does: an edit is kept if the library then
 // reads the game to its end, or if fewer bytes are behind its first fault than before.
 import { FULL, MISSING_RESULTS, MODES, NO_GAME, OK } from "./module.js";
 import { DRAW, latin1, lineAround, startsWithByteOrderMark } from "./text.js";
@@ -278,7 +278,8 @@ export class Mender {
     // a byte order mark and a % mean something else at the start of a text
     const begin = first && first - 1;
     const given = latin1(bytes.subarray(begin, stop));
-    const text = first ? given.replace(/^[^\t-\r ]/, " ") : given;
+    // no pattern takes it for the blank of a line
+    const text = first ? given.replace(/^[^\t-\r ]/, "\v") : given;
     const mending = new Mending(
       text, this.fixes, this.reader, this.missingResult, this.around(bytes, first, end));
     mending.run();

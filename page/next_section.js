@@ -1,5 +1,5 @@
 // Where a bad game ends, by guess: before the next line that begins a tag section. The rule is that
-// of bin/pgn_sieve: both call the library.
+// of bin/gillspoon: both call the library.
 import { startsWithByteOrderMark } from "./text.js";
 
 const MARK_SIZE = 3;

@@ -1,5 +1,5 @@
 // What is said of valid games: of a Termination tag that names a forfeit in other words than the
-// standard's, as pgn_lint says it.
+// standard's, as gillspoon lint says it.
 import { TERMINATION_NOTE } from "./forfeits.js";
 import { button, byId, counted, item, oneTabStop } from "./elements.js";
 import { gameAndPlayers } from "./fault_view.js";

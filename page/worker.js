@@ -23,7 +23,7 @@ let files = [];
 let fileIndex = 0;
 let isStopped = false;
 let goesOnByItself = false;
-// a line for each fault, as pgn_lint has it
+// a line for each fault, as gillspoon lint has it
 let faultLines = [];
 let workTime = 0;
 // the part of the file that is being read, and the reading of the whole
@@ -197,7 +197,7 @@ function takeFault() {
   return goesOnByItself;
 }
 
-// The line of a fault, as pgn_lint writes it.
+// The line of a fault, as gillspoon lint writes it.
 function lineOfFault({ file, line, column, reason, note, game, tags }) {
   const names = ["White", "Black"].map((it) => tags[it] === undefined ? "?" : tags[it]);
   return printable(file + ":" + line + ":" + column + ": " + reason + (note ? ": " + note : "") +

@@ -44,7 +44,7 @@ Description-Content-Type: text/markdown
 
 %s"""
 COMMANDS = """[console_scripts]
-pgn_lint = gillspoon.lint:main
+gillspoon = gillspoon._command:main
 """
 WHEEL = """Wheel-Version: 1.0
 Generator: gillspoon

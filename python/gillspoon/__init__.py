@@ -18,7 +18,7 @@ accepts and writes is in docs/PROFILE.md, and docs/PYTHON.md has recipes.
 
 `__version__` is the version of the package, and that of `pgn_tool --version`.
 """
-from ._calls import Explanation, Played, explain, normalize_fen, san
+from ._calls import Explanation, Played, explain, normalize_fen, position_key, san
 from ._commands import Arrow, Evaluation, MarkedSquare
 from ._edits import Edit, fixes
 from ._faults import FenFault, MoveFault, PgnFault
@@ -31,5 +31,5 @@ __version__ = version()
 __all__ = [
     "Arrow", "Edit", "Evaluation", "Explanation", "FenFault", "Game", "Line", "MarkedSquare",
     "MoveFault", "Note", "OnFault", "PgnFault", "Played", "Ply", "Source", "Totals", "check",
-    "convert", "explain", "fixes", "games", "normalize_fen", "san", "write_game",
+    "convert", "explain", "fixes", "games", "normalize_fen", "position_key", "san", "write_game",
 ]

@@ -1,6 +1,6 @@
 """The calls on a single position: FEN and SAN."""
 import ctypes
-from typing import List, NamedTuple, Tuple
+from typing import Callable, List, NamedTuple, Tuple
 
 from . import _library
 from ._described import described
@@ -48,9 +48,27 @@ def normalize_fen(fen: str) -> str:
     >>> normalize_fen("4k3/44/8/8/8/8/8/4K3 w - - 00 01")
     '4k3/8/8/8/8/8/8/4K3 w - - 0 1'
     """
+    return _text_of(_library.normalize_fen, fen)
+
+
+def position_key(fen: str) -> str:
+    """Returns the key of the position of a FEN; raises FenFault.
+
+    Two positions have the same key exactly if they are the same (FIDE Laws 9.2.3). It has the first
+    four fields of a FEN, but names no castling right whose king or rook has left its home square,
+    and no en passant target on which no legal move takes a pawn.
+
+    >>> position_key("rnbqkbnr/pppppppp/8/8/4P3/8/PPPP1PPP/RNBQKBNR b KQkq e3 0 1")
+    'rnbqkbnr/pppppppp/8/8/4P3/8/PPPP1PPP/RNBQKBNR b KQkq -'
+    """
+    return _text_of(_library.key, fen)
+
+
+def _text_of(call: Callable[[bytes, int, _library.Buffer, int], _library.Text], fen: str) -> str:
+    """What a call of the library writes for a FEN."""
     data = _data(fen, "a FEN")
     buffer = ctypes.create_string_buffer(_library.LONGEST_FEN)
-    result = _library.normalize_fen(data, len(data), buffer, len(buffer))
+    result = call(data, len(data), buffer, len(buffer))
     if result.status != _library.OK:
         raise FenFault(result.field, fen)
     return _library.front_of(buffer, result.length).decode()
@@ -81,12 +99,22 @@ def san(fen: str, move: str, *, uci: bool = False) -> Played:
 
 def fens_of_plies(fen: str, moves: str) -> List[str]:
     """Plays moves in SAN between blanks, which may have their numbers: the FEN after each."""
+    return _fields_of_plies(fen, moves, _library.SAN_FEN)
+
+
+def keys_of_plies(fen: str, sans: List[str]) -> List[str]:
+    """Plays moves in SAN: the key of the position after each."""
+    return _fields_of_plies(fen, " ".join(sans), _library.SAN_KEY)
+
+
+def _fields_of_plies(fen: str, moves: str, line_format: int) -> List[str]:
+    """The same in a format whose lines have one field."""
     # a move has two letters or more, and a blank before the next
     size = (_library.LONGEST_FEN + 1) * ((len(moves) + 1) // 3)
     # the last line feed has nothing behind it
-    fens = _lines_of_plies(fen, moves, _library.SAN_FEN, size).split("\n")
-    del fens[-1]
-    return fens
+    fields = _lines_of_plies(fen, moves, line_format, size).split("\n")
+    del fields[-1]
+    return fields
 
 
 def texts_of_plies(fen: str, sans: List[str]) -> List[str]:

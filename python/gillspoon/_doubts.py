@@ -8,13 +8,11 @@ from typing import Iterator, NamedTuple, Optional
 
 from . import _calls
 from ._faults import MoveFault
-from ._left_out import PART, end_of_head
+from ._left_out import OF_SIEVE, PART, end_of_head
 from ._reading import GameReader
 from ._sections import PAIR
 from ._suspects import MARKS_ALONE, PAWN_MOVE, has_last_number, has_odd_token, main_line
 
-# The lines that pgn_sieve writes before a bad game.
-OF_SIEVE = re.compile(rb"% bytes? \d+")
 # A string, a comment in braces, or an escape line; a comment to the end of its line; a
 # parenthesis; or a word, which is a number, a move or a marker, and the period behind it.
 TOKEN = re.compile(
@@ -143,7 +141,7 @@ def _is_next(fen: str, number: bytes, periods: bytes) -> bool:
 def escapes(data: bytes, begin: int, end: int) -> Iterator[int]:
     """Where lines begin with % in a part of a text, which begins outside comments.
 
-    Those that pgn_sieve writes before a bad game are left out.
+    Those that gillspoon sieve writes before a bad game are left out.
 
     >>> list(escapes(b"% byte 122: move is not legal\\n%a\\n1. e4 *", 0, 40))
     [30]

@@ -1,4 +1,4 @@
-"""What pgn_lint finds in a source: each fault with its game, its line, and what explains it.
+"""What gillspoon lint finds in a source: each fault with its game, its line, and what explains it.
 
 All that is said of a text comes from the library: the faults and their places, the names of a bad
 game, and whether a Result is missing, which is so if the game is accepted without one.
@@ -125,8 +125,9 @@ class Linter(Reader):
         """
         try:
             for game in self.games(self._add):
-                if self._watcher:
-                    self._watch(game, self._watcher.game(game))
+                warnings = self._watcher.game(game) if self._watcher else ()
+                if warnings:
+                    self._watch(game, warnings)
                 if self.found:
                     yield from self._taken()
                 if not game.number % STEP:

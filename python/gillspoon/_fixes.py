@@ -1,4 +1,4 @@
-"""The table of the fixes of pgn_lint.
+"""The table of the fixes of gillspoon lint.
 
 A fix has no say in what PGN is. The library names the byte and the reason of a fault. The fix looks
 at the text around it, and proposes one edit or none. The library then reads the text again: see
@@ -55,7 +55,12 @@ FIXES: "Tuple[AnyFix, ...]" = SPELLINGS + tuple(_of_data()) + (
     _of_row("quotes in a value", by.quotes_in_value),
     _of_row("pair given twice", by.equal_pair),
     _of_row("spelling of a FEN", by.fen_spelling),
+    _of_row("joined moves", by.joined_moves),
     _of_row("long drawing command", by.long_command),
+    _fix("nested braces", (1, 33, 34), UNSAFE, "{a {b} c}", "{a (b) c}", by.nested_braces),
+    _fix("joined moves like one", (33, 34), UNSAFE, "1.Bb5a6", "1.Bb5 a6",
+         by.joined_moves_like_one),
+    _fix("capture without a rank", (33,), UNSAFE, "ed", "exd5", by.capture_without_rank),
     _fix("letter apart", (33,), UNSAFE, "N bd7", "Nbd7", by.letter_apart),
     _fix("odd quotes in a value", (28,), UNSAFE, '""2500"', r'"\"2500"', by.odd_quotes_in_value),
     _fix("missing bracket", (28,), UNSAFE, '[White "a"', '[White "a"]', by.missing_bracket),
@@ -96,7 +101,7 @@ def of_language(code: str) -> Fix:
                 "1. e4 e5 2. Nf3 Nc6", in_language(code))
 
 
-# What pgn_lint --fixes lists: the last one is tried with --language alone.
+# What gillspoon lint --fixes lists: the last one is tried with --language alone.
 LISTED = FIXES + (of_language("de"),)
 NAMES = tuple(it.name for it in LISTED)
 

@@ -1,4 +1,4 @@
-"""Mends files for pgn_lint: in place, to standard output, or as a unified diff.
+"""Mends files for gillspoon lint: in place, to standard output, or as a unified diff.
 
 A file is replaced whole, by a temporary file beside it. Without an edit nothing is written.
 """
@@ -9,9 +9,10 @@ import os
 import sys
 from typing import IO, Any, Callable, Counter, Iterator, List, NamedTuple, Optional
 
+from ._diffs import run_diff
 from ._edits import Choice, Edit, Mender
 from ._games import Game, OnFault
-from ._kinds import BEGINNING, other_kind
+from ._inputs import check_kind
 from ._replacement import Replacement, check_writable, left_as_it_is, note_of_links
 from ._sources import CHUNK, Opened, Source, is_compressed
 from ._warnings import Watcher
@@ -182,10 +183,11 @@ def _copy_of_handle(file: IO[bytes]) -> IO[bytes]:
 def _opened_games(source: Source) -> Opened:
     """A source whose text can be read again; an OSError if it is no text of games."""
     opened = Opened(source)
-    kind = other_kind(opened.fetch(0, BEGINNING))
-    if kind:
+    try:
+        check_kind(opened)
+    except OSError:
         opened.close()
-        raise OSError(errno.EINVAL, kind)
+        raise
     return opened
 
 
@@ -213,20 +215,11 @@ def write_all(source: Opened, mended: Mended, end: bytes) -> None:
     out.flush()
 
 
-def write_diff(source: Opened, name: str, mended: Mended, out: IO[bytes]) -> None:
+def write_diff(source: Opened, name: str, mended: Mended, out: IO[bytes],
+               has_colours: bool) -> None:
     """Writes a unified diff of a source and its text after the edits, by the command diff."""
-    if not mended.edits or mended.text is None:
-        return
-    import subprocess
-    mended.text.seek(0)
-    handle = source.handle
-    words = ["diff", "-a", "-u", "-L", name, "-L", name + " mended", "/dev/fd/%d" % handle, "-"]
-    try:
-        ran = subprocess.run(words, stdin=mended.text, stdout=out, check=False, pass_fds=(handle,))
-    except FileNotFoundError:
-        raise OSError(errno.ENOENT, "the command diff is not on PATH") from None
-    if ran.returncode > 1:
-        raise OSError(errno.EIO, "diff ended with status %d" % ran.returncode)
+    if mended.edits and mended.text is not None:
+        run_diff(source, name, mended.text, name + " mended", out, has_colours)
 
 
 # ---- the table

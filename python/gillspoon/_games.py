@@ -26,11 +26,11 @@ OnFault = Callable[[PgnFault], object]
 # The first size of a buffer for the tag section of a game, or for its export text.
 _CAPACITY = 1 << 14
 # How many bytes `convert` reads at once: with their export they stay in the processor's cache.
-_PIECE = 1 << 17
+PIECE = 1 << 17
 # The most threads in which it converts: a call of the library lets others run.
 _MOST_THREADS = 4
 # Most games begin behind this line end. Where it is in a comment or a game, the piece has a fault.
-_EVENT_LINE = b"\n[Event "
+EVENT_LINE = b"\n[Event "
 # Empty lines, of which the last one's end is no first half of CR LF.
 _EMPTY_LINES = re.compile(rb"[\t-\r ]*(?:\n|\r(?=[^\n]))")
 _TEXT = re.compile(rb"[^\t-\r ]")
@@ -394,7 +394,7 @@ def _export(source: Source, reduced: bool) -> Optional[bytes]:
     A piece that is accepted ends outside games, comments and `%` lines. So the pieces have the
     games of the source, and several can be converted at once.
     """
-    conversion = _Conversion(_library.REDUCED_FORMAT if reduced else _library.FULL_FORMAT)
+    conversion = Conversion(reduced)
     export, opened = io.BytesIO(), Input(source)
     try:
         for found in _each_converted(conversion, _pieces(opened)):
@@ -407,30 +407,34 @@ def _export(source: Source, reduced: bool) -> Optional[bytes]:
     return export.getvalue()
 
 
-class _Piece(NamedTuple):
+class Piece(NamedTuple):
     """The first bytes of `data`, up to `end`."""
 
     data: bytes
     end: int
 
 
-class _Export(NamedTuple):
+class Export(NamedTuple):
     """The export of a piece: the first bytes of a buffer, and how many games it has."""
 
     buffer: _library.Buffer
     length: int
     games: int
 
+    def text(self) -> bytes:
+        """Its bytes."""
+        return _library.front_of(self.buffer, self.length)
 
-class _Conversion:
+
+class Conversion:
     """Converts pieces. Threads may call it at the same time: each call has a buffer of its own."""
 
-    def __init__(self, mode: int) -> None:
-        self._mode = mode
+    def __init__(self, reduced: bool) -> None:
+        self._mode = _library.REDUCED_FORMAT if reduced else _library.FULL_FORMAT
         self.buffers: List[_library.Buffer] = []
         """Buffers for further calls."""
 
-    def __call__(self, piece: _Piece) -> Optional[_Export]:
+    def __call__(self, piece: Piece) -> Optional[Export]:
         """The export of a piece, or None if it has a fault."""
         try:
             buffer = self.buffers.pop()
@@ -442,11 +446,11 @@ class _Conversion:
             found = _library.convert(*piece, buffer, len(buffer), self._mode)
         if found.status != _library.OK:
             return None
-        return _Export(buffer, found.written, found.games)
+        return Export(buffer, found.written, found.games)
 
 
-def _each_converted(conversion: _Conversion,
-                    pieces: Iterator[_Piece]) -> Iterator[Optional[_Export]]:
+def _each_converted(conversion: Conversion,
+                    pieces: Iterator[Piece]) -> Iterator[Optional[Export]]:
     """Yields the exports of the pieces in their order, while threads convert those behind."""
     first, second = next(pieces), next(pieces, None)
     if second is None:
@@ -455,7 +459,7 @@ def _each_converted(conversion: _Conversion,
     from concurrent.futures import Future, ThreadPoolExecutor
     threads = min(_MOST_THREADS, os.cpu_count() or 1)
     with ThreadPoolExecutor(threads) as pool:
-        waiting: "Deque[Future[Optional[_Export]]]" = deque()
+        waiting: "Deque[Future[Optional[Export]]]" = deque()
         for piece in chain((first, second), pieces):
             waiting.append(pool.submit(conversion, piece))
             if len(waiting) > 2 * threads:
@@ -464,23 +468,23 @@ def _each_converted(conversion: _Conversion,
             yield found.result()
 
 
-def _pieces(opened: Input) -> Iterator[_Piece]:
+def _pieces(opened: Input) -> Iterator[Piece]:
     """Yields the source in pieces, of which each but the last ends before a line with an Event tag.
 
     The bytes behind a piece's end come again with those that follow.
     """
-    data, size = b"", _PIECE
+    data, size = b"", PIECE
     while True:
         part = opened.read_at_least(size)
         data += part
         if len(part) < size:
-            yield _Piece(data, len(data))
+            yield Piece(data, len(data))
             return
-        end = data.rfind(_EVENT_LINE) + 1
-        yield _Piece(data, end)
+        end = data.rfind(EVENT_LINE) + 1
+        yield Piece(data, end)
         data = data[end:]
         # where no Event tag was met, twice as many
-        size = max(_PIECE, len(data))
+        size = max(PIECE, len(data))
 
 
 def write_game(tags: Mapping[str, str], moves: Union[Line, str], *,
@@ -512,9 +516,9 @@ def write_game(tags: Mapping[str, str], moves: Union[Line, str], *,
         moves = write_moves(moves)
     text = ("%s\n%s\n" % (section, moves)).encode(encoding)
     whole = text + tags.get("Result", "*").encode(encoding)
-    export = _Conversion(_library.FULL_FORMAT)(_Piece(whole, len(whole)))
+    export = Conversion(False)(Piece(whole, len(whole)))
     if export is not None and export.games == 1:
-        return _library.front_of(export.buffer, export.length)
+        return export.text()
     # where the moves have a result at their end, the marker behind them is a game of its own
     found = games(whole, checked=True)
     game, other = next(found), next(found, None)

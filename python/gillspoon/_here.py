@@ -51,6 +51,8 @@ MOVE = pattern_of("MOVE[+#]*(?![A-Za-z0-9_=:/-])")
 # $1 among them; a tag pair; and a line end with an empty line behind it.
 SPACE, REST, REST_WITH_SIGNS, PAIR, EMPTY_LINE = (pattern_of(DATA["parts"][it]) for it in (
     "space", "rest", "rest with signs", "pair", "empty line"))
+# A word of movetext that is no string, no comment, no escape line and no glyph.
+WORD = pattern_of(DATA["parts"]["word"])
 
 
 # ---- faults

@@ -1,7 +1,4 @@
-"""Files that are no text of games, by their first bytes.
-
-The scripts load this file by its path too, so it takes nothing from the package.
-"""
+"""Files that are no text of games, by their first bytes."""
 import re
 
 # How many bytes are looked at: in an archive of tar the first name is shorter.

@@ -4,7 +4,7 @@ The file is the first of these that is there:
 
 1. what the environment variable GILLSPOON_LIBRARY names
 2. the one beside this module, where a wheel has it
-3. PREFIX/lib/libpgn_c.so, for a module in PREFIX/share/pgn_tool, where bin/install puts both
+3. PREFIX/lib/libpgn_c.so, for a module below PREFIX/share/pgn_tool, where bin/install puts both
 4. what bin/build_program --library has built in the repository that has this module: by rt, else by
    Cargo
 
@@ -26,8 +26,8 @@ OK, FAULT, FULL, NO_MODE, NO_GAME, MORE, BAD_PLACE = range(7)
 FULL_FORMAT, REDUCED_FORMAT = range(2)
 RESULT_UNKNOWN, RESULT_FROM_MARKER = range(2)
 SAN, UCI = range(2)
-# moves in SAN for pgn_line, which writes the FEN of each ply alone
-SAN_FEN = 2
+# moves in SAN for pgn_line, which writes the FEN or the key of each ply alone
+SAN_FEN, SAN_KEY = 2, 4
 # the result that each termination marker is, by its number
 RESULTS = ("", "1-0", "0-1", "1/2-1/2", "*")
 # which lines can show where a game ends
@@ -209,6 +209,7 @@ _TEXT = (ctypes.c_void_p, ctypes.c_size_t)
 _CALLS = {
     "pgn_convert": (Result, (*_TEXT, *_TEXT, ctypes.c_uint32)),
     "pgn_fen_normalize": (Text, (*_TEXT, *_TEXT)),
+    "pgn_key": (Text, (*_TEXT, *_TEXT)),
     "pgn_san": (Move, (*_TEXT, *_TEXT, ctypes.c_uint32)),
     "pgn_line": (Plies, (*_TEXT, *_TEXT, ctypes.c_uint32, *_TEXT)),
     "pgn_next_game": (NextGame, (*_TEXT, ctypes.c_size_t, ctypes.c_uint32, ctypes.c_uint32,
@@ -218,7 +219,9 @@ _CALLS = {
     "pgn_next_section": (Section, (ctypes.POINTER(BadGame), *_TEXT, ctypes.c_uint32)),
     "pgn_explain": (Explanation, (*_TEXT, *_TEXT)),
 }
-_BUILD = "in the repository run bin/build_program --library, or pip install ./python"
+_IS_INSTALLED = os.path.basename(os.path.dirname(_HERE)) == "pgn_tool"
+_BUILD = "run bin/install again" if _IS_INSTALLED else \
+    "in the repository run bin/build_program --library, or pip install ./python"
 
 
 def path() -> str:
@@ -226,7 +229,7 @@ def path() -> str:
     named = os.environ.get(VARIABLE)
     if named:
         return named
-    if os.path.basename(os.path.dirname(_HERE)) == "pgn_tool":
+    if _IS_INSTALLED:
         folders = [_HERE, os.path.join(os.path.dirname(_ROOT), "lib")]
     else:
         folders = [_HERE, os.path.join(_ROOT, "crates", "pgn_c", "out"),
@@ -253,6 +256,7 @@ def _load() -> ctypes.CDLL:
 _library = _load()
 convert: Callable[[bytes, int, Buffer, int, int], Result] = _library.pgn_convert
 normalize_fen: Callable[[bytes, int, Buffer, int], Text] = _library.pgn_fen_normalize
+key: Callable[[bytes, int, Buffer, int], Text] = _library.pgn_key
 san: Callable[[bytes, int, bytes, int, int], Move] = _library.pgn_san
 line: Callable[[bytes, int, bytes, int, int, Buffer, int], Plies] = _library.pgn_line
 next_game: Callable[[bytes, _Size, int, _Number, _Number, Buffer, _Size],

@@ -247,7 +247,8 @@ class SectionMender:
         mark_end = fault.offset + len(BYTE_ORDER_MARK)
         is_mark = self.opened.fetch(fault.offset, mark_end) == BYTE_ORDER_MARK
         text = self.opened.fetch(begin, max(fault.end, mark_end) if is_mark else fault.end)
-        text = b" " + text[1:] if fault.begin and not text[:1].isspace() else text
+        # no pattern takes it for the blank of a line
+        text = b"\v" + text[1:] if fault.begin and not text[:1].isspace() else text
         before = self.opened.fetch(max(fault.begin - NEAR, 0), fault.begin)
         around = Around(not before.strip() and fault.begin == len(before),
                         fault.end == self.opened.size,

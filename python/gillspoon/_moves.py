@@ -36,10 +36,11 @@ class _Played:
     The plies have it, and it has none of them: so they are freed without the garbage collector.
     """
 
-    __slots__ = ("start", "first", "_sans", "habit", "ucis", "fens", "foreseen")
-    # of each move its UCI, and the FEN of the position after it, if they were asked for
+    __slots__ = ("start", "first", "_sans", "habit", "ucis", "fens", "keys", "foreseen")
+    # of each move its UCI, and the FEN and the key of the position after it, if they were asked for
     ucis: List[str]
     fens: List[str]
+    keys: List[str]
     # these FENs, if they were found before
     foreseen: List[str]
 
@@ -80,6 +81,11 @@ class _Played:
         texts = _calls.texts_of_plies(self.start_fen(), self.sans)
         self.ucis, self.fens = texts[1::3], texts[2::3]
         return self.ucis
+
+    def find_keys(self) -> List[str]:
+        """Finds the key of the position after each move."""
+        self.keys = _calls.keys_of_plies(self.start_fen(), self.sans)
+        return self.keys
 
     def fen_before(self, at: int) -> str:
         """The position before the move that has so many before it."""
@@ -169,6 +175,17 @@ class Ply:
             return self._played.fens[self._at]
         except AttributeError:
             return self._played.find_fens()[self._at]
+
+    @view
+    def key(self) -> str:
+        """The key of that position: the same for another exactly if they are the same (FIDE 9.2.3).
+
+        `position_key` returns it for a FEN.
+        """
+        try:
+            return self._played.keys[self._at]
+        except AttributeError:
+            return self._played.find_keys()[self._at]
 
     @view
     def uci(self) -> str:

@@ -1,4 +1,4 @@
-"""Errors of pgn_lint itself: what explains a fault, or mends it, can fail and ends no run.
+"""Errors of the command itself: what explains a fault, or mends it, can fail and ends no run.
 
 The fault is then reported without its explanation, and the error at the end of the run.
 """
@@ -15,7 +15,7 @@ class OwnError(NamedTuple):
     reason: str
 
     def __str__(self) -> str:
-        return "%d:%d: an error of pgn_lint, please report it: %s" % self
+        return "%d:%d: an error of gillspoon, please report it: %s" % self
 
 
 # those that nobody has taken yet
@@ -28,7 +28,7 @@ def guarded(call: Callable[[], Answer], without: Answer, line: int, column: int)
     >>> guarded(lambda: 1 // 0, 7, 2, 3)
     7
     >>> [str(it) for it in errors_taken()]
-    ['2:3: an error of pgn_lint, please report it: ZeroDivisionError: integer division or modulo \
+    ['2:3: an error of gillspoon, please report it: ZeroDivisionError: integer division or modulo \
 by zero']
     """
     try:

@@ -1,7 +1,6 @@
 """Compressed files: how each is known, and how its text is read.
 
-The scripts load this file by its path too, so it takes nothing from the package. What only one kind
-of file needs is imported when there is one, so that a script starts fast.
+What only one kind of file needs is imported when there is one, so that a script starts fast.
 """
 import contextlib
 import errno

@@ -4,8 +4,8 @@ from typing import Callable, List, Optional, Tuple
 
 from . import _calls
 from ._faults import FenFault, MoveFault
-from ._here import (BEFORE, DATA, EMPTY_LINE, NEAR, REST, SPACE, Change, Here, expanded, pattern_of,
-                    steps_of)
+from ._here import (BEFORE, DATA, EMPTY_LINE, NEAR, REST, SPACE, WORD, Change, Here, expanded,
+                    pattern_of, steps_of)
 from ._left_out import PART
 
 Propose = Callable[[Here], Optional[Change]]
@@ -389,6 +389,80 @@ def _is_legal(fen: Optional[str], move: bytes) -> bool:
         return False
 
 
+def joined_moves(here: Here) -> Optional[Change]:
+    """Parts two moves that are joined behind a number, if they are no move of a piece."""
+    return _parted(here, False)
+
+
+def joined_moves_like_one(here: Here) -> Optional[Change]:
+    """Parts two moves that are joined behind a number, and may be one of a piece."""
+    return _parted(here, True)
+
+
+def _parted(here: Here, is_of_piece: bool) -> Optional[Change]:
+    """Parts two moves that are legal in turn, in one way.
+
+    The number before has to be that of the position, with White to move, and the next one behind.
+    """
+    word = PATTERNS["joined moves"].match(here.text, here.place)
+    fen = here.position(here.place)
+    if not word or not fen or bool(MOVE_OF_A_PIECE.match(word[0])) != is_of_piece \
+            or not _is_between_numbers(here, word.end(), fen):
+        return None
+    pairs = ((word[0][:at], word[0][at:]) for at in range(2, len(word[0]) - 1))
+    found = [b" ".join(it) for it in pairs if _are_moves(fen, *it)]
+    return Change(word.start(), word.end(), found[0]) if len(found) == 1 else None
+
+
+ONE_MOVE, MOVE_OF_A_PIECE, MOVE_WITH_ITS_ORIGIN, NUMBER_BEFORE, END_OF_A_PAIR = (
+    pattern_of(DATA["parts"][it]) for it in (
+        "one move", "move of a piece", "move with its origin", "number before",
+        "end of a pair of moves"))
+
+
+def _is_between_numbers(here: Here, end: int, fen: str) -> bool:
+    """Whether a word from the fault up to a place is behind the number of the position, for White.
+
+    Behind it the next number comes, or a marker, or the end of its variation. No move before it is
+    written with its origin, as `e2e4`.
+    """
+    _, side, _, _, _, due = fen.split()
+    before = NUMBER_BEFORE.search(here.text, max(here.begin, here.place - NEAR), here.place)
+    behind = END_OF_A_PAIR.match(here.text, end)
+    if not before or not behind or side != "w" or int(before[1]) != int(due) \
+            or behind[1] and int(behind[1]) != int(due) + 1:
+        return False
+    return not any(it[3] and MOVE_WITH_ITS_ORIGIN.match(it[3])
+                   for it in WORD.finditer(here.text, here.head().end, here.place))
+
+
+def _are_moves(fen: str, first: bytes, second: bytes) -> bool:
+    """Whether two texts are moves that are legal in turn."""
+    if not ONE_MOVE.match(first) or not ONE_MOVE.match(second):
+        return False
+    try:
+        _calls.san(_calls.san(fen, first.decode("ascii")).fen, second.decode("ascii"))
+    except MoveFault:
+        return False
+    return True
+
+
+def capture_without_rank(here: Here) -> Optional[Change]:
+    """Writes the square of a pawn's capture of which the files alone are there, if one fits."""
+    found, fen = CAPTURE_OF_FILES.match(here.text, here.place), here.position(here.place)
+    if not found:
+        return None
+    squares = [b"%sx%s%d" % (found[1], found[2], rank) for rank in range(1, 9)]
+    legal = [it for it in squares if _is_legal(fen, it)]
+    # a piece that the pawn becomes would be chosen too
+    is_promotion = any(_is_legal(fen, it + b"=Q") for it in squares)
+    return Change(found.start(), found.end(), legal[0]) \
+        if len(legal) == 1 and not is_promotion else None
+
+
+CAPTURE_OF_FILES = pattern_of("([a-h])x?([a-h])(?=[+#]*END)")
+
+
 def long_suffix(here: Here) -> Optional[Change]:
     """Writes the first two signs of a suffix that is too long."""
     found = re.compile(rb"[!?]+").match(here.text, here.place)
@@ -450,11 +524,38 @@ def _end_of_line(text: bytes, begin: int) -> Optional[int]:
 
 def as_comment(text: bytes) -> bytes:
     """A comment with a text: without braces of its own, and with long words cut."""
-    plain = text.replace(b"{", b"(").replace(b"}", b")")
+    plain = without_braces(text)
     return b"{" + re.sub(rb"\S{80,}", lambda it: cut_word(it[0]), plain) + b"}"
 
 
 # ---- comments
+
+
+def nested_braces(here: Here) -> Optional[Change]:
+    """Makes parentheses of the braces inside a comment that the fault is in by its outer braces."""
+    begin = here.head().end
+    comments = [it.start() for it in MOVETEXT.finditer(here.text, begin, here.place)
+                if it[1] and it[1][:1] == b"{" and b"{" in it[1][1:]]
+    end = _end_of_braces(here.text, comments[-1]) if comments else None
+    if not end or end <= here.place:
+        return None
+    inside = here.text[comments[-1] + 1:end - 1]
+    return Change(comments[-1], end, b"{" + without_braces(inside) + b"}")
+
+
+def _end_of_braces(text: bytes, begin: int) -> Optional[int]:
+    """Where the brace is closed that is at a place, if each one inside is closed before."""
+    depth = 0
+    for found in re.compile(rb"[{}]").finditer(text, begin):
+        depth += 1 if found[0] == b"{" else -1
+        if not depth:
+            return found.end()
+    return None
+
+
+def without_braces(text: bytes) -> bytes:
+    """A text with parentheses in the place of braces."""
+    return text.replace(b"{", b"(").replace(b"}", b")")
 
 
 def long_command(here: Here) -> Optional[Change]:

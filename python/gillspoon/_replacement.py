@@ -1,14 +1,13 @@
-"""Files that are replaced whole: they have their old text or their new one, and no part of it.
-
-The scripts load this file by its path too, so it takes nothing from the package.
-"""
+"""Files that are replaced whole: they have their old text or their new one, and no part of it."""
 import contextlib
 import errno
 import os
 import signal
 import stat
 import tempfile
-from typing import Iterator, List, Optional
+from typing import IO, Iterator, List, Optional, Union
+
+from ._statuses import WRONG_WORDS, Failure
 
 # the signals that ask a script to stop
 STOPPING = (signal.SIGTERM, signal.SIGHUP, signal.SIGINT)
@@ -77,6 +76,50 @@ class Replacement:
                     self.file.close()
                 os.unlink(self.temporary)
                 self.temporary = None
+
+
+class Nowhere:
+    """The target /dev/null, in place of a Replacement: what is written to its file is dropped."""
+
+    def __init__(self) -> None:
+        self.file: IO[bytes] = open(os.devnull, "r+b")
+
+    def take_place(self) -> None:
+        """Does nothing."""
+
+    def discard(self) -> None:
+        """Closes it."""
+        self.file.close()
+
+
+Target = Union[Replacement, Nowhere]
+
+
+def target_of(path: str) -> Target:
+    """What is written in place of a file."""
+    if is_nowhere(path):
+        return Nowhere()
+    if os.path.exists(path) and not os.path.isfile(path):
+        raise Failure(WRONG_WORDS, "%s: is not a regular file" % path)
+    return Replacement(path)
+
+
+def is_nowhere(path: str) -> bool:
+    """Whether a path is /dev/null."""
+    return is_same_file(path, os.devnull)
+
+
+def has_text(path: str) -> bool:
+    """Whether a path names a file that is not empty."""
+    return os.path.isfile(path) and os.path.getsize(path) > 0
+
+
+def is_same_file(one: str, other: str) -> bool:
+    """Whether two paths name one file, also by links."""
+    try:
+        return os.path.samefile(one, other)
+    except OSError:
+        return os.path.realpath(one) == os.path.realpath(other)
 
 
 def check_writable(path: str, before: os.stat_result) -> None:

@@ -1,4 +1,4 @@
-"""How pgn_lint writes what it finds: lines for people and editors, records of JSON, SARIF."""
+"""How the command writes what it finds: lines for people and editors, records of JSON, SARIF."""
 import codecs
 import errno
 import io
@@ -19,7 +19,7 @@ VERSION_OF_SARIF = "2.1.0"
 SCHEMA_OF_SARIF = "https://json.schemastore.org/sarif-2.1.0.json"
 # How many characters of an edit are shown.
 LONGEST_EXCERPT = 60
-BOLD, RED, GREEN, PLAIN = "\x1b[1m", "\x1b[31m", "\x1b[32m", "\x1b[0m"
+BOLD, RED, GREEN, CYAN, PLAIN = "\x1b[1m", "\x1b[31m", "\x1b[32m", "\x1b[36m", "\x1b[0m"
 
 
 class Unread(NamedTuple):
@@ -106,6 +106,16 @@ class Output:
         except OSError as error:
             raise OutputFault(error) from None
 
+    def write_bytes(self, data: bytes) -> None:
+        """Writes bytes as they are, behind what was written before; raises OutputFault."""
+        self.flush()
+        try:
+            if self.stream is None:
+                raise OSError(errno.EBADF, os.strerror(errno.EBADF))
+            self.stream.buffer.write(data)
+        except OSError as error:
+            raise OutputFault(error) from None
+
     def flush(self) -> None:
         """Hands what was written to the system; raises OutputFault."""
         try:
@@ -178,7 +188,7 @@ class Report:
         return lines + [""]
 
     def _in(self, colour: str, text: str) -> str:
-        return colour + text + PLAIN if self.has_colours else text
+        return coloured(text, colour, self.has_colours)
 
     def end(self, summary: Summary, unread: List[Unread]) -> None:
         """Writes the statistics, if there are any, and the summary."""
@@ -302,7 +312,7 @@ class SarifReport:
             "$schema": SCHEMA_OF_SARIF,
             "version": VERSION_OF_SARIF,
             "runs": [{
-                "tool": {"driver": {"name": "pgn_lint", "rules": rules}},
+                "tool": {"driver": {"name": "gillspoon lint", "rules": rules}},
                 "invocations": [invocation],
                 "columnKind": "unicodeCodePoints",
                 "results": self.results,
@@ -346,37 +356,56 @@ def uri_of(name: str) -> str:
 class Progress:
     """How far the files are read: a line on a terminal, if it takes more than a second."""
 
-    def __init__(self, files: int, is_wanted: bool) -> None:
-        self.files, self.due = files, time.monotonic() + 1
-        self.is_shown, self.is_on = False, bool(is_wanted and sys.stderr and sys.stderr.isatty())
+    is_shown = False
+    """Whether there is such a line: a terminal has one."""
 
-    def show(self, file: int, games: int) -> None:
-        """Shows it, a few times a second."""
+    def __init__(self, files: int, is_wanted: bool) -> None:
+        self.files, self.began = files, time.monotonic()
+        self.due = self.began + 1
+        self.is_on = bool(is_wanted and sys.stderr and sys.stderr.isatty())
+
+    def show(self, file: int, games: int, done: int = 0, size: int = 0) -> None:
+        """Shows it, a few times a second; also how many bytes of a file are read, if it is said."""
         now = time.monotonic() if self.is_on else 0
         if self.is_on and now >= self.due:
-            self.due, self.is_shown = now + 0.25, True
-            sys.stderr.write("\r\x1b[Kpgn_lint: file %s of %s, %s" % (
-                format(file, ","), format(self.files, ","), _count(games, "game")))
+            self.due, Progress.is_shown = now + 0.25, True
+            text = "file %s of %s, %s" % (
+                format(file, ","), format(self.files, ","), _count(games, "game"))
+            if size:
+                text += ", %.1f of %.1f MB" % (done / 1e6, size / 1e6)
+            if done and self.files == 1:
+                left = (now - self.began) * (size - done) / done
+                text += ", about %d:%02d left" % (left // 60, left % 60)
+            sys.stderr.write("\r\x1b[Kgillspoon: " + text)
             sys.stderr.flush()
 
-    def clear(self) -> None:
+    @staticmethod
+    def clear() -> None:
         """Removes the line, so that another one can be written."""
-        if self.is_shown:
-            self.is_shown = False
+        if Progress.is_shown:
+            Progress.is_shown = False
             sys.stderr.write("\r\x1b[K")
             sys.stderr.flush()
 
 
 def message(text: str) -> None:
     """Writes an error."""
+    Progress.clear()
     if sys.stderr:
-        sys.stderr.write("pgn_lint: %s\n" % in_a_line(text))
+        sys.stderr.write("gillspoon: %s\n" % in_a_line(text))
 
 
-def has_colours(out: Output) -> bool:
-    """Whether the output is a terminal that is to have colours (NO_COLOR: no-color.org).
+def has_colours(out: Output, when: str) -> bool:
+    """Whether the output has colours: `always`, `never`, or `auto`, which is on a terminal.
 
-    What emacs runs has a terminal too, but emacs looks for the names of files in plain text.
+    There NO_COLOR turns them off (no-color.org). What emacs runs has a terminal too, but emacs
+    looks for the names of files in plain text.
     """
     is_plain = os.environ.get("NO_COLOR") or os.environ.get("INSIDE_EMACS")
-    return out.is_terminal and not is_plain and os.environ.get("TERM") != "dumb"
+    is_for_colours = out.is_terminal and not is_plain and os.environ.get("TERM") != "dumb"
+    return when == "always" or when == "auto" and is_for_colours
+
+
+def coloured(text: str, colour: str, has_colours: bool) -> str:
+    """A text in a colour, if there are any."""
+    return colour + text + PLAIN if has_colours else text

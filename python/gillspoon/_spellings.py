@@ -9,16 +9,14 @@ from typing import FrozenSet, Iterable, List, NamedTuple, Optional, Tuple
 from . import _calls
 from ._faults import FenFault, MoveFault
 from ._findings import piece_on
-from ._here import (DATA, MOVE, NEAR, REST_WITH_SIGNS, Change, Here, Steps, expanded, pattern_of,
-                    steps_of)
+from ._here import (DATA, MOVE, NEAR, REST_WITH_SIGNS, WORD, Change, Here, Steps, expanded,
+                    pattern_of, steps_of)
 
 # The reasons at which the spelling of a move can be at fault.
 REASONS = frozenset((1, 33, 34, 37, 39))
 NUMBER = re.compile(rb"[0-9]+\. \Z")
 # A move or a number just before a place, perhaps with a parenthesis between.
 BEFORE = pattern_of(r"(?:MOVE[+#]*|(?<![0-9])[0-9O]{1,5})[!?]*\s*\(?[ \t]*\Z")
-# A word of movetext that is no string, no comment, no escape line and no glyph.
-WORD = pattern_of(DATA["parts"]["word"])
 # What may be a piece's letter in small, of which a b may be a pawn too.
 SMALL_LETTER = re.compile(rb"[kqrnb]")
 
@@ -32,11 +30,13 @@ class Spelling(NamedTuple):
     example: Tuple[str, str]
     reasons: FrozenSet[int] = REASONS
     is_safe: bool = True
+    times: int = 1
+    """How often one token can have it."""
 
 
 SPELLINGS = tuple(Spelling(row["name"], steps_of(row), row.get("needs", ""),
                            (row["example"][0], row["example"][1]),
-                           is_safe=row.get("safe", True))
+                           is_safe=row.get("safe", True), times=row.get("times", 1))
                   for row in DATA["moves"])
 
 
@@ -50,8 +50,11 @@ class Respelled(NamedTuple):
 def respelled(here: Here, spellings: Iterable[Spelling],
               with_small_letters: bool = True) -> Optional[Respelled]:
     """The change that makes a legal move of the text at the fault, or at the word before it."""
-    wanted = tuple(spellings)
-    before = BEFORE.search(here.text, max(here.begin, here.place - NEAR), here.place)
+    near = max(here.begin, here.place - NEAR)
+    # what one token can have several times is no ASCII
+    is_plain = here.text[near:here.place + NEAR].isascii()
+    wanted = tuple(it for it in spellings for _ in range(1 if is_plain else it.times))
+    before = BEFORE.search(here.text, near, here.place)
     starts = [here.place] + ([before.start()] if before else [])
     for start in starts:
         if SMALL_LETTER.match(here.text, start) and not with_small_letters:
@@ -119,6 +122,8 @@ def _holds(needs: str, match: "re.Match[bytes]", text: bytes, fen: str, place: _
         return True
     if needs in ("due", "out of turn"):
         return _numbering(place, fen, int(match[1])) == needs
+    if needs == "look-alike":
+        return not _is_other_letter(place.here, match, text, fen)
     move = MOVE.match(text)
     played = _played(fen, move[0]) if move else None
     if not played:
@@ -128,6 +133,27 @@ def _holds(needs: str, match: "re.Match[bytes]", text: bytes, fen: str, place: _
             or needs == "check" and mark in "+#" or needs == "mate" and mark == "#"
             or needs == "quiet" and mark not in "+#"
             or needs == "en passant" and _is_en_passant(fen, played.san))
+
+
+# The letters of other languages that look like those of another piece, and their pieces.
+OTHER_READINGS = tuple((pattern_of(it["letter"]), it["piece"].encode("ascii"))
+                       for it in DATA["other readings"])
+LETTERS_OF_A_LANGUAGE = pattern_of(DATA["parts"]["letters of a language"])
+NO_PART_OF_A_MOVE = re.compile(rb"[^KQRBNa-h1-8]")
+
+
+def _is_other_letter(here: Here, match: "re.Match[bytes]", text: bytes, fen: str) -> bool:
+    """Whether a letter may be that of another piece in its language: a Russian knight, a Greek queen.
+
+    It is one if the move is legal with it, or if its language is that of other moves.
+    """
+    before, letter = match[1], match[0][len(match[1]):]
+    piece = next((piece for pattern, piece in OTHER_READINGS if pattern.match(letter)), None)
+    if not piece:
+        return False
+    behind = text.split()[0][len(before) + 1:]
+    other = NO_PART_OF_A_MOVE.sub(b"", before + piece + behind)
+    return bool(_played(fen, other) or LETTERS_OF_A_LANGUAGE.search(here.text, here.begin))
 
 
 def _may_be_result(token: bytes, place: _Place) -> bool:
@@ -185,13 +211,14 @@ def like_tokens(text: bytes, begin: int, spellings: Tuple[Spelling, ...]) -> Lis
     changes = []
     for token in WORD.finditer(text, begin):
         if token[3] and not MOVE.fullmatch(token[3]):
-            made = _without_board(token[3], spellings)
+            made = without_board(token[3], spellings)
             if made != token[3]:
                 changes.append(Change(token.start(3), token.end(3), made))
     return changes
 
 
-def _without_board(token: bytes, spellings: Tuple[Spelling, ...]) -> bytes:
+def without_board(token: bytes, spellings: Tuple[Spelling, ...]) -> bytes:
+    """A word after the spellings of it that need no board."""
     for spelling in spellings:
         for pattern, new in spelling.steps:
             match = pattern.match(token)

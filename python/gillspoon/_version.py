@@ -1,7 +1,7 @@
 """The version of all parts: it is in one place, which an installation copies beside this module.
 
-The scripts load this file by its path too, so it takes nothing from the package. The package reads
-the version at its start, so what only a command line needs is imported there.
+python/build_wheel.py loads this file by its path too, so it takes nothing from the package. The
+package reads the version at its start, so what only a command line needs is imported there.
 """
 import os
 import re
@@ -36,7 +36,7 @@ def add_version(parser: "argparse.ArgumentParser") -> None:
         """Prints the name of the command and the version, and ends."""
 
         def __call__(self, parser: argparse.ArgumentParser, *_: Any) -> None:
-            print(parser.prog, version())
+            print(parser.prog.partition(" ")[0], version())
             parser.exit()
 
     parser.add_argument("--version", action=PrintVersion, nargs=0, help="print the version")

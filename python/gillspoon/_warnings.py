@@ -1,4 +1,4 @@
-"""What pgn_lint warns of in games that are valid, and in a file.
+"""What gillspoon lint warns of in games that are valid, and in a file.
 
 A valid game can hide another one in a comment, and some values have forms that the standard does
 not know. Each test is cheap on a game that it does not warn of.
@@ -51,6 +51,11 @@ OTHER_FORM = re.compile(rb"\n\[(?:%s)" % b"|".join(
     [rb'(?P<Variant>Variant) "(?!(?:Standard|From Position|Normal|Chess|\?)?"\])']
     + [rb'(?P<%s>%s) "(?!(?:%s)"\])' % (name, name, form[0]) for name, form in FORMS.items()]
     + [rb'(?P<name>(?!(?:%s) )\w+) "' % b"|".join(USUAL)]))
+# A tag section in export format that has none: that is found in less time.
+_LINES = {name: rb'\n\[%s "(?:%s)"\]' % (name, FORMS[name][0]) if name in FORMS else rb"\n\[%s [^\n]*" % name
+          for name in USUAL}
+USUAL_SECTION = re.compile(rb"\[Event [^\n]*%s(?:%s)*\Z" % (
+    b"".join(_LINES[it] for it in ROSTER[1:]), b"|".join(_LINES[it] for it in USUAL[7:])))
 
 
 class Said(NamedTuple):
@@ -93,32 +98,34 @@ class Watcher:
 
     def game(self, game: Game) -> List[Said]:
         """The warnings of a valid game, whose text has the comments before it."""
-        base = self._window.base
-        text = self._window.data[game.offset - base:game.end - base]
-        find, section = text.find, section_of(game)
-        # after the empty line after the tags, if there is one
-        begin = find(b'"]\n\n') + 4
-        if begin == 3:
-            begin = find(b'"]\r\n\r\n') + 6
-            begin = begin if begin != 5 else 0
+        text = self._text_of(game)
+        find, section, begin = text.find, section_of(game), _begin_of_movetext(text)
         found: List[Tuple[int, str]] = []
-        if text[:1] in b"{;":
+        if text.startswith(COMMENT_SIGNS):
             found.append((0, DROPPED))
         if find(b'"', begin) >= 0:
             found += _games_in_comments(text)
-        if OTHER_FORM.search(section):
+        if not USUAL_SECTION.match(section) and OTHER_FORM.search(section):
             found += _of_tags(text, section)
         if not game.plies:
             found += _of_nothing(game, text)
         elif is_suspect(text, begin, game.plies):
             found += self._doubts(text, game.plies)
-        if find(b"%") >= 0 and _may_have_escapes(text):
+        percent = find(b"%")
+        if percent >= 0 and _may_have_escapes(text, percent):
             self._count_escapes(game.offset, game.end)
         if not begin or find(b"{", 0, begin) >= 0 or find(b";", 0, begin) >= 0:
             self._count_in_pairs(game.offset, text)
         if not text.isascii() and self._is_other_encoding(text):
             found.append((len(text) - len(text.lstrip(ASCII)), MIXED))
-        return [self._said(game.offset + at, reason) for at, reason in found]
+        return [self._said(game.offset + at, reason) for at, reason in found] if found else NONE
+
+    def _text_of(self, game: Game) -> bytes:
+        """The bytes of a game from its first one on that is no white space."""
+        if game._unwritten:
+            return game._unwritten[0]
+        base = self._window.base
+        return self._window.data[game.offset - base:game.end - base]
 
     def _doubts(self, text: bytes, plies: int) -> "List[Doubt]":
         """What is in doubt about the movetext of a game."""
@@ -168,10 +175,25 @@ class Watcher:
 # ---- the text of a game
 
 ASCII = bytes(range(128))
+COMMENT_SIGNS = (b"{", b";")
+# An expression finds it in less time than bytes.find does.
+ESCAPE_LINE = re.compile(rb"\n%")
+NONE: "List[Said]" = []
 
 
-def _may_have_escapes(text: bytes) -> bool:
-    return b"\n%" in text or text[:1] == b"%" or b"\r" in text and b"\r%" in text
+def _begin_of_movetext(text: bytes) -> int:
+    """The index behind the first empty line after a tag, or 0 if there is none."""
+    at = text.find(b'"]\n\n')
+    if at >= 0:
+        return at + 4
+    at = text.find(b'"]\r\n\r\n')
+    return at + 6 if at >= 0 else 0
+
+
+def _may_have_escapes(text: bytes, percent: int) -> bool:
+    """Whether a line may begin with % in a text whose first % is at a place."""
+    return not percent or ESCAPE_LINE.search(text, percent - 1) is not None \
+        or b"\r" in text and b"\r%" in text
 
 
 def _games_in_comments(text: bytes) -> Iterator[Tuple[int, str]]:

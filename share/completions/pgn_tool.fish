@@ -5,7 +5,7 @@ complete -c pgn_tool -n $first -f
 complete -c pgn_tool -n $first -a export -d 'Write the games in export format'
 complete -c pgn_tool -n $first -a check -d 'Check the games and count them and their moves'
 complete -c pgn_tool -n $first -a list -d 'List the games, a line for each'
-complete -c pgn_tool -n $first -a split -d 'Write each game to a file of its own'
+complete -c pgn_tool -n $first -a split -d 'Write each game to DIR, given first'
 complete -c pgn_tool -n $first -s V -l version -d 'Print the version'
 complete -c pgn_tool -s h -l help -d 'Print help'
 complete -c pgn_tool -n '__fish_seen_subcommand_from export' -l reduced \

@@ -23,13 +23,25 @@ if __name__ == "__main__":
 from programs import ROOT, load
 
 RIGHT, UNMENDED, WRONG, SILENT = "right", "unmended", "wrong", "silent"
-NO_BREAK = ("\u00a0".encode(), b"\xa0")
+NO_BREAK = ("\u00a0".encode(), b"\xa0", b"&nbsp;")
 ZERO_WIDTH = ("\u200b".encode(), "\ufeff".encode())
+SOFT_HYPHEN, ELLIPSIS = "\u00ad".encode(), "\u2026".encode()
+# Letters of other alphabets, Cyrillic and Greek, that look like those of a move.
+LOOK_ALIKES = {"a": "\u0430\u03b1", "b": "\u042c\u03b2", "c": "\u0441\u03f2", "d": "\u0501\u03b4",
+               "e": "\u0435\u03b5", "h": "\u04bb", "x": "\u0445\u03c7", "K": "\u041a\u039a",
+               "B": "\u0412\u0392", "O": "\u041e\u039f"}
 QUOTES = ("\u201c".encode(), "\u201d".encode())
 # A move, or a marker of more than one byte.
 MOVE = re.compile(rb"(?<![\w+#=:/\[\"-])(?:[KQRBN]?[a-h]?[1-8]?x?[a-h][1-8](?:=[QRBN])?|O-O(?:-O)?)"
                   rb"[+#]*|(?<!\S)(?:1-0|0-1|1/2-1/2)")
 PAIR_LINE = re.compile(rb"(?m)^\[(\w+) \"[^\"\n]*\"\][ \t]*\n")
+# Two moves behind a number with one period; a capture of a pawn; a comment in braces.
+PAIR_OF_MOVES = re.compile(rb"(?<![\w.])[0-9]+\.[ \n]?(?:%(move)s)([ \n])(?=%(move)s)" % {
+    b"move": MOVE.pattern})
+PAWN_CAPTURE = re.compile(rb"(?<![\w+#=:/-])([a-h])x([a-h])[1-8](?![\w=])")
+CASTLING = re.compile(rb"(?<![\w-])O-O(-O)?(?![\w-])")
+COMMENT = re.compile(rb"\{[^{}]*\}")
+RESULT = re.compile(rb"(?<!\S)(?:1-0|0-1|1/2-1/2)(?=\s)")
 LINE = re.compile(rb"[^\n]*\n")
 MOVE_LINE = re.compile(rb"(?m)^[^\[\n][^\n]*\n")
 
@@ -57,8 +69,11 @@ def sound_games():
             head = "".join('[%s "%s"]\n' % it for it in pairs)
             texts.append(("%s\n%s\n" % (head, maker.filled([*words, line.result]))).encode())
     with open(ROOT + "/bench/games.txt", "rb") as file:
-        for number, line in enumerate(file.read().splitlines()[:200]):
+        for number, line in enumerate(file.read().splitlines()):
             result, _, moves = line.partition(b" ")
+            # of most games those with a promotion
+            if number >= 200 and b"=" not in moves:
+                continue
             text = b'[Result "%s"]\n\n%s %s\n' % (result, moves, result)
             export = next(gillspoon.games(text)).text
             # some without move numbers, and all moves on a line
@@ -209,13 +224,113 @@ def file_cut(rng, text):
     return [(max(end - size, begin + 1), len(text), b"")]
 
 
-def curly_quotes(rng, text):
+def other_quotes(*quotes):
+    """A damage by which a value has other quotes at both ends, or at one."""
+    def damage(rng, text):
+        pair = one_of(rng, PAIR_LINE.finditer(text))
+        if not pair:
+            return []
+        first, last = pair[0].index(b'"') + pair.start(), pair[0].rindex(b'"') + pair.start()
+        left, right = rng.choice(quotes)
+        edits = [(first, first + 1, left), (last, last + 1, right)]
+        return rng.choice((edits, edits, edits[:1], edits[1:]))
+
+    return damage
+
+
+def sign_behind_name(rng, text):
+    """In some pairs the quotes are curly too."""
     pair = one_of(rng, PAIR_LINE.finditer(text))
     if not pair:
         return []
-    first, last = pair[0].index(b'"') + pair.start(), pair[0].rindex(b'"') + pair.start()
-    edits = [(first, first + 1, QUOTES[0]), (last, last + 1, QUOTES[1])]
-    return rng.choice((edits, edits[:1], edits[1:]))
+    at = pair.end(1)
+    edits = [(at, at + rng.choice((0, 1)), rng.choice((b":", b"=", b": ", b" = ")))]
+    if rng.random() < 0.4:
+        last = pair.start() + pair[0].rindex(b'"')
+        edits += [(at + 1, at + 2, QUOTES[0]), (last, last + 1, QUOTES[1])]
+    return edits
+
+
+def bracket_missing(rng, text):
+    pair = one_of(rng, PAIR_LINE.finditer(text))
+    at = pair.start() + pair[0].rindex(b"]") if pair else 0
+    return [(at, at + 1, b"")] if pair else []
+
+
+def look_alike(rng, text):
+    """Up to three letters of a move."""
+    move = one_of(rng, MOVE.finditer(text))
+    places = [it for it in range(move.start(), move.end())
+              if chr(text[it]) in LOOK_ALIKES] if move else []
+    return [(at, at + 1, rng.choice(LOOK_ALIKES[chr(text[at])]).encode())
+            for at in rng.sample(places, min(len(places), rng.randint(1, 3)))]
+
+
+def moves_joined(rng, text):
+    pair = one_of(rng, PAIR_OF_MOVES.finditer(text))
+    return [(pair.start(1), pair.end(1), b"")] if pair else []
+
+
+def braces_in_a_comment(rng, text):
+    comment = one_of(rng, COMMENT.finditer(text))
+    if not comment:
+        return []
+    first, last = sorted(rng.randint(comment.start() + 1, comment.end() - 1) for _ in range(2))
+    return [(first, first, b"{"), (last, last, b"}")] if first < last else [(first, first, b"{}")]
+
+
+def capture_without_rank(rng, text):
+    found = one_of(rng, PAWN_CAPTURE.finditer(text))
+    sign = rng.choice((b"", b"x"))
+    return [(found.start(), found.end(), found[1] + sign + found[2])] if found else []
+
+
+def king_for_castling(rng, text):
+    found = one_of(rng, CASTLING.finditer(text))
+    square = b"K%s%d" % (b"c" if found and found[1] else b"g", rng.choice((1, 8)))
+    return [(found.start(), found.end(), square)] if found else []
+
+
+def time_of_a_move(rng, text):
+    move = one_of(rng, MOVE.finditer(text))
+    time = b" (%d:%02d)" % (rng.randrange(60), rng.randrange(60))
+    return [(move.end(), move.end(), time)] if move else []
+
+
+def ellipsis(rng, text):
+    dots = one_of(rng, re.compile(rb"\.\.\.").finditer(text))
+    return [(dots.start(), dots.end(), ELLIPSIS)] if dots else []
+
+
+def soft_hyphen(rng, text):
+    """In most cases it is beside a blank."""
+    blank = one_of(rng, re.compile(rb"[ \n]").finditer(text, *movetext_or_all(rng, text)))
+    at = rng.choice((blank.start(), blank.end())) if blank and rng.random() < 0.8 \
+        else rng.randrange(len(text))
+    return [(at, at, SOFT_HYPHEN)]
+
+
+def line_break_of_a_page(rng, text):
+    blank = one_of(rng, re.compile(rb"[ \n]").finditer(text, *movetext_or_all(rng, text)))
+    return [(blank.start(), blank.end(), rng.choice((b"<br>", b"<BR/>", b"<br>\n")))] if blank \
+        else []
+
+
+def equals_sign_of_a_mail(rng, text):
+    """A mail program writes =3D for an =."""
+    sign = one_of(rng, re.compile(rb"(?<=[a-h][18])=(?=[QRBN])").finditer(text))
+    return [(sign.start(), sign.end(), b"=3D")] if sign else []
+
+
+def result_misread(rng, text):
+    found = one_of(rng, RESULT.finditer(text))
+    if not found:
+        return []
+    old = found[0]
+    new = rng.choice((b"(%s)" % old, b"( %s )" % old, old.replace(b"0", b"O"), old.replace(b"1", b"l"),
+                      old.replace(b"1", b"I", 1), old.replace(b"-", b" - "), old.replace(b"-", b":"),
+                      old.replace(b"-", "\u2013".encode())))
+    return [(found.start(), found.end(), new)] if new != old else []
 
 
 def space_put_in(rng, text):
@@ -245,8 +360,17 @@ KINDS = (
      "a tag dropped": tag_dropped, "a tag doubled": tag_doubled},
     {"files joined without an end": files_joined},
     {"a cut file": file_cut},
-    {"curly quotes": curly_quotes},
+    {"curly quotes": other_quotes(QUOTES)},
     {"a space put in": space_put_in, "a space taken out": space_taken_out},
+    {"a look-alike letter": look_alike},
+    {"two moves joined": moves_joined, "a result misread": result_misread},
+    {"quotes missing": other_quotes((b"", b"")), "single quotes": other_quotes((b"'", b"'")),
+     "a sign behind a name": sign_behind_name, "a bracket missing": bracket_missing},
+    {"a soft hyphen": soft_hyphen, "a line break of a page": line_break_of_a_page,
+     "=3D": equals_sign_of_a_mail},
+    {"an ellipsis": ellipsis, "braces in a comment": braces_in_a_comment},
+    {"a capture without a rank": capture_without_rank, "a time of a move": time_of_a_move,
+     "a king's move for castling": king_for_castling},
 )
 DAMAGES = [name for kind in KINDS for name in kind]
 # The library reads CR as the end of a line everywhere, so this one is always silent.

@@ -86,7 +86,7 @@ class Repository:
                      "crates/pgn_vectors/src/lib.rt", "crates/pgn_c/src/lib.rt",
                      "crates/pgn_c/pgn.h", "cargo/pgn_c/ffi.rs", "cargo/rattle_std/lib.rs"):
             self.write(path, "text")
-        for command in ("pgn_tool", "pgn_lint", "pgn_where", "pgn_sieve", "pgn_fmt"):
+        for command in ("pgn_tool", "gillspoon"):
             for form in ("man/man1/%s.1", "completions/%s.bash", "completions/_%s",
                          "completions/%s.fish"):
                 self.write("share/" + form % command, form % command)

@@ -3,7 +3,8 @@
 Each row is an input, its edits and its output, worked out by hand from the PGN standard and from
 docs/TOOLS.md. An edit is (what is replaced, what is written, the name of the fix).
 """
-RUY = "1. e4 e5 2. Nf3 Nc6 3. Bb5 a6 "
+KNIGHTS = "1. e4 e5 2. Nf3 Nc6 3. "
+RUY = KNIGHTS + "Bb5 a6 "
 PAWN = '[FEN "7k/P7/8/8/8/8/8/K7 w - - 0 1"]\n\n1. '
 TAKES = '[FEN "1n5k/P7/8/8/8/8/8/K7 w - - 0 1"]\n\n1. '
 PASSANT = "1. e4 Nf6 2. e5 d5 3. "
@@ -25,6 +26,7 @@ def _tags(tags, old, new, name, behind="\n\n1. e4 *\n"):
 LONG, SIGN, LETTER, PROMOTION = "long notation", "capture sign", "missing letter", "promotion"
 CASTLING, CHECK, WORD_OF_MATE, PASSING = "castling", "word of check", "word of mate", "en passant"
 NUMBER, SMALL, FIGURINE, COMMA = "joined number", "small letter", "figurine", "comma"
+LIKE, JOINED = "look-alike letter", "joined moves"
 RESULT, TAG, QUOTES = "spelling of the result", "missing Result tag", "quotes around a value"
 DRAW, WON, LOST = ('[Result "%s"]\n\n' % it for it in ("1/2-1/2", "1-0", "0-1"))
 
@@ -121,6 +123,38 @@ SAFE = [
     _move("", "1) e4", "1. e4", NUMBER),
     _move("", "1)e4", "1. e4", NUMBER),
     _move("1. ", "e4,", "e4", COMMA, " e5 *"),
+    # letters of other alphabets, in the order of the ways to write them: Cyrillic, Greek
+    _move("1. ", "\u04354", "e4", LIKE, " e5 *"),
+    _move("1. ", "\u03b54", "e4", LIKE, " e5 *"),
+    _move("1. ", "N\u04413", "Nc3", LIKE),
+    _move("1. ", "N\u03f23", "Nc3", LIKE),
+    _move("1. ", "\u04303", "a3", LIKE),
+    _move("1. ", "\u03b13", "a3", LIKE),
+    *(_move("1. ", it + "3", "b3", LIKE) for it in "\u042c\u044c\u03b2"),
+    *(_move("1. ", it + "3", "d3", LIKE) for it in "\u0501\u03b4"),
+    _move("1. ", "N\u04bb3", "Nh3", LIKE),
+    *(_move(SCANDINAVIAN, "e%sd5" % it, "exd5", LIKE) for it in "\u0445\u0425\u03c7\u03a7"),
+    *(_move(RUY + "4. ", "%s-%s" % (it, it), "O-O", LIKE) for it in "\u041e\u043e\u039f\u03bf"),
+    _move(CASTLES, "\u041e-O-\u043e", "O-O-O", LIKE),
+    _move("1. e4 e5 2. ", "\u0412\u04414", "Bc4", LIKE),
+    _move("1. e4 e5 2. ", "\u0392c4", "Bc4", LIKE),
+    _move(CASTLES, "\u041ad2", "Kd2", LIKE),
+    _move(CASTLES, "\u039ad2", "Kd2", LIKE),
+    _move(PAWN, "a8=\u0412", "a8=B", LIKE),
+    ("1. \u04352-\u04354 *", [("\u04352-\u04354", "e2e4", "look-alike letter, long notation")],
+     "1. e2e4 *"),
+    (RUY + "4. 0-\u041e *", [("0-\u041e", "O-O", "look-alike letter, castling")], RUY + "4. O-O *"),
+    # two moves without a blank
+    *(_move(before, first + second, first + " " + second, JOINED, behind)
+      for before, first, second, behind in (
+          ("1.", "e4", "e5", " 2. Nf3 *"), ("1. ", "e4", "e5", "! {a} $1\n2. Nf3 *"),
+          ("1 ", "e4", "e5", " *"), ("1. e4 e5 2.", "Nf3", "Nc6", " 3. Bb5 *"),
+          (RUY + "4. ", "O-O", "Nf6", " *"), ("1. e4 (1. ", "d4", "d5", ") 1... e5 *"),
+          ("1. e4 e5 2. Qh5 Nc6 3. ", "Qxf7+", "Kxf7", " *"),
+          (TAKES[:-3] + "1.", "axb8=Q+", "Kg7", " *"),
+          (CASTLES, "O-O", "O-O-O", " *"))),
+    ("1.e4e5 2.Nf3Nc6 *", [("e4e5", "e4 e5", JOINED), ("Nf3Nc6", "Nf3 Nc6", JOINED)],
+     "1.e4 e5 2.Nf3 Nc6 *"),
     # signs
     _move("1. e4 ", "+/-", "$16", "sign", " e5 *"),
     _move("1. e4 ", "\u00b1", "$16", "sign", " e5 *"),
@@ -184,6 +218,10 @@ SAFE = [
     *((it + end.join(('"a"]', "", "1. e4 *", "")), [(it, "[White ", "sign behind a tag's name")],
        end.join(('[White "a"]', "", "1. e4 *", "")))
       for it in ("[White: ", "[White=", "[White = ", "[White :") for end in ("\n", "\r\n")),
+    *((old + "]\n\n1. e4 *\n", [(old, '[White "a"', "sign behind a tag's name, " + QUOTES)],
+       '[White "a"]\n\n1. e4 *\n')
+      for old in ("[White: \u201ca\u201d", "[White:\u201ea\u201c", "[White='a'",
+                  '[White : "a\u201d', "[White = \u2018a\u2019")),
     # tags
     _tags('[Event "OLD"]', 'The "Open"', r"The \"Open\"", "quotes in a value"),
     _tags('[Event "OLD"]', '"Rapid" Cup', r"\"Rapid\" Cup", "quotes in a value"),
@@ -288,6 +326,16 @@ UNSAFE = [
      "1. e4 {[%emt 0:00:03]} e5 {[%emt 0:12:34]} 2. d4 {[%emt 1:02:03]} *"),
     _move(RUY + "4. ", "Kg1", "O-O", "castling as a king's move"),
     _move(CASTLES, "Kc1", "O-O-O", "castling as a king's move"),
+    # braces in a comment
+    *(_move("1. e4 ", old, new, "nested braces", " e5 {f} *") for old, new in (
+        ("{a {b} c}", "{a (b) c}"), ("{a {b}}", "{a (b)}"), ("{{b} }", "{(b) }"),
+        ("{a {b {c} d} e}", "{a (b (c) d) e}"), ("{a {b} e5 {c} d}", "{a (b) e5 (c) d}"))),
+    ("1. e4 {a} ({b {c} d} 1. d4) *", [("{b {c} d}", "{b (c) d}", "nested braces")],
+     "1. e4 {a} ({b (c) d} 1. d4) *"),
+    # two moves that may be one of a piece, and captures without a rank
+    (KNIGHTS + "Bb5a6 4. O-O *", [("Bb5a6", "Bb5 a6", "joined moves like one")], RUY + "4. O-O *"),
+    *(_move(SCANDINAVIAN, it, "exd5", "capture without a rank") for it in ("ed", "exd")),
+    _move("1. e4 f5 2. Qh5+ g6 3. Nf3 ", "gh", "gxh5", "capture without a rank"),
     # a knight's letter, if the rest is no move alone
     _move("1. e4 d6 2. Nf3 ", "N\nbd7", "Nbd7", APART),
     _move("1. e4 d6 2. Nf3 ", "N\u200bbd7", "Nbd7", APART),
@@ -325,12 +373,27 @@ LEFT = [
     "1. e4 d5 2. exd5 e.p. *",
     "1. N f3 *",
     '[Result "0-1"]\n\n1. e4 1/2',
+    # a Russian knight and a Greek queen, and a move of a language
+    "1. e4 e5 2. \u041ae2 *", "1. e4 e5 2. \u041af3 *", "1. e4 e5 2. \u041a-e2 *",
+    '[FEN "4k3/8/8/8/8/8/8/4K2Q w - - 0 1"]\n\n1. \u0392f3 *',
+    PAWN + "a8=\u0392 *", CASTLES + "\u041ad2 \u0424e7 *", "1. e4 e5 2. \u0392c4 \u03a1e7 *",
+    # a bishop, or a queen, in small: Greek, Russian, Greek
+    "1. a4 b5 2. e3 d6 3. \u03b1b5 *",
+    '[FEN "4k3/8/8/3p4/2P5/5B2/8/4K3 w - - 0 1"]\n\n1. \u0441d5 *',
+    '[FEN "4k3/8/8/2p5/1P6/4Q3/8/4K3 w - - 0 1"]\n\n1. \u03b2c5 *',
+    "1. \u04359 *", "1. \u043444 *", "1. e4 \u041a\u0440e7 *", "1. \u0443\u0444e4 *",
+    # two moves that may be one, or with another number, or where a third one follows
+    KNIGHTS + "Bb5a6 *", "1. e4 e5 2. Nf3d6 *", "e4e5 *", "2. e4e5 *", "1... e4e5 *",
+    "1. e4 e5Nf3 *", "1.e4e5 Nf3 *", "1.e4e5 3. Nf3 *", "1.e4e5 (1... c5) *", "1.e4e5c5 *",
+    "1. e2e4 e7e5 2. Ng1f3 Nb8c6 3. d4d6 *", "1.e4e6e5 *",
     '[FEN "4k3/8/8/8/8/8/8/4K3 w - - x y"]\n\n*\n',
     # two values, a quote inside, or none at one end
     '[White \u201ca\u201d] [Black \u201cb\u201d]\n\n*\n',
     "[White 'O'Brien']\n\n*\n", "[White \u2018O\u2019Brien\u2019]\n\n*\n",
     "[White \u201ca]\n\n*\n", '[White: "a"] [Black: "b"]\n\n*\n', '[White: "a"b"]\n\n*\n',
     "1. e4 1-0\u2026 *", "1. e4\u00ade5 *",
+    # a tag pair that begins no line, behind another game
+    '1. e4 *[White: "a"]\n\n*\n', "1. e4 *[White \u201ca\u201d]\n\n*\n",
     # a result inside a game, or another one than that of the tag
     WON + "1. e4 l-0 e5 1-0\n", WON + "1. e4 (1-0) e5 1-0\n", WON + "1. e4 O-1\n",
     WON + "1. e4 (0-1)\n",
@@ -386,6 +449,10 @@ DOUBTFUL = [
     TAKES_C4 + "3. bxc4 nc6 *",
     TAKES_C4 + "3. Bxc4 (3. bxc4) nc6 *",
     "1. e4 c5 2. n-f3 c4 3. b3 n-c6 4. b:c4 *",
+    # captures of which two fit, or none; a pawn would become a piece; a brace that is not closed
+    '[FEN "4k3/8/8/3p4/2P1p3/3P4/8/4K3 w - - 0 1"]\n\n1. ce Kd7 *',
+    '[FEN "4k3/8/8/1p6/P7/1p6/P7/4K3 w - - 0 1"]\n\n1. ab Kd7 *', "1. e4 e5 2. ed d6 *",
+    TAKES + "ab Kg7 *", "1. e4 {a {b} c e5 *", "1. e4 {a} b} e5 *",
     # castling that is not legal, no time, a time of no move, another tag of a page, two values
     "1. e4 e5 2. Kg1 *", RUY + "4. Kc1 *", "1. e4 (0:63) e5 *", "1. (0:03) e4 *", "1. e4 <b> e5 *",
     "[White Ada\n\n*\n", "[White Ada] [Black Bob]\n\n*\n", '[White "a" Ada]\n\n*\n',

@@ -11,7 +11,7 @@ from programs import (ROOT, need, need_library, need_program, need_proved_progra
                       run, vectors)
 
 OK, FAULT, FULL, NO_MODE, NO_GAME, MORE, BAD_PLACE = range(7)
-SAN, UCI, SAN_FEN, UCI_FEN = range(4)
+SAN, UCI, SAN_FEN, UCI_FEN, SAN_KEY, UCI_KEY = range(6)
 MARKERS = {1: b"1-0", 2: b"0-1", 3: b"1/2-1/2", 4: b"*"}
 # As 1. e4 e5 leave it.
 OPEN_GAME = b"rnbqkbnr/pppp1ppp/8/4p3/4P3/8/PPPP1PPP/RNBQKBNR w KQkq e6 0 2"
@@ -96,7 +96,7 @@ class Library:
                 ("pgn_read_game", Game, (*text, size, mode, mode, *text)),
                 ("pgn_san", Move, (*text, *text, mode)),
                 ("pgn_line", Plies, (*text, *text, mode, *text)),
-                ("pgn_fen_normalize", Text, text + text),
+                ("pgn_fen_normalize", Text, text + text), ("pgn_key", Text, text + text),
                 ("pgn_next_section", Section, (c_void_p, *text, mode)),
                 ("pgn_tag_at", Tag, (*text, size)), ("pgn_explain", Explanation, text + text)):
             function = getattr(self.calls, name)
@@ -558,7 +558,7 @@ class Installed:
             self.assertEqual(fields(self.library.line(INITIAL, data)[0]), (OK, 0, 0, 0, 0, 0))
         for fen, field in ((b"x", 1), (INITIAL[:-2], 6)):
             self.assertEqual(fields(self.library.line(fen, b"e4")[0]), (FAULT, 26, field, 0, 0, 0))
-        for line_format in (4, (1 << 32) - 1):
+        for line_format in (6, (1 << 32) - 1):
             self.assertEqual(fields(self.library.line(b"x", b"e4", line_format)[0]),
                              (NO_MODE, 0, 0, 0, 0, 0))
 
@@ -586,6 +586,36 @@ class Installed:
             result, text = self.library.line(fen, data, line_format)
             self.assertEqual(text, b"".join(knights.splitlines(keepends=True)[:plies]), data)
             self.assertEqual(fields(result), (FAULT, fault, field, place, len(text), plies), data)
+
+    def key(self, fen, capacity=81):
+        """The result for a key, and what was written."""
+        buffer = ctypes.create_string_buffer(b"\xAA" * 96, 96)
+        result = self.library.calls.pgn_key(fen, len(fen), buffer, capacity)
+        written = buffer.raw.rstrip(b"\xAA")
+        return (result.status, result.field, result.length), written
+
+    def test_keys(self):
+        """A target only if a pawn may take there, and rights only with king and rook at home."""
+        long = b"rnbqkbnr/p1p1p1p1/1p1p1p1p/p1p1p1p1/1P1P1P1P/P1P1P1P1/1P1P1P1P/RNBQKBNR w KQkq"
+        for fen, key in (
+                (b"4k3/8/8/8/3Pp3/8/8/4K3 b - d3 0 1", b"4k3/8/8/8/3Pp3/8/8/4K3 b - d3"),
+                (b"4k3/8/8/8/3P4/8/8/4K3 b - d3 0 1", b"4k3/8/8/8/3P4/8/8/4K3 b - -"),
+                (b"8/8/8/8/k2Pp2Q/8/8/3K4 b - d3 0 1", b"8/8/8/8/k2Pp2Q/8/8/3K4 b - -"),
+                (b"r3k2r/8/8/8/8/8/8/1R2K2R w KQkq - 3 20", b"r3k2r/8/8/8/8/8/8/1R2K2R w Kkq -"),
+                (long + b" - 0 1", long + b" -")):
+            self.assertEqual(self.key(fen), ((OK, 0, len(key)), key))
+            self.assertEqual(self.key(fen, len(key) - 1), ((FULL, 0, len(key)), b""))
+        self.assertEqual(self.key(b"x"), ((FAULT, 1, 0), b""))
+
+    def test_keys_of_plies(self):
+        """With two formats the line of a ply is the key alone."""
+        keys = (b"rnbqkbnr/pppppppp/8/8/4P3/8/PPPP1PPP/RNBQKBNR b KQkq -\n"
+                b"rnbqkbnr/1ppppppp/p7/8/4P3/8/PPPP1PPP/RNBQKBNR w KQkq -\n"
+                b"rnbqkbnr/1ppppppp/p7/4P3/8/8/PPPP1PPP/RNBQKBNR b KQkq -\n"
+                b"rnbqkbnr/1pp1pppp/p7/3pP3/8/8/PPPP1PPP/RNBQKBNR w KQkq d6\n")
+        for data, line_format in ((b"1. e4 a6 2. e5 d5", SAN_KEY), (b"e2e4 a7a6 e4e5 d7d5", UCI_KEY)):
+            result, text = self.library.line(INITIAL, data, line_format)
+            self.assertEqual((fields(result), text), ((OK, 0, 0, 0, len(keys), 4), keys))
 
     def test_lines_in_buffers_of_each_size(self):
         """Whole lines are written, and reading goes on behind them."""
@@ -650,6 +680,8 @@ class InstalledByCargo(Installed, unittest.TestCase):
         self.assertEqual(calls.pgn_explain(None, 0, None, 0).fault, 26)
         self.assertEqual(calls.pgn_fen_normalize(None, 0, None, 0).field, 1)
         self.assertEqual(calls.pgn_fen_normalize(INITIAL, len(INITIAL), None, 0).status, FULL)
+        self.assertEqual(calls.pgn_key(None, 0, None, 0).field, 1)
+        self.assertEqual(calls.pgn_key(INITIAL, len(INITIAL), None, 0).status, FULL)
         bad = BadGame()
         self.assertEqual(calls.pgn_next_section(ctypes.addressof(bad), None, 0, 1).status, NO_GAME)
 
@@ -661,7 +693,8 @@ class InstalledByCargo(Installed, unittest.TestCase):
         room, game, text = (ctypes.addressof(buffer), 999), ctypes.addressof(bad), (text, len(text))
         pointers = (INITIAL, move[0], text[0], room[0], game)
         calls = {"pgn_check": text, "pgn_convert": (*text, *room, 0),
-                 "pgn_fen_normalize": (*fen, *room), "pgn_san": (*fen, *move, 0),
+                 "pgn_fen_normalize": (*fen, *room), "pgn_key": (*fen, *room),
+                 "pgn_san": (*fen, *move, 0),
                  "pgn_line": (*fen, *move, 0, *room), "pgn_next_game": (*text, 0, 0, 0, *room),
                  "pgn_read_game": (*text, 0, 0, 0, *room), "pgn_tag_at": (*text, 0),
                  "pgn_explain": fen + move, "pgn_next_section": (game, *text, 1)}
@@ -680,7 +713,7 @@ class InstalledByCargo(Installed, unittest.TestCase):
                                  (name, at, others))
                 tried += 1
         self.assertEqual((buffer.raw, bytes(bad)), before)
-        self.assertEqual(tried, 19)
+        self.assertEqual(tried, 21)
         for name, words in calls.items():
             self.assertEqual(getattr(self.library.calls, name)(*words).status, OK, name)
 

@@ -38,7 +38,8 @@ fn main() {
 # Calls each function that counts pairs with too little room, and then with enough. Only chess_rules
 # can make such a count, so this does what the libraries forbid.
 SAMPLE_OF_ROOM = """use chess_rules::{has_legal_move, try_pair, Position, Probes};
-use chess_text::{origins_of_form, read_form, read_uci, resolve, resolve_move, write_san};
+use chess_text::{origins_of_form, read_form, read_uci, resolve, resolve_move};
+use chess_text::{write_position_key, write_san};
 use std::panic::{catch_unwind, set_hook};
 fn with_room_for(pairs: u32) -> Probes {
     unsafe { std::mem::transmute(u32::MAX - pairs) }
@@ -61,8 +62,9 @@ fn main() {
                 .is_err(),
             catch_unwind(|| read_uci(&position, b"e2e4", &mut with_room_for(room - 7)).is_ok())
                 .is_err(),
+            catch_unwind(|| write_position_key(&position, &mut with_room_for(room - 6))).is_err(),
         ];
-        assert_eq!(is_refused, [room == 7; 7]);
+        assert_eq!(is_refused, [room == 7; 8]);
     }
 }
 """
@@ -175,7 +177,7 @@ class Built(unittest.TestCase):
                  for it in re.finditer(r"catch_unwind\(\|\|", SAMPLE_OF_ROOM)]
         self.assertEqual(re.findall(r"sample\.rs:(\d+):", said), [str(it) for it in lines])
         rooms = re.findall(r"the count of Probes has room for ([\d,]+) more", said)
-        self.assertEqual(rooms, ["1", "1,024", "8", "8", "8", "1,032", "1"])
+        self.assertEqual(rooms, ["1", "1,024", "8", "8", "8", "1,032", "1", "2"])
 
     def build_libraries(self):
         ran = cargo("build", "--lib", *("--package=" + it for it in LIBRARIES))
@@ -321,7 +323,7 @@ class Release(Folder, unittest.TestCase):
 
     def dist(self, script="bin/dist"):
         out = self.folder + "/out"
-        ran = run([sys.executable, script, out], timeout=500)
+        ran = run([sys.executable, script, "--part", "cargo", "--part", "python", out], timeout=500)
         return out, ran.returncode, ran.stdout.decode(), ran.stderr.decode()
 
     def test_a_package_for_each_crate(self):
@@ -332,7 +334,8 @@ class Release(Folder, unittest.TestCase):
         crates = os.listdir(workspace + "/crates")
         packages = ["%s-%s.crate" % (it, version) for it in crates]
         ours = ["gillspoon-" + version, "gillspoon-%s.tar.gz" % version]
-        self.assertEqual(sorted(os.listdir(out)), sorted([*packages, *ours]))
+        wheel = "gillspoon-%s-py3-none-linux_%s.whl" % (version, os.uname().machine)
+        self.assertEqual(sorted(os.listdir(out)), sorted([*packages, *ours, wheel]))
         for name in crates:
             with tarfile.open("%s/%s-%s.crate" % (out, name, version)) as package:
                 names = {it.split("/", 1)[1] for it in package.getnames()}

@@ -1,9 +1,9 @@
-"""Tests of compressed input: each script takes each kind, by a name and as standard input."""
+"""Tests of compressed input: each subcommand takes each kind, by a name and as standard input."""
 import os
 import unittest
 
 import programs
-from programs import PACKERS, ROOT, Folder, need, need_program, run
+from programs import PACKERS, ROOT, Folder, need, run
 from test_python import library
 
 # A bad game of 30 bytes between two sound ones of 27; what is mended of it, and its place.
@@ -11,21 +11,21 @@ SOUND = b'[White "Ada"]\n\n1. e4 e5 *\n\n'
 TEXT = SOUND + b'[White "Bob"]\n\n1. e2-e4 e5 *\n\n' + SOUND
 MENDED = TEXT.replace(b"e2-e4", b"e2e4")
 PLACE = 45
-# How pgn_lint names the file in a zip, and what it is called otherwise.
+# How gillspoon names the file in a zip, and what it is called otherwise.
 MEMBER = b"<stdin>:games.pgn:", b"<stdin>:"
+MEMBER_NOTE = b" of <stdin>:games.pgn"
 
 
 class Compressed(Folder, unittest.TestCase):
     def setUp(self):
         need("zstd")
         super().setUp()
-        self.env = dict(os.environ, PATH=programs.PATH, PGN_TOOL=need_program(),
-                        GILLSPOON_LIBRARY=library(), LC_ALL="C.UTF-8", TMPDIR=self.folder + "/tmp")
+        self.env = dict(os.environ, PATH=programs.PATH, GILLSPOON_LIBRARY=library(), LC_ALL="C.UTF-8", TMPDIR=self.folder + "/tmp")
         os.mkdir(self.folder + "/tmp")
 
-    def call(self, script, *words, data=b""):
-        """Runs a script, which leaves no temporary file."""
-        ran = run([ROOT + "/bin/" + script, *words], cwd=self.folder, env=self.env, input=data)
+    def call(self, subcommand, *words, data=b""):
+        """Runs a subcommand, which leaves no temporary file."""
+        ran = run([ROOT + "/bin/gillspoon", subcommand, *words], cwd=self.folder, env=self.env, input=data)
         self.assertEqual(os.listdir(self.folder + "/tmp"), [])
         return ran.returncode, ran.stdout, ran.stderr
 
@@ -38,25 +38,25 @@ class Compressed(Folder, unittest.TestCase):
     def test_each_script_reads_standard_input(self):
         """It gives what it gives for the plain text.
 
-        pgn_lint names the file in a zip, and --fix writes an empty line behind it.
+        The file in a zip is named, and --fix writes an empty line behind it.
         """
         need("diff")
         sound, head = SOUND * 2, b"<stdin>:7:4: "
         edit = head + (b"fixed: long notation: e2-e4 \xe2\x86\x92 e2e4\n"
                        b"1 file, 3 games, 0 faults, 1 edit\n")
         wanted = {
-            ("pgn_lint", "--quiet"): (1, head + b"not a move (game 2, Bob \xe2\x80\x93 ?)\n", b""),
-            ("pgn_lint", "--quiet", "-"): (
+            ("lint", "--quiet"): (1, head + b"not a move (game 2, Bob \xe2\x80\x93 ?)\n", b""),
+            ("lint", "--quiet", "-"): (
                 1, head + b"not a move (game 2, Bob \xe2\x80\x93 ?)\n", b""),
-            ("pgn_lint", "--fix", "-"): (0, MENDED, edit),
-            ("pgn_lint", "--fix"): (0, MENDED, edit),
-            ("pgn_lint", "--quiet", "--fix"): (0, MENDED, b""),
-            ("pgn_where", "-", str(PLACE)): (
+            ("lint", "--fix", "-"): (0, MENDED, edit),
+            ("lint", "--fix"): (0, MENDED, edit),
+            ("lint", "--quiet", "--fix"): (0, MENDED, b""),
+            ("where", "-", str(PLACE)): (
                 0, b'<stdin>: line 7, column 4 (byte %d)\n1. e2-e4 e5 *\n   ^\n'
                 b'game 2: White "Bob", Black "?", Event "?"\n' % PLACE, b""),
-            ("pgn_fmt", "--check", "-"): (
-                1, b"", b"pgn_fmt: standard input: byte %d: not a move\n" % PLACE),
-            ("pgn_sieve", "-", "good", "bad"): (
+            ("fmt", "--check", "-"): (
+                1, b"", b"gillspoon: <stdin>: byte %d: not a move\n" % PLACE),
+            ("sieve", "-", "good", "bad"): (
                 1, b"good: 2 games\nbad: 1 bad game set aside, 30 bytes\nThe end of a bad game is "
                 b"a guess: the next line that begins a tag section.\n", b""),
         }
@@ -68,20 +68,21 @@ class Compressed(Folder, unittest.TestCase):
                         out = out[:-2] if "--fix" in words else out.replace(*MEMBER)
                         told = told.replace(*MEMBER)
                     self.assertEqual((status, out, told), said)
-            self.assertIn(b"% byte 45: not a move; line 7\n", self.get("bad"))
-            status, out, told = self.call("pgn_lint", "--diff", "-", data=data)
+            self.assertIn(b"% byte 45" + MEMBER_NOTE * (kind == "zip") + b": not a move; line 7\n",
+                          self.get("bad"))
+            status, out, told = self.call("lint", "--diff", "-", data=data)
             name = b"<stdin>" + MEMBER[0][7:-1] * (kind == "zip")
             self.assertEqual((status, out.splitlines()[:2]), (
                 1, [b"--- " + name, b"+++ " + name + b" mended"]), told)
             self.assertIn(b"\n-1. e2-e4 e5 *\n+1. e2e4 e5 *\n", out)
         for kind, data in self.texts(sound):
-            exported = self.call("pgn_fmt", data=sound)
+            exported = self.call("fmt", data=sound)
             self.assertEqual(exported[0], 0)
-            self.assertEqual(self.call("pgn_fmt", data=data), exported, kind)
-            self.assertEqual(self.call("pgn_lint", data=data),
+            self.assertEqual(self.call("fmt", data=data), exported, kind)
+            self.assertEqual(self.call("lint", data=data),
                              (0, b"1 file, 2 games, 0 faults\n", b""), kind)
             # what is sound comes out plain too
-            status, out, _ = self.call("pgn_lint", "--fix", "-", data=data)
+            status, out, _ = self.call("lint", "--fix", "-", data=data)
             self.assertEqual((status, out), (0, sound + b"\n\n" * (kind == "zip")), kind)
 
     def test_each_script_reads_a_file(self):
@@ -89,22 +90,22 @@ class Compressed(Folder, unittest.TestCase):
             name = "a.pgn" if kind == "plain" else "a.pgn." + kind
             self.put(name, data)
             for script, words, status, said in (
-                    ("pgn_lint", [name], 1, b"%s:7:4: not a move"),
-                    ("pgn_where", [name, str(PLACE)], 0, b"%s: line 7, column 4"),
-                    ("pgn_fmt", ["--check", name], 1, b"%s: byte 45: not a move"),
-                    ("pgn_sieve", [name, "good", "bad"], 1, b"1 bad game set aside")):
+                    ("lint", [name], 1, b"%s:7:4: not a move"),
+                    ("where", [name, str(PLACE)], 0, b"%s: line 7, column 4"),
+                    ("fmt", ["--check", name], 1, b"%s: byte 45: not a move"),
+                    ("sieve", [name, "good", "bad"], 1, b"1 bad game set aside")):
                 found, out, told = self.call(script, *words)
                 self.assertEqual(found, status, (kind, script, told))
-                is_named = kind == "zip" and script in ("pgn_lint", "pgn_fmt")
-                member = b":games.pgn" * is_named
+                member = b":games.pgn" * (kind == "zip" and script != "where")
                 self.assertIn(said.replace(b"%s", name.encode() + member), out + told)
-            self.assertIn(b"% byte 45: not a move; line 7\n", self.get("bad"))
+            name = b" of a.pgn.zip:games.pgn" * (kind == "zip")
+            self.assertIn(b"% byte 45" + name + b": not a move; line 7\n", self.get("bad"))
 
     def test_what_is_cut_off_is_told_without_a_temporary_name(self):
         """The status is 3, in one line; an output that is there stays as it is."""
-        calls = (("pgn_lint", "-"), ("pgn_lint", "--fix", "-"), ("pgn_lint", "--diff", "-"),
-                 ("pgn_where", "-", "7"), ("pgn_fmt", "-"), ("pgn_fmt", "-o", "good", "-"),
-                 ("pgn_sieve", "-", "good", "bad"))
+        calls = (("lint", "-"), ("lint", "--fix", "-"), ("lint", "--diff", "-"),
+                 ("where", "-", "7"), ("fmt", "-"), ("fmt", "-o", "good", "-"),
+                 ("sieve", "-", "good", "bad"))
         for kind, pack in PACKERS.items():
             data = pack(TEXT * 50)
             for (script, *words) in calls:
@@ -114,7 +115,7 @@ class Compressed(Folder, unittest.TestCase):
                     status, out, told = self.call(script, *words, data=data[:len(data) * 3 // 4])
                     lines = told.decode().splitlines()
                     self.assertEqual(status, 3)
-                    self.assertRegex(lines[0], r"^%s: (<stdin>|standard input): \S" % script)
+                    self.assertRegex(lines[0], r"^gillspoon: <stdin>: \S")
                     self.assertNotIn("/", lines[0])
                     self.assertEqual((self.get("good"), self.get("bad")), (b"old", b"old"), out)
 
@@ -124,15 +125,14 @@ class Compressed(Folder, unittest.TestCase):
         held = io.BytesIO()
         with zipfile.ZipFile(held, "w") as archive:
             archive.writestr("readme.txt", "none")
-        for script, words in (("pgn_lint", ["--quiet", "-"]), ("pgn_lint", ["--quiet", "--fix"]),
-                              ("pgn_where", ["-", "7"]), ("pgn_fmt", ["-"]),
-                              ("pgn_sieve", ["-", "good", "bad"])):
-            name = "<stdin>" if script == "pgn_lint" else "standard input"
+        for script, words in (("lint", ["--quiet", "-"]), ("lint", ["--quiet", "--fix"]),
+                              ("where", ["-", "7"]), ("fmt", ["-"]),
+                              ("sieve", ["-", "good", "bad"])):
             self.assertEqual(self.call(script, *words, data=held.getvalue()), (
-                3, b"", b"%s: %s: has no file *.pgn inside\n" % (script.encode(), name.encode())))
+                3, b"", b"gillspoon: <stdin>: has no file *.pgn inside\n"))
 
     def test_a_few_bytes(self):
         """They are too short for a mark, or the beginning of one."""
         for data in (b"", b"*", b"B", b"BZ", b"\x1f", b"PK\x03", b"\x28\xb5"):
-            status, out, _ = self.call("pgn_lint", "--fix", "-", data=data)
+            status, out, _ = self.call("lint", "--fix", "-", data=data)
             self.assertEqual((status, out), (int(data not in (b"", b"*")), data))

@@ -1,4 +1,4 @@
-"""Tests of what pgn_lint --fix makes of damaged games: see damage.py, which makes them by seed."""
+"""Tests of what gillspoon lint --fix makes of damaged games, which damage.py makes by seed."""
 import sys
 import unittest
 import unittest.mock
@@ -8,7 +8,7 @@ from test_lint import setUpModule as _set_up_lint
 from test_python import PACKAGE
 
 # Of each of the four classes: texts, and how often each damage has to be there and not silent.
-COUNT, LEAST = 2500, 50
+COUNT, LEAST = 3000, 20
 
 
 def setUpModule():

@@ -1,4 +1,4 @@
-"""Tests of the fixes: pgn_lint --fix and --diff, gillspoon.fixes, and the table of spellings."""
+"""Tests of the fixes: gillspoon lint --fix and --diff, gillspoon.fixes, the table of spellings."""
 import contextlib
 import glob
 import json
@@ -241,10 +241,12 @@ class Damaged(unittest.TestCase):
             mended = applied(text, gillspoon.fixes(text))
             before, after = [], []
             sound = [it.text for it in gillspoon.games(text, on_fault=before.append)]
-            games = iter([it.text for it in gillspoon.games(mended, on_fault=after.append)])
+            found = [it.text for it in gillspoon.games(mended, on_fault=after.append)]
+            games = iter(found)
             with self.subTest(text):
                 self.assertTrue(all(any(it == other for other in games) for it in sound))
-                self.assertLessEqual(len(after), len(before))
+                # behind a game that is mended there may be another bad one
+                self.assertLessEqual(len(after) - len(before), len(found) - len(sound))
 
 
 class Kept(unittest.TestCase):
@@ -299,7 +301,7 @@ FORFEIT = "Termination is not time forfeit, or another word of the standard (PGN
 
 
 class Warnings(Lint):
-    """What pgn_lint says of games that are sound."""
+    """What gillspoon lint says of games that are sound."""
 
     def warned(self, text, *lines):
         self.put("a.pgn", text)
@@ -373,6 +375,8 @@ class Warnings(Lint):
                 ("1. e4 (!) e5 *", "1:7", marks), ("1. e4 ( $1 !?) e5 *", "1:7", marks),
                 ("1. e4 ; e5 2. Nf3 Nc6\n *", "1:7", line),
                 ("1. e4 e5 ; 2. Nf3! Nc6 3. Bb5 was played\n *", "1:10", line),
+                ("1. e4 {a; b} {c} e5 ; 2. Nf3 Nc6 3. Bb5\n *", "1:21", line),
+                ("1. e4 {a} ; e5 2. Nf3 Nc6\n {b; c} *", "1:11", line),
                 ("1. e4 (1. d4 ;d5 c4 e6\n ) *", "1:14", line),
                 ("1. Pf3 *", "1:4", "Pf3 is read as a pawn's move, and Nf3 is legal too")):
             white = "a" if "White" in text else "?"
@@ -393,6 +397,7 @@ class Warnings(Lint):
                 # too few plies, other numbers, no legal moves, words, or no such comment
                 "1. e4 ; e5 2. Nf3\n *", "1. e4 ; e5 3. Nf3 Nc6\n *", "1. e4 ; 1. e5 2. Nf3 Nc6\n *",
                 "1. e4 ; e5 2. Nf3 Nf3\n *", "1. e4 ; best by test\n *", "1. e4 {; e5 2. Nf3 Nc6} *",
+                "1. e4 {a {; e5} {; e5 2. Nf3 Nc6} e5 {; 2. Nf3 Nc6 3. Bb5} *",
                 "1. Pe4 *"):
             self.warned(text.encode())
 
@@ -426,7 +431,7 @@ class Warnings(Lint):
                     "2:8: warning: 3 comments are inside tag pairs, and export drops them")
         for text in (b"1. e4 {\n%a} e5 *\n", b'[White "{x} ; %"]\n\n1. e4 {%} *\n',
                      b'[White "a"] {x}\n\n1. e4 *\n',
-                     # of pgn_sieve
+                     # of gillspoon sieve
                      b"% byte 9: move is not legal; line 1\n% bytes 0 to 9, up to the end\n1. e4 *\n"):
             self.warned(text)
 
@@ -515,7 +520,7 @@ class CountedWarnings(Lint):
 
 
 class Statistics(Lint):
-    """pgn_lint --statistics: how many faults each reason has, and edits each fix."""
+    """gillspoon lint --statistics: how many faults each reason has, and edits each fix."""
 
     def test_counts(self):
         self.put("all/a.pgn", b"1. e2-e4 e7-e5 2. Ke3 *\n")
@@ -546,7 +551,7 @@ class Statistics(Lint):
 
 
 class Command(Lint):
-    """pgn_lint --fix, --diff and --fixes."""
+    """gillspoon lint --fix, --diff and --fixes."""
 
     def test_fix(self):
         self.put("a.pgn", BAD)
@@ -598,8 +603,16 @@ class Command(Lint):
         self.assertEqual(self.get("a.pgn"), BAD)
         self.assertEqual(self.lint("--fix", "--select", "long notation", "a.pgn")[0], 0)
         self.assertEqual(self.lint("--fix", "--select", "none", "a.pgn"), (2, "", (
-            "pgn_lint: argument --select: there is no fix none; --fixes lists them "
+            "gillspoon lint: argument --select: there is no fix none; --fixes lists them "
             "(--help shows the usage)\n")))
+
+    def test_each_name_that_is_listed_can_be_given(self):
+        rows = self.lint("--fixes")[1].splitlines()[2:]
+        names = [row.split("|")[1].strip() for row in rows]
+        self.assertIn("look-alike letter", names)
+        for text in (",".join(names), ",".join(names).replace(" ", "-")):
+            self.put("a.pgn", MENDED)
+            self.assertEqual(self.lint("--diff", "--select", text, "--quiet", "a.pgn"), (0, "", ""))
 
     def test_languages(self):
         promoted = '[FEN "7k/P7/8/8/8/8/8/K7 w - - 0 1"]\n\n1. %s Kg7 2. %s *\n'
@@ -612,13 +625,28 @@ class Command(Lint):
                  "1. e4 e5 2. Nf3 Nc6 3. Bb5 a6 4. Rg1 *\n"),
                 ("ru", "1. e4 e5 2. \u041af3 \u041ac6 3. \u0421b5 a6 4. \u041a\u0440e2 *\n",
                  "1. e4 e5 2. Nf3 Nc6 3. Bb5 a6 4. Ke2 *\n"),
-                ("nl", promoted % ("a8D+", "Dg8+"), promoted % ("a8=Q+", "Qg8+"))):
+                ("nl", promoted % ("a8D+", "Dg8+"), promoted % ("a8=Q+", "Qg8+")),
+                # with the signs of long moves and captures, and promotions in parentheses
+                ("de", "1. e2-e4 d7-d5 2. e4:d5 Dd8:d5 3. Sb1-c3 {Sc3-b1} D:d2+ *\n",
+                 "1. e2e4 d7d5 2. e4xd5 Qd8xd5 3. Nb1c3 {Sc3-b1} Qxd2+ *\n"),
+                ("es", "1. e4 d5 2. e:d5 D:d5 3. Cb1\u2013c3 (3. A-e2) Dd8 *\n",
+                 "1. e4 d5 2. exd5 Qxd5 3. Nb1c3 (3. Be2) Qd8 *\n"),
+                *(("de", promoted % (it, "Da8-g8+"), promoted % ("a8=Q+", "Qa8g8+"))
+                  for it in ("a8(D)+", "a8=(D)+", "a8/D+", "a8=D+")),
+                ("fr", promoted % ("a7-a8(T)+", "Ta8-g8+"), promoted % ("a7a8=R+", "Ra8g8+")),
+                # a Dutch knight, also where P is a pawn's letter before the fault
+                ("nl", "1. e4 e5 2. Pf3 Pc6 3. Lb5 a6 *\n", "1. e4 e5 2. Nf3 Nc6 3. Bb5 a6 *\n"),
+                ("nl", "1. Pf3 d5 2. Pe5 *\n", "1. Nf3 d5 2. Ne5 *\n")):
             status, out, _ = self.lint("--fix", "--language", code, input=text.encode())
             self.assertEqual((status, out), (0, wanted))
             # English games stay, and so does a game without its language
             self.assertEqual(self.lint("--fix", "--language", code, input=wanted.encode())[1],
                              wanted)
-            self.assertEqual(self.lint("--fix", input=text.encode())[1], text)
+            with self.subTest(text):
+                self.assertNotEqual(self.lint("--fix", input=text.encode())[1], wanted)
+        # a sound game with pawns' letters stays, and one that the letters do not mend
+        for text in ("1. Pe4 Pe5 2. Pf3 Pc6 *\n", "1. Pe4 e5 2. Pf3 Pe9 *\n"):
+            self.assertEqual(self.lint("--fix", "--language", "nl", input=text.encode())[1], text)
 
     def test_wrong_words(self):
         for words in (["--fix", "--diff", "a"], ["--fix", "--sarif", "a"], ["--fix", "-", "a"],
@@ -637,7 +665,7 @@ class Command(Lint):
 
     def test_the_table_of_the_document(self):
         with open(ROOT + "/docs/TOOLS.md", encoding="utf-8") as page:
-            found = re.search(r"<!-- pgn_lint --fixes: begin -->\n\n(.*?)\n<!--", page.read(), re.S)
+            found = re.search(r"<!-- gillspoon lint --fixes: begin -->\n\n(.*?)\n<!--", page.read(), re.S)
         self.assertEqual(found[1], self.lint("--fixes")[1])
 
     def test_json(self):
@@ -665,7 +693,7 @@ class Command(Lint):
         self.put("a.pgn.gz", gzip.compress(BAD))
         status, _, told = self.lint("--fix", "a.pgn.gz")
         self.assertEqual((status, told), (
-            3, "pgn_lint: a.pgn.gz: is compressed: unpack it, or give it to --fix -\n"))
+            3, "gillspoon: a.pgn.gz: is compressed: unpack it, or give it to --fix -\n"))
         need("diff")
         self.assertIn("+1. e2e4 e5 *", self.lint("--diff", "a.pgn.gz")[1])
 
@@ -675,7 +703,7 @@ class Command(Lint):
         os.symlink("a.pgn", self.folder + "/link.pgn")
         os.link(self.folder + "/a.pgn", self.folder + "/hard.txt")
         status, _, told = self.lint("--fix", "link.pgn")
-        self.assertEqual((status, told), (0, "pgn_lint: link.pgn: had 2 hard links: those of other "
+        self.assertEqual((status, told), (0, "gillspoon: link.pgn: had 2 hard links: those of other "
                                              "names keep the old text\n"))
         self.assertTrue(os.path.islink(self.folder + "/link.pgn"))
         self.assertEqual(stat.S_IMODE(os.stat(self.folder + "/a.pgn").st_mode), 0o640)
@@ -684,14 +712,14 @@ class Command(Lint):
         os.chmod(self.folder + "/b.pgn", 0o444)
         status, out, told = self.lint("--fix", "b.pgn")
         self.assertEqual((status, told), (
-            3, "pgn_lint: b.pgn: is read-only; it is left as it is\n"))
+            3, "gillspoon: b.pgn: is read-only; it is left as it is\n"))
         self.assertEqual((self.get("b.pgn"), sorted(os.listdir(self.folder))),
                          (BAD, ["a.pgn", "b.pgn", "hard.txt", "link.pgn"]))
 
     def test_names_with_line_ends(self):
         self.put("a\nb.pgn", BAD)
         self.assertEqual(self.lint("--fix", "--quiet", "a\nb.pgn", "none\nx.pgn"), (
-            3, "", "pgn_lint: none\\nx.pgn: No such file or directory\n"))
+            3, "", "gillspoon: none\\nx.pgn: No such file or directory\n"))
         self.assertEqual(self.get("a\nb.pgn"), MENDED)
 
     def test_a_full_disk(self):
@@ -707,7 +735,7 @@ class Command(Lint):
         for words in ([], ["--verbose"], ["--json"]):
             status, out, told = self.lint("--fix", *words, "a.pgn", preexec_fn=limit)
             self.assertEqual((status, told), (
-                3, "pgn_lint: a.pgn: File too large; it is left as it is\n"))
+                3, "gillspoon: a.pgn: File too large; it is left as it is\n"))
             self.assertNotIn("fix", out.replace("fixed\": 0", ""))
             self.assertEqual((self.get("a.pgn"), os.listdir(self.folder)), (text, ["a.pgn"]))
 
@@ -724,7 +752,7 @@ class Command(Lint):
                   'ls -A disk; cmp text disk/a.pgn && cat disk/b.pgn')
         unshare = ["unshare", "-m" if os.geteuid() == 0 else "-rm"]
         for words in ([], ["-j", "2"], ["--unsafe-fixes", "--verbose"]):
-            ran = run([*unshare, "sh", "-c", script, "sh", LINT, *words], cwd=self.folder,
+            ran = run([*unshare, "sh", "-c", script, "sh", *LINT, *words], cwd=self.folder,
                       env=self.env)
             if ran.returncode == 77 or b"unshare" in ran.stderr:
                 not_tried("no file system can be mounted here")
@@ -732,12 +760,12 @@ class Command(Lint):
                 "disk/b.pgn:4:4: fixed: long notation: e2-e4 \u2192 e2e4\n"
                 "1 file, 1 game, 0 faults, 1 edit\nstatus 3\na.pgn\nb.pgn\n" + MENDED.decode()))
             self.assertEqual(ran.stderr.decode(), (
-                "pgn_lint: disk/a.pgn: No space left on device; it is left as it is\n"))
+                "gillspoon: disk/a.pgn: No space left on device; it is left as it is\n"))
 
     def test_a_kill(self):
         text = BAD * 20000
         self.put("a.pgn", text)
-        words = ["env", "--default-signal=INT", LINT, "--fix", "a.pgn"]
+        words = ["env", "--default-signal=INT", *LINT, "--fix", "a.pgn"]
         for number in (signal.SIGTERM, signal.SIGHUP, signal.SIGINT, signal.SIGKILL):
             with subprocess.Popen(words, cwd=self.folder, stdout=subprocess.PIPE,
                                   stderr=subprocess.DEVNULL, env=self.env) as running:
@@ -819,7 +847,7 @@ class ManyEdits(Lint):
         """Whoever reads a line of an edit finds the new text."""
         self.fill(3)
         os.mkfifo(self.folder + "/out")
-        with subprocess.Popen([LINT, "--fix", "a.pgn"], cwd=self.folder, env=self.env,
+        with subprocess.Popen([*LINT, "--fix", "a.pgn"], cwd=self.folder, env=self.env,
                               stdout=subprocess.PIPE) as running:
             running.stdout.read(1)
             self.assertEqual(self.get("a.pgn"), b"\n".join([MENDED] * 3))
@@ -907,7 +935,7 @@ class Processes(Lint):
         for number in (signal.SIGTERM, signal.SIGHUP, signal.SIGINT):
             for name in ("a.pgn", "b.pgn", "c.pgn"):
                 self.put(name, text)
-            words = ["env", "--default-signal=INT", LINT, "--fix", "-j", "2", "a.pgn", "b.pgn",
+            words = ["env", "--default-signal=INT", *LINT, "--fix", "-j", "2", "a.pgn", "b.pgn",
                      "c.pgn"]
             with subprocess.Popen(words, cwd=self.folder, stdout=subprocess.DEVNULL,
                                   stderr=subprocess.PIPE, env=self.env) as running:
@@ -922,13 +950,13 @@ class Processes(Lint):
                 self.assertIn(self.get(name), (text, MENDED * 20000))
 
     def test_sound_files_import_no_fix(self):
-        """They cost what pgn_lint costs."""
-        script = ("import sys; sys.path.insert(0, %r); from gillspoon.lint import main; main(); "
+        """They cost what gillspoon lint costs."""
+        script = ("import sys; sys.path.insert(0, %r); from gillspoon._command import main; main(); "
                   "print(*sorted(it for it in sys.modules if it.startswith('gillspoon._')))")
         for text, is_there in ((MENDED, False), (BAD, True)):
             self.put("a.pgn", text)
             for words in (["--fix"], ["--diff"], ["--json"]):
-                ran = subprocess.run([sys.executable, "-c", script % PACKAGE, *words, "a.pgn"],
+                ran = subprocess.run([sys.executable, "-c", script % PACKAGE, "lint", *words, "a.pgn"],
                                      cwd=self.folder, env=self.env, stdout=subprocess.PIPE,
                                      check=True)
                 loaded = set(ran.stdout.decode().splitlines()[-1].split())

@@ -1,7 +1,8 @@
-"""Tests of bin/pgn_fmt."""
+"""Tests of gillspoon fmt."""
 import doctest
 import importlib
 import os
+import re
 import signal
 import subprocess
 import sys
@@ -10,9 +11,9 @@ import unittest
 import zipfile
 
 from programs import ROOT, Folder, need, need_program, run, vectors
-from test_python import PACKAGE, library
+from test_python import PACKAGE, setUpModule as _set_up_package
 
-FMT = ROOT + "/bin/pgn_fmt"
+FMT = [ROOT + "/bin/gillspoon", "fmt"]
 HEAD = (b'[Event "?"]\n[Site "?"]\n[Date "????.??.??"]\n[Round "?"]\n[White "%s"]\n[Black "?"]\n'
         b'[Result "*"]\n\n')
 # Inputs, and the text that PGN 3.2 and 8 ask for.
@@ -20,17 +21,19 @@ LOOSE, TIDY = b'[White "A"] e4 e5 *', HEAD % b"A" + b"1. e4 e5 *\n\n"
 BAD = b'[White "B"] e4 e9 *\n'
 
 
+def setUpModule():
+    _set_up_package()
+
+
 class FmtTest(Folder, unittest.TestCase):
     def setUp(self):
         super().setUp()
-        self.program = need_program()
         self.put("loose.pgn", LOOSE)
         self.put("tidy.pgn", TIDY)
         self.put("bad.pgn", BAD)
 
-    def call(self, *words, program=None, **more):
-        env = dict(os.environ, PGN_TOOL=program or self.program)
-        return run([sys.executable, FMT, *words], cwd=self.folder, env=env, **more)
+    def call(self, *words, **more):
+        return run([sys.executable, *FMT, *words], cwd=self.folder, **more)
 
     def check(self, ran, status, out, err=b""):
         self.assertEqual((ran.returncode, ran.stdout, ran.stderr), (status, out, err))
@@ -49,7 +52,7 @@ class FmtTest(Folder, unittest.TestCase):
         self.check(self.call("--checked", "packed.pgn"), 0, TIDY)
         self.check(self.call("--check", "packed.pgn"), 1, b"packed.pgn\n")
         self.check(self.call("--write", "packed.pgn"), 3, b"", (
-            b"pgn_fmt: packed.pgn: is compressed, and left as it is: unpack it first\n"))
+            b"gillspoon: packed.pgn: is compressed, and left as it is: unpack it first\n"))
         need("diff")
         self.assertIn(b"\n+1. e4 e5 *\n", self.call("--diff", "packed.pgn").stdout)
         self.put("packed.pgn", gzip.compress(TIDY))
@@ -60,13 +63,13 @@ class FmtTest(Folder, unittest.TestCase):
         with zipfile.ZipFile(self.folder + "/all.zip", "w") as archive:
             for name in ("loose.pgn", "bad.pgn", "tidy.pgn"):
                 archive.write(os.path.join(self.folder, name), "sub/" + name)
-        told = b"pgn_fmt: all.zip:sub/bad.pgn: byte 15: not a move\n"
+        told = b"gillspoon: all.zip:sub/bad.pgn: byte 15: not a move\n"
         self.check(self.call("all.zip"), 1, TIDY * 2, told)
         self.check(self.call("--check", "all.zip"), 1, b"all.zip:sub/loose.pgn\n", told)
         self.check(self.call("--check", "all.zip:sub/tidy.pgn"), 0, b"")
         self.check(self.call("tidy.pgn", "-", "all.zip", input=LOOSE), 1, TIDY * 4, told)
         self.check(self.call("--write", "all.zip"), 3, b"", (
-            b"pgn_fmt: all.zip: is compressed, and left as it is: unpack it first\n"))
+            b"gillspoon: all.zip: is compressed, and left as it is: unpack it first\n"))
         self.check(self.call("-o", "out", "all.zip"), 1, b"", told)
         need("diff")
         ran = self.call("--diff", "all.zip")
@@ -74,7 +77,7 @@ class FmtTest(Folder, unittest.TestCase):
         self.assertTrue(ran.stdout.startswith(b"--- all.zip:sub/loose.pgn\n"), ran.stdout)
         self.put("none.zip", b"PK\3\4 is cut off")
         self.check(self.call("none.zip", "tidy.pgn"), 3, TIDY,
-                   b"pgn_fmt: none.zip: File is not a zip file\n")
+                   b"gillspoon: none.zip: File is not a zip file\n")
 
     def test_merge(self):
         # a byte order mark, and no LF at the end
@@ -83,13 +86,25 @@ class FmtTest(Folder, unittest.TestCase):
         self.check(self.call("--output", "all.pgn", "mark.pgn", "tidy.pgn"), 0, b"")
         self.assertEqual(self.get("all.pgn"), TIDY * 2)
 
+    def test_what_an_output_drops(self):
+        """A line on standard error counts it, of all files together; sieve's own lines are none."""
+        self.put("a.pgn", b"{a} " + LOOSE + b"\n%b\n" + LOOSE)
+        self.put("b.pgn", b"% byte 4: bad FEN\n% bytes 0 to 7, up to the end of the file\n;c\n" + LOOSE)
+        self.put("c.pgn", LOOSE.replace(b'"]', b'"] {kept}', 1))
+        told = b"gillspoon: all.pgn: dropped 2 comments before a game or inside a tag pair, " \
+            b"1 line with '%'\n"
+        self.check(self.call("-o", "all.pgn", "tidy.pgn", "a.pgn", "b.pgn", "c.pgn"), 0, b"", told)
+        self.check(self.call("-o", "all.pgn", "-", "c.pgn", input=b"1. e4 * {end}"), 0, b"",
+                   b"gillspoon: all.pgn: dropped 5 bytes behind the last game\n")
+        self.check(self.call("-o", "all.pgn", "tidy.pgn", "c.pgn"), 0, b"")
+
     def test_file_with_a_fault_adds_nothing(self):
-        told = b"pgn_fmt: bad.pgn: byte 15: not a move\n"
+        told = b"gillspoon: bad.pgn: byte 15: not a move\n"
         self.check(self.call("loose.pgn", "bad.pgn", "tidy.pgn"), 1, TIDY * 2, told)
         self.put("all.pgn", b"old")
         self.check(self.call("-o", "all.pgn", "loose.pgn", "bad.pgn"), 1, b"", told)
         self.assertEqual(self.get("all.pgn"), b"old")
-        self.check(self.call(input=BAD), 1, b"", b"pgn_fmt: standard input: byte 15: not a move\n")
+        self.check(self.call(input=BAD), 1, b"", b"gillspoon: <stdin>: byte 15: not a move\n")
         self.assertEqual(sorted(os.listdir(self.folder)),
                          ["all.pgn", "bad.pgn", "loose.pgn", "tidy.pgn"])
 
@@ -116,11 +131,11 @@ class FmtTest(Folder, unittest.TestCase):
         self.put("torn.pgn", TIDY + HEAD % b"A" + b"1. e4 e9\n")
         ran = self.call("--check", "torn.pgn", "loose.pgn")
         self.check(ran, 1, b"loose.pgn\n",
-                   b"pgn_fmt: torn.pgn: byte %d: not a move\n" % (len(TIDY + HEAD) - 1 + 6))
+                   b"gillspoon: torn.pgn: byte %d: not a move\n" % (len(TIDY + HEAD) - 1 + 6))
 
     def test_write(self):
         before = os.stat(self.folder + "/tidy.pgn")
-        told = b"pgn_fmt: bad.pgn: byte 15: not a move\n"
+        told = b"gillspoon: bad.pgn: byte 15: not a move\n"
         self.check(self.call("--write", "loose.pgn", "bad.pgn", "tidy.pgn"), 1, b"loose.pgn\n",
                    told)
         self.assertEqual([self.get(it) for it in ("loose.pgn", "bad.pgn", "tidy.pgn")],
@@ -142,10 +157,14 @@ class FmtTest(Folder, unittest.TestCase):
         self.assertEqual(os.listdir(self.folder + "/sub"), ["far.pgn"])
 
     def test_write_keeps_a_file_that_changed_meanwhile(self):
-        self.put("program", b'#!/bin/sh\ncat >/dev/null\necho more >>loose.pgn\necho "export"\n')
-        os.chmod(self.folder + "/program", 0o755)
-        ran = self.call("-w", "loose.pgn", program=self.folder + "/program")
-        self.assertEqual((ran.returncode, ran.stdout), (3, b""))
+        script = ("import sys; sys.path.insert(0, %r)\nimport gillspoon._fmt as fmt\n"
+                  "from gillspoon._command import main\nfound = fmt._what_is_dropped\n"
+                  "def dropped(*words):\n open('loose.pgn', 'ab').write(b'more\\n')\n"
+                  " return found(*words)\n"
+                  "fmt._what_is_dropped = dropped\nsys.exit(main())" % PACKAGE)
+        ran = run([sys.executable, "-c", script, "fmt", "-w", "loose.pgn"], cwd=self.folder)
+        self.check(ran, 3, b"", b"gillspoon: loose.pgn: changed while it was read; it is left as "
+                   b"it is\n")
         self.assertEqual(self.get("loose.pgn"), LOOSE + b"more\n")
 
     def test_diff(self):
@@ -159,19 +178,19 @@ class FmtTest(Folder, unittest.TestCase):
         self.assertIn(b"-1.e4 e5 *", lines)
         self.assertIn(b"+1. e4 e5 *", lines)
         self.check(self.call("--diff", "bad.pgn"), 1, b"",
-                   b"pgn_fmt: bad.pgn: byte 15: not a move\n")
+                   b"gillspoon: bad.pgn: byte 15: not a move\n")
 
     def test_checked_is_handed_on(self):
         self.put("won.pgn", b"1. e4 1-0")
         self.check(self.call("won.pgn"), 1, b"",
-                   b"pgn_fmt: won.pgn: byte 6: result differs from the Result tag\n")
+                   b"gillspoon: won.pgn: byte 6: result differs from the Result tag\n")
         ran = self.call("--checked", "won.pgn")
         self.assertEqual((ran.returncode, ran.stderr), (0, b""))
         self.assertTrue(ran.stdout.endswith(b'[Result "1-0"]\n\n1. e4 1-0\n\n'), ran.stdout)
-        self.assertEqual(self.call("--checked").returncode, 2)
+        ran = self.call("--checked", input=b"1. e4 1-0")
+        self.assertTrue(ran.stdout.endswith(b'[Result "1-0"]\n\n1. e4 1-0\n\n'), ran.stdout)
 
     def test_errors(self):
-        os.mkfifo(self.folder + "/pipe")
         for words, status in ((["--check"], 2), (["--write"], 2), (["--diff"], 2),
                               (["--chek", "tidy.pgn"], 2), (["--drop", "tidy.pgn"], 2),
                               (["--check", "--drop", "tidy.pgn"], 2),
@@ -179,15 +198,25 @@ class FmtTest(Folder, unittest.TestCase):
                               (["--stdin-name", "x", "--write"], 2), (["--stdin-name"], 2),
                               (["--check", "--write", "tidy.pgn"], 2), (["none.pgn"], 3),
                               (["--write", "none.pgn"], 3), (["--check", "none.pgn"], 3),
-                              (["--check", "pipe"], 2), (["--output", "none/a", "tidy.pgn"], 3),
-                              (["--diff", "none.pgn"], 3), (["--check", "."], 3)):
+                              (["--output", "none/a", "tidy.pgn"], 3),
+                              (["--diff", "none.pgn"], 3)):
             ran = self.call(*words)
             self.assertEqual((ran.returncode, ran.stdout, ran.stderr.count(b"\n")),
                              (status, b"", 1), (words, ran.stderr))
-        self.put("program", b'#!/bin/sh\necho "out of memory" >&2\nexit 3\n')
-        os.chmod(self.folder + "/program", 0o755)
-        ran = self.call("tidy.pgn", program=self.folder + "/program")
-        self.check(ran, 3, b"", b"pgn_fmt: tidy.pgn: out of memory\n")
+
+    def test_a_lack_of_memory(self):
+        """A comment is held as a whole, so that a game of any length needs memory."""
+        self.put("long.pgn", b"1. e4 {" + b"a word " * (1 << 24))
+        limit = 'ulimit -v 250000; exec "$@"'
+        ran = run(["sh", "-c", limit, "sh", sys.executable, *FMT, "--check", "long.pgn"],
+                  cwd=self.folder)
+        self.check(ran, 3, b"", b"gillspoon: out of memory\n")
+
+    def test_a_pipe_is_read(self):
+        for words in ([], ["--check"]):
+            script = 'cat loose.pgn | "$@" /dev/stdin'
+            ran = run(["sh", "-c", script, "sh", sys.executable, *FMT, *words], cwd=self.folder)
+            self.check(ran, *((1, b"/dev/stdin\n") if words else (0, TIDY)))
 
     def test_output_that_cannot_be_written(self):
         with open("/dev/full", "wb") as full:
@@ -196,10 +225,9 @@ class FmtTest(Folder, unittest.TestCase):
                 self.assertEqual((ran.returncode, ran.stderr.count(b"\n")), (3, 1), ran.stderr)
 
     def test_a_closed_output(self):
-        ran = run(["sh", "-c", '"$0" "$1" --write loose.pgn >&-', sys.executable, FMT],
-                  cwd=self.folder)
+        ran = run(["sh", "-c", '"$@" --write loose.pgn >&-', "sh", *FMT], cwd=self.folder)
         self.assertEqual((ran.returncode, ran.stderr),
-                         (3, b"pgn_fmt: standard output is closed\n"))
+                         (3, b"gillspoon: standard output is closed\n"))
         self.assertEqual(self.get("loose.pgn"), LOOSE)
 
     def test_a_closed_pipe_ends_it_silently(self):
@@ -220,7 +248,7 @@ class FmtTest(Folder, unittest.TestCase):
         self.check(self.call(*name, "--check", input=LOOSE), 1, b"a b.pgn\n")
         for words in ([], ["--check"], ["--diff"]):
             self.check(self.call(*name, *words, input=BAD), 1, b"",
-                       b"pgn_fmt: a b.pgn: byte 15: not a move\n")
+                       b"gillspoon: a b.pgn: byte 15: not a move\n")
         ran = self.call(*name, "--diff", input=LOOSE)
         self.assertEqual((ran.returncode, ran.stderr), (1, b""))
         self.assertEqual(ran.stdout.split(b"\n")[:2],
@@ -233,7 +261,7 @@ class FmtTest(Folder, unittest.TestCase):
 
     def test_standard_input_among_files(self):
         self.check(self.call("tidy.pgn", "-", input=LOOSE), 0, TIDY * 2)
-        self.check(self.call("--check", "-", "tidy.pgn", input=LOOSE), 1, b"standard input\n")
+        self.check(self.call("--check", "-", "tidy.pgn", input=LOOSE), 1, b"<stdin>\n")
         self.check(self.call("--stdin-name", "a", "--check", "-", input=LOOSE), 1, b"a\n")
         self.check(self.call("-o", "all.pgn", "-", "loose.pgn", input=TIDY), 0, b"")
         self.assertEqual(self.get("all.pgn"), TIDY * 2)
@@ -242,8 +270,8 @@ class FmtTest(Folder, unittest.TestCase):
         for words in (["-", "-"], ["--write", "-"], ["--stdin-name", "a", "-", "tidy.pgn"]):
             ran = self.call(*words, input=LOOSE)
             self.assertEqual((ran.returncode, ran.stdout, ran.stderr.count(b"\n")), (2, b"", 1))
-        ran = run(["sh", "-c", '"$0" "$1" - <&-', sys.executable, FMT], cwd=self.folder)
-        self.check(ran, 3, b"", b"pgn_fmt: standard input is closed\n")
+        ran = run(["sh", "-c", '"$@" - <&-', "sh", *FMT], cwd=self.folder)
+        self.check(ran, 3, b"", b"gillspoon: <stdin>: Bad file descriptor\n")
 
     def test_compressed_standard_input(self):
         """Also where it is cut off: then an output that is there stays as it is."""
@@ -254,7 +282,7 @@ class FmtTest(Folder, unittest.TestCase):
         self.put("all.pgn", b"old")
         for words in (["-"], ["-o", "all.pgn", "-"], ["-o", "all.pgn", "tidy.pgn", "-"]):
             ran = self.call(*words, input=packed[:-9])
-            self.check(ran, 3, b"", b"pgn_fmt: standard input: Compressed file ended before the "
+            self.check(ran, 3, b"", b"gillspoon: <stdin>: Compressed file ended before the "
                        b"end-of-stream marker was reached\n")
             self.assertEqual(self.get("all.pgn"), b"old")
 
@@ -263,7 +291,7 @@ class FmtTest(Folder, unittest.TestCase):
         for name in ("loose.pgn", "tidy.pgn"):
             os.chmod(os.path.join(self.folder, name), 0o444)
         self.check(self.call("--write", "loose.pgn", "tidy.pgn"), 3, b"",
-                   b"pgn_fmt: loose.pgn: is read-only; it is left as it is\n")
+                   b"gillspoon: loose.pgn: is read-only; it is left as it is\n")
         self.assertEqual(self.get("loose.pgn"), LOOSE)
         os.chmod(self.folder + "/loose.pgn", 0o644)
         self.check(self.call("--write", "loose.pgn"), 0, b"loose.pgn\n")
@@ -271,7 +299,7 @@ class FmtTest(Folder, unittest.TestCase):
     def test_write_tells_of_hard_links(self):
         os.link(self.folder + "/loose.pgn", self.folder + "/other.pgn")
         self.check(self.call("--write", "loose.pgn"), 0, b"loose.pgn\n",
-                   b"loose.pgn: had 2 hard links: those of other names keep the old text\n")
+                   b"gillspoon: loose.pgn: had 2 hard links: those of other names keep the old text\n")
         self.assertEqual((self.get("loose.pgn"), self.get("other.pgn")), (TIDY, LOOSE))
         os.link(self.folder + "/loose.pgn", self.folder + "/third.pgn")
         self.check(self.call("--write", "loose.pgn"), 0, b"")
@@ -288,11 +316,11 @@ class FmtTest(Folder, unittest.TestCase):
             with self.subTest(text):
                 self.put("a.pgn", text)
                 ran = self.call("--write", "a.pgn")
-                self.check(ran, 3, b"", b"pgn_fmt: a.pgn: is left as it is: export format has no "
+                self.check(ran, 3, b"", b"gillspoon: a.pgn: is left as it is: export format has no "
                            b"place for %s (--diff shows them, --drop drops them)\n" % what.encode())
                 self.assertEqual(self.get("a.pgn"), text)
                 self.check(self.call("--write", "--drop", "a.pgn"), 0, b"a.pgn\n",
-                           b"a.pgn: dropped %s\n" % what.encode())
+                           b"gillspoon: a.pgn: dropped %s\n" % what.encode())
                 self.assertEqual(self.get("a.pgn"), TIDY.replace(b"1. e4", b"1. e4" + kept))
         self.put("a.pgn", b"; a note\n")
         self.assertEqual(self.call("--write", "a.pgn").returncode, 3)
@@ -302,19 +330,94 @@ class FmtTest(Folder, unittest.TestCase):
         self.check(self.call("--write", "a.pgn"), 0, b"a.pgn\n")
 
     def test_signal_leaves_the_file(self):
-        self.put("program", b"#!/bin/sh\nexec >&-\nexec 2>&-\nexec sleep 100\n")
-        os.chmod(self.folder + "/program", 0o755)
-        started = subprocess.Popen([sys.executable, FMT, "-w", "loose.pgn"], cwd=self.folder,
-                                   env=dict(os.environ, PGN_TOOL=self.folder + "/program"))
-        until = time.time() + 20
-        while len(os.listdir(self.folder)) < 5 and time.time() < until:
-            time.sleep(0.05)
-        time.sleep(0.1)
-        started.send_signal(signal.SIGTERM)
-        self.assertEqual(started.wait(timeout=20), -signal.SIGTERM)
-        self.assertEqual(sorted(os.listdir(self.folder)),
-                         ["bad.pgn", "loose.pgn", "program", "tidy.pgn"])
-        self.assertEqual(self.get("loose.pgn"), LOOSE)
+        self.put("loose.pgn", LOOSE * 200000)
+        for number in (signal.SIGTERM, signal.SIGINT, signal.SIGHUP):
+            words = ["env", "--default-signal=INT", "--default-signal=HUP", *FMT, "-w", "loose.pgn"]
+            with subprocess.Popen(words, cwd=self.folder) as started:
+                # a temporary file shows that it is at work
+                while len(os.listdir(self.folder)) == 3 and started.poll() is None:
+                    time.sleep(0.01)
+                started.send_signal(number)
+                self.assertEqual(started.wait(timeout=20), -number)
+            self.assertEqual(sorted(os.listdir(self.folder)),
+                             ["bad.pgn", "loose.pgn", "tidy.pgn"])
+            self.assertEqual(self.get("loose.pgn"), LOOSE * 200000)
+
+    def test_a_folder(self):
+        """Its files are found as gillspoon lint finds them; names and paths can be left out."""
+        for name in ("all/loose.pgn", "all/old/bad.pgn", "all/old/loose.PGN", "all/x.txt"):
+            self.put(name, BAD if "bad" in name else LOOSE)
+        told = b"gillspoon: all/old/bad.pgn: byte 15: not a move\n"
+        both = b"all/loose.pgn\nall/old/loose.PGN\n"
+        self.check(self.call("all"), 1, TIDY * 2, told)
+        self.check(self.call("--check", "all"), 1, both, told)
+        self.check(self.call("--check", "--exclude", "bad*", "all"), 1, both)
+        for glob in ("old", "old/*", "o?d"):
+            self.check(self.call("--check", "all", "--exclude", glob), 1, b"all/loose.pgn\n")
+        self.check(self.call("--check", "--exclude", "old", "--exclude", "*.pgn", "all",
+                             "tidy.pgn"), 3, b"", b"gillspoon: all: has no file *.pgn, also with "
+                   b".gz, .bz2, .xz, .zst or .zip behind\n")
+        # what is named is read
+        self.check(self.call("--check", "--exclude", "*", "loose.pgn"), 1, b"loose.pgn\n")
+        self.check(self.call("--write", "all"), 1, both, told)
+        self.check(self.call("--check", "all"), 1, b"", told)
+
+    def test_processes_change_nothing(self):
+        need("diff")
+        for at in range(5):
+            self.put("all/%d.pgn" % at, LOOSE.replace(b"A", b"%d" % at) * (at + 1))
+        self.put("all/3.pgn", BAD)
+        for words in ([], ["--check"], ["--diff"], ["-o", "out"], ["--write"]):
+            before = {it: self.get("all/" + it) for it in os.listdir(self.folder + "/all")}
+            ran = [self.call("-j", jobs, *words, "all", "loose.pgn", "-", input=LOOSE)
+                   for jobs in "14" if words != ["--write"]]
+            if words == ["--write"]:
+                for jobs in "14":
+                    for name, text in before.items():
+                        self.put("all/" + name, text)
+                    ran.append(self.call("-j", jobs, *words, "all", "all"))
+            one, other = ((it.returncode, it.stdout, it.stderr) for it in ran)
+            self.assertEqual(one, other, words)
+            self.assertEqual(one[0], 1, words)
+            self.assertIn(b"gillspoon: all/3.pgn: byte 15: not a move\n", one[2])
+        self.assertEqual(self.get("all/4.pgn"), (HEAD % b"4" + b"1. e4 e5 *\n\n") * 5)
+
+    def test_colours(self):
+        need("diff")
+        self.put("near.pgn", TIDY.replace(b"1. e4", b"1.e4"))
+        out = self.call("--diff", "--color", "always", "near.pgn").stdout
+        self.assertIn(b"\x1b[31m-1.e4 e5 *\x1b[0m\n\x1b[32m+1. e4 e5 *\x1b[0m\n", out)
+        plain = re.sub(rb"\x1b\[\d+m", b"", out)
+        for when in ("auto", "never"):
+            self.assertEqual(self.call("--diff", "--color", when, "near.pgn").stdout, plain)
+        self.assertEqual(self.call("--diff", "--color", "on", "near.pgn").returncode, 2)
+
+    def test_it_is_the_export_of_the_program(self):
+        """Of the worked inputs it gives the bytes and the faults of pgn_tool, which reads each."""
+        program = need_program()
+        inputs = [(it["mode"], it["input"].encode()) for it in vectors()]
+        for mode, words in (("full", []), ("full", ["--checked"]), ("reduced", ["--reduced"])):
+            texts, told, tried = b"", b"", [0, 0]
+            folder = "vectors%d" % len(words) + mode
+            for at, data in enumerate(it for found, it in inputs if found == mode):
+                if not other_kind(data):
+                    self.put("%s/%04d.pgn" % (folder, at), data)
+            for name in sorted(os.listdir(os.path.join(self.folder, folder))):
+                name = os.path.join(folder, name)
+                ran = run([program, "export", *words, name], cwd=self.folder)
+                tried[ran.returncode] += 1
+                if ran.returncode:
+                    told += b"gillspoon: %s: %s" % (name.encode(), ran.stderr)
+                else:
+                    texts += ran.stdout
+            self.check(self.call(*words, folder), 1, texts, told)
+            self.assertGreater(min(tried), 5)
+
+
+def other_kind(data):
+    """Whether the command refuses a text by its first bytes."""
+    sys.path.insert(0, PACKAGE + "/gillspoon")
+    return importlib.import_module("_kinds").other_kind(data)
 
 
 class LeftOut(unittest.TestCase):
@@ -322,7 +425,6 @@ class LeftOut(unittest.TestCase):
 
     @classmethod
     def setUpClass(cls):
-        os.environ.setdefault("GILLSPOON_LIBRARY", library())
         sys.path.insert(0, PACKAGE)
         cls.package = importlib.import_module("gillspoon")
         cls.module = importlib.import_module("gillspoon._left_out")

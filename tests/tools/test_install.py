@@ -10,28 +10,18 @@ from small_repository import CARGO, Repository
 INSTALL, UNINSTALL, LIST = "bin/install", "bin/uninstall", "share/pgn_tool/files"
 MODULES = ROOT + "/python/gillspoon"
 FILES = [
-    "bin/pgn_fmt", "bin/pgn_lint", "bin/pgn_sieve", "bin/pgn_tool", "bin/pgn_where",
+    "bin/gillspoon", "bin/pgn_tool",
     "include/pgn.h", "lib/libpgn_c.a", "lib/libpgn_c.so", "lib/libpgn_c.so.1.2",
     "lib/pkgconfig/pgn_c.pc",
-    "share/bash-completion/completions/pgn_fmt", "share/bash-completion/completions/pgn_lint",
-    "share/bash-completion/completions/pgn_sieve", "share/bash-completion/completions/pgn_tool",
-    "share/bash-completion/completions/pgn_where",
-    "share/fish/vendor_completions.d/pgn_fmt.fish",
-    "share/fish/vendor_completions.d/pgn_lint.fish",
-    "share/fish/vendor_completions.d/pgn_sieve.fish",
+    "share/bash-completion/completions/gillspoon", "share/bash-completion/completions/pgn_tool",
+    "share/fish/vendor_completions.d/gillspoon.fish",
     "share/fish/vendor_completions.d/pgn_tool.fish",
-    "share/fish/vendor_completions.d/pgn_where.fish",
-    "share/man/man1/pgn_fmt.1", "share/man/man1/pgn_lint.1", "share/man/man1/pgn_sieve.1",
-    "share/man/man1/pgn_tool.1", "share/man/man1/pgn_where.1", "share/man/man3/pgn_c.3",
+    "share/man/man1/gillspoon.1", "share/man/man1/pgn_tool.1", "share/man/man3/pgn_c.3",
     LIST, *("share/pgn_tool/gillspoon/" + it for it in sorted(os.listdir(MODULES) + ["VERSION"])
             if it != "__pycache__"),
-    "share/pgn_tool/pgn_files.py", "share/pgn_tool/pgn_fmt", "share/pgn_tool/pgn_lint",
-    "share/pgn_tool/pgn_sieve", "share/pgn_tool/pgn_where",
-    "share/zsh/site-functions/_pgn_fmt", "share/zsh/site-functions/_pgn_lint",
-    "share/zsh/site-functions/_pgn_sieve", "share/zsh/site-functions/_pgn_tool",
-    "share/zsh/site-functions/_pgn_where",
+    "share/zsh/site-functions/_gillspoon", "share/zsh/site-functions/_pgn_tool",
 ]
-SCRIPTS = ("pgn_lint", "pgn_where", "pgn_sieve", "pgn_fmt")
+PAGES = ("pgn_tool", "gillspoon")
 
 
 def files(folder):
@@ -144,37 +134,17 @@ class Small(unittest.TestCase):
         status, _, told = self.call("--proved", self.prefix, env={"CC": "rt"})
         self.assertEqual(status, 127)
 
-    def test_scripts_say_what_to_run_without_the_library(self):
+    def test_the_command_says_what_to_run_without_the_library(self):
         self.call(self.prefix)
-        games, env = self.here.root + "/games.pgn", {"PATH": self.here.root + "/path"}
-        self.here.write("games.pgn", "*")
+        env = {"PATH": self.here.root + "/path"}
         for is_there in (True, False):
             if not is_there:
                 os.unlink(self.prefix + "/lib/libpgn_c.so")
-            for name, words in (("pgn_where", ["0"]), ("pgn_sieve", [games + "1", games + "2"])):
-                ran = run([self.prefix + "/bin/" + name, games, *words], cwd="/", env=env)
-                self.assertEqual((ran.returncode, ran.stdout), (127, b""))
-                said = "%s/lib/libpgn_c.so cannot be used" % self.prefix
-                self.assertIn(said if is_there else "there is no libpgn_c.so", ran.stderr.decode())
-                self.assertTrue(ran.stderr.endswith(b" or bin/install again\n"), ran.stderr)
-
-    def test_scripts_call_the_program_beside_them(self):
-        self.call(self.prefix)
-        self.here.command("pgn_tool", "#!/bin/sh\necho another\n")
-        for name in ("bin/pgn_fmt", "share/pgn_tool/pgn_fmt"):
-            ran = run([os.path.join(self.prefix, name)], input=b"", cwd="/",
-                      env={"PATH": self.here.root + "/path"})
-            self.assertEqual((ran.returncode, ran.stdout, ran.stderr),
-                             (0, b"cargo built one, called with export\n", b""))
-        os.unlink(self.prefix + "/bin/pgn_tool")
-        ran = run([self.prefix + "/bin/pgn_fmt"], input=b"", cwd="/",
-                  env={"PATH": self.here.root + "/path"})
-        self.assertEqual((ran.returncode, ran.stdout), (0, b"another\n"), ran.stderr)
-        os.unlink(self.here.root + "/path/pgn_tool")
-        ran = run([self.prefix + "/bin/pgn_fmt"], input=b"", cwd="/",
-                  env={"PATH": self.here.root + "/path"})
-        self.assertEqual((ran.returncode, ran.stdout, ran.stderr), (
-            127, b"", b"pgn_fmt: there is no pgn_tool beside this script or on the PATH\n"))
+            ran = run([self.prefix + "/bin/gillspoon", "where", "games.pgn", "0"], cwd="/", env=env)
+            self.assertEqual((ran.returncode, ran.stdout), (127, b""))
+            said = "%s/lib/libpgn_c.so cannot be used" % self.prefix
+            self.assertIn(said if is_there else "there is no libpgn_c.so", ran.stderr.decode())
+            self.assertTrue(ran.stderr.endswith(b": run bin/install again\n"), ran.stderr)
 
     def test_package(self):
         env = {"DESTDIR": self.here.root + "/package"}
@@ -182,8 +152,6 @@ class Small(unittest.TestCase):
         self.assertEqual(status, 0, told)
         self.assertIn("prefix=/usr\n", read(env["DESTDIR"] + "/usr/lib/pkgconfig/pgn_c.pc"))
         self.assertEqual(files(self.here.root + "/package/usr"), FILES)
-        self.assertEqual(os.readlink(self.here.root + "/package/usr/bin/pgn_where"),
-                         "../share/pgn_tool/pgn_where")
         # where the package goes, no shell looks
         self.assertNotIn("completes", told)
         status, _, told = self.call("/usr", script=UNINSTALL, env=env)
@@ -235,7 +203,10 @@ class Small(unittest.TestCase):
             self.assertEqual((status, out), (1, ""))
             self.assertRegex(told, "%s is not a folder that you can write to\n" % at)
             self.assertIn('bin/install "$HOME/.local"', told)
+            self.assertIn('or as root: bin/install "%s"\n' % prefix, told)
             self.assertFalse(self.is_built())
+        self.assertIn('bin/install --cargo --deps "$HOME/.local"',
+                      self.call("--cargo", "--deps", "/dev/null/x")[2])
 
     def test_a_folder_of_another_user_is_refused_before_any_build(self):
         os.makedirs(self.prefix + "/share/man")
@@ -265,6 +236,8 @@ class Small(unittest.TestCase):
         ran = here.call(self.prefix, script=INSTALL)
         self.assertEqual((ran.returncode, ran.stdout), (127, b""))
         self.assertIn(b"cargo is not on the PATH", ran.stderr)
+        said = 'as root: bin/install --deps "%s" (on Debian 12' % self.prefix
+        self.assertIn(said, ran.stderr.decode())
         self.assertFalse(os.path.exists(self.prefix))
 
     def test_an_old_cargo(self):
@@ -289,7 +262,7 @@ class Small(unittest.TestCase):
     def test_advice(self):
         _, _, told = self.call(self.prefix)
         self.assertIn('export PATH="%s/bin:$PATH"' % self.prefix, told)
-        self.assertIn("bash completes pgn_tool with this line in ~/.bashrc: . '%s" % self.prefix,
+        self.assertIn("bash completes them with this line in ~/.bashrc: . '%s" % self.prefix,
                       told)
         env = {"PATH": "%s/bin:%s/path" % (self.prefix, self.here.root),
                "XDG_DATA_HOME": self.prefix + "/share"}
@@ -306,7 +279,7 @@ class Small(unittest.TestCase):
 
 
 class Installed(unittest.TestCase):
-    """The program and the scripts as they are installed, with bin/ of the prefix on the PATH."""
+    """The program and the command as they are installed, with bin/ of the prefix on the PATH."""
 
     @classmethod
     def setUpClass(cls):
@@ -327,20 +300,21 @@ class Installed(unittest.TestCase):
 
     def test_they_work_from_another_folder(self):
         ran = self.shell("printf '1. e4 *\\n\\n[White \"Ann\"]\\n\\n1. Ke2 *\\n' >games.pgn\n"
-                         "pgn_tool check games.pgn 2>&1 | pgn_where games.pgn\n"
-                         "pgn_lint games.pgn\n"
-                         "pgn_sieve games.pgn good.pgn bad.pgn >/dev/null\n"
-                         "pgn_fmt good.pgn | tail -n 2; pgn_fmt --check bad.pgn")
+                         "pgn_tool check games.pgn 2>&1 | gillspoon where games.pgn\n"
+                         "gillspoon lint games.pgn\n"
+                         "gillspoon sieve games.pgn good.pgn bad.pgn >/dev/null\n"
+                         "gillspoon fmt good.pgn | tail -n 2; gillspoon fmt --check bad.pgn")
         self.assertEqual(ran.stdout.decode().splitlines(), [
             "games.pgn: line 5, column 4 (byte 27): move is not legal", "1. Ke2 *", "   ^",
             'game 2: White "Ann", Black "?", Event "?"',
             "games.pgn:5:4: move is not legal (game 2, Ann \u2013 ?)",
             "1 file, 2 games, 1 fault in 1 file", "1. e4 *", ""])
-        self.assertRegex(ran.stderr, rb"\Apgn_fmt: bad.pgn: byte \d+: move is not legal\n\Z")
+        self.assertRegex(ran.stderr, rb"\Agillspoon: bad.pgn: byte \d+: move is not legal\n\Z")
 
     def test_no_path_of_the_repository_is_named(self):
-        texts = {it: self.shell(it + " --help").stdout.decode() for it in SCRIPTS}
-        for page in ("pgn_tool", *SCRIPTS):
+        texts = {it: self.shell("gillspoon %s --help" % it).stdout.decode()
+                 for it in ("", "lint", "fmt", "where", "sieve")}
+        for page in PAGES:
             source = read("%s/share/man/man1/%s.1" % (self.prefix, page))
             texts[page + ".1"] = re.sub(r'(?m)^\.\\".*', "", source)
         for name, text in texts.items():
@@ -352,15 +326,17 @@ class Installed(unittest.TestCase):
 
     def test_the_manual_is_found(self):
         programs.need("man")
-        for page in ("pgn_tool", *SCRIPTS):
+        for page in PAGES:
             ran = self.shell("man -w " + page)
             self.assertEqual(ran.stdout.decode().strip(),
                              "%s/share/man/man1/%s.1" % (self.prefix, page))
 
     def test_bash_completes(self):
-        ran = self.shell(". '%s/share/bash-completion/completions/pgn_tool'; complete -p pgn_tool"
-                         % self.prefix, "bash")
-        self.assertEqual(ran.stdout, b"complete -F _pgn_tool pgn_tool\n", ran.stderr)
+        """By the line that is advised."""
+        line = re.search(rb"in ~/.bashrc: (.*)", self.ran.stderr)[1].decode()
+        ran = self.shell(line + "; complete -p pgn_tool gillspoon", "bash")
+        self.assertEqual(ran.stdout, b"complete -F _pgn_tool pgn_tool\n"
+                         b"complete -F _gillspoon gillspoon\n", ran.stderr)
 
     def test_fish_completes(self):
         ran = self.shell("complete -C 'pgn_tool exp'", "fish",

@@ -162,7 +162,7 @@ def c_structs():
 class HeaderTest(unittest.TestCase):
     def test_functions(self):
         self.assertEqual(declared(), exported())
-        self.assertEqual(len(exported()), 11)
+        self.assertEqual(len(exported()), 12)
 
     def test_version(self):
         """That of the program, as text and as a number."""

@@ -1,4 +1,4 @@
-"""Tests of pgn_lint: what it says of bad games, its options, its statuses, and what reads it."""
+"""Tests of gillspoon lint: what it says of bad games, its options and statuses, who reads it."""
 import bz2
 import doctest
 import glob
@@ -22,7 +22,7 @@ from documents import blocks_of, lines_of, table
 from programs import ROOT, Folder, need, not_tried, run, vectors
 from test_python import PACKAGE, REAL, library
 
-LINT = ROOT + "/bin/pgn_lint"
+LINT = [ROOT + "/bin/gillspoon", "lint"]
 INITIAL = "rnbqkbnr/pppppppp/8/8/8/8/PPPPPPPP/RNBQKBNR w KQkq - 0 1"
 AFTER_E4_E5 = "rnbqkbnr/pppp1ppp/8/4p3/4P3/8/PPPP1PPP/RNBQKBNR w KQkq e6 0 2"
 PLAYERS = b'[White "Ada"]\n[Black "Bob"]\n'
@@ -312,7 +312,7 @@ class Lint(Folder, unittest.TestCase):
         more.setdefault("env", self.env)
         if "input" not in more:
             more.setdefault("stdin", subprocess.DEVNULL)
-        ran = run([LINT, *words], cwd=self.folder, **more)
+        ran = run([*LINT, *words], cwd=self.folder, **more)
         return ran.returncode, (ran.stdout or b"").decode(), (ran.stderr or b"").decode()
 
     def records(self, *words):
@@ -438,7 +438,7 @@ class Faults(Lint):
 
     def test_doctests(self):
         sys.path.insert(0, PACKAGE)
-        for name in ("_doubts", "_findings", "_kinds", "_reports", "_warnings", "lint"):
+        for name in ("_doubts", "_findings", "_kinds", "_reports", "_warnings"):
             module = importlib.import_module("gillspoon." + name)
             self.assertEqual(doctest.testmod(module).failed, 0, name)
 
@@ -479,7 +479,7 @@ class NoTraceback(Lint):
             status, out, told = self.lint("-j", "2", *words, *paths)
             self.assertEqual(status, 1, words)
             self.assertNotIn("Traceback", told)
-            self.assertNotIn("an error of pgn_lint", told)
+            self.assertNotIn("an error of gillspoon", told)
             if "--diff" not in words:
                 self.assertEqual(told, "", words)
             counts.append(len(out))
@@ -502,10 +502,10 @@ class NoTraceback(Lint):
         script = ("import sys; sys.path.insert(0, %r)\nimport gillspoon._findings as findings, "
                   "gillspoon._reports as reports, gillspoon._mend as mend\n"
                   "def failing(*words): raise KeyError('planted')\n"
-                  "%s = failing\nfrom gillspoon.lint import main\nsys.exit(main())")
+                  "%s = failing\nfrom gillspoon._command import main\nsys.exit(main())")
         self.put("a.pgn", BAD)
         self.put("b.pgn", BAD.replace(b"Ke3", b"Ke4") + GOOD)
-        said = "an error of pgn_lint, please report it: KeyError: 'planted'"
+        said = "an error of gillspoon, please report it: KeyError: 'planted'"
         first = "a.pgn:%s\n" % BAD_LINE
         for planted, words in (
                 ("findings.explained", ["--board"]), ("findings.explained", ["--json"]),
@@ -514,13 +514,13 @@ class NoTraceback(Lint):
                 ("mend.SectionMender.section", ["--diff"]),
                 ("mend.SectionMender.section", ["--sarif"])):
             for jobs in ("1", "2"):
-                ran = run([sys.executable, "-c", script % (PACKAGE, planted), *words, "-j", jobs,
+                ran = run([sys.executable, "-c", script % (PACKAGE, planted), "lint", *words, "-j", jobs,
                            "a.pgn", "b.pgn"], cwd=self.folder, env=self.env)
                 with self.subTest(planted, words=words, jobs=jobs):
                     told = ran.stderr.decode().splitlines()
                     own = [it for it in told if said in it]
                     self.assertEqual((ran.returncode, told[-2:]), (3, own))
-                    self.assertEqual(own, ["pgn_lint: %s.pgn:4:13: %s" % (name, said)
+                    self.assertEqual(own, ["gillspoon: %s.pgn:4:13: %s" % (name, said)
                                            for name in "ab"])
                     if words == ["--board"]:
                         self.assertTrue(ran.stdout.decode().startswith(first))
@@ -540,7 +540,7 @@ class NoTraceback(Lint):
 
 class Files(Lint):
     def test_real_files(self):
-        """58 files in a folder: of each the faults that pgn_sieve finds by the program."""
+        """58 files in a folder: of each the faults that gillspoon sieve finds."""
         need("zstd")
         paths = sorted(glob.glob(REAL, recursive=True)) or not_tried("pychess is missing")
         paths += glob.glob("/usr/share/pgn-extract/eco.pgn") or not_tried("pgn-extract is missing")
@@ -578,9 +578,8 @@ class Files(Lint):
             format(games, ","), len(wanted), summary["bad_files"])), words)
 
     def sieved(self, name, text):
-        """How many games pgn_sieve finds in a file, and their faults: offset, reason and line."""
-        ran = run([ROOT + "/bin/pgn_sieve", name, "/dev/null", "bad"], cwd=self.folder,
-                  env=dict(self.env, PGN_TOOL=programs.need_program()))
+        """How many games gillspoon sieve finds, and their faults: offset, reason and line."""
+        ran = run([LINT[0], "sieve", name, "/dev/null", "bad"], cwd=self.folder, env=self.env)
         self.assertEqual(ran.stderr, b"")
         good, bad = map(int, re.findall(rb"(?m)^[\w/.]+: (\d+) (?:bad )?games?\b", ran.stdout))
         with open(self.folder + "/bad", "rb") as file:
@@ -627,7 +626,7 @@ class Files(Lint):
 
     def test_a_name_that_is_no_utf_8(self):
         self.put(b"\xff.pgn", BAD)
-        ran = run([LINT, "--quiet", b"\xff.pgn"], cwd=self.folder, env=self.env)
+        ran = run([*LINT, "--quiet", b"\xff.pgn"], cwd=self.folder, env=self.env)
         self.assertEqual(ran.stdout, b"\xff.pgn:" + BAD_LINE.encode() + b"\n")
         self.assertIn("%FF.pgn", self.lint("--sarif", b"\xff.pgn")[1])
 
@@ -657,7 +656,7 @@ class Files(Lint):
             for words in ([], ["-j", "2"]):
                 with self.subTest(name):
                     status, out, told = self.lint(*words, "good.pgn", name, "bad.pgn")
-                    self.assertEqual((status, told), (3, "pgn_lint: %s: %s\n" % (name, reason)))
+                    self.assertEqual((status, told), (3, "gillspoon: %s: %s\n" % (name, reason)))
                     self.assertEqual(out.splitlines()[0], "bad.pgn:" + BAD_LINE)
                     self.assertIn("2 files, ", out)
 
@@ -665,7 +664,7 @@ class Files(Lint):
         self.put("a.pgn", GOOD)
         os.chmod(self.folder + "/a.pgn", 0)
         os.chmod(self.folder, 0o755)
-        words = [sys.executable, LINT, "a.pgn"]
+        words = [sys.executable, *LINT, "a.pgn"]
         if os.geteuid() == 0:
             need("setpriv")
             words = ["setpriv", "--reuid=65534", "--clear-groups", *words]
@@ -673,7 +672,7 @@ class Files(Lint):
         if b"build" in ran.stderr or b"cannot be used" in ran.stderr:
             not_tried("another user cannot read the library")
         self.assertEqual((ran.returncode, ran.stderr),
-                         (3, b"pgn_lint: a.pgn: Permission denied\n"))
+                         (3, b"gillspoon: a.pgn: Permission denied\n"))
 
     def test_no_library(self):
         self.env["GILLSPOON_LIBRARY"] = "/missing.so"
@@ -725,10 +724,10 @@ class OtherKinds(Lint):
             if "--fix" in words:
                 reasons["tape.pgn.gz"] = "is compressed: unpack it, or give it to --fix -"
             status, out, told = self.lint(*words, "all")
-            lines = [it for it in told.splitlines() if it.startswith("pgn_lint: ")]
+            lines = [it for it in told.splitlines() if it.startswith("gillspoon: ")]
             with self.subTest(words):
                 self.assertEqual((status, lines), (
-                    3, ["pgn_lint: all/%s: %s" % it for it in sorted(reasons.items())]))
+                    3, ["gillspoon: all/%s: %s" % it for it in sorted(reasons.items())]))
                 self.assertNotIn("move", out)
                 self.assertEqual({it: self.get("all/" + it) for it in os.listdir(
                     self.folder + "/all")}, {name: text for name, (text, _) in OTHERS.items()})
@@ -738,14 +737,14 @@ class OtherKinds(Lint):
             text, reason = OTHERS[name]
             for words in (["-"], ["--json"], ["--fix", "--unsafe-fixes"], ["--diff", "-"]):
                 status, out, told = self.lint(*words, "--quiet", input=text)
-                self.assertEqual((status, out, told), (3, "", "pgn_lint: <stdin>: %s\n" % reason))
+                self.assertEqual((status, out, told), (3, "", "gillspoon: <stdin>: %s\n" % reason))
 
     def test_the_other_files_are_read(self):
         self.put("all/a.pgn", BAD)
         self.put("all/z.pgn", BAD)
         for name, (text, _) in OTHERS.items():
             self.put("all/" + name, text)
-        told = "".join("pgn_lint: all/%s: %s\n" % (it, OTHERS[it][1]) for it in sorted(OTHERS))
+        told = "".join("gillspoon: all/%s: %s\n" % (it, OTHERS[it][1]) for it in sorted(OTHERS))
         for words in ([], ["-j", "2"]):
             self.assertEqual(self.lint("all", *words), (
                 3, "all/a.pgn:%s\nall/z.pgn:%s\n2 files, 2 games, 2 faults in 2 files\n" % (
@@ -767,7 +766,7 @@ class OtherKinds(Lint):
         """A pipe may give fewer bytes than the kind is known by."""
         for text, status in ((GOOD, 0), (BAD, 1), (OTHERS["no-mark.pgn"][0], 3),
                              (b" " * 400 + OTHERS["tag.pgn"][0], 3)):
-            with subprocess.Popen([LINT, "-"], env=self.env, stdin=subprocess.PIPE, bufsize=0,
+            with subprocess.Popen([*LINT, "-"], env=self.env, stdin=subprocess.PIPE, bufsize=0,
                                   stdout=subprocess.DEVNULL, stderr=subprocess.DEVNULL) as child:
                 for at in range(len(text)):
                     try:
@@ -813,9 +812,9 @@ class Zips(Lint):
         self.assertEqual(self.lint("--quiet", "a.zip:sub/x.pgn", "a.zip:y.PGN"),
                          (1, "a.zip%s\n" % self.lines[0], ""))
         self.assertEqual(self.lint("--quiet", "a.zip:none.pgn"), (3, "", (
-            "pgn_lint: a.zip:none.pgn: There is no item named 'none.pgn' in the archive\n")))
+            "gillspoon: a.zip:none.pgn: There is no item named 'none.pgn' in the archive\n")))
         self.assertEqual(self.lint("--quiet", "none.zip:a.pgn"), (
-            3, "", "pgn_lint: none.zip:a.pgn: No such file or directory\n"))
+            3, "", "gillspoon: none.zip:a.pgn: No such file or directory\n"))
         # the name of a file comes first
         self.put("a.zip:y.PGN", GOOD)
         self.assertEqual(self.lint("--quiet", "a.zip:y.PGN"), (0, "", ""))
@@ -826,7 +825,7 @@ class Zips(Lint):
 
     def test_a_member_of_another_kind(self):
         self.put("b.zip", zip_of(("u.pgn", OTHERS["mark.pgn"][0]), ("y.pgn", BAD)))
-        said = (3, "b.zip:y.pgn:%s\n" % BAD_LINE, "pgn_lint: b.zip:u.pgn: %s\n" % NO_TEXT)
+        said = (3, "b.zip:y.pgn:%s\n" % BAD_LINE, "gillspoon: b.zip:u.pgn: %s\n" % NO_TEXT)
         self.assertEqual(self.lint("--quiet", "b.zip"), said)
         self.assertEqual(self.lint("--quiet", "-j2", "b.zip", "a.zip:sub/x.pgn"), said)
 
@@ -836,7 +835,7 @@ class Zips(Lint):
         self.put("b.zip", bytes(data))
         status, out, told = self.lint("--quiet", "b.zip")
         self.assertEqual((status, out), (3, "b.zip:y.pgn:%s\n" % BAD_LINE))
-        self.assertRegex(told, r"\Apgn_lint: b\.zip:x\.pgn: (?!b\.zip).+\n\Z")
+        self.assertRegex(told, r"\Agillspoon: b\.zip:x\.pgn: (?!b\.zip).+\n\Z")
 
     def test_fix(self):
         need("diff")
@@ -854,7 +853,7 @@ class Zips(Lint):
         for words in (["b.zip"], ["-j2", "b.zip", "b.zip:x.pgn"]):
             status, out, told = self.lint("--fix", *words)
             self.assertEqual((status, told.splitlines()[0]), (
-                3, "pgn_lint: b.zip: is compressed: unpack it, or give it to --fix -"))
+                3, "gillspoon: b.zip: is compressed: unpack it, or give it to --fix -"))
         self.assertEqual(self.get("b.zip"), packed)
 
     def test_in_a_folder(self):
@@ -864,27 +863,27 @@ class Zips(Lint):
         self.put("all/photos.zip", zip_of(("readme", b"none")))
         self.put("all/.hidden.zip", zip_of(("y.pgn", BAD)))
         said = (1, "all/games.ZIP:y.pgn:%s\n2 files, 2 games, 1 fault in 1 file\n" % BAD_LINE,
-                "pgn_lint: all/photos.zip: is passed over: it has no file *.pgn inside\n")
+                "gillspoon: all/photos.zip: is passed over: it has no file *.pgn inside\n")
         for words in ([], ["-j", "2"]):
             self.assertEqual(self.lint("all", *words), said)
         self.assertEqual(self.lint("--quiet", "all"), (1, said[1].splitlines()[0] + "\n", ""))
         # one that is given, or is said to have games, cannot be read
         self.assertEqual(self.lint("--quiet", "all/photos.zip"), (
-            3, "", "pgn_lint: all/photos.zip: has no file *.pgn inside\n"))
+            3, "", "gillspoon: all/photos.zip: has no file *.pgn inside\n"))
         self.put("all/b.pgn.zip", zip_of(("readme", b"none")))
         self.put("all/c.zip", b"none")
         status, _, told = self.lint("all")
         self.assertEqual((status, told.splitlines()), (3, [
-            "pgn_lint: all/b.pgn.zip: has no file *.pgn inside",
-            "pgn_lint: all/c.zip: File is not a zip file",
-            "pgn_lint: all/photos.zip: is passed over: it has no file *.pgn inside"]))
+            "gillspoon: all/b.pgn.zip: has no file *.pgn inside",
+            "gillspoon: all/c.zip: File is not a zip file",
+            "gillspoon: all/photos.zip: is passed over: it has no file *.pgn inside"]))
 
     def test_a_folder_of_such_a_zip_alone(self):
         self.put("all/photos.zip", zip_of(("readme", b"none")))
         status, _, told = self.lint("all")
         self.assertEqual((status, told.splitlines()), (3, [
-            "pgn_lint: all/photos.zip: is passed over: it has no file *.pgn inside",
-            "pgn_lint: all: has no file *.pgn, also with .gz, .bz2, .xz, .zst or .zip behind"]))
+            "gillspoon: all/photos.zip: is passed over: it has no file *.pgn inside",
+            "gillspoon: all: has no file *.pgn, also with .gz, .bz2, .xz, .zst or .zip behind"]))
 
 
 class Options(Lint):
@@ -930,7 +929,7 @@ class Options(Lint):
                                    "bad_files": 1})
 
     def test_the_fields_are_documented(self):
-        with open(ROOT + "/share/man/man1/pgn_lint.1", encoding="utf-8") as page:
+        with open(ROOT + "/share/man/man1/gillspoon.1", encoding="utf-8") as page:
             rows = re.findall(r"(?m)^\.It Cm (.*)$", page.read())
         self.assertEqual([it.replace("Cm ", "") for row in rows for it in row.split(" , ")],
                          FIELDS[1:])
@@ -1031,7 +1030,7 @@ class Options(Lint):
     def test_as_a_module(self):
         self.put("a.pgn", BAD)
         env = dict(self.env, PYTHONPATH=PACKAGE)
-        ran = run([sys.executable, "-m", "gillspoon.lint", "--quiet", "a.pgn"], cwd=self.folder,
+        ran = run([sys.executable, "-m", "gillspoon", "lint", "--quiet", "a.pgn"], cwd=self.folder,
                   env=env)
         self.assertEqual((ran.returncode, ran.stdout.decode()), (1, "a.pgn:%s\n" % BAD_LINE))
 
@@ -1040,7 +1039,7 @@ class Streams(Lint):
     def test_a_closed_pipe_ends_it_silently(self):
         self.put("a.pgn", (BAD + b"\n") * 3000)
         for words in ("", "--json", "-j2 a.pgn", "--board"):
-            script = "pgn_lint %s a.pgn | head -n 1; echo ${PIPESTATUS[0]}" % words
+            script = "gillspoon lint %s a.pgn | head -n 1; echo ${PIPESTATUS[0]}" % words
             ran = run(["bash", "-c", script], cwd=self.folder, env=self.env)
             first, status = ran.stdout.decode().splitlines()
             self.assertIn("move is not legal", first)
@@ -1049,7 +1048,7 @@ class Streams(Lint):
     def test_a_closed_pipe_while_processes_write(self):
         """What they have to say is more than a pipe holds, so that some end in the midst of it."""
         self.put("a.pgn", (BAD + b"\n") * 1000)
-        script = "pgn_lint -j4%s | head -n 1; echo ${PIPESTATUS[0]}" % (8 * " a.pgn")
+        script = "gillspoon lint -j4%s | head -n 1; echo ${PIPESTATUS[0]}" % (8 * " a.pgn")
         for _ in range(6):
             ran = run(["bash", "-c", script], cwd=self.folder, env=self.env, timeout=20)
             self.assertEqual(ran.stdout.decode().splitlines(), ["a.pgn:" + BAD_LINE, "3"])
@@ -1061,13 +1060,13 @@ class Streams(Lint):
             with open("/dev/full", "wb") as full:
                 status, _, told = self.lint("a.pgn", *words, stdout=full)
             self.assertEqual((status, told), (
-                3, "pgn_lint: output cannot be written: No space left on device\n"))
+                3, "gillspoon: output cannot be written: No space left on device\n"))
 
     def interrupted(self, *words):
         """The status and the errors of a call that waits for a pipe, and gets SIGINT."""
         os.mkfifo(self.folder + "/pipe.pgn")
         # a shell has background jobs ignore the signal, so the tests may do so too
-        words = ["env", "--default-signal=INT", LINT, *words]
+        words = ["env", "--default-signal=INT", *LINT, *words]
         with subprocess.Popen(words, cwd=self.folder, env=self.env,
                               stdout=subprocess.PIPE, stderr=subprocess.PIPE) as child:
             # once this opens, the other end is open in the process that reads
@@ -1098,7 +1097,7 @@ class Streams(Lint):
         """A call by two processes that get these signals: no fault of a file, no traceback."""
         os.mkfifo(self.folder + "/pipe.pgn")
         self.put("b.pgn", GOOD)
-        with subprocess.Popen([LINT, "-j", "2", "b.pgn", "pipe.pgn"], cwd=self.folder,
+        with subprocess.Popen([*LINT, "-j", "2", "b.pgn", "pipe.pgn"], cwd=self.folder,
                               env=self.env, stdout=subprocess.PIPE,
                               stderr=subprocess.PIPE) as child:
             # once this opens, a process reads the other end
@@ -1110,7 +1109,7 @@ class Streams(Lint):
                         os.kill(int(process), number)
                 _, told = child.communicate(timeout=20)
         self.assertEqual((child.returncode, told), (
-            3, b"pgn_lint: a process ended before its file was checked; try again without -j\n"))
+            3, b"gillspoon: a process ended before its file was read; try again without -j\n"))
 
     def test_a_process_that_is_killed(self):
         """As for lack of memory."""
@@ -1122,12 +1121,12 @@ class Streams(Lint):
 
     def test_colours_on_a_terminal_alone(self):
         self.put("a.pgn", BAD)
-        shown = programs.on_a_terminal([LINT, "a.pgn"], cwd=self.folder,
+        shown = programs.on_a_terminal([*LINT, "a.pgn"], cwd=self.folder,
                                        env=dict(self.env, TERM="xterm"))
         self.assertEqual(shown, "\x1b[1ma.pgn:4:13:\x1b[0m \x1b[31mmove is not legal\x1b[0m "
                          "(game 1, Ada \u2013 Bob)\n1 file, 1 game, 1 fault in 1 file\n")
         for more in ({"NO_COLOR": "1"}, {"TERM": "dumb"}):
-            shown = programs.on_a_terminal([LINT, "a.pgn"], cwd=self.folder,
+            shown = programs.on_a_terminal([*LINT, "a.pgn"], cwd=self.folder,
                                            env=dict(self.env, **more))
             self.assertNotIn("\x1b", shown)
 
@@ -1138,9 +1137,9 @@ class Streams(Lint):
                               cwd=self.folder):
             self.put("a", GOOD * 600)
             self.put("b", BAD)
-            shown = programs.on_a_terminal([LINT, "pipe.pgn"], cwd=self.folder,
+            shown = programs.on_a_terminal([*LINT, "pipe.pgn"], cwd=self.folder,
                                            env=dict(self.env, NO_COLOR="1"))
-        self.assertRegex(shown, "\\A(\r\x1b\\[Kpgn_lint: file 1 of 1, [0-9,]+ games)+\r\x1b\\[K"
+        self.assertRegex(shown, "\\A(\r\x1b\\[Kgillspoon: file 1 of 1, [0-9,]+ games)+\r\x1b\\[K"
                          "pipe.pgn:[0-9]+:13: move is not legal \\(game 1,201, .*\n"
                          "1 file, 1,201 games, 1 fault in 1 file\n\\Z".replace("1,201, ", "1201, "))
 
@@ -1149,7 +1148,7 @@ class Others(Lint):
     """What reads the lines: editors, code hosts, hooks."""
 
     def recipe(self, language):
-        """The block of a language in the recipe of pgn_lint."""
+        """The block of a language in the recipe of gillspoon lint."""
         lines = lines_of("docs/RECIPES.md")
         begin = lines.index("## Check games in CI and in an editor")
         return ["\n".join(inner) + "\n" for number, _, inner in blocks_of(lines)
@@ -1183,7 +1182,7 @@ class Others(Lint):
             (while (get-buffer-process (current-buffer)) (accept-process-output nil 0.1)))
           (dotimes (_ 2) (next-error)
             (with-current-buffer "a.pgn" (message "at %%d %%s" (line-number-at-pos)
-              (buffer-substring (point) (+ 3 (point)))))))""" % (setting, LINT)
+              (buffer-substring (point) (+ 3 (point)))))))""" % (setting, " ".join(LINT))
         ran = run(["emacs", "-Q", "--batch", "--eval", script], cwd=self.folder, env=self.env)
         self.assertEqual(re.findall("(?m)^at .*", ran.stderr.decode()), ["at 3 Ke3", "at 8 Ke3"],
                          ran.stderr)
@@ -1199,18 +1198,17 @@ class Others(Lint):
                    GIT_CONFIG_COUNT="1", GIT_CONFIG_KEY_0="safe.directory", GIT_CONFIG_VALUE_0="*")
         for words in (["init", "-q"], ["add", "--", "good games.pgn", "-c.pgn", "bad.txt"]):
             self.assertEqual(run(["git", *words], cwd=self.folder, env=env).returncode, 0)
-        ran = run(["pre-commit", "try-repo", ROOT, "pgn_lint", "--all-files", "--color", "never"],
-                  cwd=self.folder, env=env)
+        ran = run(["pre-commit", "try-repo", ROOT, "gillspoon-lint", "--all-files", "--color",
+                   "never"], cwd=self.folder, env=env)
         self.assertEqual(ran.returncode, 1, ran.stdout + ran.stderr)
         found = [it for it in ran.stdout.decode().splitlines() if ".pgn" in it or ".txt" in it]
         self.assertEqual(found, ["-c.pgn:" + BAD_LINE])
         run(["git", "rm", "-qf", "--", "-c.pgn"], cwd=self.folder, env=env)
-        ran = run(["pre-commit", "try-repo", ROOT, "pgn_lint", "--all-files"],
+        ran = run(["pre-commit", "try-repo", ROOT, "gillspoon-lint", "--all-files"],
                   cwd=self.folder, env=env)
         self.assertEqual(ran.returncode, 0, ran.stdout + ran.stderr)
-        env["PGN_TOOL"] = programs.need_program()
-        ran = run(["pre-commit", "try-repo", ROOT, "pgn_fmt", "--all-files", "--color", "never"],
-                  cwd=self.folder, env=env)
+        ran = run(["pre-commit", "try-repo", ROOT, "gillspoon-fmt", "--all-files", "--color",
+                   "never"], cwd=self.folder, env=env)
         self.assertEqual(ran.returncode, 1, ran.stdout + ran.stderr)
         self.assertIn("\ngood games.pgn\n", ran.stdout.decode())
 
@@ -1218,9 +1216,9 @@ class Others(Lint):
         """What the recipe says of pre-commit names the hooks of this repository."""
         with open(ROOT + "/.pre-commit-hooks.yaml", encoding="utf-8") as hooks:
             said = hooks.read()
-        names = re.findall(r"(?m)^- id: (\w+)$", said)
+        names = re.findall(r"(?m)^- id: ([\w-]+)$", said)
         text = next(it for it in self.recipe("yaml") if "repos:" in it)
-        self.assertEqual(re.findall(r"- id: (\w+)", text), names)
+        self.assertEqual(re.findall(r"- id: ([\w-]+)", text), names)
         for pattern in re.findall(r"(?m)^  files: '(.*)'$", said):
             for name in ("a.pgn", "a/B.PGN", "c.Pgn"):
                 self.assertTrue(re.search(pattern, name), (pattern, name))
@@ -1232,7 +1230,7 @@ class Others(Lint):
         text = next(it for it in self.recipe("yaml") if "runs-on" in it)
         self.assertLessEqual(text.count("\n"), 12)
         commands = re.findall(r"(?m)^ +- run: (.*)$", text)
-        lint, = [it for it in commands if "pgn_lint" in it]
+        lint, = [it for it in commands if "gillspoon lint" in it]
         self.put("games/a.pgn", BAD)
         ran = run(["sh", "-ec", lint], cwd=self.folder, env=self.env)
         self.assertEqual(ran.returncode, 1, ran.stderr)
@@ -1245,4 +1243,4 @@ class Others(Lint):
 
 class Script(unittest.TestCase):
     def test_it_can_be_run(self):
-        self.assertTrue(os.stat(LINT).st_mode & stat.S_IXUSR)
+        self.assertTrue(os.stat(LINT[0]).st_mode & stat.S_IXUSR)

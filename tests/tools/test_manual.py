@@ -15,10 +15,11 @@ from programs import ROOT, Folder, run
 PAGES = ROOT + "/share/man/man1/"
 PAGE = PAGES + "pgn_tool.1"
 LIBRARY_PAGE = ROOT + "/share/man/man3/pgn_c.3"
-SCRIPTS = ("pgn_lint", "pgn_where", "pgn_sieve", "pgn_fmt")
-# Those that have completions; pgn_conform is not installed, so it has no page.
-COMPLETED = SCRIPTS + ("pgn_conform",)
-VARIABLES = {"pgn_lint": ["GILLSPOON_LIBRARY", "NO_COLOR"], "pgn_where": []}
+COMMAND_PAGE = PAGES + "gillspoon.1"
+COMMANDS = ("pgn_tool", "gillspoon")
+SUBCOMMANDS = ("lint", "fmt", "where", "sieve")
+# What has completions beside pgn_tool; pgn_conform is not installed, so it has no page.
+COMPLETED = (("gillspoon",), *(("gillspoon", it) for it in SUBCOMMANDS), ("pgn_conform",))
 COMPLETIONS = ROOT + "/share/completions/"
 # What zsh reads first: each word that it offers goes to a file.
 ZSHRC = r"""fpath=(%s $fpath)
@@ -114,7 +115,7 @@ class Page(Shell):
 
     def test_no_warnings_of_mandoc(self):
         programs.need("mandoc")
-        for path in (*(PAGES + it + ".1" for it in ("pgn_tool", *SCRIPTS)), LIBRARY_PAGE):
+        for path in (*(PAGES + it + ".1" for it in COMMANDS), LIBRARY_PAGE):
             ran = run(["mandoc", "-Tlint", path])
             lines = (ran.stdout + ran.stderr).decode().splitlines()
             # What is installed on this machine, and its index, are no matter of this page.
@@ -125,33 +126,33 @@ class Page(Shell):
         programs.need("groff")
         if b"DIAGNOSTICS" not in run(["groff", "-P-cbu", "-mandoc", "-Tascii", PAGE]).stdout:
             programs.not_tried("groff has no mdoc macros")
-        for path in (*(PAGES + it + ".1" for it in ("pgn_tool", *SCRIPTS)), LIBRARY_PAGE):
+        for path in (*(PAGES + it + ".1" for it in COMMANDS), LIBRARY_PAGE):
             for device in ("ascii", "utf8"):
                 ran = run(["groff", "-ww", "-mandoc", "-T" + device, path])
                 self.assertEqual((ran.returncode, ran.stderr), (0, b""), device)
 
     def test_man_shows_each_page(self):
         programs.need("man")
-        for name in ("pgn_tool", *SCRIPTS):
+        for name in COMMANDS:
             ran = run(["man", "-l", PAGES + name + ".1"])
             self.assertEqual((ran.returncode, ran.stderr), (0, b""), name)
             self.assertIn(b"EXIT STATUS", ran.stdout)
 
     def test_the_pages_name_one_another(self):
-        for name in ("pgn_tool", *SCRIPTS):
-            named = re.findall(r"^\.Xr (pgn_\w+) 1", section(text_of(PAGES + name + ".1"),
+        for name in COMMANDS:
+            named = re.findall(r"^\.Xr (pgn_tool|gillspoon) 1", section(text_of(PAGES + name + ".1"),
                                                             "SEE ALSO"), re.M)
-            self.assertEqual(named, sorted({"pgn_tool", *SCRIPTS} - {name}))
+            self.assertEqual(named, sorted({*COMMANDS} - {name}))
 
     def test_no_file_is_cited_that_is_not_installed(self):
-        for name in ("pgn_tool", *SCRIPTS):
+        for name in COMMANDS:
             page = re.sub(r'^\.\\".*', "", text_of(PAGES + name + ".1"), flags=re.M)
             self.assertNotRegex(page, r"\b(?:bin|docs|examples|vectors|crates)(?:/|\n)")
 
     def test_the_examples_are_real(self):
         """Each block is run as a script, and shows what a terminal would."""
         tried = 0
-        for name in ("pgn_tool", *SCRIPTS):
+        for name in COMMANDS:
             page = section(text_of(PAGES + name + ".1"), "EXAMPLES")
             for block in re.findall(r"^\.Bd -literal.*?\n(.*?)^\.Ed", page, re.M | re.S):
                 block = block.replace("\\e", "\\").replace("\\(en", "\u2013")
@@ -221,51 +222,73 @@ class LibraryPage(Folder, unittest.TestCase):
         self.assertEqual((ran.returncode, ran.stdout.decode()), (0, said))
 
 
-class Scripts(unittest.TestCase):
-    """What the help of a script says is in its page, and the other way round."""
+class Command(unittest.TestCase):
+    """What the help of gillspoon says is in its page, and the other way round."""
+
+    def help_of(self, *words):
+        ran = run(["bin/gillspoon", *words, "--help"])
+        self.assertEqual((ran.returncode, ran.stderr), (0, b""))
+        return ran.stdout.decode()
 
     def test_options(self):
-        for name in SCRIPTS:
-            page = text_of(PAGES + name + ".1")
-            rows = section(page, "DESCRIPTION")
-            named = re.findall(r"^\.It (Fl .*)$", rows, re.M)
-            said = {re.sub(r"Fl ", "-", it).replace(" , ", ", ").replace("Ar ", "")
-                    for it in named}
-            text = run(["bin/" + name, "--help"]).stdout.decode()
+        page = text_of(COMMAND_PAGE)
+        parts = re.split(r"^\.Ss (\w+)\n", section(page, "DESCRIPTION"), flags=re.M)
+        described = dict(zip(parts[1::2], parts[2::2]))
+        self.assertEqual(list(described), list(SUBCOMMANDS))
+        synopsis = re.split(r"^\.Nm\n", section(page, "SYNOPSIS"), flags=re.M)
+        shared = self.rows(parts[0])
+        for name in SUBCOMMANDS:
+            text = self.help_of(name)
             listed = re.search(r"^options:\n((?:  .*\n)+)", text, re.M)[1]
             helped = {re.split(r"  +", it)[0] for it in re.findall(r"^  (-.*)$", listed, re.M)}
-            self.assertEqual(said, helped, name)
-            self.assertGreater(len(said), 0)
+            # one row of the page can have two options
+            helped = {word for it in helped for word in it.split(", ")}
+            own = self.rows(described[name])
+            self.assertTrue(own <= helped, (name, own - helped))
+            self.assertEqual(helped - own - shared, set(), name)
             usage = re.search(r"usage: (.*?)\n\n", text, re.S)[1]
-            synopsis = section(page, "SYNOPSIS")
-            self.assertEqual(sorted(set(re.findall(r"Fl (-?[\w-]+)", synopsis)) - {"-help"}),
-                             sorted(set(re.findall(r"(?<![\w-])-(-?[\w-]+)", usage))), name)
+            mine = "".join(it for it in synopsis if it.startswith(".Cm %s\n" % name))
+            self.assertEqual(
+                sorted(set(re.findall(r"Fl (-?[\w-]+)", mine))),
+                sorted(set(re.findall(r"(?<![\w-])-(-?[\w-]+)", usage)) - {"h", "-version"}), name)
             for word in re.findall(r"\b[A-Z]+\b", usage):
-                self.assertIn(word, synopsis)
+                self.assertIn(word, mine)
+        known = {word for name in SUBCOMMANDS for word in self.help_of(name).split()}
+        for row in shared:
+            self.assertIn(row.split()[0], " ".join(known).replace(",", ""))
+
+    def rows(self, text):
+        """The options that rows of a page describe, each with its word."""
+        named = re.findall(r"^\.It (Fl .*)$", text, re.M)
+        rows = [it.replace("Fl ", "-").replace("Ar ", "") for it in named]
+        return {word for it in rows for word in it.split(" , ")}
 
     def test_versions(self):
         wanted = run([programs.need_program(), "--version"]).stdout.split()[1]
-        for name in SCRIPTS:
-            ran = run(["bin/" + name, "--version"])
+        for words in ([], *([it] for it in SUBCOMMANDS)):
+            ran = run(["bin/gillspoon", *words, "--version"])
             self.assertEqual((ran.returncode, ran.stdout, ran.stderr),
-                             (0, b"%s %s\n" % (name.encode(), wanted), b""))
+                             (0, b"gillspoon %s\n" % wanted, b""))
 
     def test_statuses(self):
-        for name in SCRIPTS:
-            text = run(["bin/" + name, "--help"]).stdout.decode()
-            helped = re.search(r"^status:\n((?:  .*\n)+)", text, re.M)[1]
-            page = section(text_of(PAGES + name + ".1"), "EXIT STATUS")
+        page = section(text_of(COMMAND_PAGE), "EXIT STATUS")
+        for words in ([], *([it] for it in SUBCOMMANDS)):
+            helped = re.search(r"^status:\n((?:  .*\n)+)", self.help_of(*words), re.M)[1]
             self.assertEqual(re.findall(r"^\.It (\d+)$", page, re.M),
-                             re.findall(r"^  (\d+)  ", helped, re.M), name)
+                             re.findall(r"^  (\d+)  ", helped, re.M), words)
 
     def test_environment(self):
-        for name in SCRIPTS:
-            text = run(["bin/" + name, "--help"]).stdout.decode()
-            helped = re.search(r"^environment:\n((?:  .*\n?)+)", text, re.M)
-            page = text_of(PAGES + name + ".1")
-            said = re.findall(r"^\.It Ev (\w+)$", page, re.M)
-            self.assertEqual(said, re.findall(r"^  (\w+)  ", helped[1], re.M) if helped else [])
-            self.assertEqual(said, VARIABLES.get(name, ["PGN_TOOL"]))
+        said = re.findall(r"^\.It Ev (\w+)$", text_of(COMMAND_PAGE), re.M)
+        for words in ([], *([it] for it in SUBCOMMANDS)):
+            helped = re.search(r"^environment:\n((?:  .*\n?)+)", self.help_of(*words), re.M)[1]
+            self.assertEqual(said, re.findall(r"^  (\w+)  ", helped, re.M))
+
+    def test_words(self):
+        for words in ([], ["lnt"], ["--none"], ["lint", "--none"], ["fmt", "--none"],
+                      ["where", "--none"], ["sieve", "--none"], ["sieve", "a", "b"]):
+            ran = run(["bin/gillspoon", *words])
+            self.assertEqual((ran.returncode, ran.stdout, ran.stderr.count(b"\n")), (2, b"", 1), words)
+            self.assertTrue(ran.stderr.endswith(b"(--help shows the usage)\n"), ran.stderr)
 
 
 class Statuses(Shell):
@@ -280,8 +303,11 @@ class Statuses(Shell):
         self.assertEqual(self.status("pgn_tool check --reduced"), 2)
         ran = self.shell("pgn_tool export $'\\xff'")
         self.assertEqual((ran.returncode, ran.stderr), (2, b"arguments cannot be read\n"))
-        ran = self.shell("pgn_tool export missing")
-        self.assertEqual((ran.returncode, ran.stderr), (1, b"byte 0: input cannot be read\n"))
+        for words in ("export missing", "check .", "check - <games"):
+            ran = self.shell("echo '*' >games; pgn_tool " + words)
+            self.assertEqual((ran.returncode, ran.stderr), (1, b"byte 0: input cannot be read\n"))
+        self.assertEqual(self.shell("cp games ./-; pgn_tool check -").stdout,
+                         b"games: 1, plies: 0\n")
 
     def test_caveats_of_the_file_that_is_read(self):
         self.assertEqual(self.status("echo '1. e4 *' > F; pgn_tool export F > F"), 0)
@@ -370,36 +396,49 @@ class Completions(Shell):
         for option in options() + options("export"):
             self.assertIn(option, text)
 
-    def script_options(self, name):
-        text = run(["bin/" + name, "--help"]).stdout.decode()
+    def script_options(self, *words):
+        """The options that the help of a script lists."""
+        text = run(["bin/" + words[0], *words[1:], "--help"]).stdout.decode()
         rows = re.search(r"^options:\n((?:  .*\n)+)", text, re.M)[1]
         return sorted(re.findall(r"(?<![\w-])--?[\w-]+", "\n".join(
             it.split("  ")[1] for it in rows.splitlines() if it.startswith("  -"))))
 
     def test_bash_for_the_scripts(self):
         open(self.folder + "/some games.pgn", "wb").close()
-        for name in COMPLETED:
-            self.assertIn("--version", self.script_options(name))
-            self.assertEqual(self.words(name, "-"), self.script_options(name))
-            self.assertEqual(self.words(name, "some"), ["some games.pgn"])
-        self.assertIn("--sarif", self.script_options("pgn_lint"))
-        self.assertEqual(self.words("pgn_lint", "--board", "some"), ["some games.pgn"])
-        self.assertEqual(self.words("pgn_lint", "--max", "s"), [])
-        self.assertEqual(self.words("pgn_fmt", "--output", "s"), ["some games.pgn"])
-        self.assertEqual(self.words("pgn_fmt", "--stdin-name", "s"), [])
+        self.assertEqual(self.words("gillspoon", ""), sorted(SUBCOMMANDS))
+        for words in COMPLETED:
+            self.assertIn("--version", self.script_options(*words))
+            self.assertEqual(self.words(*words, "-"), self.script_options(*words), words)
+            if words != ("gillspoon",):
+                self.assertEqual(self.words(*words, "some"), ["some games.pgn"], words)
+        self.assertIn("--sarif", self.script_options("gillspoon", "lint"))
+        self.assertEqual(self.words("gillspoon", "lint", "--board", "some"), ["some games.pgn"])
+        for words in (["fmt", "--output"], ["sieve", "--good"], ["sieve", "a", "--bad"]):
+            self.assertEqual(self.words("gillspoon", *words, "s"), ["some games.pgn"], words)
+        for words in (["lint", "--max"], ["fmt", "--stdin-name"], ["sieve", "-j"],
+                      ["fmt", "--exclude"]):
+            self.assertEqual(self.words("gillspoon", *words, "s"), [], words)
+        self.assertEqual(self.words("gillspoon", "where", "--color", "a"), ["always", "auto"])
         for words in (["--files"], ["cat"], ["--theme", "x", "--list", "cat"], ["cat", "-"]):
             self.assertEqual(self.words("pgn_conform", *words, "s"), ["some games.pgn"], words)
         for words in (["--full", "s"], ["--list", "--theme", ""], ["cat", "--th"]):
             self.assertEqual(self.words("pgn_conform", *words), [], words)
 
+    def fish_words(self, line):
+        """What fish completes as the last word of a line."""
+        script = "source %s%s.fish; complete -C '%s'" % (COMPLETIONS, line.split()[0], line)
+        env = dict(os.environ, HOME=self.folder, XDG_CONFIG_HOME=self.folder)
+        ran = run(["fish", "-c", script], cwd=self.folder, env=env)
+        return sorted(it.split("\t")[0] for it in ran.stdout.decode().splitlines())
+
     def test_fish_for_the_scripts(self):
         programs.need("fish")
-        for name in COMPLETED:
-            script = "source %s%s.fish; complete -C '%s -'" % (COMPLETIONS, name, name)
-            env = dict(os.environ, HOME=self.folder, XDG_CONFIG_HOME=self.folder)
-            ran = run(["fish", "-c", script], cwd=self.folder, env=env)
-            found = sorted(it.split("\t")[0] for it in ran.stdout.decode().splitlines())
-            self.assertEqual(found, self.script_options(name), name)
+        open(self.folder + "/games.pgn", "wb").close()
+        self.assertEqual(self.fish_words("gillspoon "), sorted(SUBCOMMANDS))
+        for words in COMPLETED:
+            self.assertEqual(self.fish_words(" ".join(words) + " -"), self.script_options(*words))
+        self.assertEqual(self.fish_words("gillspoon sieve --bad ga"), ["games.pgn"])
+        self.assertEqual(self.fish_words("gillspoon fmt ga"), ["games.pgn"])
 
     def zsh_words(self, line):
         """What zsh completes as the last word of a line: it runs on a terminal."""
@@ -426,14 +465,17 @@ class Completions(Shell):
 
     def test_zsh_for_the_scripts(self):
         programs.need("zsh")
-        for name in COMPLETED:
-            ran = run(["zsh", "-n", COMPLETIONS + "_" + name])
+        for words in COMPLETED:
+            ran = run(["zsh", "-n", COMPLETIONS + "_" + words[0]])
             self.assertEqual((ran.returncode, ran.stderr), (0, b""))
-            found = self.zsh_words(name + " -")
-            self.assertEqual([it for it in found if it != "-"], self.script_options(name))
+            line = " ".join(words)
+            found = self.zsh_words(line + " -")
+            self.assertEqual([it for it in found if it != "-"], self.script_options(*words))
             # options are not left out because others begin so
-            self.assertEqual(self.zsh_words(name + " --vers"), ["--version"])
-        for words in ("pgn_lint s", "pgn_lint --fix s", "pgn_fmt --output s", "pgn_where s",
-                      "pgn_sieve a s", "pgn_conform cat - s"):
+            self.assertEqual(self.zsh_words(line + " --vers"), ["--version"])
+        for words in ("gillspoon lint s", "gillspoon lint --fix s", "gillspoon fmt --output s",
+                      "gillspoon where s", "gillspoon sieve a s", "gillspoon sieve --bad s",
+                      "pgn_conform cat - s"):
             self.assertEqual(self.zsh_words(words), ["some\\ games.pgn"], words)
-        self.assertEqual(self.zsh_words("pgn_lint --language "), "de es fr it nl ru".split())
+        self.assertEqual(self.zsh_words("gillspoon lint --language "), "de es fr it nl ru".split())
+        self.assertEqual(self.zsh_words("gillspoon wh"), ["where"])

@@ -35,8 +35,7 @@ class Kept(Folder, unittest.TestCase):
     def setUp(self):
         need("zstd")
         super().setUp()
-        self.env = dict(os.environ, PATH=programs.PATH, PGN_TOOL=need_program(),
-                        GILLSPOON_LIBRARY=library(), LC_ALL="C.UTF-8")
+        self.env = dict(os.environ, PATH=programs.PATH, GILLSPOON_LIBRARY=library(), LC_ALL="C.UTF-8")
         for name, text in OTHERS.items():
             self.put(name, text)
         for kind, pack in PACKERS.items():
@@ -52,8 +51,11 @@ class Kept(Folder, unittest.TestCase):
         """Names of what no script can read."""
         return ["missing.pgn", "folder", "not.pgn.gz"] + ["cut.pgn." + it for it in PACKERS]
 
-    def call(self, script, *words, env=None, **more):
-        return run([ROOT + "/bin/" + script, *words], cwd=self.folder,
+    def call(self, subcommand, *words, env=None, **more):
+        script = [ROOT + "/bin/gillspoon", subcommand]
+        if subcommand == "build_page":
+            script = [ROOT + "/bin/build_page"]
+        return run([*script, *words], cwd=self.folder,
                    env=dict(self.env, **(env or {})), **more)
 
     def stays(self, status, outputs, *words, **more):
@@ -74,111 +76,109 @@ class Kept(Folder, unittest.TestCase):
 
 
 class Format(Kept):
-    """pgn_fmt --output and --write."""
+    """gillspoon fmt --output and --write."""
 
     def test_output(self):
         for name in self.unreadable():
-            self.stays(3, ["out"], "pgn_fmt", "-o", "out", name)
-            self.stays(3, ["out"], "pgn_fmt", "-o", "out", "sound.pgn", name)
-            self.stays(3, ["out"], "pgn_fmt", "--checked", "--output", "out", name)
+            self.stays(3, ["out"], "fmt", "-o", "out", name)
+            self.stays(3, ["out"], "fmt", "-o", "out", "sound.pgn", name)
+            self.stays(3, ["out"], "fmt", "--checked", "--output", "out", name)
             if self.standard_input(name):
-                self.stays(3, ["out"], "pgn_fmt", "-o", "out", "-",
+                self.stays(3, ["out"], "fmt", "-o", "out", "-",
                            input=self.standard_input(name))
         for name in [*OTHERS, "bad.pgn"]:
             status = 3 if name in OTHERS else 1
-            self.stays(status, ["out"], "pgn_fmt", "-o", "out", name)
-            self.stays(status, ["out"], "pgn_fmt", "-o", "out", "sound.pgn", name)
-            self.stays(status, ["out"], "pgn_fmt", "-o", "out", input=self.get(name))
+            self.stays(status, ["out"], "fmt", "-o", "out", name)
+            self.stays(status, ["out"], "fmt", "-o", "out", "sound.pgn", name)
+            self.stays(status, ["out"], "fmt", "-o", "out", input=self.get(name))
 
     def test_output_of_no_game(self):
         """A filter that failed gives none. An output that is not there is made."""
         for words in (["empty.pgn"], ["words.pgn"], ["empty.pgn", "words.pgn"]):
-            self.stays(3, ["out"], "pgn_fmt", "-o", "out", *words)
-        self.stays(3, ["out"], "pgn_fmt", "-o", "out", "-", input=b"")
-        self.assertEqual(self.call("pgn_fmt", "-o", "out", "empty.pgn").stderr,
-                         b"pgn_fmt: out: is left as it is: the input has no game\n")
-        self.assertEqual(self.call("pgn_fmt", "-o", "new", "empty.pgn").returncode, 0)
-        self.assertEqual(self.call("pgn_fmt", "-o", "new", "empty.pgn").returncode, 0)
-        self.assertEqual(self.call("pgn_fmt", "-o", "/dev/null", "empty.pgn").returncode, 0)
+            self.stays(3, ["out"], "fmt", "-o", "out", *words)
+        self.stays(3, ["out"], "fmt", "-o", "out", "-", input=b"")
+        self.assertEqual(self.call("fmt", "-o", "out", "empty.pgn").stderr,
+                         b"gillspoon: out: is left as it is: the input has no game\n")
+        self.assertEqual(self.call("fmt", "-o", "new", "empty.pgn").returncode, 0)
+        self.assertEqual(self.call("fmt", "-o", "new", "empty.pgn").returncode, 0)
+        self.assertEqual(self.call("fmt", "-o", "/dev/null", "empty.pgn").returncode, 0)
         self.assertEqual(self.get("new"), b"")
 
-    def test_output_without_a_program(self):
-        self.stays(127, ["out"], "pgn_fmt", "-o", "out", "sound.pgn", env={"PGN_TOOL": "/none"})
-        self.stays(3, ["out"], "pgn_fmt", "-o", "out", "sound.pgn", env={"PGN_TOOL": "/bin/false"})
+    def test_without_a_library(self):
+        self.stays(127, ["out"], "fmt", "-o", "out", "sound.pgn",
+                   env={"GILLSPOON_LIBRARY": "/none"})
 
     def test_write(self):
         for name in [*OTHERS, "bad.pgn"]:
             self.put("copy", self.get(name))
-            ran = self.call("pgn_fmt", "--write", "--drop", "copy")
+            ran = self.call("fmt", "--write", "--drop", "copy")
             self.assertEqual((ran.returncode, self.get("copy")), (
                 3 if name in OTHERS else 1, self.get(name)))
         for name in [it for it in os.listdir(self.folder) if it.startswith("cut")] + ["not.pgn.gz"]:
             before = self.get(name)
-            ran = self.call("pgn_fmt", "--write", "--drop", name)
+            ran = self.call("fmt", "--write", "--drop", name)
             self.assertEqual((ran.returncode, self.get(name)), (3, before))
         # comments alone would leave an empty file
         self.put("copy", b"{only} ; this\n")
-        ran = self.call("pgn_fmt", "--write", "copy")
+        ran = self.call("fmt", "--write", "copy")
         self.assertEqual((ran.returncode, self.get("copy")), (3, b"{only} ; this\n"))
-        for program in ("/none", "/bin/false"):
-            self.call("pgn_fmt", "--write", "sound.pgn", env={"PGN_TOOL": program})
-            self.assertEqual(self.get("sound.pgn"), SOUND)
-
+        self.call("fmt", "--write", "sound.pgn", env={"GILLSPOON_LIBRARY": "/none"})
+        self.assertEqual(self.get("sound.pgn"), SOUND)
 
     def test_what_is_said_of_other_kinds(self):
-        """In the words of pgn_sieve, whatever is asked for."""
+        """In the words of gillspoon sieve, whatever is asked for."""
         for name, said in (("utf-16.pgn", NO_TEXT), ("games.7z", NO_TEXT), ("games.tar", NO_TEXT),
                            ("page.html", PAGE), ("guide.pdf", PDF)):
             for words in ([], ["--check"], ["--write"], ["--diff"], ["--checked"]):
-                ran = self.call("pgn_fmt", *words, "sound.pgn", name)
-                self.assertIn(b"pgn_fmt: %s: %s\n" % (name.encode(), said), ran.stderr)
+                ran = self.call("fmt", *words, "sound.pgn", name)
+                self.assertIn(b"gillspoon: %s: %s\n" % (name.encode(), said), ran.stderr)
                 self.assertEqual(ran.returncode, 3)
-            ran = self.call("pgn_fmt", "--check", "-", input=self.get(name))
+            ran = self.call("fmt", "--check", "-", input=self.get(name))
             self.assertEqual((ran.returncode, ran.stdout, ran.stderr),
-                             (3, b"", b"pgn_fmt: standard input: %s\n" % said))
+                             (3, b"", b"gillspoon: <stdin>: %s\n" % said))
 
     def test_the_name_of_a_packed_file_is_said_once(self):
-        ran = self.call("pgn_fmt", "--check", "not.pgn.gz")
+        ran = self.call("fmt", "--check", "not.pgn.gz")
         self.assertEqual((ran.returncode, ran.stderr), (
-            3, b"pgn_fmt: not.pgn.gz: Not a gzipped file (b'[W')\n"))
+            3, b"gillspoon: not.pgn.gz: Not a gzipped file (b'[W')\n"))
 
 
 class Sieve(Kept):
-    """pgn_sieve FILE GOOD BAD."""
+    """gillspoon sieve FILE GOOD BAD."""
 
     def test_what_cannot_be_read(self):
         for name in self.unreadable():
-            self.stays(3, ["g", "b"], "pgn_sieve", name, "g", "b")
-            self.stays(3, ["g", "b"], "pgn_sieve", "--checked", name, "g", "b")
+            self.stays(3, ["g", "b"], "sieve", name, "g", "b")
+            self.stays(3, ["g", "b"], "sieve", "--checked", name, "g", "b")
             if self.standard_input(name):
-                self.stays(3, ["g", "b"], "pgn_sieve", "-", "g", "b",
+                self.stays(3, ["g", "b"], "sieve", "-", "g", "b",
                            input=self.standard_input(name))
 
     def test_what_is_no_text(self):
         """Also with outputs that are not there: none is made."""
         for name in OTHERS:
-            self.stays(3, ["g", "b"], "pgn_sieve", name, "g", "b")
-            self.stays(3, ["g", "b"], "pgn_sieve", "--checked", name, "g", "b")
-            self.stays(3, ["g", "b"], "pgn_sieve", "-", "g", "b", input=self.get(name))
-            self.stays(3, [], "pgn_sieve", name, "g2", "b2")
+            self.stays(3, ["g", "b"], "sieve", name, "g", "b")
+            self.stays(3, ["g", "b"], "sieve", "--checked", name, "g", "b")
+            self.stays(3, ["g", "b"], "sieve", "-", "g", "b", input=self.get(name))
+            self.stays(3, [], "sieve", name, "g2", "b2")
         for name, said in (("utf-16.pgn", NO_TEXT), ("page.html", PAGE), ("guide.pdf", PDF)):
             self.assertEqual(
-                self.call("pgn_sieve", name, "g", "b").stderr,
-                b"pgn_sieve: %s: %s; nothing was written\n" % (name.encode(), said))
+                self.call("sieve", name, "g", "b").stderr,
+                b"gillspoon: %s: %s; nothing was written\n" % (name.encode(), said))
         # a file that is damaged further down has games
         self.put("torn.pgn", SOUND + b"\0" * 600 + b"\n\n" + SOUND)
-        ran = self.call("pgn_sieve", "torn.pgn", "g", "b")
+        ran = self.call("sieve", "torn.pgn", "g", "b")
         self.assertEqual((ran.returncode, ran.stdout.splitlines()[0]), (1, b"g: 2 games"))
 
     def test_no_game(self):
         for name in ("empty.pgn", "words.pgn"):
-            self.stays(3, ["g", "b"], "pgn_sieve", name, "g", "b")
-            self.stays(3, ["b"], "pgn_sieve", name, "/dev/null", "b")
-            self.stays(3, ["g", "b"], "pgn_sieve", "-", "g", "b", input=self.get(name))
-        self.assertEqual(self.call("pgn_sieve", "empty.pgn", "g", "b").stderr,
-                         b"pgn_sieve: empty.pgn: has no game; g is left as it is\n")
+            self.stays(3, ["g", "b"], "sieve", name, "g", "b")
+            self.stays(3, ["b"], "sieve", name, "/dev/null", "b")
+            self.stays(3, ["g", "b"], "sieve", "-", "g", "b", input=self.get(name))
+        self.assertEqual(self.call("sieve", "empty.pgn", "g", "b").stderr,
+                         b"gillspoon: empty.pgn: has no game; g is left as it is\n")
         for _ in range(2):
-            self.assertEqual(self.call("pgn_sieve", "empty.pgn", "g3", "b3").returncode, 0)
+            self.assertEqual(self.call("sieve", "empty.pgn", "g3", "b3").returncode, 0)
             self.assertEqual((self.get("g3"), self.get("b3")), (b"", b""))
 
     def test_all_games_are_bad(self):
@@ -186,17 +186,16 @@ class Sieve(Kept):
         self.put("all.pgn", BAD * 2)
         self.put("g", OLD)
         self.put("b", OLD)
-        self.assertEqual(self.call("pgn_sieve", "all.pgn", "g", "b").returncode, 1)
+        self.assertEqual(self.call("sieve", "all.pgn", "g", "b").returncode, 1)
         self.assertEqual((self.get("g"), self.get("b").count(BAD)), (b"", 2))
 
-    def test_without_a_program_or_library(self):
-        for env, status in (({"PGN_TOOL": "/none"}, 127), ({"PGN_TOOL": "/bin/false"}, 3),
-                            ({"GILLSPOON_LIBRARY": "/none"}, 127)):
-            self.stays(status, ["g", "b"], "pgn_sieve", "bad.pgn", "g", "b", env=env)
+    def test_without_a_library(self):
+        self.stays(127, ["g", "b"], "sieve", "bad.pgn", "g", "b",
+                   env={"GILLSPOON_LIBRARY": "/none"})
 
 
 class Lint(Kept):
-    """pgn_lint --fix, whose output is its input."""
+    """gillspoon lint --fix, whose output is its input."""
 
     def test_fix(self):
         for name in sorted(os.listdir(self.folder)):
@@ -206,11 +205,11 @@ class Lint(Kept):
             status = 0 if name in ("empty.pgn", "words.pgn", "sound.pgn") else \
                 3 if name in OTHERS or name.startswith(("cut", "not")) else 1
             for words in (["--fix"], ["--fix", "--unsafe-fixes", "--ignore", "trailing text"]):
-                ran = self.call("pgn_lint", "--quiet", *words, name)
+                ran = self.call("lint", "--quiet", *words, name)
                 self.assertEqual((ran.returncode, self.get(name)), (status, before), name)
 
     def test_without_a_library(self):
-        ran = self.call("pgn_lint", "--fix", "bad.pgn", env={"GILLSPOON_LIBRARY": "/none"})
+        ran = self.call("lint", "--fix", "bad.pgn", env={"GILLSPOON_LIBRARY": "/none"})
         self.assertEqual((ran.returncode, self.get("bad.pgn")), (127, SOUND + BAD))
 
 
@@ -224,7 +223,7 @@ class Split(Kept):
         for name in [it for it in [*self.unreadable(), *OTHERS, "empty.pgn", "words.pgn"]
                      if it not in ("not.pgn.gz", "guide.pdf")]:
             self.put("out/000001.pgn", OLD)
-            run([self.env["PGN_TOOL"], "split", "out", name], cwd=self.folder)
+            run([need_program(), "split", "out", name], cwd=self.folder)
             self.assertEqual((self.get("out/000001.pgn"), os.listdir(self.folder + "/out")),
                              (OLD, ["000001.pgn"]), name)
 
@@ -243,12 +242,12 @@ class Rights(Kept):
     def test_sieve_and_fmt(self):
         os.chmod(self.folder, 0o777)
         os.chmod(self.folder + "/sound.pgn", 0)
-        for words in (["pgn_sieve", "sound.pgn", "g", "b"], ["pgn_fmt", "-o", "g", "sound.pgn"]):
+        for words in (["sieve", "sound.pgn", "g", "b"], ["fmt", "-o", "g", "sound.pgn"]):
             for name in ("g", "b"):
                 self.put(name, OLD)
                 os.chmod(os.path.join(self.folder, name), 0o666)
-            user = without_rights(self, self.env["PGN_TOOL"])[:-1]
-            ran = run([*user, ROOT + "/bin/" + words[0], *words[1:]], cwd=self.folder,
+            user = without_rights(self, need_program())[:-1]
+            ran = run([*user, ROOT + "/bin/gillspoon", *words], cwd=self.folder,
                       env=self.env)
             self.assertEqual((ran.returncode, self.get("g"), self.get("b")), (3, OLD, OLD),
                              ran.stderr)

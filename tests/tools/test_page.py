@@ -662,7 +662,7 @@ class Files(Case):
         self.page()
         game = b"1. e4 *\n"
         compressed = ("a is compressed with %s. Unpack it, by %s -d, and choose the file that comes "
-                      "out. The command pgn_fmt reads it as it is.")
+                      "out. The command gillspoon fmt reads it as it is.")
         unpack = "Unpack it and choose the PGN files in it"
         rows = [
             (PACKERS["bz2"](game), compressed % ("bzip2", "bzip2")),
@@ -749,7 +749,7 @@ class Files(Case):
         self.assertEqual(self.convert(("a.gz", packed)), "failed")
         self.assertEqual(self.text("left-out"), (
             "a.gz is compressed with gzip. Unpack it, by gzip -d, and choose the file that comes "
-            "out. The command pgn_fmt reads it as it is."))
+            "out. The command gillspoon fmt reads it as it is."))
 
     def test_stop_of_unpacking(self):
         self.page()
@@ -822,7 +822,7 @@ class Mending(Case):
                 listed, told = self.look()
                 self.assertEqual(listed, [])
                 self.assertRegex(told, r"^No fix of this page applies\. (1 game stays|\d games "
-                                       r"stay) bad\. pgn_lint --fix has more fixes\.$")
+                                       r"stay) bad\. gillspoon lint --fix has more fixes\.$")
                 self.assertFalse(self.browser.run(IS_VISIBLE, "apply"))
 
     def test_a_fix_must_go_on(self):
@@ -860,7 +860,7 @@ class Mending(Case):
             "one.pgn: line %d, column 4, long notation: “e2-e4” → “e2e4”" % line,
             "two.pgn: line 3, column 4, missing letter: “g1f3” → “Ng1f3”",
             "two.pgn: line 3, column 9, spelling of the result: “½” → “1/2-1/2”"])
-        self.assertEqual(told, "3 edits in 2 games. 1 game stays bad. pgn_lint --fix has more "
+        self.assertEqual(told, "3 edits in 2 games. 1 game stays bad. gillspoon lint --fix has more "
                                "fixes.")
         self.assertEqual(self.browser.run("return document.activeElement.id"), "mending-title")
         self.assertEqual(self.apply(), "refused")
@@ -873,7 +873,7 @@ class Mending(Case):
 
 
     def test_missing_results(self):
-        """The button at such a fault writes them, as pgn_lint --fix --unsafe-fixes does."""
+        """The button at such a fault writes them, as gillspoon lint --fix --unsafe-fixes does."""
         first = (b'[Event "a"]\n[Result "0-1"]\n\n1. e4 e5\n\n[Event "b"]\n\n1. e2-e4\n\n'
                  b'[Event "c"]\n\n1. d4 *\n')
         second = b'[Result "1/2-1/2"]\r\n\r\n1. d4 d5 ; the end\r\n'
@@ -893,7 +893,7 @@ class Mending(Case):
         self.assertIn(b"1. e4 *\n", text)
         self.assertIn(b"1. d4 d5 { the end } 1/2-1/2\n", text)
 
-    def test_missing_results_are_those_of_pgn_lint(self):
+    def test_missing_results_are_those_of_lint(self):
         """For texts whose markers are cut off at random places: each edit and its place."""
         with open(ROOT + "/python/gillspoon/fixes.json", encoding="utf-8") as file:
             data = json.load(file)
@@ -915,8 +915,9 @@ class Mending(Case):
             if not self.browser.run("return " + MARKERS_TOO):
                 continue
             listed, _ = self.look(MARKERS_TOO)
-            ran = run([ROOT + "/bin/pgn_lint", "--fix", "--unsafe-fixes", "--select",
+            ran = run([ROOT + "/bin/gillspoon", "lint", "--fix", "--unsafe-fixes", "--select",
                        ",".join([*names, "no marker"]), "-"], input=text)
+            self.assertIn(ran.returncode, (0, 1), ran.stderr)
             wanted = re.findall(r"(?m)^<stdin>:(\d+:\d+): fixed(?: \(unsafe\))?: ([^:]*)",
                                 ran.stderr.decode())
             self.assertEqual(
@@ -948,7 +949,7 @@ class Mending(Case):
             self.assertEqual(self.look()[0], [], text)
 
     def count_of_edits(self, texts):
-        """How many edits mend some texts: the page lists those of pgn_lint, and no other."""
+        """How many edits mend some texts: the page lists those of gillspoon lint, and no other."""
         from gillspoon._texts import text_of
         files = [("%03d.pgn" % number, text) for number, text in enumerate(texts)]
         count = 0
@@ -962,7 +963,7 @@ class Mending(Case):
             count += len(wanted)
         return count
 
-    def test_edits_are_those_of_pgn_lint(self):
+    def test_edits_are_those_of_lint(self):
         """For all rows of spellings.py, and for texts that are made of them with random damage."""
         rng = random.Random(80)
         rows = [row[0].encode() for row in SAFE + UNSAFE] + [
@@ -971,7 +972,7 @@ class Mending(Case):
         self.assertGreater(self.count_of_edits(rows), sum(len(edits) for _, edits, _ in SAFE))
         self.assertGreater(self.count_of_edits([damaged(rng, rows) for _ in range(200)]), 60)
 
-    def test_edits_of_damaged_games_are_those_of_pgn_lint(self):
+    def test_edits_of_damaged_games_are_those_of_lint(self):
         """For games that damage.py damages by seed."""
         texts = [it.text for it in damage.damaged_texts(damage.sound_games(), 400, 81)]
         self.page()
@@ -1344,17 +1345,17 @@ class Rest(Case):
         self.assertTrue(self.download("download")[1].decode().endswith(
             "\n\n1. e4 e5 2. Bc4 Nc6 3. Qh5 Nf6 4. Qxf7# 1-0\n\n"))
 
-    def told_by_pgn_lint(self, text, *words):
-        """What pgn_lint writes for a file a.pgn."""
+    def told_by_lint(self, text, *words):
+        """What gillspoon lint writes for a file a.pgn."""
         with tempfile.TemporaryDirectory() as folder:
             with open(folder + "/a.pgn", "wb") as file:
                 file.write(text)
-            ran = run([ROOT + "/bin/pgn_lint", *words, "a.pgn"], cwd=folder)
+            ran = run([ROOT + "/bin/gillspoon", "lint", *words, "a.pgn"], cwd=folder)
         self.assertEqual(ran.stderr, b"")
         return ran.stdout.decode()
 
     def test_results_of_a_forfeit(self):
-        """The note of pgn_lint stands at the fault, and in the list."""
+        """The note of gillspoon lint stands at the fault, and in the list."""
         note = ("Of a forfeit PGN 8.1.1.7 has the result alone, * if there is no winner; a "
                 "Termination tag says why.")
         self.page()
@@ -1375,10 +1376,10 @@ class Rest(Case):
         self.browser.wait_for(IS_SHOWN)
         lines = self.download("download-faults")[1].decode()
         self.assertEqual(lines.count("of a forfeit"), lines.count(note[3:-1]))
-        self.assertEqual(lines, self.told_by_pgn_lint(text, "--quiet"))
+        self.assertEqual(lines, self.told_by_lint(text, "--quiet"))
 
     def test_terminations_of_a_forfeit(self):
-        """Sound games with other words for it are named, as pgn_lint does."""
+        """Sound games with other words for it are named, as gillspoon lint does."""
         self.page()
         self.convert(("a.pgn", (
             b'[White "Ada"]\n[Termination "won by forfeit"]\n\n*\n'
@@ -1406,7 +1407,7 @@ class Rest(Case):
                       self.browser.run("return document.getElementById('export').textContent"))
         listed = self.browser.run("return [...document.querySelectorAll('#notes button')]"
                                   ".map(it => it.innerText)")
-        records = map(json.loads, self.told_by_pgn_lint(text, "--json").splitlines())
+        records = map(json.loads, self.told_by_lint(text, "--json").splitlines())
         wanted = ["Game %d" % it["game"] for it in records
                   if it["kind"] == "warning" and it["reason"].startswith("Termination is not time "
                                                                          "forfeit")]
@@ -1434,7 +1435,7 @@ class Rest(Case):
         self.assertEqual(self.text("game-title"), "Game 1 of b.pgn")
 
     def test_list_of_faults(self):
-        """Each has its game and its players, and the download has the lines of pgn_lint."""
+        """Each has its game and its players, and the download has the lines of gillspoon lint."""
         files = (
             ("a.pgn", '[White "Silva, J."]\n[Black "Nowak, A."]\n\n1. e4 e5 2. Bd4 *\n\n'
              '[Event "b"]\n\n1. e4 *\n\n[White "M\u00fcller"]\n\n1. e4 {\u00e9} e9 *\n'.encode()),
@@ -1461,7 +1462,7 @@ class Rest(Case):
             for name, text in files:
                 with open(folder + "/" + name, "wb") as file:
                     file.write(text)
-            told = run([ROOT + "/bin/pgn_lint", "--quiet", "a.pgn", "b.pgn"], cwd=folder)
+            told = run([ROOT + "/bin/gillspoon", "lint", "--quiet", "a.pgn", "b.pgn"], cwd=folder)
         self.assertEqual((told.returncode, told.stderr), (1, b""))
         self.assertEqual(lines.decode().split("\n"), told.stdout.decode().split("\n"))
 
@@ -1504,7 +1505,7 @@ class Rest(Case):
             self.assertIn("column %d " % column, self.text("fault").split("\n")[1], text)
 
     def test_goes_on_as_the_sieve_does(self):
-        """Sound and bad games are those of bin/pgn_sieve."""
+        """Sound and bad games are those of gillspoon sieve."""
         need_program()
         self.page()
         for name in ("one-bad-game", "no-such-move", "differing-result", "no-result-tag"):
@@ -1527,7 +1528,7 @@ class Rest(Case):
         with self.subTest(text[:60]), tempfile.TemporaryDirectory() as folder:
             with open(folder + "/in.pgn", "wb") as file:
                 file.write(text)
-            run(["bin/pgn_sieve", *(folder + it for it in ("/in.pgn", "/good", "/bad"))])
+            run(["bin/gillspoon", "sieve", *(folder + it for it in ("/in.pgn", "/good", "/bad"))])
             with open(folder + "/good", "rb") as file:
                 good = file.read()
             with open(folder + "/bad", "rb") as file:
@@ -1658,7 +1659,7 @@ class Rest(Case):
         self.page()
         for text, words in (
                 (b"1. e4 e5 (1... -- 2. d4) *", "null move"), (b"1. e4 (1. Z0) *", "null move"),
-                (b"1. Z0 *", "pgn_lint --fix --unsafe-fixes does it."),
+                (b"1. Z0 *", "gillspoon lint --fix --unsafe-fixes does it."),
                 (b"1. e2-e4 *", "hyphen"),
                 (b"1e4 *", "“Mend what is clear” does it if the number is that of the move."),
                 (b"1. e4 1-0", "no Result tag"),

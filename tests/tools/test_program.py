@@ -1,8 +1,6 @@
 """Tests of bin/pgn_tool and bin/build_program, with commands that build nothing, and of helps."""
 import os
 import shutil
-import subprocess
-import sys
 import unittest
 
 from programs import need_program, run
@@ -213,7 +211,7 @@ class Choice(unittest.TestCase):
         status, out, said = self.build()
         self.assertEqual((status, out), (127, ""))
         self.assertIn(told, said)
-        self.assertIn("as root, bin/install --deps installs these", said)
+        self.assertIn("to install these, as root: bin/install --deps\n", said)
         self.assertIn("the program was not built", said)
 
     def apt(self, user="0"):
@@ -224,6 +222,7 @@ class Choice(unittest.TestCase):
         self.here.write("cargo-of-debian", "")
         self.here.command("apt-get", "#!/bin/sh\nhere=%s\necho \"$*\" >>$here/asked\n"
                           "[ $1 = update ] && exit\n[ ! -e $here/broken ] || exit 100\n"
+                          "case $* in *--assume-no*) cat $here/size; exit 1 ;; esac\n"
                           "cp $here/cargo-of-debian $here/path/cargo\n"
                           "chmod 755 $here/path/cargo\n" % self.here.root)
 
@@ -234,13 +233,20 @@ class Choice(unittest.TestCase):
     def test_deps(self):
         self.apt()
         self.here.write("cargo-of-debian", CARGO)
-        self.check(self.build("--deps"), self.by_cargo, "installs cargo")
-        update, install = self.asked()
+        self.here.write("size", "Reading package lists...\n0 upgraded, 172 newly installed, 0 to "
+                        "remove and 0 not upgraded.\nNeed to get 161 MB of archives.\nAfter this "
+                        "operation, 780 MB of additional disk space will be used.\n")
+        self.check(self.build("--deps"), self.by_cargo, "installs cargo",
+                   "that is 172 packages in all\n", "161 MB to download\n",
+                   "780 MB on the disk\n")
+        update, asked, install = self.asked()
         self.assertEqual(update, "update -q")
+        # the size is asked for before
+        self.assertEqual(asked, install.replace(" -y ", " --assume-no "))
         self.assertRegex(install, r"^install -q -y --no-install-recommends cargo\b")
         # nothing is installed for a program that is there
         self.check(self.build("--deps"), self.by_cargo)
-        self.assertEqual(len(self.asked()), 2)
+        self.assertEqual(len(self.asked()), 3)
 
     def test_deps_that_are_not_had(self):
         self.apt()
@@ -254,6 +260,7 @@ class Choice(unittest.TestCase):
         status, out, told = self.build("--deps")
         self.assertEqual((status, out), (127, ""))
         self.assertRegex(told, "--deps needs root on Debian: there it installs cargo\\b")
+        self.assertIn("as root: bin/install --deps\n", told)
         self.assertFalse(os.path.exists(self.here.root + "/asked"))
 
     def test_arguments(self):
@@ -263,45 +270,7 @@ class Choice(unittest.TestCase):
         self.assertEqual(self.build("--help")[::2], (0, ""))
 
 
-class CallTest(unittest.TestCase):
-    """Which program the scripts call."""
-
-    def fmt(self, here, **env):
-        env = dict({"PATH": here.root + "/path:/usr/bin:/bin"}, **env)
-        ran = subprocess.run([sys.executable, here.root + "/bin/pgn_fmt"], input=b"",
-                             stdout=subprocess.PIPE, stderr=subprocess.PIPE, check=False, env=env)
-        return ran.returncode, ran.stdout.decode(), ran.stderr.decode()
-
-    def test_the_program_of_the_repository(self):
-        here = Repository(self)
-        for _ in range(2):
-            self.assertEqual(self.fmt(here)[:2], (0, "cargo built one, called with export\n"))
-
-    def test_the_program_on_the_path(self):
-        here = Repository(self, ())
-        here.command("pgn_tool", "#!/bin/sh\necho on the PATH\n")
-        self.assertEqual(self.fmt(here), (0, "on the PATH\n", ""))
-        # a program that the repository has built comes first
-        here.command("rt", "")
-        here.write("crates/pgn_tool/out/pgn_tool", "#!/bin/sh\necho built\n")
-        os.chmod(here.root + "/crates/pgn_tool/out/pgn_tool", 0o755)
-        self.assertEqual(self.fmt(here), (0, "built\n", ""))
-
-    def test_the_program_that_a_variable_names(self):
-        here = Repository(self)
-        here.command("other", "#!/bin/sh\necho named\n")
-        for name in (here.root + "/path/other", "other"):
-            self.assertEqual(self.fmt(here, PGN_TOOL=name), (0, "named\n", ""))
-        self.assertEqual(self.fmt(here, PGN_TOOL="/missing"),
-                         (127, "", "pgn_fmt: PGN_TOOL names no program: /missing\n"))
-
-    def test_no_program(self):
-        here = Repository(self, ())
-        status, out, told = self.fmt(here, PATH=here.root + "/path")
-        self.assertEqual((status, out), (127, ""))
-        self.assertIn("cargo is not on the PATH", told)
-        self.assertTrue(told.endswith("pgn_fmt: the program pgn_tool was not built\n"))
-
+class BuiltTest(unittest.TestCase):
     def test_built_program(self):
         program = need_program()
         self.assertEqual(run([program, "check", "examples/two-games.pgn"]).stdout,
@@ -310,9 +279,10 @@ class CallTest(unittest.TestCase):
 
 class Helps(unittest.TestCase):
     def test_help(self):
-        for script in ("pgn_lint", "pgn_where", "pgn_sieve", "pgn_fmt", "install", "uninstall",
-                       "test_tools", "build_program", "try_allocations"):
-            ran = run(["bin/" + script, "--help"])
+        for script in ("gillspoon", "gillspoon lint", "gillspoon fmt", "gillspoon where",
+                       "gillspoon sieve", "install", "uninstall", "test_tools", "build_program",
+                       "try_allocations"):
+            ran = run(["bin/" + script.split()[0], *script.split()[1:], "--help"])
             self.assertEqual((ran.returncode, ran.stderr), (0, b""), script)
             without_examples = ("test_tools", "build_program")
             for word in (b"xample", b"tatus") if script not in without_examples else (b"tatus",):

@@ -8,6 +8,7 @@ import glob
 import gzip
 import importlib
 import io
+import itertools
 import json
 import mmap
 import os
@@ -664,6 +665,70 @@ class Positions(unittest.TestCase):
         for it in threads:
             it.join()
         self.assertEqual(found, [wanted] * 4)
+
+
+class Keys(unittest.TestCase):
+    """A position has one key, however it was reached."""
+
+    # of White and of Black, moves that may come in any order
+    OPENING = (("d4", "c4", "Nf3"), ("Nf6", "e6", "b6"))
+
+    def games(self, white, black):
+        """A line for each order of the moves."""
+        for first in itertools.permutations(white):
+            for second in itertools.permutations(black):
+                line = gillspoon.Line()
+                for move in itertools.chain.from_iterable(zip(first, second)):
+                    line.append(move)
+                yield line
+
+    def test_each_order(self):
+        """The last move of some orders is a double step, so that FENs have a target."""
+        white, black = self.OPENING
+        lines = list(self.games(white, black[:2] + ("d5",)))
+        self.assertEqual(len(lines), 36)
+        self.assertEqual(len({line.plies[-1].key for line in lines}), 1)
+        self.assertGreater(len({" ".join(line.plies[-1].fen.split()[:4]) for line in lines}), 1)
+
+    def test_searched_games(self):
+        """By the keys of a text's games each game of the opening is found, and no other one."""
+        wanted = [" ".join(it.san for it in line) for line in self.games(*self.OPENING)]
+        others = ["d4 Nf6 c4 e6 Nc3 b6", "Nf3 Nf6 c4 e6 d3 b6", "d4 Nf6 c4 e6 Nf3 Bb4+"]
+        moves = [it for pair in zip(wanted, others * len(wanted)) for it in pair]
+        text = "\n".join('[White "%d"]\n\n%s *\n' % it for it in enumerate(moves)).encode()
+        key = next(self.games(*self.OPENING)).plies[-1].key
+        found = [int(game.tags["White"]) for game in gillspoon.games(text)
+                 if any(ply.key == key for ply in game.mainline())]
+        self.assertEqual(found, list(range(0, 72, 2)))
+        self.assertEqual(key, "rnbqkb1r/p1pp1ppp/1p2pn2/8/2PP4/5N2/PP2PPPP/RNBQKB1R w KQkq -")
+
+    def test_rights_and_targets(self):
+        """A king that went and came back, and a pawn that may be taken, make another position."""
+        def last(moves):
+            line = gillspoon.Line()
+            for move in moves.split():
+                line.append(move)
+            return line.plies[-1].key
+
+        still = "e4 e5 Nf3 Nf6 Ng1 Ng8"
+        self.assertEqual(last("e4 e5"), last(still))
+        self.assertNotEqual(last(still), last("e4 e5 Ke2 Ke7 Ke1 Ke8"))
+        taken, untaken = last("e4 a6 e5 d5"), last("e3 d6 e4 a6 e5 d5")
+        self.assertEqual((taken[:-2], taken[-2:], untaken[-1:]), (untaken[:-1], "d6", "-"))
+
+    def test_variations_and_functions(self):
+        game, = gillspoon.games(b"1. e4 e5 ( 1... c5 2. Nf3 ) 2. Nf3 *")
+        plies = game.moves().plies
+        replies = plies[1].variations[0].plies
+        for ply in (*plies, *replies):
+            self.assertEqual(ply.key, gillspoon.position_key(ply.fen))
+        self.assertEqual(replies[0].key,
+                         "rnbqkbnr/pp1ppppp/8/2p5/4P3/8/PPPP1PPP/RNBQKBNR w KQkq -")
+        with self.assertRaises(AttributeError):
+            plies[0].key = ""
+        with self.assertRaises(gillspoon.FenFault) as raised:
+            gillspoon.position_key("x")
+        self.assertEqual(raised.exception.field, 1)
 
 
 class Views(unittest.TestCase):
@@ -1499,7 +1564,7 @@ class InPieces(unittest.TestCase):
                         1 << 16)
 
     def test_a_bad_game_is_let_go(self):
-        """That of pgn_lint, which does not need its text. For `on_fault` it stays as a whole."""
+        """gillspoon lint does not need its text. For `on_fault` it stays as a whole."""
         lines = [b"e9 " * 300 + b"\n"] * 3000
         parts = [b"1. e4 e9\n", *lines, sound(b"b")]
         findings = importlib.import_module("gillspoon._findings")
@@ -1571,7 +1636,7 @@ class Converted(Folder):
         except gillspoon.PgnFault as fault:
             wanted = fault.args
         for size in sizes:
-            with mock.patch.object(self.module, "_PIECE", size):
+            with mock.patch.object(self.module, "PIECE", size):
                 self.assertEqual(self.converted(data, **options), wanted, (data, size))
         return wanted
 
@@ -1602,7 +1667,7 @@ class Converted(Folder):
     def test_sound_games_are_not_read_one_by_one(self):
         texts = (archive(30, "annotated"), archive(30, "plain"), b"1. e4 *\n" * 999, b"*" * 999, b"")
         wanted = [b"".join(it.text for it in gillspoon.games(it)) for it in texts]
-        with mock.patch.object(self.module, "_PIECE", 2000), \
+        with mock.patch.object(self.module, "PIECE", 2000), \
                 mock.patch.object(self.module, "games", side_effect=AssertionError):
             self.assertEqual([gillspoon.convert(it) for it in texts], wanted)
 
@@ -1618,7 +1683,7 @@ class Converted(Folder):
 
         data = archive(30, "plain")
         wanted = gillspoon.convert(data)
-        with mock.patch.object(self.module, "_PIECE", len(data) // 5), \
+        with mock.patch.object(self.module, "PIECE", len(data) // 5), \
                 mock.patch.object(self.module.os, "cpu_count", return_value=2), \
                 mock.patch.object(self.module._library, "convert", convert):
             self.assertEqual(gillspoon.convert(data), wanted)
@@ -1653,12 +1718,12 @@ class Converted(Folder):
 
 
 class Sieve(Folder):
-    """A caller with on_fault gets the games that bin/pgn_sieve keeps."""
+    """A caller with on_fault gets the games that gillspoon sieve keeps."""
 
     def compare(self, data):
         path = self.put("a.pgn", data)
         good, bad = self.folder + "/good", self.folder + "/bad"
-        ran = run([ROOT + "/bin/pgn_sieve", path, good, bad],
+        ran = run([ROOT + "/bin/gillspoon", "sieve", path, good, bad],
                   env=dict(os.environ, PGN_TOOL=need_program()))
         self.assertLessEqual(ran.returncode, 1, ran.stderr)
         found = seen(path)
@@ -1726,8 +1791,8 @@ class Sieve(Folder):
 
 
 class Places(Folder):
-    def test_as_pgn_where(self):
-        """Lines and columns are those of bin/pgn_where, however the text comes."""
+    def test_as_where(self):
+        """Lines and columns are those of gillspoon where, however the text comes."""
         places = importlib.import_module("gillspoon._places")
         source = random.Random(3)
         units = [b"a", b" ", b"\n", b"\r", b"\r\n", b"\n\n", "\xfc".encode(), b"\xfc", b"\x80",
@@ -1737,7 +1802,7 @@ class Places(Folder):
             data = source.choice((b"", b"\xef\xbb\xbf", b"\xef")) + data
             path = self.put("a", data)
             offset = source.randint(0, len(data))
-            said = run([ROOT + "/bin/pgn_where", path, str(offset)]).stdout
+            said = run([ROOT + "/bin/gillspoon", "where", path, str(offset)]).stdout
             said = said.decode("utf-8", "replace")
             line, column = re.search(r": line (\d+), column (\d+) ", said).groups()
             counter, sizes = places.LineCounter(), iter(lambda: source.randint(1, 4), 0)
@@ -2067,8 +2132,9 @@ class Binding(Folder):
             path = self.module(os.path.join(self.folder, module))
             ran = self.imported(path)
             self.assertNotEqual(ran.returncode, 0)
-            self.assertIn(b"ImportError: gillspoon: there is no libpgn_c.so: in the repository run "
-                          b"bin/build_program --library, or pip install ./python", ran.stderr)
+            said = (b"run bin/install again" if place == "b/lib" else b"in the repository run "
+                    b"bin/build_program --library, or pip install ./python")
+            self.assertIn(b"ImportError: gillspoon: there is no libpgn_c.so: " + said, ran.stderr)
             os.makedirs(os.path.join(self.folder, place), exist_ok=True)
             file = shutil.copy(library(), os.path.join(self.folder, place, "libpgn_c.so"))
             ran = self.imported(path)
@@ -2117,7 +2183,7 @@ class Wheel(Folder):
         text = "import gillspoon; print(gillspoon.check('examples/annotated.pgn'))"
         ran = run([python, "-c", text], env=env)
         self.assertEqual(ran.stdout, b"Totals(games=1, plies=7)\n")
-        ran = run([programs_of + "/pgn_lint", "-"], env=env, input=b"1. e4 *\n1. d4 *\n")
+        ran = run([programs_of + "/gillspoon", "lint", "-"], env=env, input=b"1. e4 *\n1. d4 *\n")
         self.assertEqual(ran.stdout, b"1 file, 2 games, 0 faults\n", ran.stderr)
 
     def fresh(self):

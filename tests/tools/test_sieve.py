@@ -1,6 +1,5 @@
-"""Tests of bin/pgn_sieve."""
+"""Tests of gillspoon sieve."""
 import os
-import pty
 import random
 import re
 import signal
@@ -9,14 +8,22 @@ import sys
 import tempfile
 import time
 import unittest
+import zipfile
 
 import programs
 from programs import ROOT, need_program, run
 
-SIEVE = ROOT + "/bin/pgn_sieve"
+PACKAGE = ROOT + "/python"
+SIEVE = [ROOT + "/bin/gillspoon", "sieve"]
 NOTE = re.compile(
     rb"% byte (\d+): (.*); line (\d+)\n"
     rb"% bytes (\d+) to (\d+), up to [^\n]*\n(% the fault[^\n]*\n)?")
+
+
+def setUpModule():
+    # which takes bad games from here
+    import test_python
+    test_python.setUpModule()
 
 
 def sound(name, movetext=b"1. e4 e5 2. Nf3 *"):
@@ -69,9 +76,8 @@ BAD = [
 
 
 def call(words, **more):
-    """Runs the sieve with the built program."""
-    env = dict(os.environ, PGN_TOOL=need_program())
-    return run([sys.executable, SIEVE, *words], env=env, **more)
+    """Runs the sieve."""
+    return run([sys.executable, *SIEVE, *words], **more)
 
 
 def export(text, *options):
@@ -115,9 +121,10 @@ class Sieved:
 
 
 class SieveTest(unittest.TestCase):
-    def check(self, done, bad):
+    def check(self, done, bad, dropped=""):
         """Nothing is lost: what is not in BAD is sound, and its export is GOOD."""
-        self.assertEqual(done.ran.stderr, b"")
+        told = done.ran.stderr.partition(b"good.pgn: dropped ")[2]
+        self.assertEqual((told.decode().rstrip(), not told), (dropped, not done.ran.stderr))
         self.assertEqual(done.ran.returncode, 1 if bad else 0)
         self.assertEqual(done.good, export(done.left()))
         self.assertEqual([it.rstrip(b"\r\n") for it in done.pieces],
@@ -216,12 +223,29 @@ class SieveTest(unittest.TestCase):
         # junk alone is set aside, comments are dropped before a sound game and go with a bad one
         text = sound(b"A") + b"\x1a" + sound(b"B") + b"{a note}\n" + sound(b"C") + b"\x1a"
         done = Sieved(self, text)
-        self.check(done, [b"\x1a", b"\x1a"])
+        self.check(done, [b"\x1a", b"\x1a"], "1 comment before a game or inside a tag pair")
         self.assertEqual(done.good, export(sound(b"A") + sound(b"B") + sound(b"C")))
         bad = b'{a note}\n[Event "x"]\n\n1. e9 *\n'
         self.check(Sieved(self, sound(b"A") + bad + sound(b"B")), [bad])
         prose = b"Games of the club,\n"
         self.check(Sieved(self, prose + sound(b"A")), [prose])
+
+    def test_what_is_dropped(self):
+        """Comments and escape lines of valid games that the export has not are counted."""
+        bad = b'{a}\n[Event {b} "x"]\n%c\n\n1. e9 *\n\n'
+        kept = b'[Event "y"]\n\n1. e4 {c} ; d\n {\n%e\n} *\n\n'
+        one, many = ("%s before a game or inside a tag pair" % it
+                     for it in ("1 comment", "3 comments"))
+        for text, told in (
+                (kept + bad, ""), (kept, ""),
+                (b'[Event {b} "x"]\n\n1. e4 *\n\n' + bad + kept, one),
+                (kept + b"%c\n" + kept + bad, "1 line with '%'"),
+                (b'{a} ;b\n[Event {c} "x"]\n\n1. e4\n%c\n%d\n*\n' + bad,
+                 many + ", 2 lines with '%'"),
+                (kept + b"{end}\n", "5 bytes behind the last game")):
+            done = Sieved(self, text)
+            self.check(done, [bad] if bad in text else [], told)
+            self.assertEqual(done.ran.stderr.count(b"\n"), bool(told), text)
 
     def test_joined_files_with_byte_order_marks(self):
         part = b"\xef\xbb\xbf" + sound(b"A")
@@ -266,7 +290,7 @@ class SieveTest(unittest.TestCase):
                 at = rng.randrange(len(text))
                 text = text[:at] + rng.choice(bits) + text[at + rng.randrange(3):]
             done = Sieved(self, text)
-            self.assertEqual(done.ran.stderr, b"", text)
+            self.assertRegex(done.ran.stderr, rb"\A(gillspoon: \S+/good\.pgn: dropped .+\n)?\Z", text)
             self.assertEqual(done.good, export(done.left()), text)
             self.assertEqual(done.ran.returncode, 1 if done.notes else 0)
             for (_, _, _, begin, end), piece in zip(done.notes, done.pieces):
@@ -291,11 +315,11 @@ class SieveTest(unittest.TestCase):
         os.link(file, link)
         for words in ([file, file, other], [file, other, link], [file, other, other], [file],
                       [file, other, folder], [file, other, "-"], [file, "-", other],
-                      ["/dev/null", folder + "/g", other], [file, "/dev/zero", other]):
+                      [file, "/dev/zero", other]):
             ran = call([*words])
             self.assertEqual((ran.returncode, ran.stdout, ran.stderr.count(b"\n")), (2, b"", 1),
                              (words, ran.stderr))
-        for words in ([folder + "/none", other, other + "2"], [folder, folder + "/g", other],
+        for words in ([folder + "/none", other, other + "2"],
                       [file, folder + "/none/g", other]):
             ran = call([*words])
             self.assertEqual((ran.returncode, ran.stdout, ran.stderr.count(b"\n")), (3, b"", 1),
@@ -323,21 +347,63 @@ class SieveTest(unittest.TestCase):
             file.write(packed[:-9])
         for name, more in (("-", {"input": packed[:-9]}), (plain.paths[0], {})):
             ran = call([name, *outputs], **more)
-            said = "standard input" if name == "-" else name
+            said = "<stdin>" if name == "-" else name
             self.assertEqual((ran.returncode, ran.stdout, ran.stderr.decode()), (
-                3, b"", "pgn_sieve: %s: Compressed file ended before the end-of-stream marker was "
+                3, b"", "gillspoon: %s: Compressed file ended before the end-of-stream marker was "
                 "reached\n" % said))
             self.assertEqual([plain.read(it) for it in outputs], [plain.good, plain.bad])
 
-    def test_a_pipe_is_refused(self):
-        """Its name is in the message, and what to do; no writer is waited for."""
-        done = Sieved(self, sound(b"A"))
-        os.mkfifo(done.folder + "/pipe")
-        ran = call([done.folder + "/pipe", *done.paths[1:]])
-        self.assertEqual((ran.returncode, ran.stdout, ran.stderr.decode()), (
-            2, b"", "pgn_sieve: %s/pipe: is a pipe, and FILE is read more than once: give -, and "
-            "the pipe as standard input\n" % done.folder))
-        self.assertEqual(done.read(done.paths[1]), export(sound(b"A")))
+    def test_a_pipe_is_read(self):
+        done = Sieved(self, sound(b"A") + BAD[0][1])
+        script = 'cat "$1" | "$2" "$3" "$4" /dev/stdin "$5" "$6"'
+        ran = run(["sh", "-c", script, "sh", done.paths[0], sys.executable, *SIEVE,
+                   done.folder + "/g", done.folder + "/b"])
+        self.assertEqual((ran.returncode, ran.stderr), (1, b""))
+        self.assertEqual([done.read(done.folder + it) for it in ("/g", "/b")],
+                         [done.good, done.bad])
+
+    def test_many_files(self):
+        """Folders, zips and standard input too; BAD names the file of each bad game."""
+        bad = b'[White "Bo"]\n\n1. e4 e9 *\n'
+        done = Sieved(self, sound(b"A") + bad)
+        folder = done.folder + "/all"
+        os.makedirs(folder + "/sub")
+        with zipfile.ZipFile(folder + "/c.zip", "w") as archive:
+            archive.writestr("x.pgn", bad)
+            archive.writestr("y.pgn", sound(b"Y"))
+        for name, text in (("a.pgn", sound(b"A") + bad), ("sub/b\n.pgn", sound(b"B")),
+                           ("left.pgn", b"<!DOCTYPE html>")):
+            with open(folder + "/" + name, "wb") as file:
+                file.write(text)
+        good = export(sound(b"A") + sound(b"Y") + sound(b"B") + sound(b"S"))
+        notes = [(it, begin, end) for it, begin, end in (
+            (folder + "/a.pgn", len(sound(b"A")), len(sound(b"A") + bad)),
+            (folder + "/c.zip:x.pgn", 0, len(bad)))]
+        wanted = b"".join(b"%% byte %d of %s: not a move; line %d\n%% bytes %d to %d, up to the end of "
+                          b"the file\n%s\n" % (begin + 20, name.encode(), line, begin, end, bad)
+                          for line, (name, begin, end) in zip((8, 3), notes))
+        outputs = ["--good", done.folder + "/g", "--bad", done.folder + "/b"]
+        for jobs in "13":
+            ran = call(["--exclude", "left*", "-j", jobs, *outputs, folder, "-"],
+                       input=sound(b"S"))
+            self.assertEqual((ran.returncode, ran.stderr), (1, b""))
+            self.assertEqual((done.read(done.folder + "/g"), done.read(done.folder + "/b")),
+                             (good, wanted))
+            self.assertIn(b"/g: 4 games\n%s/b: 2 bad games set aside, 50 bytes" %
+                          done.folder.encode(), ran.stdout)
+            # one that is no text of games leaves the outputs as they are
+            ran = call(["-j", jobs, *outputs, folder])
+            self.assertEqual((ran.returncode, ran.stdout, ran.stderr.decode()), (
+                3, b"", "gillspoon: %s/left.pgn: is a page of HTML or XML, and no text of games; "
+                "nothing was written\n" % folder))
+            self.assertEqual(done.read(done.folder + "/g"), good)
+
+    def test_one_output_alone(self):
+        done = Sieved(self, sound(b"A") + BAD[0][1])
+        for option, wanted in (("--good", done.good), ("--bad", done.bad)):
+            ran = call([option, done.folder + "/it", done.paths[0]])
+            self.assertEqual((ran.returncode, ran.stderr), (1, b""))
+            self.assertEqual(done.read(done.folder + "/it"), wanted)
 
     def test_standard_input(self):
         text = sound(b"A") + BAD[0][1] + b"\n" + sound(b"B") + BAD[-1][1]
@@ -393,18 +459,17 @@ class SieveTest(unittest.TestCase):
                          (other.good, other.bad, other.ran.returncode))
 
     def test_faults_on_a_terminal(self):
-        need_program()
         bad = b'[White "M\xc3\xbcller"]\n[Black "\x1b[2J"]\n\n1. e4 {\xc3\xa4} e9 *\n\n'
         done = Sieved(self, sound(b"A") + bad.replace(b"\x1b[2J", b"Bob") + bad)
         self.assertNotIn(b"not a move", done.ran.stdout)
-        env = dict(os.environ, PGN_TOOL=need_program(), LC_ALL="C.UTF-8")
+        env = dict(os.environ, NO_COLOR="1", LC_ALL="C.UTF-8")
         for words, name in ((done.paths[:1], done.paths[0]), (["-"], "<stdin>")):
-            words = [sys.executable, SIEVE, *words, *done.paths[1:]]
+            words = [sys.executable, *SIEVE, *words, *done.paths[1:]]
             script = " ".join(words) + " <" + done.paths[0]
             shown = programs.on_a_terminal(["sh", "-c", script], env=env)
             self.assertEqual(shown.split("\n")[:2], [
                 name + ":9:11: not a move (game 2, M\u00fcller \u2013 Bob)",
-                name + ":12:9: control byte (game 3, M\u00fcller \u2013 \ufffd[2J)"])
+                name + ":12:9: control byte (game 3, M\u00fcller \u2013 ?)"])
             self.assertEqual(len(shown.split("\n")), 6)
 
     def test_a_closed_pipe_ends_it_silently(self):
@@ -417,8 +482,8 @@ class SieveTest(unittest.TestCase):
 
     def test_without_the_library(self):
         done = Sieved(self, sound(b"A"))
-        env = dict(os.environ, PGN_TOOL=need_program(), GILLSPOON_LIBRARY=done.folder + "/none")
-        ran = run([sys.executable, SIEVE, *done.paths], env=env)
+        env = dict(os.environ, GILLSPOON_LIBRARY=done.folder + "/none")
+        ran = run([sys.executable, *SIEVE, *done.paths], env=env)
         self.assertEqual((ran.returncode, ran.stdout, ran.stderr.count(b"\n")), (127, b"", 1))
         self.assertIn(b"in the repository run bin/build_program --library", ran.stderr)
         self.assertEqual(sorted(os.listdir(done.folder)), ["bad.pgn", "good.pgn", "in.pgn"])
@@ -434,85 +499,107 @@ class SieveTest(unittest.TestCase):
 
 
 class StoppedTest(unittest.TestCase):
-    """A program that never ends stands for a long file."""
+    """A pipe that is not closed stands for a long file."""
 
-    def start(self, script, **more):
-        folder = programs.new_folder(self)
-        self.paths = [folder + it for it in ("/in.pgn", "/good.pgn", "/bad.pgn")]
+    def start(self, **more):
+        self.folder = programs.new_folder(self)
+        self.paths = [self.folder + it for it in ("/in.pgn", "/good.pgn", "/bad.pgn")]
         for path in self.paths:
             with open(path, "wb") as file:
                 file.write(b"old")
-        with open(folder + "/program", "w", encoding="ascii") as file:
-            file.write("#!/bin/sh\n" + script)
-        os.chmod(folder + "/program", 0o755)
-        self.folder = folder
-        env = dict(os.environ, PGN_TOOL=folder + "/program")
-        return subprocess.Popen([sys.executable, SIEVE, *self.paths], env=env, **more)
+        words = ["env", "--default-signal=INT", "--default-signal=HUP", *SIEVE, "-"]
+        started = subprocess.Popen([*words, *self.paths[1:]], stdin=subprocess.PIPE, **more)
+        self.addCleanup(started.stdin.close)
+        return started
 
     def check_untouched(self):
-        self.assertEqual(sorted(os.listdir(self.folder)),
-                         ["bad.pgn", "good.pgn", "in.pgn", "program"])
+        self.assertEqual(sorted(os.listdir(self.folder)), ["bad.pgn", "good.pgn", "in.pgn"])
         for path in self.paths:
             with open(path, "rb") as file:
                 self.assertEqual(file.read(), b"old")
 
     def test_signals_leave_the_old_files(self):
         for number in (signal.SIGTERM, signal.SIGINT, signal.SIGHUP):
-            started = self.start("exec >&-\nexec 2>&-\nexec sleep 100\n")
+            started = self.start()
             until = time.time() + 20
-            while len(os.listdir(self.folder)) < 6 and time.time() < until:
+            while len(os.listdir(self.folder)) < 5 and time.time() < until:
                 time.sleep(0.05)
             started.send_signal(number)
             self.assertEqual(started.wait(timeout=20), -number)
             self.check_untouched()
 
+    def test_an_ignored_signal_does_not_end_it(self):
+        """As nohup has it."""
+        folder = programs.new_folder(self)
+        words = [*SIEVE, "-", folder + "/good.pgn", folder + "/bad.pgn"]
+        with subprocess.Popen(["sh", "-c", 'trap "" HUP; exec "$@"', "sh", *words],
+                              stdin=subprocess.PIPE, stdout=subprocess.DEVNULL) as started:
+            until = time.time() + 20
+            while len(os.listdir(folder)) < 2 and time.time() < until:
+                time.sleep(0.05)
+            started.send_signal(signal.SIGHUP)
+            started.communicate(sound(b"A"))
+        self.assertEqual((started.returncode, sorted(os.listdir(folder))),
+                         (0, ["bad.pgn", "good.pgn"]))
+
     def test_a_signal_while_a_temporary_file_is_made_leaves_none(self):
         script = """
 import os, signal, sys, tempfile
 sys.path.insert(0, sys.argv[1])
-import pgn_files
+from gillspoon import _command, _replacement
 made = tempfile.mkstemp
 def stopped(**more):
     pair = made(**more)
     os.kill(os.getpid(), signal.SIGTERM)
     return pair
 tempfile.mkstemp = stopped
-pgn_files.run_script("script", lambda: pgn_files.Replacement(sys.argv[2]))
+_command.run(lambda out: _replacement.Replacement(sys.argv[2]))
 """
         folder = programs.new_folder(self)
-        words = [sys.executable, "-c", script, os.path.dirname(SIEVE), folder + "/good.pgn"]
-        self.assertEqual(subprocess.run(words).returncode, -signal.SIGTERM)
+        words = [sys.executable, "-c", script, PACKAGE, folder + "/good.pgn"]
+        ran = subprocess.run(words)
+        self.assertEqual(ran.returncode, -signal.SIGTERM)
         self.assertEqual(os.listdir(folder), [])
-
-    def test_failures_of_the_program_leave_the_old_files(self):
-        for script, status, text in (
-                ("echo 'out of memory' >&2; exit 3", 3, b"pgn_sieve: out of memory\n"),
-                ("echo 'byte 5: input cannot be read' >&2; exit 1", 3,
-                 b"pgn_sieve: byte 5: input cannot be read\n"),
-                ("kill -9 $$", 3, b"pgn_sieve: the program ended with status -9\n")):
-            started = self.start(script, stdout=subprocess.PIPE, stderr=subprocess.PIPE)
-            out, err = started.communicate(timeout=20)
-            self.assertEqual((started.returncode, out, err), (status, b"", text))
-            self.check_untouched()
 
     def test_a_file_that_is_overwritten_in_place(self):
         """Its size stays the same, and so does its name."""
-        script = 'cat >/dev/null; sleep 0.05; printf new 1<>"${0%/*}/in.pgn"'
-        started = self.start(script, stdout=subprocess.PIPE, stderr=subprocess.PIPE)
-        out, err = started.communicate(timeout=20)
-        self.assertEqual((started.returncode, out, err), (
-            3, b"", b"pgn_sieve: the archive changed while it was read; nothing was written\n"))
-        for path, text in zip(self.paths, (b"new", b"old", b"old")):
+        script = """
+import os, sys, time
+sys.path.insert(0, sys.argv.pop(1))
+from gillspoon import _command, _sieve
+run = _sieve.Part.run
+def changed(part):
+    counts = run(part)
+    time.sleep(0.05)
+    with open(part.name, "r+b") as file:
+        file.write(b"new")
+    return counts
+_sieve.Part.run = changed
+sys.exit(_command.main())
+"""
+        folder = programs.new_folder(self)
+        paths = [folder + it for it in ("/in.pgn", "/good.pgn", "/bad.pgn")]
+        for path in paths:
+            with open(path, "wb") as file:
+                file.write(b"old")
+        ran = run([sys.executable, "-c", script, PACKAGE, "sieve", *paths])
+        self.assertEqual((ran.returncode, ran.stdout, ran.stderr.decode()), (
+            3, b"", "gillspoon: %s: changed while it was read; nothing was written\n" % paths[0]))
+        for path, text in zip(paths, (b"new", b"old", b"old")):
             with open(path, "rb") as file:
                 self.assertEqual(file.read(), text)
 
     def test_progress_on_a_terminal_alone(self):
-        head, tail = pty.openpty()
-        self.addCleanup(os.close, head)
-        script = "cat >/dev/null; for n in 1 2 3 4; do echo; sleep 0.5; done\n"
-        started = self.start(script, stdout=subprocess.DEVNULL, stderr=tail)
-        os.close(tail)
-        self.assertEqual(started.wait(timeout=20), 0)
-        self.assertIn(b"0.0 of 0.0 MB, ", os.read(head, 1000))
-        started = self.start(script, stdout=subprocess.PIPE, stderr=subprocess.PIPE)
-        self.assertEqual(started.communicate(timeout=20)[1], b"")
+        """It is shown after a second, which a program on the way to standard input takes."""
+        script = "import sys; sys.path.insert(0, sys.argv.pop(1))\n" \
+            "from gillspoon import _command, _reports\n" \
+            "times = iter(range(1000000)); _reports.time.monotonic = lambda: next(times)\n" \
+            "sys.exit(_command.main())"
+        folder = programs.new_folder(self)
+        paths = [folder + it for it in ("/in.pgn", "/good.pgn", "/bad.pgn")]
+        with open(paths[0], "wb") as file:
+            file.write(sound(b"A") * 1000)
+        words = [sys.executable, "-c", script, PACKAGE, "sieve", *paths]
+        shown = programs.on_a_terminal(words)
+        self.assertRegex(shown, r"gillspoon: file 1 of 1, 1,000 games, 0\.1 of 0\.1 MB, about 0:00 left")
+        self.assertEqual(run(words).stderr, b"")

@@ -13,7 +13,7 @@ import programs
 from programs import ROOT, run
 
 DATA = ("vectors", "crates/pgn_vectors/src", "crates/pgn_game/src/reason.rt", "bin/write_vectors",
-        "bin/pgn_conform", "bin/pgn_files.py", "bin/build_program", "python/gillspoon",
+        "bin/pgn_conform", "bin/build_program", "python/gillspoon",
         "bench/tables.py")
 # PGN 3.2.4: the export of the game of the standard, as its printed text has it.
 SAMPLE_END = "40. Rd6 Kc5 41. Ra6 Nf2 42. g4 Bd3 43. Re6 1/2-1/2\n\n"

@@ -1,4 +1,4 @@
-"""Tests of bin/pgn_where."""
+"""Tests of gillspoon where."""
 import bz2
 import gzip
 import os
@@ -8,10 +8,15 @@ import unittest
 import zipfile
 
 from programs import ROOT, Folder, need, need_program, run
+from test_python import setUpModule as _set_up_package
 
-WHERE = ROOT + "/bin/pgn_where"
+WHERE = [ROOT + "/bin/gillspoon", "where"]
 TAGS = b'[Event "Cup"]\n[White "Ann"]\n[Black "Bob"]\n\n'
 GAME = 'game 1: White "Ann", Black "Bob", Event "Cup"\n'
+
+
+def setUpModule():
+    _set_up_package()
 
 
 class WhereTest(Folder, unittest.TestCase):
@@ -21,7 +26,7 @@ class WhereTest(Folder, unittest.TestCase):
 
     def call(self, words, **more):
         env = dict(os.environ, PYTHONIOENCODING="utf-8", COLUMNS="80")
-        return run([sys.executable, WHERE, *words], env=env, **more)
+        return run([sys.executable, *WHERE, *words], env=env, **more)
 
     def lines(self, text, offset):
         """The lines that are printed for a byte of a text, without the file's name."""
@@ -40,7 +45,7 @@ class WhereTest(Folder, unittest.TestCase):
         return lines
 
     def test_example(self):
-        ran = run(["bin/pgn_where", "examples/no-such-move.pgn", "77"])
+        ran = run(["bin/gillspoon", "where", "examples/no-such-move.pgn", "77"])
         lines = ran.stdout.decode().split("\n")
         self.assertIn("line 4, column 37", lines[0])
         self.assertEqual(lines[1][lines[2].index("^"):][:3], "Bd4")
@@ -64,7 +69,7 @@ class WhereTest(Folder, unittest.TestCase):
         self.check(b"a\n\r\nb", 4, 3, 1, "b", "^")
 
     def test_line_end_over_the_border_of_a_block(self):
-        block = 1 << 20  # BLOCK of pgn_files
+        block = 1 << 20  # CHUNK of gillspoon._sources
         for end, lines in ((b"\r\n", 2), (b"\r", 2), (b"\n", 2), (b"\r\r", 3), (b"\n\r", 3)):
             text = b"a" * (block - 1) + end + b"x"
             self.check(text, len(text) - 1, lines, 1, "x", "^")
@@ -146,7 +151,7 @@ class WhereTest(Folder, unittest.TestCase):
 
     def test_a_comment_longer_than_what_is_kept_in_memory(self):
         words = (b"w" * 70 + b" ") * 100 + b"\n"
-        text = TAGS + b"1. e4 {" + words * ((1 << 24) // len(words) + 100)  # LONG of pgn_where
+        text = TAGS + b"1. e4 {" + words * ((1 << 24) // len(words) + 100)  # LONG of _where
         self.assertEqual(self.lines(text, len(text))[3:5], [
             "in a comment that begins at line 5, column 7 (byte %d)" % (len(TAGS) + 6),
             'game 1: White "Ann", Black "Bob", Event "Cup"'])
@@ -182,7 +187,7 @@ class WhereTest(Folder, unittest.TestCase):
         for told in (told, b"", b"a\xff\n\r\nb", b"x" * (1 << 21) + b"\n", b"byte 3:\n",
                      b"a byte 3: no\n", b'{"kind": "fault", "file": 1}\n',
                      b"a.pgn:3: move is not legal (game 1, A - B)\n", b"a.pgn\n",
-                     b"pgn_lintx: a\n", b'{"kind": "fault", \n'):
+                     b"gillspoonx: a\n", b'{"kind": "fault", \n'):
             ran = self.call([self.file], input=told)
             self.assertEqual((ran.returncode, ran.stdout, ran.stderr), (0, told, b""))
 
@@ -192,8 +197,8 @@ class WhereTest(Folder, unittest.TestCase):
             file.write(TAGS + b"1. e4 *\n")
         for told in (b"byte 0: input cannot be read\n", b"byte 3: output cannot be written\n",
                      b"output cannot be written\n", b"out of memory\n",
-                     b"arguments cannot be read\n", b"pgn_lint: x: No such file or directory\n",
-                     b"pgn_fmt: x: No such file or directory\n", b"pgn_sieve: x\n",
+                     b"arguments cannot be read\n", b"gillspoon: x: No such file or directory\n",
+                     b"gillspoon lint: argument --max: x\n", b"pgn_tool: x\n",
                      b"error: unexpected argument 'x' found\n"):
             ran = self.call([self.file], input=told + b"more\n")
             self.assertEqual((ran.returncode, ran.stdout, ran.stderr), (1, told + b"more\n", b""))
@@ -207,20 +212,20 @@ class WhereTest(Folder, unittest.TestCase):
         self.assertEqual(ran.stdout.decode().split("\n"), [
             self.file + ": line 1, column 2 (byte 1): no", '[Event "Cup"]', " ^", game, "games: 1",
             self.file + ": line 5, column 4 (byte 46): not a move", "1. e4 *", "   ^", game, ""])
-        many = b"1. e4 e5\n" * (1 << 17)  # more than a block of pgn_files
+        many = b"1. e4 e5\n" * (1 << 17)  # more than is read of a line at once
         ran = self.call([self.file], input=many + b"byte 46: not a move\n")
         self.assertTrue(ran.stdout.startswith(many + self.file.encode() + b": line 5, column 4 ("))
 
     def messages(self, words, *more):
-        """What pgn_where shows of the messages of a command that runs in the folder."""
-        env = dict(os.environ, LC_ALL="C.UTF-8", PGN_TOOL=need_program(), COLUMNS="80")
-        told = run([ROOT + "/bin/" + words[0], *words[1:]], cwd=self.folder, env=env,
+        """What is shown of the messages of a command that runs in the folder."""
+        env = dict(os.environ, LC_ALL="C.UTF-8", COLUMNS="80")
+        told = run([WHERE[0], *words], cwd=self.folder, env=env,
                    stderr=subprocess.STDOUT).stdout
-        ran = run([sys.executable, WHERE, *more], cwd=self.folder, env=env, input=told)
+        ran = run([sys.executable, *WHERE, *more], cwd=self.folder, env=env, input=told)
         self.assertEqual((ran.returncode, ran.stderr), (1, b""), told)
         return ran.stdout.decode()
 
-    def test_messages_of_pgn_lint(self):
+    def test_messages_of_lint(self):
         bad = TAGS + b"1. e4 e5 2. Ke3 *\n\n"
         name = "a\n: 1:2 \u00fc.pgn"
         self.put(name, bad + TAGS + b"1. e4 *\n\n" + bad)
@@ -228,25 +233,25 @@ class WhereTest(Folder, unittest.TestCase):
             "(game %d, Ann \u2013 Bob)\n1. e4 e5 2. Ke3 *\n            ^\n"
         wanted = shown % (5, 55, 1) + shown % (17, 169, 3)
         end = "1 file, 3 games, 2 faults in 1 file\n"
-        self.assertEqual(self.messages(["pgn_lint", name]), wanted + end)
-        self.assertEqual(self.messages(["pgn_lint", "--quiet", name, name]), 2 * wanted)
-        records = self.messages(["pgn_lint", "--json", name])
+        self.assertEqual(self.messages(["lint", name]), wanted + end)
+        self.assertEqual(self.messages(["lint", "--quiet", name, name]), 2 * wanted)
+        records = self.messages(["lint", "--json", name])
         self.assertTrue(records.startswith(wanted + '{"kind": "summary", '), records)
 
-    def test_messages_of_pgn_lint_without_a_name(self):
+    def test_messages_of_lint_without_a_name(self):
         with open(self.file, "wb") as file:
             file.write(b"1. e9 *\n")
         for told in (b"<stdin>:1:4: not a move (game 1, ? - ?)\n", b"byte 3: not a move\n",
-                     b"pgn_fmt: standard input: byte 3: not a move\n"):
+                     b"gillspoon: <stdin>: byte 3: not a move\n"):
             ran = self.call([self.file], input=told)
             self.assertEqual((ran.returncode, ran.stderr), (1, b""))
             self.assertTrue(ran.stdout.startswith(
                 self.file.encode() + b": line 1, column 4 (byte 3): not a move"), ran.stdout)
             ran = self.call([], input=told + b"more\n")
             self.assertEqual((ran.returncode, ran.stdout, ran.stderr), (
-                2, told + b"more\n", b"pgn_where: give FILE: this message names no file\n"))
+                2, told + b"more\n", b"gillspoon: give FILE: this message names no file\n"))
 
-    def test_places_of_pgn_lint(self):
+    def test_places_of_lint(self):
         """A line and a column are found again, whatever the line ends and the encoding."""
         latin = "1. e4 {\u00e4\u00e4} e9 *".encode("latin-1")
         utf = "1. e4 {\u4e16\u00e4} e9 *".encode()
@@ -260,7 +265,7 @@ class WhereTest(Folder, unittest.TestCase):
                 (b"\n" * (1 << 20) + utf, "1048577, column 12 (byte 1048590)"),
                 (b"1. e4\n", "2, column 1 (byte 6, the end of the file)")):
             self.put("a.pgn", text)
-            shown = self.messages(["pgn_lint", "--quiet", "a.pgn"])
+            shown = self.messages(["lint", "--quiet", "a.pgn"])
             self.assertTrue(shown.startswith("a.pgn: line %s: " % place), shown)
 
     def test_compressed_files(self):
@@ -272,7 +277,7 @@ class WhereTest(Folder, unittest.TestCase):
                                              check=True).stdout)
         self.put("a.pgn.GZ", gzip.compress(text))
         for end in ("gz", "bz2", "zst", "GZ"):
-            shown = self.messages(["pgn_lint", "--quiet", "a.pgn." + end]).split("\n")
+            shown = self.messages(["lint", "--quiet", "a.pgn." + end]).split("\n")
             self.assertEqual(shown[1:3], ["1. e4 e5 2. Ke3 *", "            ^"])
             ran = self.call([self.file + "." + end, "55"])
             self.assertEqual(ran.stdout.decode().split("\n")[1:3], shown[1:3])
@@ -280,7 +285,7 @@ class WhereTest(Folder, unittest.TestCase):
         self.assertEqual(self.call([self.folder + "/b.pgn.gz", "55"]).returncode, 3)
 
     def test_files_in_a_zip(self):
-        """They are named by pgn_lint and pgn_fmt, and found by these names."""
+        """They are named by lint and fmt, and found by these names."""
         bad = TAGS + b"1. e4 e5 2. Ke3 *\n"
         with zipfile.ZipFile(self.folder + "/a: 1.zip", "w") as archive:
             archive.writestr("x.pgn", TAGS + b"1. e4 *\n")
@@ -288,21 +293,21 @@ class WhereTest(Folder, unittest.TestCase):
         shown = "%s:sub/y\\n:1:2.pgn: line 5, column 13 (byte 55): move is not legal"
         lines = "1. e4 e5 2. Ke3 *\n            ^\n"
         name = shown % "a: 1.zip"
-        self.assertEqual(self.messages(["pgn_lint", "--quiet", "a: 1.zip"]),
+        self.assertEqual(self.messages(["lint", "--quiet", "a: 1.zip"]),
                          name + " (game 1, Ann \u2013 Bob)\n" + lines)
-        self.assertTrue(self.messages(["pgn_lint", "--json", "a: 1.zip"]).startswith(
+        self.assertTrue(self.messages(["lint", "--json", "a: 1.zip"]).startswith(
             name + " (game 1, Ann \u2013 Bob)\n" + lines))
         ran = self.call([self.folder + "/a: 1.zip:sub/y\n:1:2.pgn", "55"])
         self.assertEqual((ran.returncode, ran.stdout.decode().split("\n", 1)[1]), (0, lines + GAME))
         with open(self.folder + "/a: 1.zip", "rb") as packed:
             env = dict(os.environ, LC_ALL="C.UTF-8", COLUMNS="80")
-            told = run([ROOT + "/bin/pgn_lint", "--quiet"], stdin=packed, env=env).stdout
-        ran = run([sys.executable, WHERE, "a: 1.zip"], cwd=self.folder, input=told, env=env)
+            told = run([WHERE[0], "lint", "--quiet"], stdin=packed, env=env).stdout
+        ran = run([sys.executable, *WHERE, "a: 1.zip"], cwd=self.folder, input=told, env=env)
         self.assertEqual((ran.returncode, ran.stdout.decode()),
                          (1, name + " (game 1, Ann \u2013 Bob)\n" + lines))
         ran = self.call([], input=told)
         self.assertEqual((ran.returncode, ran.stdout, ran.stderr), (
-            2, told, b"pgn_where: give FILE: this message names no file\n"))
+            2, told, b"gillspoon: give FILE: this message names no file\n"))
         ran = self.call([self.folder + "/a: 1.zip:none.pgn", "3"])
         self.assertEqual((ran.returncode, ran.stdout, ran.stderr.count(b"\n")), (3, b"", 1))
 
@@ -315,11 +320,11 @@ class WhereTest(Folder, unittest.TestCase):
         ran = self.call(["-"], input=b"byte 3: move is not legal\n")
         self.assertEqual((ran.returncode, ran.stdout, ran.stderr.count(b"\n")), (2, b"", 1))
 
-    def test_messages_of_pgn_fmt(self):
+    def test_messages_of_fmt(self):
         self.put("a b.pgn", TAGS + b"1. e4 e5 2. Ke3 *\n")
         self.put("c.pgn", TAGS + b"1. e9 *\n")
         self.put("d.pgn", TAGS + b"1. e4 *\n")
-        self.assertEqual(self.messages(["pgn_fmt", "--check", "a b.pgn", "c.pgn", "d.pgn"]), (
+        self.assertEqual(self.messages(["fmt", "--check", "a b.pgn", "c.pgn", "d.pgn"]), (
             "a b.pgn: line 5, column 13 (byte 55): move is not legal\n"
             "1. e4 e5 2. Ke3 *\n            ^\n" + GAME +
             "c.pgn: line 5, column 4 (byte 46): not a move\n1. e9 *\n   ^\n" + GAME + "d.pgn\n"))
@@ -330,13 +335,13 @@ class WhereTest(Folder, unittest.TestCase):
         told = b"none.pgn:4:13: move is not legal (game 1, ? - ?)\n" \
             b"b.pgn:9:1: move is not legal (game 1, ? - ?)\n" \
             b"b.pgn:1:20: move is not legal (game 1, ? - ?)\n" \
-            b"pgn_fmt: b.pgn: byte 99: not a move\n"
+            b"gillspoon: b.pgn: byte 99: not a move\n"
         shown = b"b.pgn:1:4: not a move (game 1, ? - ?)\n"
-        ran = run([sys.executable, WHERE], cwd=self.folder, input=told + shown)
+        ran = run([sys.executable, *WHERE], cwd=self.folder, input=told + shown)
         self.assertEqual((ran.returncode, ran.stderr), (
-            3, b"pgn_where: none.pgn: No such file or directory\npgn_where: b.pgn: has no line 9\n"
-            b"pgn_where: b.pgn: has no line 1, column 20\n"
-            b"pgn_where: b.pgn: has 8 bytes, so there is no byte 99\n"))
+            3, b"gillspoon: none.pgn: No such file or directory\ngillspoon: b.pgn: has no line 9\n"
+            b"gillspoon: b.pgn: has no line 1, column 20\n"
+            b"gillspoon: b.pgn: has 8 bytes, so there is no byte 99\n"))
         self.assertEqual(ran.stdout, told + b"b.pgn: line 1, column 4 (byte 3): not a move "
                          b"(game 1, ? - ?)\n1. e9 *\n   ^\n")
 
@@ -348,21 +353,30 @@ class WhereTest(Folder, unittest.TestCase):
                 ([self.file, "1", "2"], b"", 2),
                 ([self.file, "3"], b"", 3), ([self.folder + "/none", "3"], b"", 3),
                 ([self.folder, "0"], b"", 3), ([self.folder + "/none"], b"", 3),
-                (["/dev/null", "0"], b"", 2)):
+                (["/dev/null", "1"], b"", 3)):
             ran = self.call(words, input=told)
             self.assertEqual((ran.returncode, ran.stdout, ran.stderr.count(b"\n")),
                              (status, b"", 1), (words, ran.stderr))
         self.assertEqual(self.call(["--help"]).returncode, 0)
-        ran = run(["sh", "-c", '"$0" <&-', ROOT + "/bin/pgn_where"])
+        ran = run(["sh", "-c", '"$@" <&-', "sh", *WHERE])
         self.assertEqual((ran.returncode, ran.stdout, ran.stderr), (
-            3, b"", b"pgn_where: standard input is closed\n"))
+            3, b"", b"gillspoon: standard input is closed\n"))
 
-    def test_a_pipe_is_refused(self):
-        os.mkfifo(self.file)
-        for words in ([self.file, "0"], [self.file]):
-            ran = self.call(words, input=b"")
-            self.assertEqual((ran.returncode, ran.stdout, ran.stderr.decode()), (
-                2, b"", "pgn_where: %s: is a pipe\n" % self.file))
+    def test_a_pipe_is_read(self):
+        self.put("a.pgn", TAGS + b"1. e4 e9 *\n")
+        script = 'cat a.pgn | "$@" /dev/stdin %d' % (len(TAGS) + 6)
+        ran = run(["sh", "-c", script, "sh", sys.executable, *WHERE], cwd=self.folder)
+        self.assertEqual((ran.returncode, ran.stdout.decode(), ran.stderr), (
+            0, "/dev/stdin: line 5, column 7 (byte %d)\n1. e4 e9 *\n      ^\n%s" % (
+                len(TAGS) + 6, GAME), b""))
+
+    def test_colours(self):
+        self.put("a.pgn", b"1. e9 *\n")
+        for when, wanted in (("always", "\x1b[1m%s:\x1b[0m line 1, column 4 (byte 3): \x1b[31mno"
+                              "\x1b[0m\n1. e9 *\n\x1b[32m   ^\x1b[0m\n"),
+                             ("auto", "%s: line 1, column 4 (byte 3): no\n1. e9 *\n   ^\n")):
+            ran = self.call(["--color", when, self.file], input=b"byte 3: no\n")
+            self.assertTrue(ran.stdout.decode().startswith(wanted % self.file), ran.stdout)
 
     def test_bad_games_before_the_byte_count(self):
         bad = b'[Event "x"]\n\n1. e9 {1-0} e5'
@@ -383,17 +397,16 @@ class WhereTest(Folder, unittest.TestCase):
         with open(self.file, "wb") as file:
             file.write(b"*\n")
         env = dict(os.environ, GILLSPOON_LIBRARY=self.folder + "/none")
-        ran = run([sys.executable, WHERE, self.file, "0"], env=env)
+        ran = run([sys.executable, *WHERE, self.file, "0"], env=env)
         self.assertEqual((ran.returncode, ran.stdout, ran.stderr.count(b"\n")), (127, b"", 1))
         self.assertIn(b"in the repository run bin/build_program --library", ran.stderr)
 
     def test_closed_output(self):
-        ran = run(["sh", "-c", '"$0" "$1" examples/two-games.pgn 3 >/dev/full', sys.executable,
-                   WHERE])
+        ran = run(["sh", "-c", '"$@" examples/two-games.pgn 3 >/dev/full', "sh", *WHERE])
         self.assertEqual((ran.returncode, ran.stderr.count(b"\n")), (3, 1), ran.stderr)
-        ran = run(["sh", "-c", '"$0" "$1" examples/two-games.pgn 3 >&-', sys.executable, WHERE])
+        ran = run(["sh", "-c", '"$@" examples/two-games.pgn 3 >&-', "sh", *WHERE])
         self.assertEqual((ran.returncode, ran.stderr),
-                         (3, b"pgn_where: standard output is closed\n"))
+                         (3, b"gillspoon: standard output is closed\n"))
 
     def test_a_closed_pipe_ends_it_silently(self):
         with open(self.file, "wb") as file:

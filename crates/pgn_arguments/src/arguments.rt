@@ -182,7 +182,7 @@ fn split_command<'a>(alloc: Global) -> Result<Command<'a>, AllocError>
         .required(true)
         .help("The folder to write to, which has to exist");
     Command::new(alloc, "split")
-        .about("Write each game to a file of its own: DIR/000001.pgn and so on")
+        .about("Write each game to DIR, given first, as DIR/000001.pgn and so on")
         .arg(dir)?
         .arg(file_argument(alloc))
 }

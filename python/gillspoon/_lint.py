@@ -1,25 +1,20 @@
-"""Checks files of games, and names each fault by file, line and column: the command pgn_lint.
-
-    python3 -m gillspoon.lint [OPTION]... [FILE or FOLDER or -]...
-"""
+"""Checks files of games, and names each fault by file, line and column: gillspoon lint."""
 import argparse
 import collections
-import os
-import signal
 import sys
-from typing import (TYPE_CHECKING, Counter, Dict, Iterator, List, NamedTuple, NoReturn, Optional, Tuple,
-                    Union)
+from typing import (TYPE_CHECKING, Counter, Dict, List, NamedTuple, Optional, Tuple, Union)
 
+from ._command import Parser, number
 from ._edits import BadGames, Choice, Edit
 from ._findings import Finding, Linter, Warned
-from ._inputs import (STANDARD_INPUT, AnyFile, FilePath, PassedOver, Text, files_of,
+from ._inputs import (STANDARD_INPUT, AnyFile, FilePath, PassedOver, Text, files_of, reason_of,
                       refuse_other_kinds, texts_of)
 from ._own_errors import errors_taken
-from ._replacement import STOPPING, Replacement
-from ._reports import (AnyReport, JsonReport, Output, OutputFault, Progress, Report, SarifReport,
-                       Summary, Unread, has_colours, message)
+from ._processes import first_ones, pool_of
+from ._reports import (AnyReport, JsonReport, Output, Progress, Report, SarifReport, Summary,
+                       Unread, has_colours, message)
 from ._sources import Opened
-from ._version import add_version
+from ._statuses import DONE, REFUSED, UNREADABLE
 
 if TYPE_CHECKING:
     from concurrent.futures import Future
@@ -28,15 +23,15 @@ if TYPE_CHECKING:
 
 DESCRIPTION = "Checks PGN files, and names each fault by file, line and column."
 HELP = """examples:
-  pgn_lint games.pgn
-  pgn_lint --board games.pgn          with the board, and why the move is rejected
-  pgn_lint --diff games.pgn           what --fix would change
-  pgn_lint --fix games.pgn            mends the file in place, where the text has one reading
-  pgn_lint --fix - <old.pgn >new.pgn  mends standard input
-  pgn_lint --fixes                    lists all fixes
-  pgn_lint -j 4 archive/              all *.pgn below a folder, by four processes
-  pgn_lint --json games.pgn | jq -r 'select(.kind == "fault") | .fen'
-  vim -q <(pgn_lint games.pgn)        with :set errorformat=%f:%l:%v:\\ %m
+  gillspoon lint games.pgn
+  gillspoon lint --board games.pgn          with the board, and why the move is rejected
+  gillspoon lint --diff games.pgn           what --fix would change
+  gillspoon lint --fix games.pgn            mends the file, where the text has one reading
+  gillspoon lint --fix - <old.pgn >new.pgn  mends standard input
+  gillspoon lint --fixes                    lists all fixes
+  gillspoon lint -j 4 archive/              all *.pgn below a folder, by four processes
+  gillspoon lint --json games.pgn | jq -r 'select(.kind == "fault") | .fen'
+  vim -q <(gillspoon lint games.pgn)        with :set errorformat=%f:%l:%v:\\ %m
 
 In a folder *.pgn are checked, also with .gz, .bz2, .xz, .zst or .zip behind, in small letters or
 not, and each *.zip with *.pgn inside. Compressed files are known by their first bytes too, and so
@@ -57,35 +52,14 @@ numbers that do not run, 0000, a Pf3 that may be Nf3, a variation of marks, a ta
 likely another one, a value whose form the standard does not know, a second marker, a mix of
 encodings, a Variant tag, or a file without games.
 
-status:
-  0  no fault is left, and with --diff nothing would change
-  1  there are faults; or with --diff something would change; or with --strict a warning
-  2  wrong arguments
-  3  a file cannot be read or written, or is no text of games; or the output cannot be written;
-     or a fault could not be explained or mended, for an error of pgn_lint
-  127  there is no shared library
-
-environment:
-  GILLSPOON_LIBRARY  the shared library to use [default: the one that is installed or built]
-  NO_COLOR           if it is set, there are no colours on a terminal
 """
-SOUND, FAULTY, WRONG_WORDS, UNREADABLE = range(4)
 # How many edits of a file are written; of more their number.
 MOST_EDITS = 200
 
 
-class Parser(argparse.ArgumentParser):
-    """A reader of arguments whose errors are one line."""
-
-    def error(self, message: str) -> NoReturn:
-        self.exit(WRONG_WORDS, "%s: %s (--help shows the usage)\n" % (self.prog, message))
-
-
-def arguments(words: Optional[List[str]]) -> argparse.Namespace:
+def arguments(words: List[str]) -> argparse.Namespace:
     """What the words of a command line ask for."""
-    parser = Parser(prog="pgn_lint", description=DESCRIPTION, epilog=HELP,
-                    formatter_class=argparse.RawDescriptionHelpFormatter)
-    add_version(parser)
+    parser = Parser("lint", DESCRIPTION, HELP)
     parser.add_argument("paths", metavar="FILE", nargs="*",
                         help="a file, a folder, or - for standard input")
     parser.add_argument("--board", action="store_true",
@@ -104,15 +78,11 @@ def arguments(words: Optional[List[str]]) -> argparse.Namespace:
                         help="a missing Result tag takes the result at the end of its game")
     parser.add_argument("--statistics", action="store_true",
                         help="write at the end how many faults each reason has, and edits each fix")
-    parser.add_argument("--max", metavar="N", type=_number, help="write the first N faults alone")
+    parser.add_argument("--max", metavar="N", type=number, help="write the first N faults alone")
     _add_fix_options(parser)
-    parser.add_argument("-j", "--jobs", metavar="N", type=_number, default=1,
-                        help="check or mend files by N processes [default: 1]")
-    words = sys.argv[1:] if words is None else words
-    # options may be between files, and behind -- there are none
-    end = words.index("--") if "--" in words else len(words)
-    given = parser.parse_intermixed_args(words[:end])
-    given.paths += words[end + 1:]
+    parser.add_files()
+    parser.add_color()
+    given = parser.parse(words)
     if given.board and (given.json or given.sarif):
         parser.error("--board goes with neither --json nor --sarif, which have all that it shows")
     if given.statistics and (given.quiet or given.sarif):
@@ -159,17 +129,13 @@ def _wrong_fixing(given: argparse.Namespace) -> str:
 
 def _names(text: str) -> List[str]:
     from ._fixes import NAMES
-    names = [it.strip().replace("-", " ") for it in text.split(",") if it.strip()]
+    # a hyphen and a blank are the same
+    spelled = {it.replace("-", " "): it for it in NAMES}
+    names = [it.strip() for it in text.split(",") if it.strip()]
     for name in names:
-        if name not in NAMES:
+        if name.replace("-", " ") not in spelled:
             raise argparse.ArgumentTypeError("there is no fix %s; --fixes lists them" % name)
-    return names
-
-
-def _number(text: str) -> int:
-    if not text.isascii() or not text.isdigit() or not int(text):
-        raise argparse.ArgumentTypeError("%s is not a number from 1 on" % text)
-    return int(text)
+    return [spelled[it.replace("-", " ")] for it in names]
 
 
 # ---- one file
@@ -246,8 +212,8 @@ def check_file(path: str, given: argparse.Namespace) -> Checked:
 class Writer:
     """Where a run writes: the report, messages, and diffs."""
 
-    def __init__(self, report: AnyReport) -> None:
-        self.report = report
+    def __init__(self, report: AnyReport, out: Output) -> None:
+        self.report, self.out = report, out
 
     def found(self, finding: Union[Finding, Warned]) -> None:
         """Writes a fault or a warning."""
@@ -268,19 +234,17 @@ class Writer:
         self.report.out.flush()
         message(text)
 
-    def diff(self, source: Opened, name: str, mended: "_fixing.Mended") -> None:
+    def diff(self, source: Opened, name: str, mended: "_fixing.Mended",
+             has_colours: bool) -> None:
         """Writes a diff to standard output."""
         from . import _fixing
-        sys.stdout.flush()
-        _fixing.write_diff(source, name, mended, sys.stdout.buffer)
+        self.out.flush()
+        _fixing.write_diff(source, name, mended, sys.stdout.buffer, has_colours)
 
     def copy(self, diff: bytes) -> None:
         """Writes a diff that another process made."""
-        try:
-            sys.stdout.buffer.write(diff)
-            sys.stdout.flush()
-        except OSError as error:
-            raise OutputFault(error) from None
+        self.out.write_bytes(diff)
+        self.out.flush()
 
 
 class Record(Writer):
@@ -298,27 +262,18 @@ class Record(Writer):
     def message(self, text: str) -> None:
         self.written.append(text)
 
-    def diff(self, source: Opened, name: str, mended: "_fixing.Mended") -> None:
+    def diff(self, source: Opened, name: str, mended: "_fixing.Mended",
+             has_colours: bool) -> None:
         import tempfile
 
         from . import _fixing
         with tempfile.TemporaryFile() as held:
-            _fixing.write_diff(source, name, mended, held)
+            _fixing.write_diff(source, name, mended, held, has_colours)
             held.seek(0)
             self.written.append(held.read())
 
 
-def reason_of(error: OSError, path: str) -> str:
-    """The system's reason, without the name of the file."""
-    text = error.strerror or str(error)
-    return text[len(path) + 2:] if text.startswith(path + ": ") else text
-
-
 # ---- all files
-
-
-class LostProcess(Exception):
-    """A process of the pool was ended from outside, perhaps for lack of memory."""
 
 
 class Run:
@@ -338,9 +293,7 @@ class Run:
         self.is_fixing: bool = given.fix or given.diff
         self.unread: List[Unread] = []
         self.own_errors: List[Unread] = []
-        """Errors of pgn_lint itself, each with the name of the file."""
-        self.has_ended_processes = False
-        """Whether processes were ended: then Python could wait for ever for what they write."""
+        """Errors of the command itself, each with the name of the file."""
 
     def check(self) -> int:
         """Checks or mends all files, and gives the status."""
@@ -352,7 +305,7 @@ class Run:
         self.progress.clear()
         is_faulty = self.faults or self.given.diff and self.fixed or \
             self.given.strict and self.warnings
-        return UNREADABLE if self.unread or self.own_errors else FAULTY if is_faulty else SOUND
+        return UNREADABLE if self.unread or self.own_errors else REFUSED if is_faulty else DONE
 
     def summary(self) -> Summary:
         """What all files had."""
@@ -439,7 +392,7 @@ class Run:
         else:
             self.games, self.warnings = self.games + mended.games, self.warnings + mended.warnings
         if given.diff:
-            self.writer.diff(source, text.name, mended)
+            self.writer.diff(source, text.name, mended, given.color == "always")
 
     def _write_edits(self, text: Text, held: "_fixing.HeldEdits") -> None:
         self.progress.clear()
@@ -453,49 +406,16 @@ class Run:
 
         Standard input is read by this one, and so is a file that was given before: it may change.
         """
-        # they take as long as all other imports together
-        import multiprocessing
-        from concurrent.futures import ProcessPoolExecutor
-        from concurrent.futures.process import BrokenProcessPool
-        pool = ProcessPoolExecutor(self.given.jobs, initializer=_end_with_parent)
-        try:
+        with pool_of(self.given.jobs) as pool:
             asked: "Dict[int, Future[Checked]]" = {
                 at: pool.submit(check_file, file, self.given)
-                for at, file in self._first_ones() if file != "-"}
+                for at, file in first_ones(self.files, self.given.fix)}
             for at, file in enumerate(self.files):
                 if at in asked:
                     self._take(asked.pop(at).result())
                     self._show(self.games)
                 else:
                     self._check_here(file)
-        except BaseException as error:
-            self.has_ended_processes = True
-            processes = multiprocessing.active_children()
-            for process in processes:
-                process.terminate()
-            pool.shutdown(wait=False, cancel_futures=True)
-            for process in processes:
-                # each removes its temporary file; one that cannot would keep the output open
-                process.join(END_SECONDS)
-                process.kill()
-            if isinstance(error, BrokenProcessPool):
-                raise LostProcess from None
-            raise
-        pool.shutdown()
-
-    def _first_ones(self) -> Iterator[Tuple[int, str]]:
-        """The files by their places, but those that are there by another name already."""
-        seen = set()
-        for at, file in enumerate(self.files):
-            if isinstance(file, str):
-                try:
-                    found = os.stat(file)
-                    key: object = (found.st_dev, found.st_ino)
-                except OSError:
-                    key = file
-                if key not in seen or not self.given.fix:
-                    yield at, file
-                seen.add(key)
 
     def _take(self, checked: Checked) -> None:
         faults, warnings, reasons = self.faults, self.warnings, self.reasons.copy()
@@ -544,44 +464,12 @@ class Run:
         self.progress.show(self.read + 1, games)
 
 
-# How long a process may take to remove its temporary file.
-END_SECONDS = 5
-
-
-def _end_with_parent() -> None:
-    """In a process of a pool: a signal ends it at once and silently, if it is not ignored."""
-    for stopping in STOPPING:
-        if signal.getsignal(stopping) != signal.SIG_IGN:
-            signal.signal(stopping, _end)
-
-
-def _end(number: int, _frame: object) -> None:
-    for replacement in Replacement.made:
-        replacement.discard()
-    signal.signal(number, signal.SIG_DFL)
-    os.kill(os.getpid(), number)
-
-
-class Stopped(BaseException):
-    """A signal asked the command to stop."""
-
-    def __init__(self, number: int) -> None:
-        super().__init__(number)
-        self.number = number
-
-
-def _stop(number: int, _frame: object) -> NoReturn:
-    raise Stopped(number)
-
-
-def list_fixes() -> int:
+def list_fixes(out: Output) -> int:
     """Prints the table of fixes."""
     from ._fixing import table
-    out = Output(sys.stdout)
     for line in table():
         out.write(line + "\n")
-    out.flush()
-    return SOUND
+    return DONE
 
 
 def _report_of(given: argparse.Namespace, out: Output) -> AnyReport:
@@ -590,53 +478,23 @@ def _report_of(given: argparse.Namespace, out: Output) -> AnyReport:
         return SarifReport(out)
     if given.json:
         return JsonReport(out, given.quiet)
-    return Report(out, given.board, given.quiet, has_colours(out))
+    return Report(out, given.board, given.quiet, has_colours(out, given.color))
 
 
-def main(words: Optional[List[str]] = None) -> int:
-    """Runs the command, and gives its status."""
-    given = arguments(words)
+def run(given: argparse.Namespace, out: Output) -> int:
+    """Runs the subcommand, and gives its status."""
     if given.fixes:
-        return list_fixes()
+        return list_fixes(out)
     # standard output is for the text or the diff
-    out = Output(sys.stderr if given.diff or given.fix and given.paths in ([], ["-"]) else
-                 sys.stdout)
-    if given.fix:
-        for stopping in STOPPING:
-            signal.signal(stopping, _stop)
-    report = _report_of(given, out)
-    run = Run(given, Writer(report), list(files_of(given.paths or ["-"])))
-    try:
-        status = run.check()
-        report.end(run.summary(), run.unread + run.own_errors)
-        out.flush()
-        for it in run.own_errors:
-            message("%s:%s" % it)
-    except (KeyboardInterrupt, Stopped) as stopped:
-        run.progress.clear()
-        for replacement in Replacement.made:
-            replacement.discard()
-        number = stopped.number if isinstance(stopped, Stopped) else signal.SIGINT
-        signal.signal(number, signal.SIG_DFL)
-        os.kill(os.getpid(), number)
-        return UNREADABLE
-    except OutputFault as fault:
-        run.progress.clear()
-        if not fault.is_closed_pipe:
-            message("output cannot be written: %s" % fault)
-        out.give_up()
-        status = UNREADABLE
-    except MemoryError:
-        message("out of memory")
-        status = UNREADABLE
-    except LostProcess:
-        run.progress.clear()
-        message("a process ended before its file was checked; try again without -j")
-        status = UNREADABLE
-    if run.has_ended_processes:
-        os._exit(status)
+    is_for_text = given.diff or given.fix and given.paths in ([], ["-"])
+    lines = Output(sys.stderr) if is_for_text else out
+    report = _report_of(given, lines)
+    given.color = "always" if has_colours(out, given.color) else "never"
+    files = list(files_of(given.paths or ["-"], given.exclude))
+    running = Run(given, Writer(report, out), files)
+    status = running.check()
+    report.end(running.summary(), running.unread + running.own_errors)
+    lines.flush()
+    for it in running.own_errors:
+        message("%s:%s" % it)
     return status
-
-
-if __name__ == "__main__":
-    sys.exit(main())

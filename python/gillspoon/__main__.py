@@ -1,0 +1,7 @@
+"""The command gillspoon: python3 -m gillspoon."""
+import sys
+
+from ._command import main
+
+if __name__ == "__main__":
+    sys.exit(main())

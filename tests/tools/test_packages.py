@@ -1,0 +1,137 @@
+"""Tests of Debian's packages, and of what bin/dist writes beside the packages for Cargo."""
+import glob
+import hashlib
+import os
+import subprocess
+import tarfile
+import unittest
+import zipfile
+
+import programs
+from programs import ROOT, Folder, run
+
+PACKAGES = ("libpgn-c-dev", "libpgn-c0", "pgn-tool", "python3-gillspoon")
+# A game, and what PGN 3.2 and 8 ask for.
+LOOSE = b'[White "A"] e4 e5 *'
+TIDY = (b'[Event "?"]\n[Site "?"]\n[Date "????.??.??"]\n[Round "?"]\n[White "A"]\n[Black "?"]\n'
+        b'[Result "*"]\n\n1. e4 e5 *\n\n')
+SOURCE = r"""
+#include <stdio.h>
+#include <pgn.h>
+
+int main(void) {
+  uint8_t text[1024];
+  const char *game = "[White \"A\"] e4 e5 *";
+  pgn_result found = pgn_convert(game, 19, text, sizeof text, PGN_FULL_FORMAT);
+  fwrite(text, 1, found.written, stdout);
+  return found.status != PGN_OK;
+}
+"""
+
+
+class Debian(unittest.TestCase):
+    """The packages, unpacked into an empty root."""
+
+    @classmethod
+    def setUpClass(cls):
+        programs.need("dpkg-buildpackage", "dh", "lintian", "pkg-config", "cc")
+        programs.need_cargo()
+        cls.folder = programs.new_folder(cls)
+        ran = run([ROOT + "/bin/dist", "--part", "debian", cls.folder], timeout=None)
+        assert ran.returncode == 0, ran.stderr.decode()
+        cls.said = ran.stdout.decode().split()
+        cls.root = cls.folder + "/root"
+        for file in glob.glob(cls.folder + "/*.deb"):
+            subprocess.run(["dpkg-deb", "-x", file, cls.root], check=True)
+        cls.libraries, = glob.glob(cls.root + "/usr/lib/*/pkgconfig")
+
+    def env(self, **more):
+        """The environment of a program in that root; nothing of the repository is in it."""
+        return dict({"PATH": self.root + "/usr/bin:/usr/bin:/bin", "HOME": self.folder,
+                     "LD_LIBRARY_PATH": os.path.dirname(self.libraries)}, **more)
+
+    def test_each_package_is_there(self):
+        names = sorted(it.split("_")[:2] for it in os.listdir(self.folder) if it.endswith(".deb"))
+        version = programs.load("bin/to_cargo").version()
+        self.assertEqual(names, [[it, version] for it in PACKAGES])
+        self.assertEqual(sorted(self.said), sorted(
+            it for it in os.listdir(self.folder) if it.endswith(".deb")))
+
+    def test_lintian_has_no_error(self):
+        env = dict(os.environ, PATH=programs.PATH)
+        ran = run(["lintian", "--fail-on", "error,warning", "--allow-root",
+                   *glob.glob(self.folder + "/*.deb")], env=env, timeout=None)
+        self.assertEqual(ran.returncode, 0, ran.stdout)
+
+    def test_the_program(self):
+        ran = run(["pgn_tool", "export"], input=LOOSE, env=self.env(), cwd=self.folder)
+        self.assertEqual((ran.returncode, ran.stdout, ran.stderr), (0, TIDY, b""))
+
+    def test_the_command(self):
+        env = self.env(PYTHONPATH=self.root + "/usr/lib/python3/dist-packages")
+        ran = run([self.root + "/usr/bin/gillspoon", "fmt"], input=LOOSE, env=env, cwd=self.folder)
+        self.assertEqual((ran.returncode, ran.stdout, ran.stderr), (0, TIDY, b""))
+        script = "import gillspoon; print(gillspoon._library.path(), gillspoon.__version__)"
+        ran = run(["/usr/bin/python3", "-c", script], env=env, cwd=self.folder)
+        path, version = ran.stdout.decode().split()
+        self.assertTrue(os.path.realpath(path).startswith(os.path.dirname(self.libraries)), path)
+        wanted = run(["pgn_tool", "--version"], env=self.env()).stdout
+        self.assertEqual(wanted.decode(), "pgn_tool %s\n" % version)
+
+    def test_a_program_in_c(self):
+        """It is built by what pkg-config says, with the shared library and with the static one."""
+        source = self.folder + "/a.c"
+        with open(source, "w", encoding="ascii") as file:
+            file.write(SOURCE)
+        env = dict(os.environ, PKG_CONFIG_LIBDIR=self.libraries, PKG_CONFIG_SYSROOT_DIR=self.root)
+        for number, static in enumerate(([], ["--static"])):
+            words = run(["pkg-config", "--cflags", "--libs", *static, "pgn_c"], env=env).stdout
+            program = "%s/program%d" % (self.folder, number)
+            subprocess.run(["cc", source, "-o", program, *words.decode().split(),
+                            *(["-static"] if static else [])], check=True)
+            ran = run([program], env={} if static else self.env(), cwd=self.folder)
+            self.assertEqual((ran.returncode, ran.stdout), (0, TIDY), ran.stderr)
+
+    def test_manuals_and_completions(self):
+        usr = self.root + "/usr/share/"
+        for name in ("pgn_tool", "gillspoon"):
+            for path in ("man/man1/%s.1.gz", "bash-completion/completions/%s",
+                         "fish/vendor_completions.d/%s.fish", "zsh/vendor-completions/_%s"):
+                self.assertTrue(os.path.isfile(usr + path % name), path % name)
+        self.assertTrue(os.path.isfile(usr + "man/man3/pgn_c.3.gz"))
+
+
+class Others(Folder, unittest.TestCase):
+    def setUp(self):
+        super().setUp()
+        self.dist = programs.load("bin/dist")
+
+    def test_the_proved_program(self):
+        """It is in a tar file, whose SHA-256 is beside it in the form of sha256sum."""
+        program = programs.need_program()
+        self.dist.pack(program, self.folder, "1.2.3")
+        path, = glob.glob(self.folder + "/*.tar.gz")
+        name = "pgn_tool-1.2.3-proved-" + os.uname().machine
+        self.assertEqual(os.path.basename(path), name + ".tar.gz")
+        with tarfile.open(path) as archive:
+            self.assertEqual(sorted(archive.getnames()), sorted(
+                name + it for it in ("/pgn_tool", "/pgn_tool.1", "/LICENSE-MIT")))
+            with open(program, "rb") as file:
+                self.assertTrue(archive.extractfile(name + "/pgn_tool").read() == file.read())
+            self.assertTrue(archive.getmember(name + "/pgn_tool").mode & 0o111)
+        programs.need("sha256sum")
+        ran = run(["sha256sum", "-c", path + ".sha256"], cwd=self.folder)
+        self.assertEqual(ran.returncode, 0, ran.stderr)
+        with open(path, "rb") as file:
+            self.assertIn(hashlib.sha256(file.read()).hexdigest(),
+                          self.get(os.path.basename(path) + ".sha256").decode())
+
+    def test_the_wheel(self):
+        wheel = self.dist.loaded("python/build_wheel.py")
+        name = wheel.build_wheel(self.folder)
+        with zipfile.ZipFile(os.path.join(self.folder, name)) as archive:
+            names = archive.namelist()
+            entry, = [it for it in names if it.endswith("/entry_points.txt")]
+            self.assertEqual(archive.read(entry), b"[console_scripts]\n"
+                             b"gillspoon = gillspoon._command:main\n")
+        self.assertIn("gillspoon/libpgn_c.so", names)
