@@ -35,7 +35,7 @@ MAIN_FUNCTIONS = {
     "find": ("pgn_game::find::named_move",),
     "write_san": ("chess_text::san::write_san",),
     "layout and sinks": ("pgn_layout::current_line::CurrentLine::put", "pgn_layout::sink::write_all"),
-    "reader and levels": ("pgn_game::reader::Reader::accept", "pgn_game::movetext::Movetext::put"),
+    "reader and levels": ("pgn_game::reader::Reader::accept", "pgn_game::game::Game::take"),
 }
 # Other work is more than so many processors that other processes keep busy, on average.
 QUIET = 0.2

@@ -23,5 +23,5 @@ pub use form::{Form, read_form};
 pub use form_origins::{OriginKind, origins_of_form};
 pub use key::write_position_key;
 pub use resolution::{Played, SanFault, resolve, resolve_move};
-pub use san::write_san;
+pub use san::{write_san, write_san_of};
 pub use uci::{UciFault, read_uci, write_uci};

@@ -57,9 +57,29 @@ pub fn write_san(position: &Position, played: &Played, probes: &mut Probes) -> A
         (probes.old + spec.disambiguation_pairs position.now played.now.mv) probes.new }
     ensures bound { probes.new ≤ probes.old + 1032 }
 {
+    write_san_of(position, &played.mv, &played.next, probes)
+}
+
+/// Writes SAN as [`write_san`] does, of a legal move and the position after it.
+#[inline(never)]
+pub fn write_san_of(
+    position: &Position,
+    mv: &Move,
+    next: &Position,
+    probes: &mut Probes,
+) -> ArrayVec<u8, 7>
+    requires legal { legal position.now mv.now ≡ Some next.now }
+    requires room { probes.old + 1032 < 2 ^ 32 }
+    ensures text { result.items ≡ spec.san position.now mv.now }
+    ensures some { 0 < length result.items }
+    ensures short { length result.items ≤ 7 }
+    ensures pairs { MarkPairs next.now
+        (probes.old + spec.disambiguation_pairs position.now mv.now) probes.new }
+    ensures bound { probes.new ≤ probes.old + 1032 }
+{
     let mut text = ArrayVec::new();
-    push_unmarked(&mut text, position, &played.mv, probes);
-    push_mark(&mut text, &played.next, probes);
+    push_unmarked(&mut text, position, mv, probes);
+    push_mark(&mut text, next, probes);
     text
 }
 

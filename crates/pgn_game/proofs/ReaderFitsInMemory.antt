@@ -1,10 +1,11 @@
--- Where a converter fits in memory, its reader does; where games or a reading fit, their converter
+-- Where a converter fits in memory, its game does; where games or a reading fit, their converter
 -- does.
 use Rattle.pgn_game.proofs.Words.{rules, arith, ℕ, ◌+◌, ◌<◌, ◌≤◌, FitsInMemory, RattleType}
 use prog.Memory.{up}
 use Rattle.pgn_game.specs.contracts.converter.Converter.{the_row}
 use Rattle.pgn_game.specs.contracts.checked.Reading.{the_row as reading_row}
 use Rattle.pgn_game.specs.contracts.games.Games.{the_row as games_row}
+use Rattle.pgn_game.specs.contracts.game.Game.{the_row as game_row}
 use Rattle.pgn_game.specs.contracts.reader.Reader.{the_row as reader_row}
 
 le_up : (a n : ℕ) → n ≤ up a n
@@ -18,14 +19,17 @@ pub second : (a n k m : ℕ) → up a (k + n) < m → n < m
 second a n k m fits = omega (arith, fits, le_up a (k + n))
 
 module _ (T L : RattleType) where
-  pub fits_reader : FitsInMemory (the_row T L) → FitsInMemory (reader_row T L)
-  fits_reader fits = second _ _ _ _ (first _ _ _ _ (first _ _ _ _ (first _ _ _ _ (first _ _ _ _ fits))))
+  pub fits_game : FitsInMemory (the_row T L) → FitsInMemory (game_row T L)
+  fits_game fits = second _ _ _ _ (first _ _ _ _ (first _ _ _ _ (first _ _ _ _ (first _ _ _ _ fits))))
 
   -- a converter of the same bounds fits too
   pub fits_alike : FitsInMemory (the_row T L) → FitsInMemory (the_row T L)
   fits_alike fits = fits
 
-  -- and so does a reader
+  -- and so does a game, and a reader
+  pub game_alike : FitsInMemory (game_row T L) → FitsInMemory (game_row T L)
+  game_alike fits = fits
+
   pub reader_alike : FitsInMemory (reader_row T L) → FitsInMemory (reader_row T L)
   reader_alike fits = fits
 

@@ -1,15 +1,11 @@
 -- The lemmas that the proofs of the reader cite, under one path.
-pub use Rattle.pgn_game.proofs.ReaderFitsInMemory.{reader_alike}
-pub use Rattle.pgn_game.proofs.ReaderPartsFitInMemory.{tags_fit, text_fits}
+pub use Rattle.pgn_game.proofs.ReaderFitsInMemory.{game_alike, reader_alike}
+pub use Rattle.pgn_game.proofs.ReaderPartsFitInMemory.{reader_fits, tags_fit, text_fits}
 pub use Rattle.pgn_game.proofs.pairs.PairsToFirstPosition.{start_faults, start_fine, told_read}
-pub use Rattle.pgn_game.proofs.putting.ItemToMovetext.{no_move}
-pub use Rattle.pgn_game.proofs.putting.ItemToReader.{begins_as, begun_before, fails_item, fails_move, most_after, puts_item, puts_move, puts_number, puts_unbegun, text_begun, unbegun_part}
-pub use Rattle.pgn_game.proofs.putting.MarkerToReader.{ends_ill, ends_unbegun, ends_well}
 pub use Rattle.pgn_game.proofs.putting.PairStepToReader.{puts_left_bracket, puts_name, puts_right_bracket, puts_value, to_name, to_stage, to_value}
-pub use Rattle.pgn_game.proofs.putting.WritesInTurn.{front_after, front_of_more}
 pub use Rattle.pgn_game.proofs.reading.MovetextTokens.{number_no_score}
-pub use Rattle.pgn_game.proofs.refusals.ReaderToPart.{begun_name, entry_after_tags, entry_in_movetext, held_at, lacks_of, no_name, part_stage}
+pub use Rattle.pgn_game.proofs.refusals.ReaderToPart.{begun_name, entry_after_tags, entry_in_movetext, held_at, lacks_of, may_have_whole, no_name, no_name_held, part_stage}
 pub use Rattle.pgn_game.proofs.refusals.RefusalsByStage.{close_next, close_refusal, end_after_tags, expected_bracket, expected_name, expected_value, hit, name_next, name_refusal, name_rows, open_next, open_refusal, pass, refuses_set_up, textual, value_next, value_refusal, value_rows}
 pub use Rattle.pgn_game.proofs.refusals.RefusalsInMovetext.{depth_is, differs, holds_is, marker_differs, marker_free, marker_inside, none_around, number_free, number_leads, test_of}
-pub use Rattle.pgn_game.proofs.tokens.PairsTriedForToken.{adds_move, adds_same, marker_untried, number_untried}
-pub use Rattle.pgn_game.proofs.tokens.PutToAnswer.{comment_in_pair, counting_none, enters, entry_met, entry_refused, item_entry, move_refused, no_symbol_counted, passes_entry, passes_first, plain_counted, refused_after, refused_in_pair, step_in_pair, takes_marker, takes_move, takes_outside_first, takes_step}
+pub use Rattle.pgn_game.proofs.tokens.PairsTriedForToken.{adds_same, marker_untried, number_untried}
+pub use Rattle.pgn_game.proofs.tokens.PutToAnswer.{comment_in_pair, counting_none, enters, no_symbol_counted, passes_first, plain_counted, refused_after, refused_in_pair, step_in_pair, takes_outside_first, takes_step}

@@ -43,13 +43,13 @@ pub use Rattle.pgn_game.specs.games.FaultTable.{Row, fen_fault_field, fen_field,
 unfoldable pub use Rattle.pgn_game.specs.games.FaultTable.{refusal}
 pub use Rattle.pgn_game.specs.laws.Filled.{exported_pairs, filled}
 pub use Rattle.pgn_game.specs.laws.FixedPoint.{AreExportable, ExportIsKept, ExportIsKeptOfSource, ExportingTwice, FewPairsHaveRoom, FixedPoint, IsExportable, IsWrittenAgain, SameOutput, SameText, SliceIsKept, SourceIsKept, TagSectionFits, TextSpells, counted, games_in}
-pub use Rattle.pgn_game.specs.state.ItemResult.{Adds, Annotates, Plays, PutsTokens, TriesItem, WritesItem, after_move_if, item_text, number_due, plies_in, tokens_due, tokens_if, LeavesSink}
+pub use Rattle.pgn_game.specs.state.ItemResult.{Adds, Annotates, ItemCall, LeadsLevels, Plays, PutsAnnotation, PutsMarker, PutsMove, PutsTokens, TriesItem, after_move_if, ending_if, line_behind, token_if, writes_annotations, item_text, number_due, plies_in, tokens_due, tokens_if, LeavesSink}
 pub use Rattle.pgn_game.specs.games.Levels.{Level, Levels, back_to, depth, first_level, here, last_position, levels_after, levels_of, main_moves, outermost, plies_of, replayed, start_of, without_last}
 pub use Rattle.pgn_game.specs.games.Markers.{marker_text, missing_of}
 pub use Rattle.pgn_game.specs.calls.Written.{bytes_seen, failures_seen, is_nothing, mode_of_written, mode_unless, seen}
 pub use Rattle.pgn_game.specs.state.Movetext.{HoldsLineOf, ClosesLevel, FitsLevelStore, HoldsItems, Movetext, StoredLevel, StoredLevels, before_last, code_levels, ends_in_move, inside, level_at, level_of, movetext_after_fen, movetext_from, nearest_first, only_level, places_of, stored_level, stored_levels}
 pub use Rattle.pgn_game.specs.games.Progress.{Next, Progress, Read, at_stage, going, in_text, items_of, move_item, next, next_in, no_progress, output, progress_after, progress_with, read, read_from, refused, totals, verdict, whole, due, verdict_of, written as written_so_far, position_at_fault}
-pub use Rattle.pgn_game.specs.state.PutResult.{BeginsText, Goes, Keeps, PutResult, PutsItems, TakesOutside, TakesToken, at_game_start, gain_to, section_due, section_due_of, CountsMove, EntersMovetext, Finds, FinishesNone, GoesTo, Takes, TakesEntry, TakesUnwritten, counting_probes, unused, MeetsEntry, MeetsMarker, TakesMarker, TakesOther, TakesUnlessMarker, continued, no_marker}
+pub use Rattle.pgn_game.specs.state.PutResult.{BeginsText, Goes, Keeps, PutResult, TakesOutside, TakesToken, at_game_start, gain_to, section_due, section_due_of, CountsMove, EntersMovetext, Finds, FinishesNone, GoesTo, Takes, TakesEntry, TakesUnwritten, counting_probes, unused, MeetsEntry, MeetsMarker, TakesMarker, TakesOther, TakesUnlessMarker, continued}
 pub use Rattle.pgn_game.specs.state.ReaderState.{KeepsSilence, Writing, mode_written, silenced, sink_of, with_announced, Accepted, More, Finished, Agrees, AreSound, CountsWrites, FinishesAtMarker, HoldsPairs, HoldsText, IsBehind, ReaderState, as_written, is_outside_the_table, known_of, known_text, plies_of_finished_games, Answers, IsAccepted, IsKnown, IsStopped, Leads, plies_added, ReaderCall}
 pub use Rattle.pgn_game.specs.state.SectionLines.{other_line, roster_line, text_by}
 pub use Rattle.pgn_game.specs.games.Spells.{AreDistinct, AreDropped, BeginsBare, IsPair, IsResult, IsSetUp, KeepsTags, Names, Spells, SpellsGame, SpellsGames, SpellsPair, SpellsPairs, SpellsText, StandsFor, by_name, comment_close, comment_open, glyph, level_after_move, move, new_level, next_game, next_pair, no_game, no_more, no_pair, number, pair, period, token, variation, word}
@@ -57,7 +57,7 @@ pub use Rattle.pgn_game.specs.state.StoredPairs.{AllAfter, AllBelow, AreInOrder,
 pub use Rattle.pgn_game.specs.export.TagSection.{exported, in_roster, other_pairs, roster_pairs, tag_lines, tag_section, with_set_up}
 unfoldable pub use Rattle.pgn_game.specs.export.TagSection.{roster}
 pub use Rattle.pgn_game.specs.export.Text.{Placed, full_text, game_text, has_move, is_main_move, is_move, number_before, placed_from, tokens_at, tokens_from, tokens_out, torn, torn_at, torn_for, written_items, text_of as text_of_games}
-pub use Rattle.pgn_game.specs.state.TokenInMovetext.{IsEntry, IsOpen, ItemFits, fen_position, game_of, may_have_movetext, model_item, or_else, text_refusal, with_items}
+pub use Rattle.pgn_game.specs.state.TokenInMovetext.{IsEntry, IsOpen, fen_position, game_of, has_whole_pairs, may_have_movetext, or_else, text_refusal, with_items}
 pub use Rattle.pgn_game.specs.declared.marker.Marker.{Marker}
 pub use Rattle.pgn_game.specs.declared.marker.Marker.TheVariants.{BlackWins, Draw, Unknown, WhiteWins}
 pub use Rattle.pgn_layout.specs.Device.{AppendsFront, Counts, Device, Writes, WritesText, device, one_more, FailsOnce, IsStill, nowhere}
@@ -94,7 +94,9 @@ pub use Rattle.pgn_game.specs.laws.GamesRestart.{FinishesGame, GamesRestart, cou
 pub use Rattle.pgn_game.specs.declared.conversion.Totals.{Totals}
 pub use Rattle.pgn_lexer.specs.declared.token.LexFault.{LexFault}
 pub use Rattle.pgn_game.specs.laws.GameEnds.{EndsByMarker, GamesEndByMarker, LastGame, TextsEndBehindMarker, TextsEndBetweenGames}
-pub use Rattle.pgn_game.specs.declared.annotation.Annotation.{Annotation}
+pub use Rattle.pgn_game.specs.declared.event.Event.{Event}
+pub use Rattle.pgn_game.specs.declared.writer.Writer.{Writer}
+pub use Rattle.pgn_game.specs.state.Judged.{EndsAtMarker, IsAnnotation, IsPlayed, IsWritable, Judges, JudgesBefore, JudgesInPair, JudgesMarker, JudgesOutside, Means, MeansMarker, MovesText, Refuses, RefusesMarker, TakesMeant, WritesMove, after_move_at, game_at, game_by, is_begun, items_meant, pairs_meant, section_unless, writing_of}
 pub use Rattle.pgn_lexer.specs.PartialToken.{tokens_to_come_in}
 pub use Rattle.pgn_lexer.specs.declared.token.LexReason.{LexReason}
 pub use Rattle.pgn_lexer.specs.declared.token.LexReason.TheVariants.{SymbolTooLong, WordTooLong, GlyphRange}
@@ -103,7 +105,7 @@ pub use Rattle.chess_text.specs.Form.{form_of}
 pub use Rattle.chess_text.specs.San.{MarkPairs, disambiguation_pairs, san}
 pub use Rattle.pgn_game.specs.calls.CheckedConversion.{AreConverted, AreRefused, AreTotalled, CountsThree, FirstStops, HasTaken, MatchesAllMarkers, MostOfBoth, SecondStops, TwoReadingsConvert, TwoReadingsFail, WriteStops}
 pub use Rattle.pgn_game.specs.calls.LineOfPlay.{Ahead, NextMove, NextPly, words_behind}
-pub use Rattle.pgn_game.specs.declared.annotation.Annotation.TheVariants.{Close, CommentClose, CommentOpen, Open}
+pub use Rattle.pgn_game.specs.declared.event.Event.TheVariants.{Close, CommentClose, CommentOpen, Open}
 pub use Rattle.pgn_game.specs.declared.converter.FedUpTo.{FedUpTo}
 pub use Rattle.pgn_game.specs.declared.converter.StepEnd.{StepEnd}
 pub use Rattle.pgn_game.specs.declared.mode.Written.{Written}

@@ -1,5 +1,7 @@
 -- What an accepted token adds to the reader and to the text.
 pub mod CodeLevelsToStored
+pub mod EndToGame
+pub mod EventToGame
 pub mod ItemToMovetext
 pub mod ItemToReader
 pub mod ItemsAppended
@@ -9,4 +11,5 @@ pub mod PairStepToReader
 pub mod PlayedMovesAreLegal
 pub mod ReadTokensFitOnLines
 pub mod SilentReader
+pub mod TokenToEvent
 pub mod WritesInTurn

@@ -5,6 +5,7 @@ pub mod PutResult
 pub mod StoredPairs
 pub mod Movetext
 pub mod ItemResult
+pub mod Judged
 pub mod ReaderState
 pub mod ConverterSteps
 pub mod GamesSteps

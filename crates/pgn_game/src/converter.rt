@@ -27,7 +27,7 @@ ghost use Rattle.pgn_game.specs.calls.ConverterCalls.{ReadsByMarker, reading_by_
 
 use crate::marker::{Marker, MissingResult, PlacedMarker};
 use crate::mode::Mode;
-use crate::reader::{MOVETEXT, Reader, WHOLE};
+use crate::game::{Game, WHOLE};
 use crate::reason::{Fault, Reason};
 use crate::token_tests::is_end;
 use chess_rules::Position;
@@ -99,7 +99,7 @@ struct Step {
 #[derive(Drop)]
 pub struct Converter<const T: usize, const L: usize> {
     lexer: Lexer,
-    reader: Reader<T, L>,
+    game: Game<T, L>,
     games: u64,
     has_finished_game: bool,
     is_finished: bool,
@@ -114,14 +114,14 @@ impl<const T: usize, const L: usize> Model for Converter<T, L> {
 
     ghost view = { λ c. record {
       lexer = c.lexer;
-      reading = c.reader;
+      reading = c.game;
       games = c.games;
-      just_finished = game_in_reader_if c.has_finished_game c.reader;
+      just_finished = game_in_reader_if c.has_finished_game c.game;
       is_finished = c.is_finished;
       fault = c.fault;
     } };
 
-    ghost invariant = { λ c. IsSound c.lexer c.reader c.games c.has_finished_game c.is_finished
+    ghost invariant = { λ c. IsSound c.lexer c.game c.games c.has_finished_game c.is_finished
         c.fault };
 }
 
@@ -169,7 +169,7 @@ impl<const T: usize, const L: usize> Converter<T, L> {
     {
         Converter {
             lexer: Lexer::begin_at(place, in_first_column),
-            reader: Reader::new(mode),
+            game: Game::new(mode),
             games: 0,
             has_finished_game: false,
             is_finished: false,
@@ -195,7 +195,7 @@ impl<const T: usize, const L: usize> Converter<T, L> {
         ensures only_profile { self.new ≡ counting_missing_as marker self.old }
         ensures stands { CountsMissingAs marker self.old self.new }
     {
-        self.reader
+        self.game
             .count_missing_result_as(MissingResult::CountsAs(marker));
     }
 
@@ -223,7 +223,7 @@ impl<const T: usize, const L: usize> Converter<T, L> {
         ensures only_switch { self.new ≡ writing_nothing self.old }
         ensures stands { StillStands self.old self.new }
     {
-        self.reader.write_nothing();
+        self.game.write_nothing();
     }
 
     /// From now on a missing Result takes the marker that ends its game, and nothing is written.
@@ -256,7 +256,7 @@ impl<const T: usize, const L: usize> Converter<T, L> {
     pub(crate) fn take_announced_marker(&mut self)
         ensures { self.new ≡ taking_announced_marker self.old }
     {
-        self.reader
+        self.game
             .count_missing_result_as(MissingResult::TakesTheMarker);
     }
 
@@ -265,7 +265,7 @@ impl<const T: usize, const L: usize> Converter<T, L> {
     pub(crate) fn announce_marker(&mut self, marker: Marker)
         ensures { self.new ≡ announcing marker self.old }
     {
-        self.reader.announce_marker(marker);
+        self.game.announce_marker(marker);
     }
 
     /// Converts the piece up to the end of the next game, and reports how much of it was used.
@@ -362,7 +362,7 @@ impl<const T: usize, const L: usize> Converter<T, L> {
         ensures silent { KeepsSilence self.old.reading self.new.reading out.old out.new }
     {
         let PlacedMarker { marker, at } = met;
-        match self.reader.end_game(marker, out) {
+        match self.game.end_game(marker, out) {
             Err(reason) => {
                 let fault = Fault { at, reason };
                 self.fault = Some(fault);
@@ -431,7 +431,7 @@ impl<const T: usize, const L: usize> Converter<T, L> {
                 }
                 None => {
                     // The end is accepted only between games.
-                    self.has_finished_game = finished_game && self.reader.is_between();
+                    self.has_finished_game = finished_game && self.game.is_between();
                     return Ok(finished_game);
                 }
             }
@@ -500,7 +500,7 @@ impl<const T: usize, const L: usize> Converter<T, L> {
         ensures { option_copied result ≡ finished_game_value self.now name.now }
     {
         if self.has_finished_game {
-            return self.reader.value(name);
+            return self.game.value(name);
         }
         None
     }
@@ -512,7 +512,7 @@ impl<const T: usize, const L: usize> Converter<T, L> {
         ensures { result ≡ finished_game_plies self.now }
     {
         if self.has_finished_game {
-            return self.reader.plies();
+            return self.game.plies();
         }
         0
     }
@@ -524,7 +524,7 @@ impl<const T: usize, const L: usize> Converter<T, L> {
         ensures { option_copied result ≡ finished_game_position self.now }
     {
         if self.has_finished_game {
-            return Some(self.reader.position());
+            return Some(self.game.position());
         }
         None
     }
@@ -536,7 +536,7 @@ impl<const T: usize, const L: usize> Converter<T, L> {
         ensures { option_map marker_text result ≡ finished_game_marker self.now }
     {
         if self.has_finished_game {
-            return Some(self.reader.marker());
+            return Some(self.game.marker());
         }
         None
     }
@@ -567,7 +567,7 @@ impl<const T: usize, const L: usize> Converter<T, L> {
             (finished_game_section self.now) }
     {
         if self.has_finished_game {
-            return self.reader.write_section(out);
+            return self.game.write_section(out);
         }
         Ok(())
     }
@@ -581,7 +581,7 @@ impl<const T: usize, const L: usize> Converter<T, L> {
     {
         match self.fault?.reason {
             Reason::IllegalMove | Reason::AmbiguousMove | Reason::MoveLimit => {
-                Some(self.reader.position())
+                Some(self.game.position())
             }
             _ => None,
         }
@@ -598,7 +598,7 @@ impl<const T: usize, const L: usize> Converter<T, L> {
         ensures value { result ≡ self.now.reading.most_probes }
         ensures bound { result ≤ 1040 }
     {
-        self.reader.most_probes()
+        self.game.most_probes()
     }
 
     // Returns the number of moves outside variations of all finished games.
@@ -606,7 +606,7 @@ impl<const T: usize, const L: usize> Converter<T, L> {
         requires { self.now.fault ≡ None }
         ensures { result ≡ plies_of_finished_games self.now.reading }
     {
-        self.reader.plies_of_finished_games()
+        self.game.plies_of_finished_games()
     }
 
     /// Returns the place of the next byte: where it began, and how many bytes were used since.
@@ -668,7 +668,7 @@ impl<const T: usize, const L: usize> Converter<T, L> {
             (sink_of self.old.reading W.taken W.failures out.old out.new) }
         ensures silent { KeepsSilence self.old.reading self.new.reading out.old out.new }
     {
-        if piece.len() < SHORTEST_PIECE || !self.reader.is_in_movetext() {
+        if piece.len() < SHORTEST_PIECE || !self.game.is_in_movetext() {
             return self.step_token(piece, out);
         }
         self.step_movetext(piece, out)
@@ -704,7 +704,7 @@ impl<const T: usize, const L: usize> Converter<T, L> {
             let (count, token) = self.lexer.whole_token(&piece[used..], true);
             used += count;
             let Some(token) = token else { break };
-            let met = self.reader.accept_entry::<W, MOVETEXT>(token.kind, out);
+            let met = self.game.accept_entry(token.kind, out);
             let Ok(None) = met else {
                 let outcome = settle(token.at, met, &mut self.fault);
                 return Step { used, outcome };
@@ -750,7 +750,7 @@ impl<const T: usize, const L: usize> Converter<T, L> {
             };
         };
         let met = self
-            .reader
+            .game
             .accept_unless_marker::<W, WHOLE>(token.kind, out);
         Step {
             used,
@@ -775,7 +775,7 @@ impl<const T: usize, const L: usize> Converter<T, L> {
             },
             Outcome::Token(token) => {
                 let at = token.at;
-                let met = self.reader.accept_copied(token.kind, out);
+                let met = self.game.accept_copied(token.kind, out);
                 Step {
                     used,
                     outcome: settle(at, met, &mut self.fault),
@@ -802,7 +802,7 @@ impl<const T: usize, const L: usize> Converter<T, L> {
             Outcome::Token(token) => {
                 let at = token.at;
                 let is_end = is_end(token.kind);
-                let met = self.reader.accept_copied(token.kind, out);
+                let met = self.game.accept_copied(token.kind, out);
                 let outcome = settle(at, met, &mut self.fault);
                 if is_end && outcome.is_ok() {
                     self.is_finished = true;

@@ -6,18 +6,18 @@
 //! allocates.
 #![tactic(auto)]
 
-mod annotation;
 mod checked;
 mod conversion;
 mod converter;
+mod event;
 mod find;
+mod game;
 mod games;
 pub mod laws;
 mod levels;
 mod line_of_play;
 mod marker;
 mod mode;
-mod movetext;
 mod notation;
 mod number;
 mod ordered;
@@ -30,6 +30,7 @@ mod source;
 mod stage;
 mod tags;
 mod token_tests;
+mod writer;
 
 pub use checked::convert_checked;
 pub use conversion::{Totals, check, check_slice, convert, convert_slice};

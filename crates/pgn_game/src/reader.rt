@@ -1,36 +1,35 @@
 //! Reads games token by token, stage by stage.
-ghost use Rattle.std.specs.Prelude.{◌≡◌, ◌+◌, ◌-◌, ◌≤◌, ◌<◌, ◌^◌, ◌&&◌, ◌||◌, ◌∷◌, [], false, not};
-ghost use Rattle.std.specs.Prelude.{None, Some, option_map, IsTrue, ◌↔◌, bytes_eq, codes, max};
+ghost use Rattle.std.specs.Prelude.{◌≡◌, ◌+◌, ◌-◌, ◌≤◌, ◌<◌, ◌^◌, ◌&&◌, ◌||◌, [], false, not};
+ghost use Rattle.std.specs.Prelude.{None, Some, IsSome, IsTrue, option_map, ◌↔◌, bytes_eq, codes, max};
 ghost use Rattle.std.specs.Option.{option_copied};
-ghost use Rattle.pgn_layout.specs.Device.{WritesText, device};
 ghost use Rattle.pgn_lexer.specs.Tokens.{HasLength, left_paren, right_paren, symbol};
 ghost use Rattle.pgn_lexer.specs.Scanned.{kind_of};
 ghost use Rattle.pgn_game.specs.games.Pairs.{value_of};
 ghost use Rattle.pgn_game.specs.games.Chess.{first_position};
-ghost use Rattle.pgn_game.specs.export.TagSection.{exported, tag_section};
+ghost use Rattle.pgn_game.specs.export.TagSection.{exported};
 ghost use Rattle.pgn_game.specs.declared.stage.Stage.TheVariants.{Between, AfterLeftBracket, AfterName};
 ghost use Rattle.pgn_game.specs.declared.stage.Stage.TheVariants.{AfterValue, AfterTags, InMovetext};
 ghost use Rattle.pgn_game.specs.games.Profile.{counts_as, known_result};
 ghost use Rattle.pgn_game.specs.games.Markers.{marker_text, missing_of};
-ghost use Rattle.pgn_game.specs.state.Movetext.{movetext_from};
-ghost use Rattle.pgn_game.specs.state.ReaderState.{ReaderCall, known_of, silenced, with_announced, plies_of_finished_games};
-ghost use Rattle.pgn_game.specs.state.TokenInMovetext.{ItemFits, MayTakeMove, may_have_movetext};
-ghost use Rattle.pgn_game.specs.state.TokenInMovetext.{model_item};
+ghost use Rattle.pgn_game.specs.declared.writer.Writer.{Writer};
+ghost use Rattle.pgn_game.specs.state.Judged.{game_at, Judges, JudgesBefore, JudgesInPair, JudgesMarker, JudgesOutside};
+ghost use Rattle.pgn_game.specs.state.Movetext.{IsDepth, movetext_from};
+ghost use Rattle.pgn_game.specs.state.ReaderState.{plies_of_finished_games};
+ghost use Rattle.pgn_game.specs.state.TokenInMovetext.{MayTakeMove, has_whole_pairs, may_have_movetext};
 ghost use Rattle.pgn_game.specs.state.TokenInMovetext.{fen_position as position_in_fen};
-ghost use Rattle.pgn_game.specs.state.PutResult.{BeginsText, CountsMove, Finds, MeetsEntry, PutsItems};
-ghost use Rattle.pgn_game.specs.state.PutResult.{TakesEntry, TakesMarker, TakesOutside, TakesUnlessMarker};
-ghost use Rattle.pgn_game.specs.state.PutResult.{TakesUnwritten, at_game_start, continued, no_marker};
+ghost use Rattle.pgn_game.specs.state.PutResult.{CountsMove, Finds, at_game_start, continued};
 ghost use Rattle.pgn_game.specs.games.FaultTable as spec;
 ghost use Rattle.pgn_game.specs.games.FaultTable.{is_reduced, result_for};
 
-use crate::annotation::Annotation;
+use crate::event::Event;
 use crate::find::named_move;
+use crate::levels::Levels;
 use crate::marker::{Marker, MissingResult};
-use crate::mode::{Mode, Written};
-use crate::movetext::Movetext;
+use crate::mode::Mode;
+use crate::ordered::OrderedPairs;
 use crate::pair::NAME_OR_VALUE_LENGTH;
 use crate::reason::Reason;
-use crate::section::{exported_value, write_section};
+use crate::section::exported_value;
 use crate::stage::Stage;
 use crate::tags::TagPairs;
 use crate::token_tests::{
@@ -39,42 +38,29 @@ use crate::token_tests::{
 };
 use chess_rules::{Move, Position, Probes};
 use chess_text::read_fen;
-use pgn_layout::{CurrentLine, Sink, WriteFault, fits_tag_line};
+use pgn_layout::fits_tag_line;
 use pgn_lexer::TokenKind;
 use std::marker::Model;
 
-/// The callers of `accept_entry`: the loop of movetext, the step that takes one token whole, and
-/// `accept_copied`. The compiler makes a copy of the code for each, and all do the same.
-pub const MOVETEXT: u8 = 0;
-
-pub const WHOLE: u8 = 1;
-
-const COPIED: u8 = 2;
-
-/// The current game: at most `T` tag pairs, at most `L` levels of movetext, and the line that is
-/// not full yet.
+/// The current game: at most `T` tag pairs, and at most `L` levels of movetext.
 #[derive(Drop)]
 pub struct Reader<const T: usize, const L: usize> {
     // The large fields come first: with a gap of small ones before them, the toolchain makes them
     // somewhere else, and copies them into their place.
     tags: TagPairs<T>,
-    text: Movetext<L>,
-    line: CurrentLine,
+    levels: Levels<L>,
     earlier_plies: u64,
     most_probes: u32,
     mode: Mode,
-    written: Written,
     missing_result: MissingResult,
-    announced: Option<Marker>,
     marker: Marker,
     stage: Stage,
 }
 
 impl<const T: usize, const L: usize> Model for Reader<T, L> {
-    ghost use Rattle.std.specs.Prelude.{◌≡◌, ◌-◌, ◌≤◌, option_map};
+    ghost use Rattle.std.specs.Prelude.{◌-◌, ◌≤◌, [], None, false};
     ghost use Rattle.pgn_game.specs.games.Markers.{marker_text, missing_of};
     ghost use Rattle.pgn_game.specs.state.ReaderState.{ReaderState, AreSound};
-    ghost use Rattle.pgn_game.specs.calls.Written.{is_nothing, mode_of_written, mode_unless};
 
     ghost Value = { ReaderState };
 
@@ -85,21 +71,17 @@ impl<const T: usize, const L: usize> Model for Reader<T, L> {
         mode = r.mode;
         missing_result = missing_of r.missing_result;
       };
-      writing = record {
-        announced = option_map marker_text r.announced;
-        is_silent = is_nothing r.written;
-      };
+      writing = record { announced = None; is_silent = false };
       stage = r.stage;
       tags = r.tags;
-      text = r.text;
+      text = r.levels;
       earlier_plies = r.earlier_plies;
       most_probes = r.most_probes;
-      line = r.line;
+      line = [];
       marker = marker_text r.marker;
     } };
 
-    ghost invariant = { λ r. AreSound T r.stage r.tags × (r.most_probes ≤ 1040)
-        × (mode_of_written r.written ≡ mode_unless (is_nothing r.written) r.mode) };
+    ghost invariant = { λ r. AreSound T r.stage r.tags × (r.most_probes ≤ 1040) };
 }
 
 impl<const T: usize, const L: usize> Reader<T, L> {
@@ -125,16 +107,13 @@ impl<const T: usize, const L: usize> Reader<T, L> {
     {
         Reader {
             mode,
-            written: Written::by(mode),
             missing_result: MissingResult::CountsAs(Marker::Unknown),
-            announced: None,
             marker: Marker::Unknown,
             stage: Stage::Between,
             tags: TagPairs::new(),
-            text: Movetext::new(),
+            levels: Levels::new(),
             earlier_plies: 0,
             most_probes: 0,
-            line: CurrentLine::new(),
         }
     }
 
@@ -149,22 +128,31 @@ impl<const T: usize, const L: usize> Reader<T, L> {
         exported_value(self.mode, self.shown_result(), &self.tags.pairs(), name)
     }
 
-    /// Writes the tag section of the game just read.
-    ///
-    /// # Errors
-    ///
-    /// `WriteFault` if a write failed. A prefix of the section was written.
-    pub fn write_section<W: Sink>(&self, out: &mut W) -> Result<(), WriteFault>
-        requires { self.now.stage ≡ Between }
-        ensures { WritesText (device W.taken W.failures out.old out.new) result
-            (tag_section self.now.profile.mode
-            (result_for self.now.profile.missing_result self.now.marker) self.now.tags.held) }
+    /// Returns the tag pairs of the current game, or of the game just read, in the order of their
+    /// names.
+    pub fn pairs(&self) -> OrderedPairs<'_>
+        requires { IsTrue (has_whole_pairs self.now.stage) }
+        ensures { result ≡ self.now.tags.held }
     {
-        write_section(self.mode, self.shown_result(), &self.tags.pairs(), out)
+        self.tags.pairs()
     }
 
-    // What a missing Result is in the game just read.
-    fn shown_result(&self) -> MissingResult
+    /// Returns which parts of a game are written.
+    pub fn mode(&self) -> Mode
+        ensures { result ≡ self.now.profile.mode }
+    {
+        self.mode
+    }
+
+    /// Returns what a missing Result counts as.
+    pub fn missing_result(&self) -> MissingResult
+        ensures { missing_of result ≡ self.now.profile.missing_result }
+    {
+        self.missing_result
+    }
+
+    /// Returns what a missing Result is in the game just read.
+    pub fn shown_result(&self) -> MissingResult
         ensures { known_result (missing_of result)
             ≡ result_for self.now.profile.missing_result self.now.marker }
     {
@@ -185,7 +173,7 @@ impl<const T: usize, const L: usize> Reader<T, L> {
     pub fn plies(&self) -> u64
         ensures { result ≡ self.now.text.plies }
     {
-        self.text.plies()
+        self.levels.plies()
     }
 
     /// Returns the number of moves outside variations of all whole games so far.
@@ -194,7 +182,7 @@ impl<const T: usize, const L: usize> Reader<T, L> {
         ensures { result ≡ plies_of_finished_games self.now }
     {
         if self.is_between() {
-            return self.earlier_plies + self.text.plies();
+            return self.earlier_plies + self.levels.plies();
         }
         self.earlier_plies
     }
@@ -203,7 +191,7 @@ impl<const T: usize, const L: usize> Reader<T, L> {
     pub fn position(&self) -> &Position
         ensures { result.now ≡ self.now.text.levels.current.position }
     {
-        self.text.position()
+        self.levels.position()
     }
 
     /// Returns the most pairs that were tried for one move so far.
@@ -232,73 +220,11 @@ impl<const T: usize, const L: usize> Reader<T, L> {
         self.missing_result = missing;
     }
 
-    /// From now on nothing is written.
-    pub fn write_nothing(&mut self)
-        ensures { self.new ≡ silenced self.old }
-    {
-        self.written = Written::Nothing;
-    }
-
-    /// Announces the marker that the next game ends with. A missing Result that takes it is written
-    /// so, where it would be written as nothing.
-    pub fn announce_marker(&mut self, marker: Marker)
-        ensures { self.new ≡ with_announced (marker_text marker) self.old }
-    {
-        self.announced = Some(marker);
-    }
-
-    /// Takes one token, and writes what it adds to the text of its game. A marker that may end the
-    /// game is only returned, and `end_game` takes it.
-    ///
-    /// # Errors
-    ///
-    /// The row of the fault table that rejects the token, or `Reason::WriteFault` if a write
-    /// failed. Do not call this again after an error.
+    /// Takes a token outside movetext. `None` if it belongs to movetext, which begins or goes on.
     #[inline(always)]
-    pub fn accept_unless_marker<W: Sink, const CALLER: u8>(
-        &mut self,
-        kind: TokenKind<'_>,
-        out: &mut W,
-    ) -> Result<Option<Marker>, Reason>
-        requires few { self.old.earlier_plies + self.old.text.plies < 2 ^ 64 - 1 }
-        requires token { HasLength (kind_of kind) }
-        ensures { ReaderCall W.taken W.failures self.old self.new out.old out.new
-            (TakesUnlessMarker self.old (kind_of kind.entry) self.new result) }
-    {
-        match self.accept_outside(kind) {
-            Some(result) => {
-                result?;
-                Ok(None)
-            }
-            None => self.accept_entry::<W, CALLER>(kind, out),
-        }
-    }
-
-    /// Takes one token as `accept_unless_marker` does, and is not inlined. Few tokens come here:
-    /// those that lie in no piece as a whole, and those that the end of the text ends.
-    ///
-    /// # Errors
-    ///
-    /// As `accept_unless_marker`.
-    #[inline(never)]
-    pub fn accept_copied<W: Sink>(
-        &mut self,
-        kind: TokenKind<'_>,
-        out: &mut W,
-    ) -> Result<Option<Marker>, Reason>
-        requires few { self.old.earlier_plies + self.old.text.plies < 2 ^ 64 - 1 }
-        requires token { HasLength (kind_of kind) }
-        ensures { ReaderCall W.taken W.failures self.old self.new out.old out.new
-            (TakesUnlessMarker self.old (kind_of kind.entry) self.new result) }
-    {
-        self.accept_unless_marker::<W, COPIED>(kind, out)
-    }
-
-    // Takes a token outside movetext. `None` if it belongs to movetext, which begins or goes on.
-    #[inline(always)]
-    fn accept_outside(&mut self, kind: TokenKind<'_>) -> Option<Result<(), Reason>>
+    pub fn accept_outside(&mut self, kind: TokenKind<'_>) -> Option<Result<(), Reason>>
         requires { self.old.earlier_plies + self.old.text.plies < 2 ^ 64 - 1 }
-        ensures { TakesOutside self.old (kind_of kind.entry) self.new
+        ensures { JudgesOutside self.old (kind_of kind.entry) self.new
             (option_map continued result) }
     {
         match self.stage {
@@ -316,7 +242,7 @@ impl<const T: usize, const L: usize> Reader<T, L> {
     fn accept_between(&mut self, kind: TokenKind<'_>) -> Option<Result<(), Reason>>
         requires few { self.old.earlier_plies + self.old.text.plies < 2 ^ 64 - 1 }
         requires stage { self.old.stage ≡ Between }
-        ensures { TakesOutside self.old (kind_of kind.entry) self.new
+        ensures { JudgesBefore self.old (kind_of kind.entry) self.new
             (option_map continued result) }
     {
         if is_comment(kind) || is_end(kind) {
@@ -332,16 +258,16 @@ impl<const T: usize, const L: usize> Reader<T, L> {
         requires { self.old.earlier_plies + self.old.text.plies < 2 ^ 64 }
         ensures { self.new ≡ at_game_start self.old }
     {
-        self.earlier_plies += self.text.plies();
+        self.earlier_plies += self.levels.plies();
         self.tags.clear();
-        self.text.begin(Position::initial());
+        self.levels.begin(Position::initial());
         self.stage = Stage::AfterTags;
     }
 
     // Takes the name of a pair, or a comment before it.
     fn accept_name(&mut self, kind: TokenKind<'_>) -> Result<(), Reason>
         requires stage { self.old.stage ≡ AfterLeftBracket }
-        ensures { TakesUnwritten self.old (kind_of kind.entry) self.new
+        ensures { JudgesInPair self.old (kind_of kind.entry) self.new
             (continued result) }
     {
         if is_comment(kind) {
@@ -371,7 +297,7 @@ impl<const T: usize, const L: usize> Reader<T, L> {
     // Takes the value of a pair, or a comment before it.
     fn accept_value(&mut self, kind: TokenKind<'_>) -> Result<(), Reason>
         requires stage { self.old.stage ≡ AfterName }
-        ensures { TakesUnwritten self.old (kind_of kind.entry) self.new
+        ensures { JudgesInPair self.old (kind_of kind.entry) self.new
             (continued result) }
     {
         if is_comment(kind) {
@@ -392,7 +318,7 @@ impl<const T: usize, const L: usize> Reader<T, L> {
             return Err(Reason::TagLineTooLong);
         }
         self.tags.complete(value);
-        self.text.begin_at(start);
+        self.levels.begin_at(start);
         self.stage = Stage::AfterValue;
         Ok(())
     }
@@ -400,7 +326,7 @@ impl<const T: usize, const L: usize> Reader<T, L> {
     // Takes the `]` of a pair, or a comment before it.
     fn accept_right_bracket(&mut self, kind: TokenKind<'_>) -> Result<(), Reason>
         requires stage { self.old.stage ≡ AfterValue }
-        ensures { TakesUnwritten self.old (kind_of kind.entry) self.new
+        ensures { JudgesInPair self.old (kind_of kind.entry) self.new
             (continued result) }
     {
         if is_comment(kind) {
@@ -418,7 +344,7 @@ impl<const T: usize, const L: usize> Reader<T, L> {
     // Takes a token after a whole tag pair, or before the first. `None` if movetext begins with it.
     fn accept_after_tags(&mut self, kind: TokenKind<'_>) -> Option<Result<(), Reason>>
         requires { self.old.stage ≡ AfterTags }
-        ensures { TakesOutside self.old (kind_of kind.entry) self.new
+        ensures { JudgesBefore self.old (kind_of kind.entry) self.new
             (option_map continued result) }
     {
         match kind {
@@ -452,7 +378,8 @@ impl<const T: usize, const L: usize> Reader<T, L> {
     // Counts the pairs that find the move of a token which SetUp rejects.
     fn count_move(&mut self, kind: TokenKind<'_>)
         requires { self.old.stage ≡ AfterTags }
-        ensures { CountsMove self.old (kind_of kind.entry) self.new }
+        ensures { (w : Writer) → CountsMove (game_at false w self.old) (kind_of kind.entry)
+            (game_at false w self.new) }
     {
         let TokenKind::Symbol(text) = kind else {
             return;
@@ -464,36 +391,29 @@ impl<const T: usize, const L: usize> Reader<T, L> {
         let _ = self.find(text, &mut probes);
     }
 
-    /// Takes a token of movetext, or the first one, unless it is a marker. The caller has taken the
-    /// `[` of another pair.
-    ///
-    /// `CALLER` changes nothing but that each of the three callers has a function of its own, which
-    /// LLVM inlines there.
+    /// Judges a token of movetext, or the first one, and moves the levels. Returns what it means. A
+    /// marker is only returned, and `end_game` takes it. The caller has taken the `[` of another
+    /// pair.
     ///
     /// # Errors
     ///
-    /// Those of `accept_unless_marker`.
+    /// The row of the fault table that rejects the token.
     #[inline(always)]
-    pub fn accept_entry<W: Sink, const CALLER: u8>(
-        &mut self,
-        kind: TokenKind<'_>,
-        out: &mut W,
-    ) -> Result<Option<Marker>, Reason>
+    pub fn accept_entry<'a>(&mut self, kind: TokenKind<'a>) -> Result<Event<'a>, Reason>
         requires may { MayTakeMove self.old }
         requires token { HasLength (kind_of kind) }
-        ensures { ReaderCall W.taken W.failures self.old self.new out.old out.new
-            (MeetsEntry self.old (kind_of kind.entry) self.new result) }
+        ensures { Judges self.old (kind_of kind.entry) self.new result }
     {
         match kind {
-            TokenKind::Symbol(text) => self.accept_symbol(text, out),
-            TokenKind::Asterisk => Ok(Some(Marker::Unknown)),
-            TokenKind::Period => unmarked(self.pass(out)),
-            TokenKind::Word(word) => unmarked(self.put(Annotation::Word(word), out)),
-            TokenKind::CommentOpen => unmarked(self.put(Annotation::CommentOpen, out)),
-            TokenKind::CommentClose => unmarked(self.put(Annotation::CommentClose, out)),
-            TokenKind::Glyph(glyph) => unmarked(self.put(Annotation::Glyph(glyph), out)),
-            TokenKind::LeftParen => unmarked(self.open_variation(out)),
-            TokenKind::RightParen => unmarked(self.close_variation(out)),
+            TokenKind::Symbol(text) => self.accept_symbol(text),
+            TokenKind::Asterisk => Ok(Event::Marker(Marker::Unknown)),
+            TokenKind::Period => Ok(Event::Number),
+            TokenKind::Word(word) => Ok(Event::Word(word)),
+            TokenKind::CommentOpen => Ok(Event::CommentOpen),
+            TokenKind::CommentClose => Ok(Event::CommentClose),
+            TokenKind::Glyph(glyph) => Ok(Event::Glyph(glyph)),
+            TokenKind::LeftParen => self.open_variation(),
+            TokenKind::RightParen => self.close_variation(),
             TokenKind::End => Err(Reason::UnexpectedEnd),
             TokenKind::LeftBracket => Err(Reason::TagInMovetext),
             TokenKind::RightBracket => Err(Reason::NotAMove),
@@ -501,45 +421,36 @@ impl<const T: usize, const L: usize> Reader<T, L> {
         }
     }
 
-    // Takes a symbol in movetext: a move number (PGN 8.2.2.1) or a move. A marker is returned.
+    // Judges a symbol in movetext: a move number (PGN 8.2.2.1), a marker or a move.
     #[inline(always)]
-    fn accept_symbol<W: Sink>(&mut self, text: &[u8], out: &mut W) -> Result<Option<Marker>, Reason>
+    fn accept_symbol<'a>(&mut self, text: &[u8]) -> Result<Event<'a>, Reason>
         requires { MayTakeMove self.old }
-        ensures { ReaderCall W.taken W.failures self.old self.new out.old out.new
-            (MeetsEntry self.old (symbol text.now) self.new result) }
+        ensures { Judges self.old (symbol text.now) self.new result }
     {
         if may_be_score_or_number(text) {
             if is_number(text) {
-                self.pass(out)?;
-                return Ok(None);
+                return Ok(Event::Number);
             }
             if let Some(marker) = Marker::of_symbol(text) {
-                return Ok(Some(marker));
+                return Ok(Event::Marker(marker));
             }
         }
-        self.accept_move(text, out)?;
-        Ok(None)
+        self.accept_move(text)
     }
 
     // Finds the move that a symbol names, and plays it (PGN 8.2.3).
     #[inline(always)]
-    fn accept_move<W: Sink>(&mut self, text: &[u8], out: &mut W) -> Result<(), Reason>
+    fn accept_move<'a>(&mut self, text: &[u8]) -> Result<Event<'a>, Reason>
         requires may { MayTakeMove self.old }
         requires is_move { (spec.is_score text.now || spec.is_number text.now) ≡ false }
-        ensures { ReaderCall W.taken W.failures self.old self.new out.old out.new
-            (TakesEntry self.old (symbol text.now) self.new (continued result)) }
+        ensures { Judges self.old (symbol text.now) self.new result }
     {
         let mut probes = Probes::new();
         match self.find(text, &mut probes) {
             Err(reason) => Err(reason),
             Ok(mv) => {
-                self.begin_movetext(out)?;
-                let put = self
-                    .text
-                    .put_move(self.written, &mv, &mut probes, &mut self.line, out);
-                self.count_probes(&probes);
-                put?;
-                Ok(())
+                self.levels.play(&mv);
+                Ok(Event::Move(mv, probes))
             }
         }
     }
@@ -550,14 +461,14 @@ impl<const T: usize, const L: usize> Reader<T, L> {
         requires none { probes.old ≡ 0 }
         ensures { Finds self.old text.now self.new result probes.new }
     {
-        let named = named_move(self.text.position(), text, probes);
+        let named = named_move(self.levels.position(), text, probes);
         self.count_probes(probes);
         named
     }
 
-    // Keeps the highest number of probes.
+    /// Keeps the highest number of probes.
     #[inline(always)]
-    fn count_probes(&mut self, probes: &Probes)
+    pub fn count_probes(&mut self, probes: &Probes)
         requires few { probes.now ≤ 1040 }
         ensures { self.new ≡ record self.old { most_probes = max self.old.most_probes probes.now } }
     {
@@ -566,82 +477,76 @@ impl<const T: usize, const L: usize> Reader<T, L> {
         }
     }
 
-    // Takes a `(`, which begins a variation (PGN 8.2.5).
-    fn open_variation<W: Sink>(&mut self, out: &mut W) -> Result<(), Reason>
-        requires { IsTrue (may_have_movetext self.old.stage) }
-        ensures { ReaderCall W.taken W.failures self.old self.new out.old out.new
-            (TakesEntry self.old left_paren self.new (continued result)) }
+    // Judges a `(`, which begins a variation (PGN 8.2.5).
+    fn open_variation<'a>(&mut self) -> Result<Event<'a>, Reason>
+        ensures { Judges self.old left_paren self.new result }
     {
-        if !self.text.has_own_move() {
+        if !self.levels.has_own_move() {
             return Err(Reason::NoMoveBefore);
         }
-        if self.text.depth() + 1 >= L {
+        if self.levels.depth() + 1 >= L {
             return Err(Reason::TooDeep);
         }
-        self.put(Annotation::Open, out)
+        self.levels.open();
+        Ok(Event::Open)
     }
 
-    // Takes a `)`, which ends a variation (PGN 8.2.5).
-    fn close_variation<W: Sink>(&mut self, out: &mut W) -> Result<(), Reason>
-        requires { IsTrue (may_have_movetext self.old.stage) }
-        ensures { ReaderCall W.taken W.failures self.old self.new out.old out.new
-            (TakesEntry self.old right_paren self.new (continued result)) }
+    // Judges a `)`, which ends a variation (PGN 8.2.5).
+    fn close_variation<'a>(&mut self) -> Result<Event<'a>, Reason>
+        ensures { Judges self.old right_paren self.new result }
     {
-        if self.text.depth() == 0 {
+        if self.levels.depth() == 0 {
             return Err(Reason::UnmatchedClose);
         }
-        self.put(Annotation::Close, out)
+        self.levels.close();
+        Ok(Event::Close)
     }
 
-    // Takes a move number or a period, which add nothing but the tag section (PGN 8.2.2.1).
-    #[inline(always)]
-    fn pass<W: Sink>(&mut self, out: &mut W) -> Result<(), Reason>
+    /// Ends the game with its marker, which `accept_entry` has returned (PGN 8.2.6).
+    ///
+    /// # Errors
+    ///
+    /// The row of the fault table that rejects the marker.
+    pub fn end_game(&mut self, marker: Marker) -> Result<(), Reason>
         requires { IsTrue (may_have_movetext self.old.stage) }
-        ensures { ReaderCall W.taken W.failures self.old self.new out.old out.new
-            (PutsItems self.old [] self.new (continued result)) }
+        ensures { JudgesMarker self.old marker self.new result }
     {
-        self.begin_movetext(out)?;
-        Ok(())
-    }
-
-    // Writes an item, and moves the levels.
-    #[inline(always)]
-    fn put<W: Sink>(&mut self, item: Annotation<'_>, out: &mut W) -> Result<(), Reason>
-        requires stage { IsTrue (may_have_movetext self.old.stage) }
-        requires fits { ItemFits L self.old.text item }
-        ensures { ReaderCall W.taken W.failures self.old self.new out.old out.new
-            (PutsItems self.old (model_item item.entry ∷ []) self.new (continued result)) }
-    {
-        self.begin_movetext(out)?;
-        self.text.put(self.written, &item, &mut self.line, out)?;
-        Ok(())
-    }
-
-    /// Ends the game with its marker, which `accept_unless_marker` has returned (PGN 8.2.6).
-    #[inline(never)]
-    pub fn end_game<W: Sink>(&mut self, marker: Marker, out: &mut W) -> Result<(), Reason>
-        requires { IsTrue (may_have_movetext self.old.stage) }
-        ensures { ReaderCall W.taken W.failures self.old self.new out.old out.new
-            (TakesMarker self.old marker self.new result) }
-    {
-        if self.text.depth() > 0 {
+        if self.levels.depth() > 0 {
             return Err(Reason::MarkerInVariation);
         }
         let missing = self.missing_result.text_at(marker);
         if marker.text() != self.tags.value(b"Result").unwrap_or(missing) {
             return Err(Reason::ResultDiffers);
         }
-        self.begin_movetext(out)?;
-        if let Written::Nothing = self.written {
-            self.stage = Stage::Between;
-            self.marker = marker;
-            return Ok(());
-        }
-        self.line.put(marker.text(), out)?;
-        self.line.end_game(out)?;
         self.stage = Stage::Between;
         self.marker = marker;
         Ok(())
+    }
+
+    /// From now on the game is in movetext: its first token there was judged.
+    #[inline(always)]
+    pub fn begin_movetext(&mut self)
+        requires { IsTrue (may_have_movetext self.old.stage) }
+        ensures { self.new ≡ record self.old { stage = InMovetext } }
+    {
+        self.stage = Stage::InMovetext;
+    }
+
+    /// Returns the position before the move just played.
+    #[inline(always)]
+    pub fn position_before(&self) -> &Position
+        requires { IsSome self.now.text.levels.current.before }
+        ensures { self.now.text.levels.current.before ≡ Some result.now }
+    {
+        self.levels.before()
+    }
+
+    /// Returns the number of variations that are open.
+    #[inline(always)]
+    pub fn depth(&self) -> usize
+        ensures { IsDepth L self.now.text.levels.around result }
+    {
+        self.levels.depth()
     }
 
     /// Whether movetext has begun.
@@ -650,52 +555,6 @@ impl<const T: usize, const L: usize> Reader<T, L> {
         ensures { IsTrue result ↔ (self.now.stage ≡ InMovetext) }
     {
         self.stage == Stage::InMovetext
-    }
-
-    // Writes the tag section, if movetext has not begun yet. A silent reader writes none.
-    #[inline(always)]
-    fn begin_movetext<W: Sink>(&mut self, out: &mut W) -> Result<(), WriteFault>
-        requires stage { IsTrue (may_have_movetext self.old.stage) }
-        ensures { ReaderCall W.taken W.failures self.old self.new out.old out.new
-            (BeginsText self.old self.new result) }
-    {
-        if self.is_in_movetext() {
-            return Ok(());
-        }
-        self.enter_movetext(out)
-    }
-
-    // Writes the tag section, unless nothing is written, and movetext begins. It is not inlined: a
-    // game has one.
-    #[inline(never)]
-    fn enter_movetext<W: Sink>(&mut self, out: &mut W) -> Result<(), WriteFault>
-        requires stage { self.old.stage ≡ AfterTags }
-        ensures { ReaderCall W.taken W.failures self.old self.new out.old out.new
-            (BeginsText self.old self.new result) }
-    {
-        if let Written::Nothing = self.written {
-            self.stage = Stage::InMovetext;
-            return Ok(());
-        }
-        write_section(
-            self.mode,
-            self.known_missing_result(),
-            &self.tags.pairs(),
-            out,
-        )?;
-        self.stage = Stage::InMovetext;
-        Ok(())
-    }
-
-    // What is known of a missing Result before the marker.
-    #[inline(always)]
-    fn known_missing_result(&self) -> MissingResult
-        ensures { known_result (missing_of result) ≡ known_of self.now }
-    {
-        match (self.missing_result, self.announced) {
-            (MissingResult::TakesTheMarker, Some(announced)) => MissingResult::CountsAs(announced),
-            (missing, _) => missing,
-        }
     }
 }
 
@@ -725,15 +584,4 @@ fn is_bad_result(name: &[u8], value: &[u8]) -> bool
     ensures { result ≡ (bytes_eq name.now (codes "Result") && not (spec.is_result value.now)) }
 {
     name == b"Result".as_slice() && !is_result(value)
-}
-
-// The answer to a token that is no marker.
-#[inline(always)]
-fn unmarked(taken: Result<(), Reason>) -> Result<Option<Marker>, Reason>
-    ensures { result ≡ no_marker taken }
-{
-    match taken {
-        Ok(()) => Ok(None),
-        Err(reason) => Err(reason),
-    }
 }

@@ -1,6 +1,6 @@
 -- The levels as they are kept and as contracts see them: kept with the main line first, seen with
 -- the nearest first.
-use Rattle.pgn_game.proofs.Words.{◌≡◌, ℕ, ◌+◌, ◌-◌, ◌<◌, ◌≤◌, List, [], ◌∷◌, ◌++◌, length, length-map, map, refl, sym, ap, ◌∙◌, arith, length-append, get_or, set, take, refill, take-append_seam, Option, None, Some, IfSome, Parts, get_or-append_seam, set-append_seam, common_steps, StoredLevel, StoredLevels, inside, code_levels, nearest_first, places_of, level_at, level_of, FitsLevelStore, ClosesLevel}
+use Rattle.pgn_game.proofs.Words.{◌≡◌, ℕ, ◌+◌, ◌-◌, ◌<◌, ◌≤◌, List, [], ◌∷◌, ◌++◌, length, length-map, map, refl, sym, ap, ◌∙◌, arith, length-append, get_or, set, take, refill, take-append_seam, Option, None, Some, IsSomeAnd, Parts, get_or-append_seam, set-append_seam, common_steps, StoredLevel, StoredLevels, inside, code_levels, nearest_first, places_of, level_at, level_of, FitsLevelStore, ClosesLevel}
 use Rattle.pgn_game.proofs.pairs.StoredPlaces.{written}
 use Rattle.pgn_game.specs.declared.levels.Level.{Level as CodeLevel}
 
@@ -82,5 +82,5 @@ closes front (l ∷ around) ls is e = rw e (ap code_levels is ∙ seen l around)
 -- what a variation begins at: it is there, for the current level has a move
 pub opens : (o : Option Parts) (start : Parts) (ls new : StoredLevels) → o ≡ Some start
     → new ≡ record { current = level_at start; around = ls.current ∷ ls.around }
-    → IfSome o (λ p. new ≡ record { current = level_at p; around = ls.current ∷ ls.around })
+    → IsSomeAnd o (λ p. new ≡ record { current = level_at p; around = ls.current ∷ ls.around })
 opens o start ls new e is = rw e is

@@ -1,5 +1,5 @@
 -- What an item adds to the movetext that is held.
-use Rattle.pgn_game.proofs.Words.{◌≡◌, ℕ, ◌+◌, ◌<◌, ◌≤◌, Bool, true, false, List, [], ◌∷◌, ◌++◌, map, length, Option, None, Some, refl, sym, ap, subst, ◌∙◌, append_assoc, append-nil, arith, All, ◌==◌, IsTrue, is_some, IfSome, Result, Ok, Err, IsErr, Appends, All-nil, All-cons, All-head, All-tail, length-map, drop-append_seam, Move, legal, Device, IsToken, lines_of, full_lines, last_line, text_of as text_of_lines, Put, laid_from, text_put, line_put, Parts, Played, Mode, play, text_of_move, Item, open_variation, close_variation, Level as ModelLevel, Levels as ModelLevels, levels_after, levels_of, depth, here, outermost, main_moves, Placed, is_move, tokens_out, StoredLevels, Movetext, level_at, ClosesLevel, before_last, stored_level, stored_levels, ends_in_move, HoldsItems, HoldsLineOf, seen, is_nothing, mode_of_written, ItemFits, model_item, PutsTokens, Annotates, Plays, is_written, tokens_due, tokens_if, after_move_if, plies_in, item_text, Adds, WritesItem, rules, san, MarkPairs, disambiguation_pairs, Annotation, Written, common_steps}
+use Rattle.pgn_game.proofs.Words.{◌≡◌, ℕ, ◌+◌, ◌<◌, ◌≤◌, Bool, true, false, List, [], ◌∷◌, ◌++◌, map, length, Option, None, Some, refl, sym, ap, subst, ◌∙◌, append_assoc, append-nil, arith, All, ◌==◌, IsTrue, is_some, Result, Ok, Err, IsErr, Appends, All-nil, All-cons, All-head, All-tail, length-map, drop-append_seam, Move, legal, Device, IsToken, lines_of, full_lines, last_line, text_of as text_of_lines, Put, laid_from, text_put, line_put, Parts, Played, Mode, play, text_of_move, Item, open_variation, close_variation, Level as ModelLevel, Levels as ModelLevels, levels_after, levels_of, depth, here, outermost, main_moves, Placed, is_move, tokens_out, StoredLevels, Movetext, level_at, ClosesLevel, before_last, stored_level, stored_levels, ends_in_move, HoldsItems, HoldsLineOf, seen, is_nothing, mode_of_written, IsSomeAnd, Event, LeadsLevels, items_meant, not, ◌&&◌, token_if, tokens_at, writes_annotations, PutsTokens, Annotates, Plays, is_written, tokens_due, tokens_if, after_move_if, plies_in, item_text, Adds, rules, san, MarkPairs, disambiguation_pairs, Written, common_steps}
 use Rattle.std.proofs.lemmas.List.Elements.{All-append}
 use Rattle.std.proofs.Math.Dec.{eqb-suc-zero}
 use Rattle.pgn_layout.specs.declared.sink.WriteFault.{WriteFault}
@@ -81,14 +81,6 @@ module _ (mode : Mode) (start : Parts) (items : List Item) (i : Item) (text : Mo
 
 -- The levels that an item leads to.
 module _ (start : Parts) where
-  opened : (trail : List Move) (holds : Bool) (around : List ModelLevel) (new : StoredLevels)
-      → IsTrue (is_some (before_last start (record { trail = trail; has_own_move = holds })))
-      → IfSome (before_last start (record { trail = trail; has_own_move = holds }))
-      (λ s. new ≡ record { current = level_at s; around = stored_level start (record { trail = trail; has_own_move = holds }) ∷ map (stored_level start) around })
-      → new ≡ stored_levels start (levels_after (record { current = record { trail = trail; has_own_move = holds }; around = around }) open_variation)
-  opened trail true around new some h = h
-  opened trail false around new some h = absurd (cc)
-
   closed : (current : ModelLevel) (around : List ModelLevel) (new : StoredLevels) → 0 < length (map (stored_level start) around)
       → ClosesLevel (map (stored_level start) around) new
       → new ≡ stored_levels start (levels_after (record { current = current; around = around }) close_variation)
@@ -110,22 +102,47 @@ pub record Advances (i : Item) (text new : Movetext) : Type 0 where
   pub plies : new.plies ≡ text.plies + plies_in i (length text.levels.around)
   pub is_after_move : new.is_after_move ≡ text.is_after_move
 
-pub plays_on : (x : Played) (text new : Movetext) → legal text.levels.current.position x.mv ≡ Some x.next
-    → Plays x text new → Advances (move x.mv) text new
-plays_on x text new is on = record {
+pub plays_on : (m : Move) (text new : Movetext) → Plays m text new → Advances (move m) text new
+plays_on m text new on = record {
   levels = λ start ls e.
-      on.levels ∙ ap (then_at text.levels) (played_is text.levels.current.position x.mv _ is)
-      ∙ ap (λ l. then_at l (play l.current.position x.mv)) e;
+      on.levels ∙ ap (then_at text.levels) (played_is text.levels.current.position m _ on.leads)
+      ∙ ap (λ l. then_at l (play l.current.position m)) e;
   plies = on.plies;
   is_after_move = on.is_after_move;
 }
 
--- no other item is a move
-pub no_move : (i : Annotation) → is_move (model_item i) ≡ false
-no_move i = grind arith
+-- a token that adds this item, which is no move
+pub record AddsOne (e : Event) (i : Item) : Type 0 where
+  pub item : items_meant e ≡ i ∷ []
+  pub plain : is_move i ≡ false
 
-pub goes_on : (most : ℕ) (i : Annotation) (text new : Movetext) → ItemFits most text i → Annotates i text new → Advances (model_item i) text new
-goes_on most i text new fits on = search (rules, ModelLevels, opened, closed, no_move)
+by_open : (start : Parts) (ls : ModelLevels) (old new : StoredLevels)
+    → IsSomeAnd old.current.before (λ s. new ≡ record { current = level_at s; around = old.current ∷ old.around })
+    → old ≡ stored_levels start ls → new ≡ stored_levels start (levels_after ls open_variation)
+by_open start ls old new h same = opens ls.current.trail ls.current.has_own_move ls.around (rw same at h)
+  where
+    opens : (trail : List Move) (holds : Bool) (around : List ModelLevel)
+        → IsSomeAnd (before_last start (record { trail = trail; has_own_move = holds }))
+        (λ s. new ≡ record { current = level_at s; around = stored_level start (record { trail = trail; has_own_move = holds }) ∷ map (stored_level start) around })
+        → new ≡ stored_levels start (levels_after (record { current = record { trail = trail; has_own_move = holds }; around = around }) open_variation)
+    opens trail true around h = h
+    opens trail false around h = absurd h
+
+by_close : (start : Parts) (ls : ModelLevels) (old new : StoredLevels) → 0 < length old.around → ClosesLevel old.around new
+    → old ≡ stored_levels start ls → new ≡ stored_levels start (levels_after ls close_variation)
+by_close start ls old new some h same = closed start ls.current ls.around new (rw same at some) (rw same at h)
+
+-- the levels of the definitions stay as they are, but for variations
+stays : (e : Event) (i : Item) (start : Parts) (ls : ModelLevels) (old new : StoredLevels) → AddsOne e i → LeadsLevels e old new
+    → old ≡ stored_levels start ls → new ≡ stored_levels start (levels_after ls i)
+stays e i start ls old new adds on same = search (rules, by_open, by_close)
+
+pub goes_on : (e : Event) (i : Item) (text new : Movetext) → AddsOne e i → Annotates e text new → Advances i text new
+goes_on e i text new adds on = record {
+  levels = λ start ls same. stays e i start ls text.levels new.levels adds on.levels same;
+  plies = rw (adds.plain, plies_in) (omega (arith, on.plies));
+  is_after_move = on.is_after_move;
+}
 
 one_at_most : (moved main : Bool) → elim moved [ true ↦ elim main [ true ↦ 1 | false ↦ 0 ] | false ↦ 0 ] ≤ 1
 one_at_most true true = omega arith
@@ -187,36 +204,21 @@ module _ (mode : Option Mode) (i : Item) (text : Movetext) (line new_line : List
   }
 
   pub adds_front : {A E : Type 0} (new : Movetext) (e : E) (result : Result Unit WriteFault)
-      → PutsTokens {A = A} (us mode) line new_line (Err e) d → new ≡ text → IsErr result → Adds mode i text line new new_line result d
-  adds_front new e result puts same err = search (rules, item_text_is)
+      → PutsTokens {A = A} (us mode) line new_line (Err e) d → new.plies ≤ text.plies + 1 → IsErr result → Adds mode i text line new new_line result d
+  adds_front new e result puts few err = search (rules, item_text_is)
 
--- an item that is written is one of a reader that writes
+-- an item that is written is one of a writer that is not silent
 pub not_silent : (w : Written) (deep : ℕ) (i : Item) → is_written (mode_of_written w) deep i ≡ true → is_nothing w ≡ false
 not_silent w deep i is = grind arith
 
--- Such an item was written, or left out.
-pub left_out : (mode : Option Mode) (i : Item) (text : Movetext) (line : List ℕ) (d : Device) → is_written mode (length text.levels.around) i ≡ false
-    → Appends d.before d.after [] → d.failures_after ≡ d.failures
-    → WritesItem {A = Unit} {E = WriteFault} mode i text line text line (Ok tt) d
-left_out mode i text line d none nothing counted = search (rules, All-nil)
+-- An annotation, which is no move: its token, and that it is not a move.
+module _ (mode : Option Mode) (i : Item) (t : List ℕ) (text : Movetext) (no : is_move i ≡ false)
+    (is : tokens_at text.is_after_move text.levels.current.position i ≡ t ∷ []) where
+  pub annotation_tokens : (deep : ℕ) → token_if (writes_annotations mode) t ≡ tokens_if (is_written mode deep i) text i
+  annotation_tokens deep = grind (arith, common_steps)
 
-pub written_out : (w : Written) (i : Item) (text : Movetext) (line new_line : List ℕ) (d : Device)
-    → is_written (mode_of_written w) (length text.levels.around) i ≡ true → PutsTokens {A = Unit} {E = WriteFault} (tokens_due text i) line new_line (Ok tt) d
-    → WritesItem {A = Unit} {E = WriteFault} (mode_of_written w) i text line (record text { is_after_move = is_move i }) new_line (Ok tt) (seen (is_nothing w) d)
-written_out w i text line new_line d is puts = grind (arith, common_steps, not_silent)
-
-out_of_line : {A E : Type 0} (mode : Option Mode) (i : Item) (text : Movetext)
-    (line new_line : List ℕ) (e : E) (result : Result Unit WriteFault) (d : Device)
-    → is_written mode (length text.levels.around) i ≡ true → PutsTokens {A = A} (tokens_due text i) line new_line (Err e) d → IsErr result
-    → WritesItem mode i text line text new_line result d
-out_of_line mode i text line new_line e result d is puts err = search rules
-
-pub not_written : {A E : Type 0} (w : Written) (i : Item) (text : Movetext)
-    (line new_line : List ℕ) (e : E) (result : Result Unit WriteFault) (d : Device)
-    → is_written (mode_of_written w) (length text.levels.around) i ≡ true → PutsTokens {A = A} (tokens_due text i) line new_line (Err e) d → IsErr result
-    → WritesItem (mode_of_written w) i text line text new_line result (seen (is_nothing w) d)
-not_written w i text line new_line e result d is puts err =
-    rw (not_silent w (length text.levels.around) i is) (out_of_line (mode_of_written w) i text line new_line e result d is puts err)
+  pub annotation_ends : (deep : ℕ) → (not (writes_annotations mode) && text.is_after_move) ≡ after_move_if (is_written mode deep i) text i
+  annotation_ends deep = grind (arith, common_steps)
 
 -- Tokens put after others.
 laid-written : (line : List ℕ) (xs ys : List (List ℕ)) → (laid_from line (map Put (xs ++ ys))).written

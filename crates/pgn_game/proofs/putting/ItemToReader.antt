@@ -1,5 +1,5 @@
 -- What putting a token of movetext adds to what stands written of its game, and to the reader.
-use Rattle.pgn_game.proofs.Words.{◌≡◌, max, ℕ, ◌+◌, ◌<◌, ◌≤◌, true, false, List, [], ◌∷◌, ◌++◌, length, drop, Option, None, Result, refl, sym, ap, subst, ◌∙◌, append-nil, length-append, arith, IsTrue, Ok, Err, list_any-append, drop-append-add, drop-length, Appends-trans, Appends, Move, AppendsFront, Device, one_more, Parts, Mode, Full, Reduced, Stage, Between, AfterTags, InMovetext, Pair, Item, Part, More, is_at, start_of, tag_section, is_move, full_text, torn_at, has_move, Next, going, Movetext, HoldsItems, ReaderState, Agrees, bytes_seen, mode_unless, mode_written, item_text, Bool, Some, as_written, known_of, plies_of_finished_games, IsOpen, may_have_movetext, with_items, Adds, BeginsText, Goes, Keeps, PutResult, PutsItems, gain_to, section_due, section_due_of, rules, le-max_left, common_steps}
+use Rattle.pgn_game.proofs.Words.{◌≡◌, max, ℕ, ◌+◌, ◌<◌, ◌≤◌, true, false, List, [], ◌∷◌, ◌++◌, length, drop, Option, None, Result, refl, sym, ap, subst, ◌∙◌, append-nil, length-append, arith, IsTrue, Ok, Err, list_any-append, drop-append-add, drop-length, Appends-trans, Appends, Move, AppendsFront, Device, one_more, Parts, Mode, Full, Reduced, Stage, Between, AfterTags, InMovetext, Pair, Item, Part, More, is_at, start_of, tag_section, is_move, full_text, torn_at, has_move, Next, going, Movetext, HoldsItems, ReaderState, Agrees, bytes_seen, mode_unless, mode_written, item_text, Bool, Some, as_written, known_of, plies_of_finished_games, IsOpen, may_have_movetext, with_items, Adds, BeginsText, Goes, Keeps, PutResult, gain_to, section_due, section_due_of, rules, le-max_left, common_steps}
 use Rattle.pgn_layout.specs.declared.sink.WriteFault.{WriteFault}
 use Rattle.pgn_game.specs.declared.reason.Reason.TheVariants as reasons
 use Rattle.pgn_game.specs.games.Game.{move}
@@ -41,11 +41,6 @@ module _ (old : ReaderState) (part : Part) where
         gain_at p.mode (known_of old) part.stage part.pairs part.name part.items
             (full_text p.mode (start_of part.pairs) (part.items ++ more)) (open_stage is at) (λ e. is.fresh (is.stage ∙ e)),
       )
-
--- The section was written: so it is said of the reader as its fields make it.
-pub begins_as : (old begun held : ReaderState) (d : Device) → held ≡ begun → BeginsText {A = Unit {0}} {E = WriteFault} old begun (Ok tt) d
-    → BeginsText {A = Unit {0}} {E = WriteFault} old held (Ok tt) d
-begins_as old begun held d same begins = rw same begins
 
 -- no move was played outside the games before
 pub plies_before : (old : ReaderState) → IsTrue (may_have_movetext old.stage) → plies_of_finished_games old ≡ old.earlier_plies
@@ -101,7 +96,7 @@ to_items items part = going (with_items part items)
 
 -- A number was put, or a period: the section alone was written.
 pub puts_number : (old new : ReaderState) (d : Device) → IsTrue (may_have_movetext old.stage)
-    → BeginsText {A = Unit} {E = WriteFault} old new (Ok tt) d → PutsItems old [] new (Ok More) d
+    → BeginsText {A = Unit} {E = WriteFault} old new (Ok tt) d → PutResult old (IsOpen old) (to_items []) new (Ok More) d
 puts_number old new d at begins = search (rules, append-nil, drop-length, gain_is, more_comes, not_between, goes_with)
 
 -- In movetext nothing is due of the section.
@@ -178,45 +173,6 @@ module _ (old begun new : ReaderState) (i : Item) (x y z : Option (List ℕ)) (n
       front_of_both old.writing.is_silent old.profile.mode x y z _ _ (λ by. item_text by (start_of part.pairs) part.items i) refl
       begins.text (rw same_mode at (adds.adds (start_of part.pairs) part.items (begun_held old begun part is begins.begun)))
       (gain_is old part _ at is))
-
--- Items could not be put, since the section could not be written.
-pub puts_unbegun : (old new : ReaderState) (more : List Item) (f : WriteFault) (d : Device) → IsTrue (may_have_movetext old.stage)
-    → BeginsText {A = Unit} old new (Err f) d → PutResult old (IsOpen old) (to_items more) new (Err reasons.WriteFault) d
-puts_unbegun old new more f d at begins = grind (arith, common_steps, unwritten, keeps_begun, gain_is, front_of_more)
-
--- Behind the section the movetext is what it was before it.
-module _ (old begun held : ReaderState) (d : Device) (same : held ≡ begun)
-    (begins : BeginsText {A = Unit} {E = WriteFault} old begun (Ok tt) d) where
-  pub text_begun : held.text ≡ old.text
-  text_begun = cc
-
--- the reader after a move, once its probes are counted
-after_move : (begun new : ReaderState) (text : Movetext) (line : List ℕ) (n : ℕ)
-    → new ≡ record begun { text = text; line = line; most_probes = max begun.most_probes n } → IsAfterItem begun new
-after_move begun new text line n is = search (rules, le-max_left)
-
--- The section was written, and then a move put, whose pairs were counted.
-module _ (old begun new : ReaderState) (mv : Move)
-    (after : ℕ) {text : Movetext} {line : List ℕ} (x y z : Option (List ℕ)) {n m k : ℕ} (at : IsTrue (may_have_movetext old.stage))
-    (begins : BeginsText {A = Unit} {E = WriteFault} old begun (Ok tt) (from_to (bytes_seen old.writing.is_silent x) (bytes_seen old.writing.is_silent y) n m))
-    (is : new ≡ record begun { text = text; line = line; most_probes = max begun.most_probes after }) where
-  pub puts_move : 0 < old.most_probes
-      → Adds {A = Unit} {E = WriteFault} (mode_written begun) (move mv) begun.text begun.line text line (Ok tt)
-      (from_to (bytes_seen old.writing.is_silent y) (bytes_seen old.writing.is_silent z) m k)
-      → PutResult old (IsOpen old) (to_items (move mv ∷ [])) new (Ok More)
-      (from_to (bytes_seen old.writing.is_silent x) (bytes_seen old.writing.is_silent z) n k)
-  puts_move probed adds = puts_item old begun new _ x y z n m k at begins (after_move begun new text line after is) (λ is. probed) (rw is adds)
-
-  pub fails_move : (f : WriteFault) → Adds {A = Unit} (mode_written begun) (move mv) begun.text begun.line text line (Err f)
-      (from_to (bytes_seen old.writing.is_silent y) (bytes_seen old.writing.is_silent z) m k)
-      → PutResult old (IsOpen old) (to_items (move mv ∷ [])) new (Err reasons.WriteFault)
-      (from_to (bytes_seen old.writing.is_silent x) (bytes_seen old.writing.is_silent z) n k)
-  fails_move f adds = fails_item old begun new _ x y z n m k at begins (after_move begun new text line after is) f (rw is adds)
-
-pub most_after : (old begun new : ReaderState) (text : Movetext) (line : List ℕ) (after : ℕ) (d : Device)
-    → BeginsText {A = Unit} {E = WriteFault} old begun (Ok tt) d
-    → new ≡ record begun { text = text; line = line; most_probes = max begun.most_probes after } → new.most_probes ≡ max old.most_probes after
-most_after old begun new text line after d begins is = cc
 
 -- where the section could not be written, movetext had not begun
 pub unbegun_part : {A : Type 0} (old new : ReaderState) (f : WriteFault) (d : Device) (part : Part)

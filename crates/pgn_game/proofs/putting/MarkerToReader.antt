@@ -13,7 +13,7 @@ abbrev game_lines : Mode → List Pair → List Item → List ℕ → List ℕ
 game_lines mode ps items marker = text_of_lines (lines_of (tokens_out mode (start_of ps) items ++ marker ∷ [])) ++ 10 ∷ []
 
 -- what a marker and the end of the game write behind a line
-abbrev ending : List ℕ → List ℕ → List ℕ
+abbrev pub ending : List ℕ → List ℕ → List ℕ
 ending line marker = text_at line (Put marker) ++ text_at (line_at line (Put marker)) EndGame
 
 abbrev last_line_of : Mode → List Pair → List Item → List ℕ
@@ -52,8 +52,9 @@ last_is : (old : ReaderState) (part : Part) → old.text.levels.around ≡ [] �
     → (marker : List ℕ) → old.text.levels.current.position ≡ last_position (game_of part marker)
 last_is old part outside is marker = grind (arith, common_steps, depth_is, position_is, at_depth_0)
 
-abbrev finished_reader : (line marker : List ℕ) → ReaderState → ReaderState
-finished_reader line marker r = record r { stage = Between; line = line; marker = marker }
+abbrev pub finished_reader : (line marker : List ℕ) → ReaderState → ReaderState
+finished_reader line marker r =
+    record r { stage = Between; text = record r.text { is_after_move = false }; line = line; marker = marker }
 
 behind : (old : ReaderState) (part : Part) (line marker : List ℕ) → line ≡ [] → old.text.levels.around ≡ []
     → IsOpen old part → IsBehind (finished_reader line marker old) (game_of part marker)
@@ -108,34 +109,34 @@ finishes : (old new : ReaderState) (marker : Marker) (line : List ℕ) (d : Devi
 finishes old new marker line d at outside same still gained = grind (arith, common_steps, behind, marker_text, plies_before)
 
 module _ (old begun new : ReaderState) (marker : Marker) where
-  pub ends_well : (text : List ℕ) (a b d c : Option (List ℕ)) (n m k : ℕ) → EndsText old begun marker text a b n m
-      → Appends b d (text_at begun.line (Put text)) → Appends d c (text_at (line_at begun.line (Put text)) EndGame)
-      → new ≡ record begun { stage = Between; line = new.line; marker = marker_text marker } → new.line ≡ [] → k ≡ m → PutResult old (IsOpen old)
+  pub ends_well : (text : List ℕ) (a b c : Option (List ℕ)) (n m k : ℕ) → EndsText old begun marker text a b n m
+      → Appends b c (ending begun.line text)
+      → new ≡ finished_reader new.line (marker_text marker) begun → new.line ≡ [] → k ≡ m → PutResult old (IsOpen old)
       (to_game marker) new (Ok Finished) (from_to a c n k)
-  ends_well text a b d c n m k ends put last rest empty counted =
+  ends_well text a b c n m k ends put rest empty counted =
       finishes old new marker [] (from_to a c n k) ends.at ends.outside
-      (rest ∙ ap (λ (l : List ℕ). record begun { stage = Between; line = l; marker = marker_text marker }) empty
+      (rest ∙ ap (λ (l : List ℕ). finished_reader l (marker_text marker) begun) empty
       ∙ ap (finished_reader [] (marker_text marker)) ends.begins.begun) (counted ∙ ends.begins.counted) (λ part is. (
         refl,
         subst (Appends a c) (ap (λ (l : List ℕ). section_due_of old ++ ending l (marker_text marker)) (of_line old begun ends.begins.begun)
             ∙ due_is old part (marker_text marker) ends.writes ends.at (marker_token marker) is)
             (Appends-trans a b c _ _ ends.begins.text
-            (subst (λ (t : List ℕ). Appends b c (ending begun.line t)) ends.spells (Appends-trans b d c _ _ put last))),
+            (subst (λ (t : List ℕ). Appends b c (ending begun.line t)) ends.spells put)),
       ))
 
   -- nothing is written of a silent reader's game
   pub ends_silent : (a b : Option (List ℕ)) (n m : ℕ) → old.writing.is_silent ≡ true → IsTrue (may_have_movetext old.stage)
       → old.text.levels.around ≡ [] → BeginsText {A = Unit} {E = WriteFault} old begun (Ok tt) (seen old.writing.is_silent (from_to a b n m))
-      → new ≡ record begun { stage = Between; marker = marker_text marker } → PutResult old (IsOpen old) (to_game marker) new (Ok Finished)
+      → new ≡ finished_reader begun.line (marker_text marker) begun → PutResult old (IsOpen old) (to_game marker) new (Ok Finished)
       (seen old.writing.is_silent (from_to a b n m))
   ends_silent a b n m silent at outside begins rest =
       finishes old new marker old.line (seen old.writing.is_silent (from_to a b n m)) at outside
-      (rest ∙ ap (λ (r : ReaderState). record r { stage = Between; marker = marker_text marker }) begins.begun) begins.counted
+      (rest ∙ ap (λ (r : ReaderState). finished_reader r.line (marker_text marker) r) begins.begun) begins.counted
       (λ part is. (rw silent at is.held.held, rw silent tt))
 
   -- a write failed behind the section
   pub ends_ill : (text : List ℕ) (a b c : Option (List ℕ)) (n m k : ℕ) → EndsText old begun marker text a b n m
-      → AppendsFront b c (ending begun.line text) → new ≡ record begun { line = new.line } → k ≡ one_more m → PutResult old (IsOpen old)
+      → AppendsFront b c (ending begun.line text) → new ≡ finished_reader new.line (marker_text marker) begun → k ≡ one_more m → PutResult old (IsOpen old)
       (to_game marker) new (Err reasons.WriteFault) (from_to a c n k)
   ends_ill text a b c n m k ends front rest counted =
       let begins = ends.begins in

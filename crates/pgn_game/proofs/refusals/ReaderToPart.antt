@@ -1,5 +1,5 @@
 -- What a reader holds of a part that it agrees with, and where a token of movetext meets its table.
-use Rattle.pgn_game.proofs.Words.{AreSound, ◌≡◌, ℕ, List, [], Bool, false, Option, None, Some, Bor, refl, sym, ◌∙◌, IsTrue, option_copied, All-nil, kind_of, TokenKind, Parts, Mode, Stage, AfterTags, InMovetext, Pair, value_of, has_pair, Item, Part, TagPairs, start_of, is_outside_tag_pairs, lacks_fen, position_in, at_stage, Movetext, HoldsItems, movetext_from, ReaderState, Agrees, HoldsPairs, HoldsText, IsEntry, IsOpen, may_have_movetext, arith, rules, is_some}
+use Rattle.pgn_game.proofs.Words.{AreSound, ◌≡◌, ℕ, List, [], Bool, false, Option, None, Some, Bor, refl, sym, ◌∙◌, IsTrue, option_copied, All-nil, kind_of, TokenKind, Parts, Mode, Stage, AfterTags, InMovetext, Pair, value_of, has_pair, Item, Part, TagPairs, start_of, is_outside_tag_pairs, lacks_fen, position_in, at_stage, Movetext, HoldsItems, movetext_from, ReaderState, Agrees, HoldsPairs, HoldsText, IsEntry, IsOpen, has_whole_pairs, may_have_movetext, arith, rules, is_some}
 use Rattle.pgn_game.proofs.refusals.RefusalsByStage.{is_textual, row_in_movetext, next_in_movetext, row_after_tags, next_after_tags}
 
 -- The part is at the reader's stage, and what the reader holds of it there.
@@ -14,6 +14,14 @@ module _ (old : ReaderState) (part : Part) (stage : Stage) where
 pub no_name : (most : ℕ) (old held : ReaderState) → held ≡ old → IsTrue (may_have_movetext old.stage)
     → AreSound most held.stage held.tags → held.tags.pending_name ≡ None
 no_name most old held is may = search rules
+
+-- so at each stage but the one after a name
+pub no_name_held : (most : ℕ) (old held : ReaderState) → held ≡ old → IsTrue (has_whole_pairs old.stage)
+    → AreSound most held.stage held.tags → held.tags.pending_name ≡ None
+no_name_held most old held is whole = search rules
+
+pub may_have_whole : (stage : Stage) → IsTrue (may_have_movetext stage) → IsTrue (has_whole_pairs stage)
+may_have_whole stage may = grind arith
 
 pub text_at : (old : ReaderState) (part : Part) (stage : Stage) → Agrees old part → old.stage ≡ stage → HoldsText stage old part
 text_at old part stage agrees at = rw (← at) agrees.text

@@ -1,7 +1,7 @@
 -- How many pairs were tried for a token: from what the reader counts to what is said of tokens.
 use Rattle.pgn_game.proofs.tokens.OneMoreToken.{goes_on}
 use Rattle.pgn_lexer.specs.Tokens as tokens
-use Rattle.pgn_game.proofs.Words.{Parts, Kind, Token, Mode, Reason, InMovetext, Profile, ◌≡◌, ◌⊎◌, inl, ℕ, ◌<◌, max, Bool, true, false, ◌||◌, List, [], ◌∷◌, ◌++◌, Option, None, Some, is_some, Result, Ok, Err, refl, sym, subst, arith, IsTrue, drop-append_seam, drop-length, and_right, or_right, false≢true, Move, Accepted, depth, refusal, is_at, is_number, is_outside_tag_pairs, is_score, levels_of_part, marker_of, position_in, Next, going, Progress, progress_after, read_from, read, Costs, CostsIf, CostsToFind, is_written, CostsToWrite, added, CostsToAdd, Tries, MostFrom, MostTried, Raises, has_move, ReaderState, Agrees, IsOpen, may_have_movetext, model_item, with_items, TriesItem, mode_written, LexReason, Annotation, Item, Part, rules, not, ap, ◌&&◌, common_steps}
+use Rattle.pgn_game.proofs.Words.{Parts, Kind, Token, Mode, Reason, InMovetext, Profile, ◌≡◌, ◌⊎◌, inl, ℕ, ◌<◌, max, Bool, true, false, ◌||◌, List, [], ◌∷◌, ◌++◌, Option, None, Some, is_some, Result, Ok, Err, refl, sym, subst, arith, IsTrue, drop-append_seam, drop-length, and_right, or_right, false≢true, Move, Accepted, depth, refusal, is_at, is_number, is_outside_tag_pairs, is_score, levels_of_part, marker_of, position_in, Next, going, Progress, progress_after, read_from, read, Costs, CostsIf, CostsToFind, is_written, CostsToWrite, added, CostsToAdd, Tries, MostFrom, MostTried, Raises, has_move, ReaderState, Agrees, IsOpen, may_have_movetext, with_items, TriesItem, mode_written, LexReason, is_move, Item, Part, rules, not, ap, ◌&&◌, common_steps}
 use Rattle.pgn_game.specs.games.Game.{move}
 use Rattle.pgn_game.specs.calls.MostTried as most_tried
 use Rattle.pgn_game.proofs.refusals.RefusalsInMovetext.{depth_is, position_is}
@@ -76,8 +76,8 @@ item_held : (r : ReaderState) {to : Part} (i : Item) (n k : ℕ) → IsOpen r to
     → CostsToWrite (is_written (mode_written r) (depth (levels_of_part to)) i) (position_in to) i n k
 item_held r {to} i n k is h = grind (arith, common_steps, depth_is, position_is)
 
-untried : (b : Bool) (place : Parts) (i : Annotation) {n k : ℕ} → k ≡ n → CostsToWrite b place (model_item i) n k
-untried b place i h1 = search rules
+untried : (b : Bool) (place : Parts) (i : Item) {n k : ℕ} → is_move i ≡ false → k ≡ n → CostsToWrite b place i n k
+untried b place i plain h1 = grind (arith, common_steps)
 
 -- The pairs tried before what is written of a token, and after. Where a write of the tag section
 -- failed, none was tried.
@@ -101,9 +101,9 @@ module _ (mode : Option Mode) (part : Part) where
   pub adds_none : CostsToPut mode part (going (with_items part [])) 0 0
   adds_none = adds_items [] 0 0 refl
 
-pub adds_item : (mode : Option Mode) (i : Annotation) (part : Part) → CostsToPut mode part (going (with_items part (model_item i ∷ []))) 0 0
-adds_item mode i part = adds_items mode part (model_item i ∷ []) 0 0
-    (untried (is_written mode (depth (levels_of_part part)) (model_item i)) (position_in part) i {n = 0} {k = 0} refl)
+pub adds_item : (mode : Option Mode) (i : Item) (part : Part) → is_move i ≡ false → CostsToPut mode part (going (with_items part (i ∷ []))) 0 0
+adds_item mode i part plain = adds_items mode part (i ∷ []) 0 0
+    (untried (is_written mode (depth (levels_of_part part)) i) (position_in part) i {n = 0} {k = 0} plain refl)
 
 pub adds_same : (mode : Option Mode) (part : Part) (to : Part) → to.items ≡ part.items → CostsToPut mode part (going to) 0 0
 adds_same mode part to same = grind (arith, common_steps, drop-length)

@@ -1,7 +1,7 @@
 -- From what putting a token results in, and from its row of the table, to what the reader answers.
 use Rattle.pgn_lexer.specs.declared.token.TokenKind.TheVariants as token_kinds
 use Rattle.pgn_game.specs.games.Game.{move}
-use Rattle.pgn_game.proofs.Words.{Parts, Played, Kind, Reason, Stage, Between, AfterTags, InMovetext, Profile, Item, Part, no_part, ◌≡◌, ◌⊎◌, ℕ, max, Bool, true, false, ◌||◌, [], ◌∷◌, List, length, drop, Option, None, Some, Bor, Result, Ok, Err, IsFalse, IsTrue, is_some, refl, sym, ap, subst, ◌∙◌, arith, Move, legal, Appends-nil, AppendsFront, Device, kind_of, TokenKind, symbol, Accepted, More, Marker, marker_text, move_of, found_in, torn, refusal, is_at, is_comment, is_end, is_number, is_outside_tag_pairs, is_score, marker_of, position_if_move, position_in, Next, going, at_stage, in_text, next, gain, text_next, CostsToFind, Tries, TriesUnwritten, ReaderState, Mode, mode_written, Agrees, Answers, as_written, IsStopped, is_outside_the_table, FinishesAtMarker, IsEntry, IsOpen, may_have_movetext, model_item, text_refusal, with_items, Annotation, CountsMove, EntersMovetext, Finds, FinishesNone, GoesTo, PutResult, PutsItems, Takes, TakesEntry, TakesOutside, TakesToken, TakesUnwritten, at_game_start, counting_probes, unused, rules, inl, inr, IllegalMove, false≢true, ok_or, with_next, Finished, le-max_left, MeetsEntry, TakesUnlessMarker, common_steps}
+use Rattle.pgn_game.proofs.Words.{Parts, Played, Kind, Reason, Stage, Between, AfterTags, InMovetext, Profile, Item, Part, no_part, ◌≡◌, ◌⊎◌, ℕ, max, Bool, true, false, ◌||◌, [], ◌∷◌, List, length, drop, Option, None, Some, Bor, Result, Ok, Err, IsFalse, IsTrue, is_some, refl, sym, ap, subst, ◌∙◌, arith, Move, legal, Appends-nil, AppendsFront, Device, kind_of, TokenKind, symbol, Accepted, More, Marker, marker_text, move_of, found_in, torn, refusal, is_at, is_comment, is_end, is_number, is_outside_tag_pairs, is_score, marker_of, position_if_move, position_in, Next, going, at_stage, in_text, next, gain, text_next, CostsToFind, Tries, TriesUnwritten, ReaderState, Mode, mode_written, Agrees, Answers, as_written, IsStopped, is_outside_the_table, FinishesAtMarker, IsEntry, IsOpen, may_have_movetext, text_refusal, with_items, Event, Means, Writer, game_by, items_meant, pairs_meant, CountsMove, EntersMovetext, Finds, FinishesNone, GoesTo, PutResult, Takes, TakesEntry, TakesOther, TakesOutside, TakesToken, TakesUnwritten, at_game_start, counting_probes, unused, rules, inl, inr, IllegalMove, false≢true, ok_or, with_next, Finished, le-max_left, MeetsEntry, TakesUnlessMarker, common_steps}
 use Rattle.pgn_game.specs.state.ReaderState as reader_state
 use Rattle.pgn_game.proofs.refusals.RefusalsByStage.{begins_alike, comment_passes, drops_comments, passes_between}
 use Rattle.pgn_game.proofs.refusals.RefusalsInMovetext.{marker_whole, move_free, move_leads, move_refused as move_row_refused, position_is, refused_inside}
@@ -123,28 +123,6 @@ comment_in_pair old new k stage at inside same drops is =
     (step_in_pair old old (kind_of k) stage at inside going (puts_nothing old) refl (λ part. adds_same (mode_written old) part part refl)
     (λ part agrees. comment_passes old.profile k (sym at ∙ agrees.stage) drops is))
 
--- Items other than moves, and none.
-puts_entry : {old new : ReaderState} (k : Kind) {items : List Item} {r : Result Accepted Reason} {d : Device} → PutsItems old items new r d
-    → ((mode : Option Mode) (part : Part) → CostsToPut mode part (going (with_items part items)) 0 0)
-    → ((part : Part) → IsOpen old part → (text_refusal old.profile part k ≡ None) × (in_text part k ≡ going (with_items part items)))
-    → ((part : Part) → CostsToFind part k 0) → TakesEntry old k new r d
-puts_entry {old} {new} k {items} {r} put costs says finds =
-    takes_put old (IsEntry old k) (IsOpen old) k 0 0 (counting_none old) put.puts (finishes_none k new r put.goes_on) (λ at. refl)
-    (omega (arith, put.probes)) (λ part is. is.is_open)
-    (λ part is. (is.row ∙ (says part is.is_open).0, is.leads ∙ (says part is.is_open).1)) (λ part is. finds part)
-    (λ part is. tries_put (mode_written old) part (going (with_items part items)) r 0 0 (costs (mode_written old) part))
-
-module _ (old new : ReaderState) (k : Kind) where
-  pub passes_entry : (r : Result Accepted Reason) (d : Device) → PutsItems old [] new r d
-      → ((part : Part) → IsOpen old part → (text_refusal old.profile part k ≡ None) × (in_text part k ≡ going (with_items part [])))
-      → ((part : Part) → CostsToFind part k 0) → TakesEntry old k new r d
-  passes_entry r d put says finds = puts_entry k put adds_none says finds
-
-  pub item_entry : (i : Annotation) (r : Result Accepted Reason) (d : Device) → PutsItems old (model_item i ∷ []) new r d
-      → ((part : Part) → IsOpen old part → (text_refusal old.profile part k ≡ None) × (in_text part k ≡ going (with_items part (model_item i ∷ []))))
-      → ((part : Part) → CostsToFind part k 0) → TakesEntry old k new r d
-  item_entry i r d put says finds = puts_entry k put (λ mode part. adds_item mode i part) says finds
-
 -- A token that belongs to movetext at the stage of the reader.
 pub enters : (old : ReaderState) (k : TokenKind) → IsTrue (may_have_movetext old.stage)
     → ((part : Part) → Agrees old part → IsEntry old (kind_of k) part) → EntersMovetext old (kind_of k) old
@@ -204,7 +182,7 @@ module _ (old new : ReaderState) where
 open_counted : {old : ReaderState} (n : ℕ) {part : Part} → IsOpen old part → IsOpen (counting_probes old n) part
 open_counted n is = search (rules, le-max_left)
 
-next_of : (o : Option Parts) → is_some o ≡ true → (q : Parts) × (o ≡ Some q)
+pub next_of : (o : Option Parts) → is_some o ≡ true → (q : Parts) × (o ≡ Some q)
 next_of None h = absurd (cc)
 next_of (Some q) h = (q, refl)
 
@@ -220,25 +198,25 @@ module _ (old found : ReaderState) (s : List ℕ) (n : ℕ) (at : IsTrue (may_ha
       (λ part is. costs_found s n is.is_open at number score finds.tried)
       (λ part is. ap (position_if_move reason) (position_is old part is.is_open))
 
-  pub takes_move : (new : ReaderState) (mv : Move) (r : Result Accepted Reason) (d : Device) (more : ℕ) → Finds old s found (Ok mv) n
-      → PutResult found (IsOpen found) (to_items (move mv ∷ [])) new r d → FinishesNone r → new.most_probes ≡ max old.most_probes more
-      → ((part : Part) → IsOpen old part → TriesPut (mode_written old) part (going (with_items part (move mv ∷ []))) r n more)
-      → TakesEntry old (symbol s) new r d
-  takes_move new mv r d more finds puts none most costs =
-      let here = old.text.levels.current.position in
-      let (q, leads) = next_of (legal here mv) finds.legal in
-      let played : Played = record { mv = mv; next = q } in
-      let is_found : Ok played ≡ found_in here (move_of here s) =
-      sym (ap (λ (o : Option Parts). ok_or (with_next mv o) IllegalMove) leads) ∙ finds.found in
-      takes_put old (IsEntry old (symbol s)) (IsOpen found) (symbol s) n more finds.counted puts (finishes_none (symbol s) new r none)
-      (λ between. not_between (rw finds.counted at between)) most
-      (λ part is. rw finds.counted (open_counted n is.is_open)) (λ part is. (
-        is.row ∙ move_free s here number score is.is_open refl is_found,
-        is.leads ∙ move_leads s here number score is.is_open refl is_found,
-      )) (λ part is. costs_found s n is.is_open at number score finds.tried) (λ part is. costs part is.is_open)
-    where
-      not_between : old.stage ≡ Between → found ≡ old
-      not_between between = let h : IsTrue (may_have_movetext Between) = rw between at at in absurd (cc)
+-- What was written of a token that means this is what the reader answers.
+module _ (w : Writer) (old reader : ReaderState) (k : Kind) (e : Event) (means : Means old k reader e) (at : IsTrue (may_have_movetext old.stage)) where
+  not_between : (counting_probes (game_by w old) (pairs_meant e)).stage ≡ Between → counting_probes (game_by w old) (pairs_meant e) ≡ game_by w old
+  not_between between = let h : IsTrue (may_have_movetext Between) = rw between at at in absurd (cc)
+
+  pub takes_event : (new : ReaderState) (r : Result Accepted Reason) (d : Device) (more : ℕ)
+      → PutResult (counting_probes (game_by w old) (pairs_meant e)) (IsOpen (counting_probes (game_by w old) (pairs_meant e))) (to_items (items_meant e)) new r d
+      → FinishesNone r → new.most_probes ≡ max old.most_probes more
+      → ((part : Part) → IsOpen (game_by w old) part
+      → TriesPut (mode_written (game_by w old)) part (going (with_items part (items_meant e))) r (pairs_meant e) more)
+      → TakesOther (game_by w old) k new r d
+  takes_event new r d more puts none most costs = record {
+    no_marker = means.no_marker;
+    takes = takes_put (game_by w old) (IsEntry (game_by w old) k) (IsOpen (counting_probes (game_by w old) (pairs_meant e))) k (pairs_meant e) more
+        refl puts (finishes_none k new r none) not_between most
+        (λ part is. open_counted (pairs_meant e) is.is_open)
+        (λ part is. (is.row ∙ (means.says w part is.is_open).0, is.leads ∙ (means.says w part is.is_open).1))
+        (λ part is. means.finds w part is.is_open) (λ part is. costs part is.is_open);
+  }
 
 -- A token between games that begins none.
 bare_untried : (k : TokenKind) (part : Part) → (is_comment (kind_of k) || is_end (kind_of k)) ≡ true → CostsToFind part (kind_of k) 0

@@ -1,23 +1,23 @@
 -- **Bookkeeping**: what putting an item of movetext does to the levels, the line and the sink.
-use Rattle.std.specs.Prelude.{◌≡◌, ℕ, ◌+◌, ◌-◌, ◌^◌, ◌<◌, ◌≤◌, Bool, true, false, List, [], ◌∷◌, ◌++◌, ◌==◌, map, length, drop, Option, None, Some, IfSome, Result, MatchResult, OnOk, All, IsTrue}
+use Rattle.std.specs.Prelude.{◌≡◌, ℕ, ◌+◌, ◌-◌, ◌^◌, ◌<◌, ◌≤◌, Bool, true, false, List, [], ◌∷◌, ◌++◌, ◌==◌, ◌&&◌, ◌||◌, not, map, length, drop, Option, None, Some, IsSomeAnd, Result, MatchResult, OnOk, All, IsTrue}
 use Rattle.std.specs.Io.KnownBytes.{Appends}
 use Rattle.chess_rules.specs.declared.position.Move.{Move}
 use Rattle.chess_rules.specs.declared.position.Parts.{Parts}
-use Rattle.chess_rules.specs.Legal.{is_legal}
-use Rattle.chess_text.specs.declared.resolution.Played.{Played}
+use Rattle.chess_rules.specs.Legal.{legal}
 use Rattle.pgn_layout.specs.Device.{AppendsFront, Counts, Device, Writes, device}
 use Rattle.pgn_layout.specs.Lines.{IsToken}
-use Rattle.pgn_layout.specs.Layout.{Put, laid_from}
-use Rattle.pgn_game.specs.declared.annotation.Annotation.{Annotation}
-use Rattle.pgn_game.specs.declared.annotation.Annotation.TheVariants.{Open, Close}
+use Rattle.pgn_layout.specs.Layout.{EndGame, Put, laid_from, line_at, text_at}
+use Rattle.pgn_game.specs.declared.event.Event.{Event}
+use Rattle.pgn_game.specs.declared.event.Event.TheVariants.{Open, Close}
 use Rattle.pgn_game.specs.declared.mode.Mode.{Mode}
+use Rattle.pgn_game.specs.declared.mode.Mode.TheVariants.{Full, Reduced}
 use Rattle.pgn_game.specs.declared.mode.Written.{Written}
+use Rattle.pgn_game.specs.declared.writer.Writer.{Writer}
 use Rattle.pgn_game.specs.games.Chess.{is_black_to_move}
-use Rattle.pgn_game.specs.games.Game.{Item}
+use Rattle.pgn_game.specs.games.Game.{Item, move}
 use Rattle.pgn_game.specs.export.Text.{is_move, number_before, tokens_at, full_text}
 use Rattle.pgn_game.specs.state.Movetext.{Movetext, StoredLevels, HoldsItems, ClosesLevel, level_at}
 use Rattle.pgn_game.specs.calls.MostTried.{CostsToWrite, is_written}
-use Rattle.pgn_game.specs.state.TokenInMovetext.{IsLegal}
 use Rattle.pgn_game.specs.calls.Written.{is_nothing, mode_of_written, seen}
 
 -- Tokens are put on a line one after another: what is written, the line after that, and the
@@ -47,11 +47,6 @@ tokens_if written text i = elim written [ true ↦ tokens_due text i | false ↦
 abbrev pub after_move_if : Bool → Movetext → Item → Bool
 after_move_if written text i = elim written [ true ↦ is_move i | false ↦ text.is_after_move ]
 
--- the movetext after that; its levels are not moved yet
-abbrev pub written_text : Option Mode → Movetext → Item → Movetext
-written_text mode text i =
-    record text { is_after_move = after_move_if (is_written mode (length text.levels.around) i) text i }
-
 -- what a move at this depth adds to the number of moves outside variations
 abbrev pub counted_at : ℕ → ℕ
 counted_at depth = elim (depth == 0) [ true ↦ 1 | false ↦ 0 ]
@@ -60,21 +55,14 @@ counted_at depth = elim (depth == 0) [ true ↦ 1 | false ↦ 0 ]
 abbrev pub plies_in : Item → ℕ → ℕ
 plies_in i depth = elim (is_move i) [ true ↦ counted_at depth | false ↦ 0 ]
 
--- The levels after an annotation. No claim if no move is before a variation that opens, or if no
--- level is around one that closes.
-abbrev pub LeadsLevels : Annotation → StoredLevels → StoredLevels → Type 0
+-- The levels after a token that means this, which is no move. A move is before a variation that
+-- opens, and a level is around one that closes.
+abbrev pub LeadsLevels : Event → StoredLevels → StoredLevels → Type 0
 LeadsLevels Open old new =
-    IfSome old.current.before
+    IsSomeAnd old.current.before
     (λ start. new ≡ record { current = level_at start; around = old.current ∷ old.around })
-LeadsLevels Close old new = ClosesLevel old.around new
+LeadsLevels Close old new = (0 < length old.around) × ClosesLevel old.around new
 LeadsLevels _ old new = new ≡ old
-
--- An item is written, or left out. If a write failed, the movetext is the same as before.
-pub record WritesItem {A E : Type 0} (mode : Option Mode) (i : Item) (text : Movetext) (line : List ℕ)
-    (new_text : Movetext) (new_line : List ℕ) (result : Result A E) (d : Device) : Type 0 where
-  pub puts : PutsTokens (tokens_if (is_written mode (length text.levels.around) i) text i)
-      line new_line result d
-  pub ends : MatchResult result (λ _. new_text ≡ written_text mode text i) (λ _. new_text ≡ text)
 
 -- if nothing is written, the sink does not change
 abbrev pub LeavesSink : {S : Type 0} → (silent : Bool) → S → S → Type 0
@@ -88,41 +76,80 @@ pub record ItemCall {S : Type 0} (written : Written) (taken : S → Option (List
       (seen (is_nothing written) (device taken failures sink_old sink_new))
   pub silent : LeavesSink (is_nothing written) sink_old sink_new
 
--- A legal move can be put: it can be counted, and so can the pairs that writing it tries.
-pub record MayPutMove (text : Movetext) (m : Move) (probes : ℕ) : Type 0 where
-  pub legal : IsTrue (is_legal text.levels.current.position m)
-  pub few : text.plies < 2 ^ 64 - 1
-  pub room : probes + 1032 < 2 ^ 32
-
--- the same for a move that is only written
-pub record MayWriteMove (text : Movetext) (x : Played) (probes : ℕ) : Type 0 where
-  pub legal : IsLegal text.levels.current.position x
-  pub room : probes + 1032 < 2 ^ 32
-
 -- the number of pairs tried before an item is written, and after
 abbrev pub TriesItem : Option Mode → Movetext → Item → ℕ → ℕ → Type 0
 TriesItem mode text i old new =
     CostsToWrite (is_written mode (length text.levels.around) i) text.levels.current.position i old new
 
--- the pairs tried to write an item are those that its text costs, and at most 1,032
-pub record TriesToWrite (mode : Option Mode) (text : Movetext) (i : Item) (old new : ℕ) : Type 0 where
-  pub tried : TriesItem mode text i old new
-  pub rises : (old ≤ new) × (new ≤ old + 1032)
-
--- Movetext goes on with a legal move, whose text may be written by then.
-pub record Plays (x : Played) (old new : Movetext) : Type 0 where
+-- Movetext goes on with a legal move.
+pub record Plays (m : Move) (old new : Movetext) : Type 0 where
+  pub next : Parts
+  pub leads : legal old.levels.current.position m ≡ Some next
   pub levels : new.levels ≡ record {
-    current = record { position = x.next; before = Some old.levels.current.position };
+    current = record { position = next; before = Some old.levels.current.position };
     around = old.levels.around;
   }
   pub plies : new.plies ≡ old.plies + counted_at (length old.levels.around)
   pub is_after_move : new.is_after_move ≡ old.is_after_move
 
--- Movetext goes on with an annotation, whose text may be written by then.
-pub record Annotates (i : Annotation) (old new : Movetext) : Type 0 where
-  pub levels : LeadsLevels i old.levels new.levels
+-- Movetext goes on with a token that means this, which is no move.
+pub record Annotates (e : Event) (old new : Movetext) : Type 0 where
+  pub levels : LeadsLevels e old.levels new.levels
   pub plies : new.plies ≡ old.plies
   pub is_after_move : new.is_after_move ≡ old.is_after_move
+
+-- What is written.
+
+-- whether annotations are written by a mode
+abbrev pub writes_annotations : Option Mode → Bool
+writes_annotations None = false
+writes_annotations (Some Full) = true
+writes_annotations (Some Reduced) = false
+
+-- the token of an annotation, if it is written
+abbrev pub token_if : Bool → List ℕ → List (List ℕ)
+token_if written token = elim written [ true ↦ token ∷ [] | false ↦ [] ]
+
+-- An annotation is written, or left out.
+pub record PutsAnnotation {A E : Type 0} (mode : Option Mode) (token : List ℕ) (old new : Writer)
+    (result : Result A E) (d : Device) : Type 0 where
+  pub puts : PutsTokens (token_if (writes_annotations mode) token) old.line new.line result d
+  pub writer : new ≡ record old {
+    line = new.line;
+    is_after_move = not (writes_annotations mode) && old.is_after_move;
+  }
+
+-- what a marker and the end of the game write behind a line, if anything is written
+abbrev pub ending_if : Option Mode → List ℕ → List ℕ → List ℕ
+ending_if None line marker = []
+ending_if (Some mode) line marker =
+    text_at line (Put marker) ++ text_at (line_at line (Put marker)) EndGame
+
+-- the line after that
+abbrev pub line_behind : Option Mode → List ℕ → List ℕ
+line_behind None line = line
+line_behind (Some mode) line = []
+
+-- The marker and the end of the game are written, or left out.
+pub record PutsMarker {A E : Type 0} (mode : Option Mode) (marker : List ℕ) (old new : Writer)
+    (result : Result A E) (d : Device) : Type 0 where
+  pub text : Writes d.before d.after result (ending_if mode old.line marker)
+  pub line : OnOk result (new.line ≡ line_behind mode old.line)
+  pub writer : new ≡ record old { line = new.line }
+  pub counted : Counts result d.failures d.failures_after
+
+-- A move from this position is written, at this depth, or left out, and the pairs tried before that
+-- and by then.
+pub record PutsMove {A E : Type 0} (mode : Option Mode) (depth : ℕ) (here : Parts) (m : Move)
+    (old new : Writer) (pairs_before pairs_after : ℕ) (result : Result A E) (d : Device) : Type 0 where
+  pub puts : PutsTokens (elim (is_written mode depth (move m)) [
+    | true ↦ tokens_at old.is_after_move here (move m)
+    | false ↦ []
+  ]) old.line new.line result d
+  pub writer : new ≡ record old { line = new.line; is_after_move = new.is_after_move }
+  pub after : OnOk result (new.is_after_move ≡ (is_written mode depth (move m) || old.is_after_move))
+  pub tried : CostsToWrite (is_written mode depth (move m)) here (move m) pairs_before pairs_after
+  pub rises : (pairs_before ≤ pairs_after) × (pairs_after ≤ pairs_before + 1032)
 
 -- what an item adds to the text of the lines that are full
 abbrev pub item_text : Option Mode → Parts → List Item → Item → List ℕ

@@ -94,13 +94,6 @@ FinishesNone (Ok More) = Unit {0}
 FinishesNone (Ok Finished) = ⊥
 FinishesNone (Err reason) = Unit {0}
 
--- Items other than moves are put, or none. No pair is tried for them.
-pub record PutsItems (old : ReaderState) (items : List Item) (new : ReaderState)
-    (r : Result Accepted Reason) (d : Device) : Type 0 where
-  pub puts : PutResult old (IsOpen old) (λ part. going (with_items part items)) new r d
-  pub goes_on : FinishesNone r
-  pub probes : new.most_probes ≡ old.most_probes
-
 -- What the reader returns for a token, after each part that `IsOf` allows.
 pub record Takes (old : ReaderState) (IsOf : Part → Type 0) (k : Kind) (new : ReaderState)
     (r : Result Accepted Reason) (d : Device) : Type 0 where
@@ -136,11 +129,6 @@ abbrev pub MeetsEntry : ReaderState → Kind → ReaderState → Result (Option 
 MeetsEntry old k new (Ok (Some marker)) d = ReturnsMarker old k marker new d
 MeetsEntry old k new (Ok None) d = TakesOther old k new (Ok More) d
 MeetsEntry old k new (Err reason) d = TakesOther old k new (Err reason) d
-
--- the answer to a token that is no marker
-abbrev pub no_marker : Result Unit Reason → Result (Option Marker) Reason
-no_marker (Ok done) = Ok None
-no_marker (Err reason) = Err reason
 
 -- The marker that ends a game was taken, whatever token it is.
 pub record TakesMarker (old : ReaderState) (marker : Marker) (new : ReaderState)

@@ -1,25 +1,19 @@
 -- **Bookkeeping**: what the reader makes of a token in movetext.
 use Rattle.std.specs.Prelude.{◌≡◌, ℕ, ◌+◌, ◌-◌, ◌^◌, ◌<◌, ◌&&◌, not, nat_le, ◌==◌, Bool, true, false, IsTrue, is_some, List, [], ◌++◌, length, codes, bytes_eq, Option, None, Some, Result, Ok, Err}
 use Rattle.chess_rules.specs.declared.position.Parts.{Parts}
-use Rattle.chess_rules.specs.Legal.{legal}
-use Rattle.chess_text.specs.declared.resolution.Played.{Played}
-use Rattle.pgn_layout.specs.Lines.{IsToken}
 use Rattle.pgn_lexer.specs.Tokens as tokens
 use Rattle.pgn_lexer.specs.Tokens.{Kind}
-use Rattle.pgn_game.specs.declared.annotation.Annotation.{Annotation}
-use Rattle.pgn_game.specs.declared.annotation.Annotation.TheVariants.{Glyph, CommentOpen, Word, CommentClose, Open, Close}
 use Rattle.pgn_game.specs.declared.reason.Reason.{Reason}
 use Rattle.pgn_game.specs.declared.reason.Reason.TheVariants.{TagInMovetext, NotAMove, IllegalMove, AmbiguousMove, MoveLimit, NoMoveBefore, TooDeep, UnmatchedClose, MarkerInVariation, ResultDiffers, UnexpectedEnd}
 use Rattle.pgn_game.specs.declared.stage.Stage.{Stage}
-use Rattle.pgn_game.specs.declared.stage.Stage.TheVariants.{AfterTags, InMovetext}
+use Rattle.pgn_game.specs.declared.stage.Stage.TheVariants.{AfterName, AfterTags, InMovetext}
 use Rattle.pgn_game.specs.games.Profile.{Profile}
 use Rattle.pgn_game.specs.games.Chess.{position_of}
-use Rattle.pgn_game.specs.games.Game as games
 use Rattle.pgn_game.specs.games.Game.{Item, Game, Part}
 use Rattle.pgn_game.specs.games.Levels.{depth, start_of}
 use Rattle.pgn_game.specs.games.FaultTable.{refusal, is_marker, has_other_result, is_move_with, is_no_form, is_no_move, is_many_moves, is_one_move, is_at_limit, levels_of_part, position_in}
 use Rattle.pgn_game.specs.games.Progress.{next, in_text}
-use Rattle.pgn_game.specs.state.Movetext.{Movetext, HoldsItems}
+use Rattle.pgn_game.specs.state.Movetext.{HoldsItems}
 use Rattle.pgn_game.specs.export.Text.{has_move}
 use Rattle.pgn_game.specs.state.ReaderState.{ReaderState, mode_written}
 
@@ -32,20 +26,16 @@ with_items part more =
 abbrev pub game_of : Part → List ℕ → Game
 game_of part marker = record { pairs = part.pairs; items = part.items; marker = marker }
 
--- an annotation of the code as an item of a game
-abbrev pub model_item : Annotation → Item
-model_item (Glyph n) = games.glyph n
-model_item CommentOpen = games.comment_open
-model_item (Word text) = games.word text.now
-model_item CommentClose = games.comment_close
-model_item Open = games.open_variation
-model_item Close = games.close_variation
-
 -- the stages at which movetext can begin or go on
 abbrev pub may_have_movetext : Stage → Bool
 may_have_movetext AfterTags = true
 may_have_movetext InMovetext = true
 may_have_movetext _ = false
+
+-- the stages at which no name waits for its value
+abbrev pub has_whole_pairs : Stage → Bool
+has_whole_pairs AfterName = false
+has_whole_pairs _ = true
 
 -- the reader can take a move: movetext can begin or go on, and the move can be counted
 pub record MayTakeMove (reading : ReaderState) : Type 0 where
@@ -58,19 +48,6 @@ fen_position name value = elim (bytes_eq name (codes "FEN")) [
   | false ↦ Ok None
   | true ↦ elim (position_of value) [ Ok start ↦ Ok (Some start) | Err fault ↦ Err fault.field ]
 ]
-
--- a legal move, and the position after it
-abbrev pub IsLegal : Parts → Played → Type 0
-IsLegal here played = legal here played.mv ≡ Some played.next
-
--- The item can be put on movetext of at most so many levels: a word is a token, a variation that
--- opens has room and a move before it, and one that closes is open.
-abbrev pub ItemFits : ℕ → Movetext → Annotation → Type 0
-ItemFits most text (Word word) = IsToken word.now
-ItemFits most text Open =
-    IsTrue (is_some text.levels.current.before) × (length text.levels.around + 1 < most)
-ItemFits most text Close = 0 < length text.levels.around
-ItemFits most text _ = Unit {0}
 
 -- Movetext.
 

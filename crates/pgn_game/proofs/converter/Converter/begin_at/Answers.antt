@@ -1,5 +1,5 @@
 use Rattle.pgn_game.proofs.Words.{arith, refl, no_progress, none, false≢true}
-use Rattle.pgn_game.proofs.ReaderFitsInMemory.{fits_reader}
+use Rattle.pgn_game.proofs.ReaderFitsInMemory.{fits_game}
 use Rattle.pgn_game.proofs.tokens.SoundAtStart.{sound_at_start}
 use Rattle.pgn_game.proofs.converter.Converter.begin_at.Goals as goal
 
@@ -27,7 +27,7 @@ returns g c =
     })
 
 pub new-requires : goal.new-requires
-new-requires g c = (search fits_reader, c.requires.levels)
+new-requires g c = (search fits_game, c.requires.levels)
 
 pub invariant_of-result : goal.invariant_of-result
 invariant_of-result g c =

@@ -1,15 +1,15 @@
 use Rattle.pgn_game.proofs.Words.{sym, subst, CountsMissingAs, refl}
-use Rattle.pgn_game.proofs.ReaderFitsInMemory.{fits_reader}
+use Rattle.pgn_game.proofs.ReaderFitsInMemory.{fits_game}
 use Rattle.pgn_game.proofs.tokens.MissingCountsAs.{finished_alike, sound_counting, stands_counting}
 use Rattle.pgn_game.proofs.converter.Converter.count_missing_result_as.Goals as goal
 
 pub count_missing_result_as-requires : goal.count_missing_result_as-requires
-count_missing_result_as-requires g c = search fits_reader
+count_missing_result_as-requires g c = search fits_game
 
 pub returns-clause-only_profile : goal.returns-clause-only_profile
 returns-clause-only_profile g c =
     let old = c.self.inside in
-    rw (← c.self.view_is, c.count_missing_result_as.ensures, finished_alike old.has_finished_game c.args.marker old.reader) refl
+    rw (← c.self.view_is, c.count_missing_result_as.ensures, finished_alike old.has_finished_game c.args.marker old.game) refl
 
 pub returns-clause-stands : goal.returns-clause-stands
 returns-clause-stands g c =
@@ -19,4 +19,4 @@ pub invariant_of-self : goal.invariant_of-self
 invariant_of-self g c =
     let old = c.self.inside in
     rw c.count_missing_result_as.ensures
-    (sound_counting c.args.marker old.lexer old.reader old.games old.has_finished_game old.is_finished old.fault c.self.invariant)
+    (sound_counting c.args.marker old.lexer old.game old.games old.has_finished_game old.is_finished old.fault c.self.invariant)

@@ -1,11 +1,11 @@
 use Rattle.pgn_game.proofs.Words.{arith, refl, ap, game_in_reader_if, sink_of}
-use Rattle.pgn_game.proofs.ReaderFitsInMemory.{fits_reader}
+use Rattle.pgn_game.proofs.ReaderFitsInMemory.{fits_game}
 use Rattle.pgn_game.proofs.tokens.AcceptedToConverter.{written_same}
 use Rattle.pgn_game.proofs.tokens.StepsAtEnd.{counts_reason, not_just_finished, sound_behind_fault}
 use Rattle.pgn_game.proofs.converter.Converter.end_game.Goals as goal
 
 pub end_game-requires : goal.end_game-requires
-end_game-requires g c = (search fits_reader, (rw (← c.self.view_is) at c.requires).stage)
+end_game-requires g c = (search fits_game, (rw (← c.self.view_is) at c.requires).stage)
 
 pub returns-in-Err : goal.returns-in-Err
 returns-in-Err g c =
@@ -21,9 +21,9 @@ returns-in-Err g c =
         games = refl;
         few = omega (arith, c.self.invariant.count, ready.few);
         just_finished = ap (λ b. game_in_reader_if b c.end_game.new.self) flag;
-        written = written_same c.self.inside.reader c.end_game.new.self takes.keeps.profile takes.keeps.writing;
+        written = written_same c.self.inside.game c.end_game.new.self takes.keeps.profile takes.keeps.writing;
         probes = takes.keeps.probes;
-        counted = counts_reason c.in-Err.reason (sink_of c.self.inside.reader g.W.Sink.taken g.W.Sink.failures c.args.out.now c.end_game.new.out) takes.counted;
+        counted = counts_reason c.in-Err.reason (sink_of c.self.inside.game g.W.Sink.taken g.W.Sink.failures c.args.out.now c.end_game.new.out) takes.counted;
       };
       silent = c.end_game.ensures.silent;
     })
@@ -41,7 +41,7 @@ returns-in-Ok g c =
         games = refl;
         few = omega (arith, c.self.invariant.count, ready.few);
         just_finished = refl;
-        written = written_same c.self.inside.reader c.end_game.new.self takes.keeps.profile takes.keeps.writing;
+        written = written_same c.self.inside.game c.end_game.new.self takes.keeps.profile takes.keeps.writing;
         probes = takes.keeps.probes;
         counted = takes.counted;
       };

@@ -1,6 +1,6 @@
 use Rattle.pgn_game.proofs.putting.SilentReader.{none_fails, seen_alike, silence_kept, silence_then}
 use Rattle.pgn_game.proofs.Words.{ap, le_refl, le_trans, refl, sym, ◌∙◌, device, Err, Standing, err_from_is_err_and, false≢true, CountsGame, EndsGame, EndsToMarker}
-use Rattle.pgn_game.proofs.ReaderFitsInMemory.{fits_alike, fits_reader}
+use Rattle.pgn_game.proofs.ReaderFitsInMemory.{fits_alike, fits_game}
 use Rattle.pgn_game.proofs.tokens.StepsAtEnd.{left_of}
 use Rattle.pgn_game.proofs.tokens.FinishesGames.{ended_none, ended_game, ended_input, failed_input, failed_game, sound_finished}
 use Rattle.pgn_game.proofs.tokens.MarkerToGame.{shows_due, shows_stop}
@@ -72,7 +72,7 @@ loop-marker-preserved g c =
     }
 
 pub is_between-self-inside-requires : goal.is_between-self-inside-requires
-is_between-self-inside-requires g c = search fits_reader
+is_between-self-inside-requires g c = search fits_game
 
 pub returns-in-None-clause-ends : goal.returns-in-None-clause-ends
 returns-in-None-clause-ends g c =

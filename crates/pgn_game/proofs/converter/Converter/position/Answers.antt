@@ -1,5 +1,5 @@
-use Rattle.pgn_game.proofs.ReaderFitsInMemory.{fits_reader}
+use Rattle.pgn_game.proofs.ReaderFitsInMemory.{fits_game}
 use Rattle.pgn_game.proofs.converter.Converter.position.Goals as goal
 
 pub position-requires : goal.position-requires
-position-requires g c = search fits_reader
+position-requires g c = search fits_game

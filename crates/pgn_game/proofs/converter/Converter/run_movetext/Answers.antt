@@ -1,6 +1,6 @@
 use Rattle.pgn_game.specs.declared.converter.StepEnd.TheVariants.{NoMarker}
-use Rattle.pgn_game.proofs.Words.{IsSound, KeepsSilence, false, sink_of, kind_of, ◌≡◌, ◌∙◌, arith, ap, None, Ok, Some, take_rest, device, drop, may_have_movetext, refl, StepsInPiece, outcome_at, MeetsEntry, TakesUnlessMarker}
-use Rattle.pgn_game.proofs.ReaderFitsInMemory.{fits_alike, fits_reader}
+use Rattle.pgn_game.proofs.Words.{IsSound, KeepsSilence, false, sink_of, kind_of, ◌≡◌, ◌∙◌, arith, ap, None, Ok, Some, take_rest, device, drop, refl, StepsInPiece, outcome_at, MeetsEntry, TakesUnlessMarker}
+use Rattle.pgn_game.proofs.ReaderFitsInMemory.{fits_alike, fits_game}
 use Rattle.pgn_game.proofs.putting.SilentReader.{seen_alike, silence_kept, silence_then}
 use Rattle.pgn_game.proofs.tokens.AcceptedToConverter.{now_at}
 use Rattle.pgn_game.proofs.tokens.PastNumbers.{meets_in_movetext}
@@ -27,10 +27,10 @@ pub accept_entry-met-requires : goal.accept_entry-met-requires
 accept_entry-met-requires g c =
     let here = c.loop-used.invariant in
     let behind = rw (take_rest, c.in-Some.is) at c.whole_token-count.ensures.reads in (
-      search fits_reader,
+      search fits_game,
       (
-        record { few = omega (arith, here.sound.few_plies refl, here.sound.count); stage = ap may_have_movetext here.stage },
-        behind.reads.lengths,
+        here.stage,
+        (omega (arith, here.sound.few_plies refl, here.sound.count), behind.reads.lengths),
       ),
     )
 
@@ -44,16 +44,16 @@ invariant_of-self-in_default g c =
 
 -- The token of an iteration, which the reader meets in movetext.
 module _ (g : _) (c : After-accept_entry-met g) where
-  takes : TakesUnlessMarker c.loop-used.self-inside.reader (kind_of c.in-Some.token.kind) c.accept_entry-met.new.self c.accept_entry-met.result
+  takes : TakesUnlessMarker c.loop-used.self-inside.game (kind_of c.in-Some.token.kind) c.accept_entry-met.new.self c.accept_entry-met.result
       (sink_of c.args.self.now.reading g.W.Sink.taken g.W.Sink.failures c.loop-used.out c.accept_entry-met.new.out)
   takes =
       let here = c.loop-used.invariant in
-      meets_in_movetext c.loop-used.self-inside.reader c.accept_entry-met.new.self c.in-Some.token.kind c.accept_entry-met.result _ here.stage
-      (seen_alike (λ d. MeetsEntry c.loop-used.self-inside.reader (kind_of c.in-Some.token.kind) c.accept_entry-met.new.self c.accept_entry-met.result d) _ _
+      meets_in_movetext c.loop-used.self-inside.game c.accept_entry-met.new.self c.in-Some.token.kind c.accept_entry-met.result _ here.stage
+      (seen_alike (λ d. MeetsEntry c.loop-used.self-inside.game (kind_of c.in-Some.token.kind) c.accept_entry-met.new.self c.accept_entry-met.result d) _ _
       (device g.W.Sink.taken g.W.Sink.failures c.loop-used.out c.accept_entry-met.new.out) here.silent.silent c.accept_entry-met.ensures.takes)
 
   -- the step that it is
-  steps : StepsInPiece (now_at c.loop-used.self-inside.lexer c.loop-used.self-inside.reader c.loop-used.self-inside.games false)
+  steps : StepsInPiece (now_at c.loop-used.self-inside.lexer c.loop-used.self-inside.game c.loop-used.self-inside.games false)
       (drop c.loop-used.used c.args.piece.now)
       (after_at_end c.whole_token-count.new.self c.accept_entry-met.new.self c.loop-used.self-inside.games false c.in-Some.token.at c.accept_entry-met.result)
       c.whole_token-count.result.0 (outcome_at c.in-Some.token.at c.accept_entry-met.result)

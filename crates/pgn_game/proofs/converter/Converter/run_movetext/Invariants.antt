@@ -10,11 +10,11 @@ invariant-loop-used g l = record {
   flag : l.self-inside.has_finished_game ≡ false;
   not_finished : l.self-inside.is_finished ≡ false;
   fault : l.self-inside.fault ≡ None;
-  stage : l.self-inside.reader.stage ≡ InMovetext;
-  sound : IsSound l.self-inside.lexer l.self-inside.reader l.self-inside.games false false None;
-  runs : Runs l.fn.self l.piece (now_at l.self-inside.lexer l.self-inside.reader l.self-inside.games false) l.used (Ok (Some NoMarker))
+  stage : l.self-inside.game.stage ≡ InMovetext;
+  sound : IsSound l.self-inside.lexer l.self-inside.game l.self-inside.games false false None;
+  runs : Runs l.fn.self l.piece (now_at l.self-inside.lexer l.self-inside.game l.self-inside.games false) l.used (Ok (Some NoMarker))
       (sink_of l.fn.self.reading g.W.Sink.taken g.W.Sink.failures l.fn.out l.out);
-  silent : KeepsSilence l.fn.self.reading l.self-inside.reader l.fn.out l.out;
+  silent : KeepsSilence l.fn.self.reading l.self-inside.game l.fn.out l.out;
 }
 
 abbrev pub decreases-loop-used : goal.decreases-loop-used

@@ -4,7 +4,7 @@ use Rattle.pgn_game.proofs.Words.{IsSound, IsTrue, Keeps, LexFault, Lexical, Lis
 use Rattle.pgn_game.proofs.tokens.AcceptedToConverter.{now_at}
 use Rattle.pgn_game.proofs.tokens.RunsInPiece.{between}
 use Rattle.pgn_game.proofs.tokens.StepsAtEnd.{Nearer, after_at_end, keeps_met, closes_end, closes_token, closes_fault, fields_before, kept, left_by, nearer_by, counts_token, advances_at_end, counts_ok, goes_on_at, no_fault_if_ok, ready_at_end, sound_at_end, sound_behind, sound_behind_fault, sound_if_not_ok}
-use Rattle.pgn_game.proofs.ReaderFitsInMemory.{fits_reader}
+use Rattle.pgn_game.proofs.ReaderFitsInMemory.{fits_game}
 use Rattle.pgn_game.proofs.converter.Converter.step_at_end.Goals as goal
 use Rattle.pgn_game.proofs.converter.Converter.step_at_end.Goals.{else-is_end-via-then-is_end+else-is_ok, else-is_end-via-else-is_end}
 
@@ -71,7 +71,7 @@ module _ (lexer : Standing) (reading : ReaderState) (games : ℕ) (l : Standing)
 pub accept_copied-met-requires : goal.accept_copied-met-requires
 accept_copied-met-requires g c =
     let old = fields_before c.self.view_is c.self.invariant c.requires in (
-      search fits_reader,
+      search fits_game,
       (omega (arith, old.sound.few_plies refl, old.sound.count), rw c.in-Token.is at c.finish.follows.holds-at-none.lengths),
     )
 

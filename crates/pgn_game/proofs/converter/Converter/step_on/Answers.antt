@@ -1,5 +1,5 @@
 use Rattle.pgn_game.proofs.Words.{arith, refl}
-use Rattle.pgn_game.proofs.ReaderFitsInMemory.{fits_reader}
+use Rattle.pgn_game.proofs.ReaderFitsInMemory.{fits_game}
 use Rattle.pgn_game.proofs.tokens.RunsInPiece.{steps_of}
 use Rattle.pgn_game.proofs.putting.SilentReader.{silence_kept}
 use Rattle.pgn_game.proofs.tokens.StepsAtEnd.{fields_before, short_before, sound_behind_fault}
@@ -9,7 +9,7 @@ use Rattle.pgn_game.proofs.converter.Converter.step_on.Goals as goal
 pub accept_copied-met-requires : goal.accept_copied-met-requires
 accept_copied-met-requires g c =
     let old = fields_before c.self.view_is c.self.invariant c.requires.before in (
-      search fits_reader,
+      search fits_game,
       (omega (arith, old.sound.few_plies refl, old.sound.count), rw c.in-Token.is at c.next-scan.follows.holds-at-none.lengths),
     )
 

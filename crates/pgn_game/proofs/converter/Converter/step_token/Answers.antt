@@ -1,6 +1,6 @@
 use Rattle.pgn_game.specs.declared.converter.StepEnd.TheVariants.{NoMarker}
 use Rattle.pgn_game.proofs.Words.{IsSound, List, Option, ℕ, refl, None, false, ◌<◌, take_rest, IsTrue, Ok, Some, false≢true, length, arith}
-use Rattle.pgn_game.proofs.ReaderFitsInMemory.{fits_alike, fits_reader}
+use Rattle.pgn_game.proofs.ReaderFitsInMemory.{fits_alike, fits_game}
 use Rattle.pgn_game.proofs.tokens.AcceptedToConverter.{now_at}
 use Rattle.pgn_game.proofs.tokens.RunsInPiece.{Runs, between, before_rest, steps_at_once, steps_behind, steps_of, steps_run}
 use Rattle.pgn_game.proofs.putting.SilentReader.{silence_kept}
@@ -15,14 +15,14 @@ not_in_movetext skipped = absurd (false≢true skipped)
 
 -- Behind white space no token lies whole in the piece.
 module _ (g : _) (c : In_default g) where
-  passed : (o : Option (List ℕ)) (failures : ℕ) → Runs (now_at c.self.inside.lexer c.self.inside.reader c.self.inside.games false) c.args.piece.now
-      (now_at c.whole_token-used.new.self c.self.inside.reader c.self.inside.games false) c.whole_token-used.result.0 (Ok (Some NoMarker)) (between o o failures failures)
+  passed : (o : Option (List ℕ)) (failures : ℕ) → Runs (now_at c.self.inside.lexer c.self.inside.game c.self.inside.games false) c.args.piece.now
+      (now_at c.whole_token-used.new.self c.self.inside.game c.self.inside.games false) c.whole_token-used.result.0 (Ok (Some NoMarker)) (between o o failures failures)
   passed o failures =
       let old = fields_before c.self.view_is c.self.invariant c.requires.before in
       runs_past _ _ _ _ old.sound (short_before c.self.view_is c.requires) not_in_movetext
       (rw c.in_default.is at c.whole_token-used.ensures.reads) c.whole_token-used.ensures.used o failures
 
-  still_sound : IsSound c.whole_token-used.new.self c.self.inside.reader c.self.inside.games c.self.inside.has_finished_game c.self.inside.is_finished c.self.inside.fault
+  still_sound : IsSound c.whole_token-used.new.self c.self.inside.game c.self.inside.games c.self.inside.has_finished_game c.self.inside.is_finished c.self.inside.fault
   still_sound =
       let old = fields_before c.self.view_is c.self.invariant c.requires.before in
       rw (old.flag, old.none, old.not_over)
@@ -33,7 +33,7 @@ pub accept_unless_marker-met-requires : goal.accept_unless_marker-met-requires
 accept_unless_marker-met-requires g c =
     let old = fields_before c.self.view_is c.self.invariant c.requires.before in
     let behind = rw c.in-Some.is at c.whole_token-used.ensures.reads in
-    (search fits_reader, (omega (arith, old.sound.few_plies refl, old.sound.count), behind.reads.lengths))
+    (search fits_game, (omega (arith, old.sound.few_plies refl, old.sound.count), behind.reads.lengths))
 
 pub invariant_of-self : goal.invariant_of-self
 invariant_of-self g c = still_sound g (goal.at.invariant_of-self g c).In_default

@@ -1,5 +1,5 @@
-use Rattle.pgn_game.proofs.ReaderFitsInMemory.{fits_reader}
+use Rattle.pgn_game.proofs.ReaderFitsInMemory.{fits_game}
 use Rattle.pgn_game.proofs.converter.Converter.tag.Goals as goal
 
 pub value-requires : goal.value-requires
-value-requires g c = (search fits_reader, c.self.invariant.between c.if-self.true)
+value-requires g c = (search fits_game, c.self.invariant.between c.if-self.true)

@@ -1,4 +1,4 @@
-use Rattle.pgn_game.proofs.Words.{◌≡◌, ◌||◌, Bool, true, refl, sym, ap, ◌∙◌, or_right, kind_of, is_comment, is_end, option_map, continued}
+use Rattle.pgn_game.proofs.Words.{◌≡◌, ◌||◌, Bool, true, refl, sym, ap, ◌∙◌, or_right, kind_of, is_comment, is_end, option_map, continued, false, game_at, is_begun}
 use Rattle.pgn_game.proofs.ReaderLemmas.{passes_first, takes_outside_first}
 use Rattle.pgn_game.proofs.reader.Reader.accept_between.Goals as goal
 use Rattle.pgn_game.proofs.reader.Reader.accept_between.Goals.{then-is_comment-via-then-is_comment, then-is_comment-via-else-is_comment+then-is_end}
@@ -10,12 +10,18 @@ returns-then-is_comment g c =
       | then-is_comment-via-then-is_comment w ↦ ap (λ (b : Bool). b || is_end k) (sym c.is_comment.ensures ∙ w.if-is_comment.true)
       | then-is_comment-via-else-is_comment+then-is_end w ↦ or_right (is_comment k) (is_end k) (sym w.is_end.ensures ∙ w.if-is_end.true)
     ] in
-    λ o m. passes_first c.args.self.now _ c.args.kind o m refl c.requires.stage bare
+    record {
+      takes = λ w o m. passes_first (game_at false w c.args.self.now) _ c.args.kind o m refl c.requires.stage bare;
+      before = ap is_begun c.requires.stage;
+    }
 
 pub returns : goal.returns
 returns g c =
-    let old = c.args.self.now in
     let k = kind_of c.args.kind in
-    takes_outside_first old _ c.args.kind (option_map continued c.accept_after_tags.result) c.requires.stage
-    (sym c.is_comment.ensures ∙ c.if-is_comment.false) (sym c.is_end.ensures ∙ c.if-is_end.false)
-    (rw c.begin_game.ensures at c.accept_after_tags.ensures)
+    let judged = rw c.begin_game.ensures at c.accept_after_tags.ensures in
+    record {
+      takes = λ w.
+          takes_outside_first (game_at false w c.args.self.now) _ c.args.kind (option_map continued c.accept_after_tags.result) c.requires.stage
+          (sym c.is_comment.ensures ∙ c.if-is_comment.false) (sym c.is_end.ensures ∙ c.if-is_end.false) (judged.takes w);
+      before = judged.before;
+    }

@@ -1,4 +1,4 @@
-use Rattle.pgn_game.proofs.Words.{IsFalse, Reason, Err, is_outside_the_table, ◌≡◌, has_pair, Part, Agrees, not, length, is_some, Some, refl, sym, ap, ◌∙◌, kind_of, TokenKind, ExpectedName, BadTagName, DuplicateTag, TagLineTooLong, ReducedFen, AfterLeftBracket, AfterName, TagPairs, next, refusal, ReaderState, TakesUnwritten}
+use Rattle.pgn_game.proofs.Words.{IsFalse, Reason, Err, is_outside_the_table, ◌≡◌, has_pair, Part, Agrees, not, length, is_some, Some, refl, sym, ap, ◌∙◌, kind_of, TokenKind, ExpectedName, BadTagName, DuplicateTag, TagLineTooLong, ReducedFen, AfterLeftBracket, AfterName, TagPairs, next, refusal, ReaderState, JudgesInPair, Writer, false, game_at, is_begun}
 use Rattle.std.proofs.lemmas.Bool.{lt-ltb, le-ltb}
 use Rattle.pgn_game.proofs.ReaderLemmas.{name_rows, hit, pass, expected_name, name_refusal, name_next, part_stage, held_at, puts_name, to_name, adds_same, comment_in_pair, refused_in_pair, step_in_pair, tags_fit}
 use Rattle.pgn_game.proofs.reader.Reader.accept_name.Given.{Over}
@@ -6,10 +6,10 @@ use Rattle.pgn_game.proofs.reader.Reader.accept_name.Goals.{In-Symbol}
 use Rattle.pgn_game.proofs.reader.Reader.accept_name.Goals as goal
 
 -- What a name is rejected for, by the mode and the pairs that the reader holds.
-rows : (g : Over) (c : In-Symbol g) (held : ReaderState) → held ≡ c.args.self.now → (part : Part) → Agrees c.args.self.now part
+rows : (g : Over) (c : In-Symbol g) (w : Writer) (held : ReaderState) → held ≡ c.args.self.now → (part : Part) → Agrees (game_at false w c.args.self.now) part
     → refusal c.args.self.now.profile part (kind_of c.args.kind) ≡ name_rows held.profile held.tags.held c.in-Symbol.name.now
-rows g c held same part agrees =
-    let old = c.args.self.now in
+rows g c w held same part agrees =
+    let old = game_at false w c.args.self.now in
     let name = c.in-Symbol.name.now in
     ap (λ (k : TokenKind). refusal old.profile part (kind_of k)) c.in-Symbol.is
     ∙ name_refusal old.profile part name (part_stage old part _ agrees c.requires.stage)
@@ -18,21 +18,31 @@ rows g c held same part agrees =
 
 refused : (g : Over) (c : In-Symbol g) (held : ReaderState) (reason : Reason) → held ≡ c.args.self.now → IsFalse (is_outside_the_table reason)
     → name_rows held.profile held.tags.held c.in-Symbol.name.now ≡ Some reason
-    → TakesUnwritten c.args.self.now (kind_of c.args.kind) c.args.self.now (Err reason)
-refused g c held reason same inside why =
-    refused_in_pair c.args.self.now _ _ AfterLeftBracket c.requires.stage (λ q. refl) reason refl inside (λ part agrees. rows g c held same part agrees ∙ why)
+    → JudgesInPair c.args.self.now (kind_of c.args.kind) c.args.self.now (Err reason)
+refused g c held reason same inside why = record {
+  takes = λ w. refused_in_pair (game_at false w c.args.self.now) _ _ AfterLeftBracket c.requires.stage (λ q. refl) reason refl inside
+      (λ part agrees. rows g c w held same part agrees ∙ why);
+  before = ap is_begun c.requires.stage;
+}
 
 pub returns-then-is_comment : goal.returns-then-is_comment
 returns-then-is_comment g c =
-    comment_in_pair c.args.self.now _ c.args.kind AfterLeftBracket c.requires.stage
-    (λ q. refl) refl refl (sym c.if-is_comment.true ∙ c.is_comment.ensures)
+    record {
+      takes = λ w. comment_in_pair (game_at false w c.args.self.now) _ c.args.kind AfterLeftBracket c.requires.stage
+          (λ q. refl) refl refl (sym c.if-is_comment.true ∙ c.is_comment.ensures);
+      before = ap is_begun c.requires.stage;
+    }
 
 pub returns-in_default : goal.returns-in_default
 returns-in_default g c =
-    let old = c.args.self.now in
-    refused_in_pair old _ _ AfterLeftBracket c.requires.stage (λ q. refl) ExpectedName refl refl (λ part agrees.
-    expected_name old.profile part c.args.kind (part_stage old part AfterLeftBracket agrees c.requires.stage)
-    (sym c.if-is_comment.false ∙ c.is_comment.ensures) c.in_default.not-Symbol)
+    record {
+      takes = λ w.
+          let old = game_at false w c.args.self.now in
+          refused_in_pair old _ _ AfterLeftBracket c.requires.stage (λ q. refl) ExpectedName refl refl (λ part agrees.
+          expected_name old.profile part c.args.kind (part_stage old part AfterLeftBracket agrees c.requires.stage)
+          (sym c.if-is_comment.false ∙ c.is_comment.ensures) c.in_default.not-Symbol);
+      before = ap is_begun c.requires.stage;
+    }
 
 pub returns-then-not-is_tag_name : goal.returns-then-not-is_tag_name
 returns-then-not-is_tag_name g c =
@@ -72,23 +82,27 @@ begin-requires g c =
 
 pub returns : goal.returns
 returns g c =
-    let old = c.args.self.now in
     let v = c.self.view_is in
     let name = c.in-Symbol.name.now in
     let held = c.begin.new.self in
-    step_in_pair old _ _ AfterLeftBracket c.requires.stage (λ q. refl) (to_name name)
-    (λ o m. puts_name old _ name held o m c.requires.stage
-    (ap (λ (r : ReaderState). has_pair r.tags.held name) (sym v) ∙ c.in-Err.ensures.new)
-    (c.begin.ensures ∙ ap (λ (r : ReaderState). record r.tags { pending_name = Some name }) v)
-    (ap (λ (r : ReaderState). record r { stage = AfterName; tags = held }) v))
-    (ap (λ (r : ReaderState). r.most_probes) v) (λ part. search adds_same) (λ part agrees. (
-      rows g (goal.at.returns g c).In-Symbol _ v part agrees
-          ∙ pass _ _ _ (ap not (sym c.is_tag_name.ensures ∙ c.if-not-is_tag_name.false)) ∙ pass _ _ _ c.in-Err.ensures.new
-          ∙ pass _ _ _ (le-ltb 249 (length name) c.if-name-gt-NAME_OR_VALUE_LENGTH.false)
-          ∙ pass _ _ _ (sym c.is_reduced_fen.ensures ∙ c.if-is_reduced_fen.false),
-      ap (λ (k : TokenKind). next part (kind_of k)) c.in-Symbol.is
-          ∙ name_next part name (part_stage old part AfterLeftBracket agrees c.requires.stage),
-    ))
+    record {
+      takes = λ w.
+          let old = game_at false w c.args.self.now in
+          step_in_pair old _ _ AfterLeftBracket c.requires.stage (λ q. refl) (to_name name)
+          (λ o m. puts_name old _ name held o m c.requires.stage
+          (ap (λ (r : ReaderState). has_pair r.tags.held name) (sym v) ∙ c.in-Err.ensures.new)
+          (c.begin.ensures ∙ ap (λ (r : ReaderState). record r.tags { pending_name = Some name }) v)
+          (ap (λ (r : ReaderState). record (game_at false w r) { stage = AfterName; tags = held }) v))
+          (ap (λ (r : ReaderState). r.most_probes) v) (λ part. search adds_same) (λ part agrees. (
+            rows g (goal.at.returns g c).In-Symbol w _ v part agrees
+                ∙ pass _ _ _ (ap not (sym c.is_tag_name.ensures ∙ c.if-not-is_tag_name.false)) ∙ pass _ _ _ c.in-Err.ensures.new
+                ∙ pass _ _ _ (le-ltb 249 (length name) c.if-name-gt-NAME_OR_VALUE_LENGTH.false)
+                ∙ pass _ _ _ (sym c.is_reduced_fen.ensures ∙ c.if-is_reduced_fen.false),
+            ap (λ (k : TokenKind). next part (kind_of k)) c.in-Symbol.is
+                ∙ name_next part name (part_stage old part AfterLeftBracket agrees c.requires.stage),
+          ));
+      before = refl;
+    }
 
 pub find-requires : goal.find-requires
 find-requires g c = (search tags_fit, (rw (ap (λ (r : ReaderState). r.stage) c.self.view_is ∙ c.requires.stage) at c.self.invariant.0).0)

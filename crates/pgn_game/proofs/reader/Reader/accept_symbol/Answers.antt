@@ -1,7 +1,7 @@
-use Rattle.pgn_game.proofs.Words.{More, Ok, ◌≡◌, ◌||◌, ℕ, List, [], Option, None, Some, Result, Err, is_some, true, false, refl, sym, ◌∙◌, symbol, Reason, ReaderState, Accepted, Marker, marker_of, is_number, is_score, PutsItems, TakesOther, ReaderCall}
-use Rattle.pgn_game.proofs.ReaderLemmas.{reader_alike, number_no_score, number_free, number_leads, number_untried, passes_entry}
-use Rattle.pgn_game.proofs.putting.SilentReader.{unused_call}
-use Rattle.pgn_game.proofs.reader.ErrorReturned.{error_returned}
+use Rattle.pgn_game.proofs.Words.{◌≡◌, ◌||◌, ℕ, List, None, Option, Some, is_some, true, false, refl, sym, ◌∙◌, symbol, Marker, marker_of, is_number, is_score}
+use Rattle.pgn_game.specs.declared.event.Event.TheVariants as events
+use Rattle.pgn_game.proofs.ReaderLemmas.{reader_alike, number_no_score, number_free, number_leads, number_untried}
+use Rattle.pgn_game.proofs.putting.TokenToEvent.{entry_means}
 use Rattle.pgn_game.proofs.reader.Reader.accept_symbol.Goals as goal
 use Rattle.pgn_game.proofs.reader.Reader.accept_symbol.Goals.{then-may_be_score_or_number+else-is_number+in_default, else-may_be_score_or_number}
 
@@ -9,31 +9,17 @@ use Rattle.pgn_game.proofs.reader.Reader.accept_symbol.Goals.{then-may_be_score_
 unmarked : (s : List ℕ) → is_score s ≡ false → marker_of (symbol s) ≡ None
 unmarked s is = rw (is, marker_of) refl
 
-number_entry : {S : Type 0} {taken : S → Option (List ℕ)} {failures : S → ℕ} {old new : ReaderState} {a b : S} (s : List ℕ)
-    (r : Result Accepted Reason)
-    → is_number s ≡ true → ReaderCall taken failures old new a b (PutsItems old [] new r)
-    → ReaderCall taken failures old new a b (TakesOther old (symbol s) new r)
-number_entry {old} {new} s r number call =
-    let score = number_no_score s number in
-    record {
-      takes = record {
-        no_marker = unmarked s score;
-        takes = passes_entry old new (symbol s) r _ call.takes
-            (λ part is. (number_free old.profile part s number score, number_leads part s number score)) (λ part. number_untried part s number);
-      };
-      silent = call.silent;
-    }
-
-pub returns-in_err-pass : goal.returns-in_err-pass
-returns-in_err-pass g c =
-    rw (error_returned _ c.from_residual.ensures.1) (number_entry c.args.text.now (Err _) (sym c.is_number.ensures ∙ c.if-is_number.true) c.in_err-pass.ensures)
-
 pub returns-then-is_number : goal.returns-then-is_number
-returns-then-is_number g c = number_entry c.args.text.now (Ok More) (sym c.is_number.ensures ∙ c.if-is_number.true) c.in_ok-pass.ensures
+returns-then-is_number g c =
+    let s = c.args.text.now in
+    let number = sym c.is_number.ensures ∙ c.if-is_number.true in
+    let score = number_no_score s number in
+    entry_means c.args.self.now (symbol s) events.Number (unmarked s score)
+    (λ part. (number_free c.args.self.now.profile part s number score, number_leads part s number score)) (λ part. number_untried part s number) refl
+    (record { levels = refl; plies = refl; is_after_move = refl }) tt
 
 pub returns-in-Some : goal.returns-in-Some
-returns-in-Some g c =
-    unused_call _ _ c.args.self.now _ _ (λ o m. record { is = sym c.in-Some.ensures.text; same = refl; unwritten = refl; still = refl })
+returns-in-Some g c = record { is = sym c.in-Some.ensures.text; same = refl }
 
 no_marker : (o : Option Marker) → ((m : Marker) → o ≡ Some m → ⊥) → is_some o ≡ false
 no_marker None other = refl

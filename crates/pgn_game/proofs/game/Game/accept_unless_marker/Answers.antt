@@ -1,0 +1,52 @@
+use Rattle.pgn_game.specs.state.PutResult.{TakesUnlessMarker as Unless}
+use Rattle.pgn_game.proofs.putting.SilentReader.{seen_alike, silence_kept, silence_then}
+use Rattle.pgn_game.proofs.Words.{Writing, kind_of, device, ◌≡◌, None, Err, ap, subst, arith, refl, sym, ◌∙◌, false≢true, game_by, Kind, Mode, Profile, Reason, WriteFault, ReaderState, marker_of, CountsWrites, TakesUnwritten, is_nothing, mode_unless, Option, Written}
+use Rattle.pgn_game.proofs.ReaderLemmas.{game_alike, reader_fits}
+use Rattle.pgn_game.proofs.tokens.PutToAnswer.{entry_met}
+use Rattle.pgn_game.proofs.reader.ErrorReturned.{error_returned}
+use Rattle.pgn_game.proofs.game.Game.accept_unless_marker.Goals as goal
+
+-- where nothing is written, no write fails
+no_write : (old new : ReaderState) (k : Kind) (reason : Reason)
+    → TakesUnwritten old k new (Err reason) → reason ≡ WriteFault → marker_of k ≡ None
+no_write old new k reason takes is =
+    absurd (omega (
+      arith,
+      (subst (λ (r : Reason). CountsWrites (Err r) (record { before = None; after = None; failures = 0; failures_after = 0 })) is
+          (takes None 0).counted).1,
+    ))
+
+pub accept_outside-requires : goal.accept_outside-requires
+accept_outside-requires g c = (search reader_fits, rw (← c.self.view_is) at c.requires.few)
+
+pub returns-in_err-result-in-Some : goal.returns-in_err-result-in-Some
+returns-in_err-result-in-Some g c =
+    let w = c.self.inside.writer in
+    let takes = rw c.in_err-result-in-Some.was at (c.in-Some.ensures w) in
+    rw (error_returned _ c.from_residual.ensures.1, ← c.self.view_is)
+    (record {
+      takes = (takes _ _, no_write (game_by w c.self.inside.reader) _ _ _ takes);
+      silent = record { silent = refl; untouched = λ silent. refl };
+    })
+
+pub returns-in_ok-result-in-Some : goal.returns-in_ok-result-in-Some
+returns-in_ok-result-in-Some g c =
+    let takes = rw c.in_ok-result-in-Some.was at (c.in-Some.ensures c.self.inside.writer) in
+    rw (← c.self.view_is) (record { takes = takes _ _; silent = record { silent = refl; untouched = λ silent. refl } })
+
+pub take-requires : goal.take-requires
+take-requires g c =
+    let enters = c.in-None.ensures c.self.inside.writer in
+    let few = rw (← c.self.view_is) at c.requires.few in (
+      search game_alike,
+      (record { few = omega (arith, few, enters.plies); stage = enters.stage }, (λ is. absurd (false≢true is), c.requires.token)),
+    )
+
+pub returns-in-None : goal.returns-in-None
+returns-in-None g c =
+    let entry = c.take.ensures in
+    rw (← c.self.view_is)
+    (record {
+      takes = entry_met (game_by c.self.inside.writer c.self.inside.reader) _ _ (kind_of c.args.kind) _ _ (c.in-None.ensures c.self.inside.writer) entry.takes;
+      silent = record { silent = entry.silent.silent; untouched = entry.silent.untouched };
+    })

@@ -1,0 +1,153 @@
+use Rattle.pgn_game.proofs.Words.{◌≡◌, ap, arith, kind_of, refl, subst, sym, Event, Kind, Means, ReaderState, InMovetext, IsTrue, Bool, MayTakeMove, IsPlayed, may_have_movetext, game_by, Writer, Plays, Movetext, Parts, IsSomeAnd, Some, legal, Move, StoredLevels, ◌∙◌}
+use Rattle.pgn_game.specs.declared.event.Event.TheVariants as events
+use Rattle.pgn_game.specs.games.Game as games
+use Rattle.pgn_game.proofs.ReaderLemmas.{reader_fits}
+use Rattle.pgn_game.proofs.game.Game.take.Goals as goal
+
+-- a judged token leaves the stage
+stage_of : {old judge : ReaderState} {k : Kind} {e : Event} → Means old k judge e → IsTrue (may_have_movetext old.stage)
+    → IsTrue (may_have_movetext judge.stage)
+stage_of means may = rw means.after may
+
+begun_of : {old judge : ReaderState} {k : Kind} {e : Event} {begun : Bool} → Means old k judge e → (IsTrue begun → old.stage ≡ InMovetext)
+    → IsTrue begun → judge.stage ≡ InMovetext
+begun_of means is begun = ap (λ (r : ReaderState). r.stage) means.after ∙ is begun
+
+played_of : {old judge : ReaderState} {k : Kind} {m : Move} {n : _} → Means old k judge (events.Move m n) → IsPlayed judge m
+played_of {old} {judge} {k} {m} means =
+    rw means.text.levels means.text.leads
+
+pub accept_entry-requires : goal.accept_entry-requires
+accept_entry-requires g c =
+    let may = rw (← c.self.view_is) at c.requires.may in
+    (search reader_fits, (record { few = may.few; stage = may.stage }, c.requires.token))
+
+pub returns-in-Err : goal.returns-in-Err
+returns-in-Err g c =
+    let h = c.in-Err.ensures in
+    rw (← c.self.view_is)
+    (record {
+      takes = record { no_marker = h.no_marker; takes = h.takes c.self.inside.writer _ _ };
+      silent = record { silent = refl; untouched = λ silent. refl };
+    })
+
+pub returns-in-Ok-Marker : goal.returns-in-Ok-Marker
+returns-in-Ok-Marker g c =
+    let h = rw c.in-Ok-Marker.field-0-is at c.in-Ok-Marker.ensures in
+    rw (← c.self.view_is)
+    (record {
+      takes = record { is = h.is; same = ap (game_by c.self.inside.writer) h.same; unwritten = refl; still = refl };
+      silent = record { silent = refl; untouched = λ silent. refl };
+    })
+
+pub take_number-requires : goal.take_number-requires
+take_number-requires g c =
+    let may = rw (← c.self.view_is) at c.requires.may in
+    let begun = rw (← c.self.view_is) at c.requires.begun in
+    let h = rw c.in-Ok-Number.field-0-is at c.in-Ok-Number.ensures in
+    (search reader_fits, (stage_of h may.stage, begun_of h begun))
+
+pub returns-in-Ok-Number : goal.returns-in-Ok-Number
+returns-in-Ok-Number g c =
+    let may = rw (← c.self.view_is) at c.requires.may in
+    let h = rw c.in-Ok-Number.field-0-is at c.in-Ok-Number.ensures in
+    rw (← c.self.view_is) (c.take_number.ensures c.self.inside.reader (kind_of c.args.kind) events.Number h may.stage c.self.invariant
+    refl)
+
+pub take_move-requires : goal.take_move-requires
+take_move-requires g c =
+    let may = rw (← c.self.view_is) at c.requires.may in
+    let begun = rw (← c.self.view_is) at c.requires.begun in
+    let h = rw c.in-Ok-Move.field-0-is at c.in-Ok-Move.ensures in
+    (search reader_fits, (stage_of h may.stage, (begun_of h begun, (played_of h, h.fits.1))))
+
+pub returns-in-Ok-Move : goal.returns-in-Ok-Move
+returns-in-Ok-Move g c =
+    let may = rw (← c.self.view_is) at c.requires.may in
+    let h = rw c.in-Ok-Move.field-0-is at c.in-Ok-Move.ensures in
+    rw (← c.self.view_is) (c.take_move.ensures c.self.inside.reader (kind_of c.args.kind) (events.Move c.in-Ok-Move.mv c.in-Ok-Move.probes) h may.stage c.self.invariant
+    refl)
+
+pub take_glyph-requires : goal.take_glyph-requires
+take_glyph-requires g c =
+    let may = rw (← c.self.view_is) at c.requires.may in
+    let begun = rw (← c.self.view_is) at c.requires.begun in
+    let h = rw c.in-Ok-Glyph.field-0-is at c.in-Ok-Glyph.ensures in
+    (search reader_fits, (stage_of h may.stage, begun_of h begun))
+
+pub returns-in-Ok-Glyph : goal.returns-in-Ok-Glyph
+returns-in-Ok-Glyph g c =
+    let may = rw (← c.self.view_is) at c.requires.may in
+    let h = rw c.in-Ok-Glyph.field-0-is at c.in-Ok-Glyph.ensures in
+    rw (← c.self.view_is) (c.take_glyph.ensures c.self.inside.reader (kind_of c.args.kind) (events.Glyph c.in-Ok-Glyph.glyph) h may.stage c.self.invariant
+    (record { item = games.glyph c.in-Ok-Glyph.glyph; adds = refl; plain = refl; written = λ b p. refl; untried = refl; moves = λ o n m. m }))
+
+pub take_annotation-requires : goal.take_annotation-requires
+take_annotation-requires g c =
+    let may = rw (← c.self.view_is) at c.requires.may in
+    let begun = rw (← c.self.view_is) at c.requires.begun in
+    let h = rw c.in-Ok-CommentOpen.field-0-is at c.in-Ok-CommentOpen.ensures in
+    (search reader_fits, (stage_of h may.stage, (begun_of h begun, (record { not_empty = omega arith; fits = omega arith }))))
+
+pub returns-in-Ok-CommentOpen : goal.returns-in-Ok-CommentOpen
+returns-in-Ok-CommentOpen g c =
+    let may = rw (← c.self.view_is) at c.requires.may in
+    let h = rw c.in-Ok-CommentOpen.field-0-is at c.in-Ok-CommentOpen.ensures in
+    rw (← c.self.view_is) (c.take_annotation.ensures c.self.inside.reader (kind_of c.args.kind) events.CommentOpen h may.stage c.self.invariant
+    (record { item = games.comment_open; adds = refl; plain = refl; written = λ b p. refl; untried = refl; moves = λ o n m. m }))
+
+pub take_annotation-in-Ok-Word-requires : goal.take_annotation-in-Ok-Word-requires
+take_annotation-in-Ok-Word-requires g c =
+    let may = rw (← c.self.view_is) at c.requires.may in
+    let begun = rw (← c.self.view_is) at c.requires.begun in
+    let h = rw c.in-Ok-Word.field-0-is at c.in-Ok-Word.ensures in
+    (search reader_fits, (stage_of h may.stage, (begun_of h begun, h.fits)))
+
+pub returns-in-Ok-Word : goal.returns-in-Ok-Word
+returns-in-Ok-Word g c =
+    let may = rw (← c.self.view_is) at c.requires.may in
+    let h = rw c.in-Ok-Word.field-0-is at c.in-Ok-Word.ensures in
+    rw (← c.self.view_is) (c.take_annotation-in-Ok-Word.ensures c.self.inside.reader (kind_of c.args.kind) (events.Word c.in-Ok-Word.word) h may.stage c.self.invariant
+    (record { item = games.word c.in-Ok-Word.word.now; adds = refl; plain = refl; written = λ b p. refl; untried = refl; moves = λ o n m. m }))
+
+pub take_annotation-in-Ok-CommentClose-requires : goal.take_annotation-in-Ok-CommentClose-requires
+take_annotation-in-Ok-CommentClose-requires g c =
+    let may = rw (← c.self.view_is) at c.requires.may in
+    let begun = rw (← c.self.view_is) at c.requires.begun in
+    let h = rw c.in-Ok-CommentClose.field-0-is at c.in-Ok-CommentClose.ensures in
+    (search reader_fits, (stage_of h may.stage, (begun_of h begun, (record { not_empty = omega arith; fits = omega arith }))))
+
+pub returns-in-Ok-CommentClose : goal.returns-in-Ok-CommentClose
+returns-in-Ok-CommentClose g c =
+    let may = rw (← c.self.view_is) at c.requires.may in
+    let h = rw c.in-Ok-CommentClose.field-0-is at c.in-Ok-CommentClose.ensures in
+    rw (← c.self.view_is) (c.take_annotation-in-Ok-CommentClose.ensures c.self.inside.reader (kind_of c.args.kind) events.CommentClose h may.stage c.self.invariant
+    (record { item = games.comment_close; adds = refl; plain = refl; written = λ b p. refl; untried = refl; moves = λ o n m. m }))
+
+pub take_annotation-in-Ok-Open-requires : goal.take_annotation-in-Ok-Open-requires
+take_annotation-in-Ok-Open-requires g c =
+    let may = rw (← c.self.view_is) at c.requires.may in
+    let begun = rw (← c.self.view_is) at c.requires.begun in
+    let h = rw c.in-Ok-Open.field-0-is at c.in-Ok-Open.ensures in
+    (search reader_fits, (stage_of h may.stage, (begun_of h begun, (record { not_empty = omega arith; fits = omega arith }))))
+
+pub returns-in-Ok-Open : goal.returns-in-Ok-Open
+returns-in-Ok-Open g c =
+    let may = rw (← c.self.view_is) at c.requires.may in
+    let h = rw c.in-Ok-Open.field-0-is at c.in-Ok-Open.ensures in
+    rw (← c.self.view_is) (c.take_annotation-in-Ok-Open.ensures c.self.inside.reader (kind_of c.args.kind) events.Open h may.stage c.self.invariant
+    (record { item = games.open_variation; adds = refl; plain = refl; written = λ b p. refl; untried = refl; moves = λ o n m. m }))
+
+pub take_annotation-in-Ok-Close-requires : goal.take_annotation-in-Ok-Close-requires
+take_annotation-in-Ok-Close-requires g c =
+    let may = rw (← c.self.view_is) at c.requires.may in
+    let begun = rw (← c.self.view_is) at c.requires.begun in
+    let h = rw c.in-Ok-Close.field-0-is at c.in-Ok-Close.ensures in
+    (search reader_fits, (stage_of h may.stage, (begun_of h begun, (record { not_empty = omega arith; fits = omega arith }))))
+
+pub returns-in-Ok-Close : goal.returns-in-Ok-Close
+returns-in-Ok-Close g c =
+    let may = rw (← c.self.view_is) at c.requires.may in
+    let h = rw c.in-Ok-Close.field-0-is at c.in-Ok-Close.ensures in
+    rw (← c.self.view_is) (c.take_annotation-in-Ok-Close.ensures c.self.inside.reader (kind_of c.args.kind) events.Close h may.stage c.self.invariant
+    (record { item = games.close_variation; adds = refl; plain = refl; written = λ b p. refl; untried = refl; moves = λ o n m. m }))

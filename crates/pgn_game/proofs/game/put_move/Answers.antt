@@ -1,0 +1,56 @@
+use Rattle.pgn_game.proofs.Words.{◌≡◌, ℕ, Appends-nil, All-nil, Bool, IsToken, List, Parts, PutsTokens, ReaderState, Some, ap, arith, device, false, is_nothing, is_written, length, max, mode_of_written, refl, subst, sym, tokens_at, true, ◌∙◌}
+use Rattle.pgn_layout.specs.declared.sink.WriteFault.{WriteFault}
+use Rattle.pgn_game.specs.calls.MostTried.{CostsToWrite}
+use Rattle.pgn_game.specs.games.Game.{move}
+use Rattle.pgn_game.proofs.putting.ItemToMovetext.{not_silent}
+use Rattle.pgn_game.proofs.putting.SilentReader.{seen_if}
+use Rattle.pgn_game.proofs.game.put_move.Goals as goal
+
+pub returns-then-not-writes_move : goal.returns-then-not-writes_move
+returns-then-not-writes_move g c =
+    let m = c.args.mv.now in
+    let old = c.args.reader.now in
+    let left : is_written (mode_of_written c.args.writer.now.written) (length old.text.levels.around) (move m) ≡ false = sym (c.if-not-writes_move.ensures m) in
+    record {
+      tried = c.args.probes;
+      writes = λ here at. record {
+        puts = rw left (record { text = Appends-nil _; held = refl; each = All-nil IsToken; counted = refl });
+        writer = refl;
+        after = rw left refl;
+        tried = rw left refl;
+        rises = (omega arith, omega arith);
+      };
+      counts = λ held.
+          let same : old.most_probes ≡ max old.most_probes c.args.probes = omega (arith, held) in
+          ap (λ (n : ℕ). record old { most_probes = n }) same;
+      silent = λ silent. refl;
+    }
+
+pub returns : goal.returns
+returns g c =
+    let m = c.args.mv.now in
+    let old = c.args.reader.now in
+    let w = c.args.writer.now in
+    let written : is_written (mode_of_written w.written) (length old.text.levels.around) (move m) ≡ true = sym (c.if-not-writes_move.ensures m) in
+    let writes = not_silent w.written (length old.text.levels.around) (move m) written in
+    let put = c.put_move-put.ensures in
+    record {
+      tried = c.put_move-put.new.probes;
+      writes = λ here at.
+          let both : Some c.position_before.result.now ≡ Some here = sym c.position_before.ensures ∙ at in
+          let is : c.position_before.result.now ≡ here = cc both in
+          record {
+            puts = rw written
+                (seen_if (λ d. PutsTokens {A = Unit {0}} {E = WriteFault} (tokens_at w.is_after_move here (move m)) w.line c.put_move-put.new.self.line
+                c.put_move-put.result d) (is_nothing w.written) _ writes
+                (subst (λ (p : Parts). PutsTokens {A = Unit {0}} {E = WriteFault} (tokens_at w.is_after_move p (move m)) w.line c.put_move-put.new.self.line
+                c.put_move-put.result (device g.W.Sink.taken g.W.Sink.failures c.args.out.now c.put_move-put.new.out)) is put.puts));
+            writer = put.writer;
+            after = rw written put.after;
+            tried = rw written
+                (subst (λ (p : Parts). CostsToWrite true p (move m) c.args.probes c.put_move-put.new.probes) is put.tried);
+            rises = put.rises;
+          };
+      counts = λ held. c.count_probes.ensures;
+      silent = λ silent. absurd (cc (writes, silent));
+    }

@@ -1,0 +1,230 @@
+-- From what a marker is judged to what its game answers, once it is written or could not be.
+use Rattle.pgn_game.proofs.Words.{◌≡◌, ◌&&◌, ◌↔◌, ◌++◌, ℕ, Bool, true, false, IsTrue, List, [], Option, Some, Result, Ok, Err, OnOk, is_some, refl, sym, ap, subst, ◌∙◌, arith, rules, common_steps, Appends, AppendsFront, Writes, WritesText, Counts, Device, device, one_more, EndGame, Put, line_at, text_at, Kind, Marker, Reason, Stage, Between, AfterLeftBracket, AfterName, AfterValue, AfterTags, InMovetext, Pair, Part, ReaderState, ReaderCall, KeepsSilence, Writing, BeginsText, EndsAtMarker, RefusesMarker, FinishesAtMarker, IsOpen, ItemCall, LeavesSink, Mode, PutResult, PutsMarker, TakesMarker, Writer, WriteFault, bytes_seen, ending_if, failures_seen, game_by, is_nothing, known_of, line_behind, marker_of, marker_text, may_have_movetext, mode_of_written, mode_unless, section_due, section_due_of, section_unless, seen, tag_section, text_refusal, writing_of, Written}
+use Rattle.pgn_game.specs.declared.mode.Written.TheVariants.{Full, Reduced, Nothing}
+use Rattle.pgn_layout.specs.declared.sink.WriteFault.{WriteFault as Fault}
+use Rattle.pgn_game.specs.state.PutResult.{ended}
+use Rattle.pgn_game.proofs.putting.ItemToMovetext.{from_to}
+use Rattle.pgn_game.proofs.putting.MarkerToReader.{EndsText, ends_ill, ends_silent, ends_unbegun, ends_well, ending, finished_reader, to_game, writes_if_failed}
+use Rattle.pgn_game.proofs.putting.SilentReader.{seen_if, unseen}
+use Rattle.pgn_game.proofs.tokens.PairsTriedForToken.{marker_untried}
+use Rattle.pgn_game.proofs.tokens.PutToAnswer.{entry_refused, takes_marker}
+
+not_begun : (begun : Bool) → (IsTrue begun → ⊥) → begun ≡ false
+not_begun true no_more = absurd (no_more refl)
+not_begun false no_more = refl
+
+-- the section is missing, unless movetext has begun
+missing_is : (stage : Stage) (begun : Bool) (mode : Mode) (known : List ℕ) (ps : List Pair) → IsTrue begun ↔ (stage ≡ InMovetext)
+    → section_unless begun (tag_section mode known ps) ≡ section_due stage mode known ps
+missing_is InMovetext begun mode known ps is = rw (is.1 refl) refl
+missing_is Between begun mode known ps is = rw (not_begun begun (λ b. absurd (cc (is.0 b)))) refl
+missing_is AfterLeftBracket begun mode known ps is = rw (not_begun begun (λ b. absurd (cc (is.0 b)))) refl
+missing_is AfterName begun mode known ps is = rw (not_begun begun (λ b. absurd (cc (is.0 b)))) refl
+missing_is AfterValue begun mode known ps is = rw (not_begun begun (λ b. absurd (cc (is.0 b)))) refl
+missing_is AfterTags begun mode known ps is = rw (not_begun begun (λ b. absurd (cc (is.0 b)))) refl
+
+-- a writer that is not silent has a mode
+some_mode : (w : Written) (line marker : List ℕ) → is_nothing w ≡ false → ending_if (mode_of_written w) line marker ≡ ending line marker
+some_mode Full line marker is = refl
+some_mode Reduced line marker is = refl
+some_mode Nothing line marker is = absurd (cc)
+
+some_line : (w : Written) (line : List ℕ) → is_nothing w ≡ false → line_behind (mode_of_written w) line ≡ []
+some_line Full line is = refl
+some_line Reduced line is = refl
+some_line Nothing line is = absurd (cc)
+
+no_line : (w : Written) (line : List ℕ) → is_nothing w ≡ true → line_behind (mode_of_written w) line ≡ line
+no_line Full line is = absurd (cc)
+no_line Reduced line is = absurd (cc)
+no_line Nothing line is = refl
+
+at_marker : (k : Kind) (new : ReaderState) (r : Result (Unit {0}) Reason) → IsTrue (is_some (marker_of k)) → OnOk r (new.stage ≡ Between)
+    → FinishesAtMarker k new (ended r)
+at_marker k new (Ok done) is at = (is, at)
+at_marker k new (Err reason) is at = tt
+
+-- A row of the table rejects the marker.
+pub marker_refused : {S : Type 0} {taken : S → Option (List ℕ)} {failures : S → ℕ} {a : S} (w : Writer) (old new : ReaderState) (marker : Marker)
+    (reason : Reason) → RefusesMarker old marker new reason
+    → ReaderCall taken failures (game_by w old) (game_by w new) a a (TakesMarker (game_by w old) marker (game_by w new) (Err reason))
+marker_refused {taken} {failures} {a} w old new marker reason h =
+    subst (λ (r : ReaderState). ReaderCall taken failures (game_by w old) (game_by w r) a a (TakesMarker (game_by w old) marker (game_by w r) (Err reason)))
+    (sym h.same)
+    (record {
+      takes = record {
+        takes = λ k is. entry_refused (game_by w old) k reason _ _ h.inside (h.why w k _ is) (λ part. marker_untried part k (ap is_some is));
+        keeps = record { profile = refl; writing = refl; plies = omega arith; probes = omega arith };
+        between = tt;
+        counted = rw h.inside;
+      };
+      silent = record { silent = refl; untouched = λ silent. refl };
+    })
+
+-- The marker ends the game.
+module _ {S : Type 0} (taken : S → Option (List ℕ)) (failures : S → ℕ) (w begun_w : Writer) (old judge : ReaderState) (marker : Marker)
+    (h : EndsAtMarker old marker judge) (at : IsTrue (may_have_movetext old.stage)) (begun : Bool) (is : IsTrue begun ↔ (old.stage ≡ InMovetext)) (a b : S) where
+  abbrev game : ReaderState
+  game = game_by w old
+
+  abbrev first : Device
+  first = seen (is_nothing w.written) (device taken failures a b)
+
+  -- the section is that of the game before
+  section_is : section_unless begun (tag_section judge.profile.mode (known_of (game_by w judge)) judge.tags.held) ≡ section_due_of game
+  section_is =
+      ap (λ (r : ReaderState). section_unless begun (tag_section r.profile.mode (known_of (game_by w r)) r.tags.held)) h.after
+      ∙ missing_is old.stage begun old.profile.mode (known_of game) old.tags.held is
+
+  answers : (new : ReaderState) (d : Device) (r : Result (Unit {0}) Reason) → new.most_probes ≡ old.most_probes → OnOk r (new.stage ≡ Between)
+      → PutResult game (IsOpen game) (to_game marker) new (ended r) d → TakesMarker game marker new r d
+  answers new d r most between put = record {
+    takes = λ k kind. takes_marker game new k marker (ended r) d put (at_marker k new r (ap is_some kind) between) most kind (λ part op. h.free w k part kind op);
+    keeps = put.keeps;
+    between = between;
+    counted = put.counted;
+  }
+
+  module _ (writer : begun_w ≡ record w { is_after_move = begun && w.is_after_move }) where
+    pub unbegun_marker : (f : Fault)
+        → ItemCall w.written taken failures a b
+        (λ by d. WritesText d (Err f) (section_unless begun (tag_section judge.profile.mode (known_of (game_by w judge)) judge.tags.held)))
+        → ReaderCall taken failures game (game_by begun_w judge) a b (TakesMarker game marker (game_by begun_w judge) (Err WriteFault))
+    unbegun_marker f section =
+        let new = game_by begun_w judge in
+        let how : new.writing ≡ game.writing = ap writing_of writer in
+        let begins : BeginsText {A = Unit {0}} game new (Err f) first = record {
+          text = rw section_is at section.writes.written;
+          begun = tt;
+          profile = ap (λ (r : ReaderState). r.profile) h.after;
+          writing = how;
+          earlier = ap (λ (r : ReaderState). r.earlier_plies) h.after;
+          plies = ap (λ (r : ReaderState). r.text.plies) h.after;
+          probes = ap (λ (r : ReaderState). r.most_probes) h.after;
+          counted = section.writes.counted;
+        } in
+        record {
+          takes = answers new first (Err WriteFault) (ap (λ (r : ReaderState). r.most_probes) h.after) tt
+              (ends_unbegun game new marker f first (writes_if_failed (is_nothing w.written) _ _ section.writes.counted) at begins);
+          silent = record { silent = ap (λ (x : Writing). x.is_silent) how; untouched = section.silent };
+        }
+
+    module _ (section : ItemCall w.written taken failures a b (λ by d. WritesText {A = Unit {0}} {E = Fault} d (Ok tt)
+        (section_unless begun (tag_section judge.profile.mode (known_of (game_by w judge)) judge.tags.held)))) (new_w : Writer) (c : S)
+        (r : Result (Unit {0}) Fault) (put : ItemCall begun_w.written taken failures b c (λ by. PutsMarker by (marker_text marker) begun_w new_w r)) where
+      abbrev goes : ReaderState
+      goes = game_by new_w judge
+
+      abbrev whole : Device
+      whole = seen (is_nothing w.written) (device taken failures a c)
+
+      begins : BeginsText {A = Unit {0}} {E = Fault} game (record game { stage = InMovetext }) (Ok tt) first
+      begins = record {
+        text = subst (λ (t : List ℕ). Writes {A = Unit {0}} {E = Fault} first.before first.after (Ok tt) t) section_is section.writes.written;
+        begun = refl;
+        profile = refl;
+        writing = refl;
+        earlier = refl;
+        plies = refl;
+        probes = refl;
+        counted = section.writes.counted;
+      }
+
+      -- the marker was put by the writer before the section, but for its flag
+      as_before : ItemCall w.written taken failures b c
+          (λ by. PutsMarker by (marker_text marker) (record w { is_after_move = begun && w.is_after_move }) new_w r)
+      as_before = subst (λ (x : Writer). ItemCall x.written taken failures b c (λ by. PutsMarker by (marker_text marker) x new_w r)) writer put
+
+      how : goes.writing ≡ game.writing
+      how = ap writing_of as_before.writes.writer
+
+      goes_is : goes ≡ finished_reader new_w.line (marker_text marker) (record game { stage = InMovetext })
+      goes_is =
+          ap (game_by new_w) h.after
+          ∙ ap (λ (x : Writing). record old {
+            writing = x;
+            stage = Between;
+            text = record old.text { is_after_move = false };
+            line = new_w.line;
+            marker = marker_text marker;
+          }) how
+
+      most : goes.most_probes ≡ old.most_probes
+      most = ap (λ (r : ReaderState). r.most_probes) h.after
+
+      silence : KeepsSilence game goes a c
+      silence = record {
+        silent = ap (λ (x : Writing). x.is_silent) how;
+        untouched = λ silent. as_before.silent silent ∙ section.silent silent;
+      }
+
+      -- a game that is written
+      ends : is_nothing w.written ≡ false
+          → EndsText game (record game { stage = InMovetext }) marker (marker_text marker) (taken a) (taken b) (failures a) (failures b)
+      ends writes = record {
+        writes = writes;
+        begins = unseen (λ d. BeginsText {A = Unit {0}} {E = Fault} game (record game { stage = InMovetext }) (Ok tt) d) (is_nothing w.written)
+            (device taken failures a b) writes begins;
+        outside = h.outside;
+        spells = refl;
+        at = at;
+      }
+
+      plain_put : is_nothing w.written ≡ false
+          → PutsMarker (mode_of_written w.written) (marker_text marker) (record w { is_after_move = begun && w.is_after_move }) new_w r (device taken failures b c)
+      plain_put writes =
+          unseen (λ d. PutsMarker (mode_of_written w.written) (marker_text marker) (record w { is_after_move = begun && w.is_after_move }) new_w r d)
+          (is_nothing w.written) (device taken failures b c) writes as_before.writes
+
+    module _ (section : ItemCall w.written taken failures a b (λ by d. WritesText {A = Unit {0}} {E = Fault} d (Ok tt)
+        (section_unless begun (tag_section judge.profile.mode (known_of (game_by w judge)) judge.tags.held)))) (new_w : Writer) (c : S) where
+      pub marker_fails : (f : Fault) → ItemCall begun_w.written taken failures b c (λ by. PutsMarker {A = Unit {0}} by (marker_text marker) begun_w new_w (Err f))
+          → ReaderCall taken failures game (game_by new_w judge) a c (TakesMarker game marker (game_by new_w judge) (Err WriteFault))
+      marker_fails f put =
+          let before = as_before section new_w c (Err f) put in
+          let writes = writes_if_failed (is_nothing w.written) _ _ before.writes.counted in
+          let plain = plain_put section new_w c (Err f) put writes in
+          record {
+            takes = seen_if (λ d. TakesMarker game marker (game_by new_w judge) (Err WriteFault) d) (is_nothing w.written) (device taken failures a c) writes
+                (answers (game_by new_w judge) (device taken failures a c) (Err WriteFault) (most section new_w c (Err f) put) tt
+                (ends_ill game (record game { stage = InMovetext }) (game_by new_w judge) marker (marker_text marker) (taken a) (taken b) (taken c)
+                (failures a) (failures b) (failures c) (ends section new_w c (Err f) put writes)
+                (subst (λ (t : List ℕ). AppendsFront (taken b) (taken c) t) (some_mode w.written w.line (marker_text marker) writes) plain.text)
+                (goes_is section new_w c (Err f) put) plain.counted));
+            silent = silence section new_w c (Err f) put;
+          }
+
+      pub marker_taken : ItemCall begun_w.written taken failures b c (λ by. PutsMarker {A = Unit {0}} {E = Fault} by (marker_text marker) begun_w new_w (Ok tt))
+          → ReaderCall taken failures game (game_by new_w judge) a c (TakesMarker game marker (game_by new_w judge) (Ok tt))
+      marker_taken put = by (is_nothing w.written) refl
+        where
+          goes_on : PutResult game (IsOpen game) (to_game marker) (game_by new_w judge) (ended (Ok tt)) (seen (is_nothing w.written) (device taken failures a c))
+              → ReaderCall taken failures game (game_by new_w judge) a c (TakesMarker game marker (game_by new_w judge) (Ok tt))
+          goes_on result = record {
+            takes = answers (game_by new_w judge) (seen (is_nothing w.written) (device taken failures a c)) (Ok tt) (most section new_w c (Ok tt) put)
+                (ap (λ (r : ReaderState). r.stage) h.after) result;
+            silent = silence section new_w c (Ok tt) put;
+          }
+
+          by : (silent : Bool) → is_nothing w.written ≡ silent
+              → ReaderCall taken failures game (game_by new_w judge) a c (TakesMarker game marker (game_by new_w judge) (Ok tt))
+          by false writes =
+              let plain = plain_put section new_w c (Ok tt) put writes in
+              goes_on
+              (seen_if (λ d. PutResult game (IsOpen game) (to_game marker) (game_by new_w judge) (ended (Ok tt)) d) (is_nothing w.written)
+              (device taken failures a c) writes
+              (ends_well game (record game { stage = InMovetext }) (game_by new_w judge) marker (marker_text marker) (taken a) (taken b) (taken c)
+              (failures a) (failures b) (failures c) (ends section new_w c (Ok tt) put writes)
+              (subst (λ (t : List ℕ). Appends (taken b) (taken c) t) (some_mode w.written w.line (marker_text marker) writes) plain.text)
+              (goes_is section new_w c (Ok tt) put) (plain.line ∙ some_line w.written w.line writes) plain.counted))
+          by true silent =
+              let before = as_before section new_w c (Ok tt) put in
+              let line : new_w.line ≡ w.line = before.writes.line ∙ no_line w.written w.line silent in
+              let same_sink : c ≡ b = before.silent silent in
+              goes_on
+              (subst (λ (x : S). PutResult game (IsOpen game) (to_game marker) (game_by new_w judge) (ended (Ok tt)) (seen (is_nothing w.written) (device taken failures a x)))
+              (sym same_sink)
+              (ends_silent game (record game { stage = InMovetext }) (game_by new_w judge) marker (taken a) (taken b) (failures a) (failures b) silent at h.outside
+              (begins section new_w c (Ok tt) put)
+              (goes_is section new_w c (Ok tt) put
+              ∙ ap (λ (l : List ℕ). finished_reader l (marker_text marker) (record game { stage = InMovetext })) line)))
