@@ -53,7 +53,7 @@ marker_refused {taken} {failures} {a} w old new marker reason h =
     (sym h.same)
     (record {
       takes = record {
-        takes = λ k is. entry_refused (game_by w old) k reason _ _ h.inside (h.why w k _ is) (λ part. marker_untried part k (ap is_some is));
+        takes = λ k is. entry_refused (game_by w old) k reason _ _ h.inside (λ part. h.why w k part is) (λ part. marker_untried part k (ap is_some is));
         keeps = record { profile = refl; writing = refl; plies = omega arith; probes = omega arith };
         between = tt;
         counted = rw h.inside;
@@ -88,7 +88,7 @@ module _ {S : Type 0} (taken : S → Option (List ℕ)) (failures : S → ℕ) (
   module _ (writer : begun_w ≡ record w { is_after_move = begun && w.is_after_move }) where
     pub unbegun_marker : (f : Fault)
         → ItemCall w.written taken failures a b
-        (λ by d. WritesText d (Err f) (section_unless begun (tag_section judge.profile.mode (known_of (game_by w judge)) judge.tags.held)))
+        (λ by d. WritesText {A = Unit {0}} d (Err f) (section_unless begun (tag_section judge.profile.mode (known_of (game_by w judge)) judge.tags.held)))
         → ReaderCall taken failures game (game_by begun_w judge) a b (TakesMarker game marker (game_by begun_w judge) (Err WriteFault))
     unbegun_marker f section =
         let new = game_by begun_w judge in

@@ -1,5 +1,5 @@
 -- From what a token means to what its game answers, once it is written or could not be.
-use Rattle.pgn_game.proofs.Words.{◌≡◌, ◌&&◌, ◌||◌, not, None, Some, Parts, StoredLevels, IsAnnotation, IsWritable, ItemCall, MeetsEntry, PutsAnnotation, PutsMove, WritesMove, token_if, writes_annotations, ◌+◌, ◌<◌, ◌≤◌, ℕ, max, Bool, true, false, IsTrue, List, [], ◌∷◌, Option, Result, Ok, Err, OnOk, inl, inr, refl, sym, ap, subst, ◌∙◌, arith, rules, common_steps, le-max_left, length, Move, Movetext, Kind, Mode, Part, More, Event, InMovetext, Item, going, is_move, is_written, ReaderState, ReaderCall, KeepsSilence, LeavesSink, BeginsText, Means, IsOpen, TakesOther, Adds, PutsTokens, PutResult, Plays, Annotates, Writer, Writing, WriteFault, MovesText, after_move_at, after_move_if, bytes_seen, counting_probes, device, failures_seen, game_by, is_nothing, items_meant, may_have_movetext, mode_of_written, mode_unless, mode_written, one_more, pairs_meant, seen, sink_of, tokens_if, with_items, writing_of, Device, Keeps, Accepted, Reason, FinishesNone, AppendsFront, section_due_of}
+use Rattle.pgn_game.proofs.Words.{Profile, Written, Marker, TakesMeant, ◌≡◌, ◌&&◌, ◌||◌, not, None, Some, Parts, StoredLevels, IsAnnotation, IsWritable, ItemCall, MeetsEntry, PutsAnnotation, PutsMove, WritesMove, token_if, writes_annotations, ◌+◌, ◌<◌, ◌≤◌, ℕ, max, Bool, true, false, IsTrue, List, [], ◌∷◌, Option, Result, Ok, Err, OnOk, inl, inr, refl, sym, ap, subst, ◌∙◌, arith, rules, common_steps, le-max_left, length, Move, Movetext, Kind, Mode, Part, More, Event, InMovetext, Item, going, is_move, is_written, ReaderState, ReaderCall, KeepsSilence, LeavesSink, BeginsText, Means, IsOpen, TakesOther, Adds, PutsTokens, PutResult, Plays, Annotates, Writer, Writing, WriteFault, MovesText, after_move_at, after_move_if, bytes_seen, counting_probes, device, failures_seen, game_by, is_nothing, items_meant, may_have_movetext, mode_of_written, mode_unless, mode_written, one_more, pairs_meant, seen, sink_of, tokens_if, with_items, writing_of, Device, Keeps, Accepted, Reason, FinishesNone, AppendsFront, section_due_of}
 use Rattle.pgn_layout.specs.declared.sink.WriteFault.{WriteFault as Fault}
 use Rattle.pgn_game.specs.games.Game.{move}
 use Rattle.pgn_game.specs.state.ItemResult.{counted_at}
@@ -328,6 +328,24 @@ module _ {S : Type 0} (taken : S → Option (List ℕ)) (failures : S → ℕ) (
             item_fails new_w new (move m) c put.tried (ap items_meant is) (λ moves. rw counted fits.0) stage (reader_is (Err f) put)
             (ap writing_of at_here.writer) (plays_on m old.text judge.text played) (most_is (Err f) put) (omega (arith, counted, at_here.rises))
             (still_silent put.silent) (tries_move (Err f) put) f at_here.puts
+
+-- the profile is kept, and so what is written is still by its mode
+pub still_sound : {w new_w : Written} {old new : Profile} → mode_of_written w ≡ mode_unless (is_nothing w) old.mode
+    → new_w ≡ w → new ≡ old → mode_of_written new_w ≡ mode_unless (is_nothing new_w) new.mode
+still_sound sound written profile = rw (written, profile) sound
+
+profile_kept : (old new : ReaderState) (k : Kind) (r : Result (Option Marker) Reason) (d : Device) → MeetsEntry old k new r d → new.profile ≡ old.profile
+profile_kept old new k (Ok (Some marker)) d meets = ap (λ (r : ReaderState). r.profile) meets.same
+profile_kept old new k (Ok None) d meets = meets.takes.keeps.profile
+profile_kept old new k (Err reason) d meets = meets.takes.keeps.profile
+
+pub sound_after : {S : Type 0} {taken : S → Option (List ℕ)} {failures : S → ℕ} {judge new : ReaderState} {w new_w : Writer} {a b : S}
+    {r : Result (Option Marker) Reason} {Is : Event → Type 0} → TakesMeant taken failures judge new w new_w a b r Is
+    → (old : ReaderState) (k : Kind) (e : Event) → Means old k judge e → IsTrue (may_have_movetext old.stage)
+    → mode_of_written w.written ≡ mode_unless (is_nothing w.written) old.profile.mode → Is e
+    → mode_of_written new_w.written ≡ mode_unless (is_nothing new_w.written) new.profile.mode
+sound_after takes old k e means may sound is =
+    still_sound sound takes.written (profile_kept _ _ k _ _ (takes.takes old k e means may sound is).takes)
 
 -- what a game answers then
 module _ {S : Type 0} {taken : S → Option (List ℕ)} {failures : S → ℕ} {old new : ReaderState} {a b : S} {k : Kind} where

@@ -176,6 +176,7 @@ pub record WritesMove {S A E : Type 0} (taken : S → Option (List ℕ)) (failur
       → PutsMove (mode_of_written w_old.written) (length old.text.levels.around) here m w_old w_new
       pairs tried r (seen (is_nothing w_old.written) (device taken failures sink_old sink_new))
   pub counts : pairs ≤ old.most_probes → new ≡ counting_probes old tried
+  pub written : w_new.written ≡ w_old.written
   pub silent : LeavesSink (is_nothing w_old.written) sink_old sink_new
 
 -- An annotation that is written as this token: the item that it adds, which is no move.
@@ -189,11 +190,12 @@ pub record IsAnnotation (token : List ℕ) (e : Event) : Type 0 where
 
 -- A token of movetext that a reader has judged is taken by its game, or a write failed: whatever it
 -- means, if `Is` holds of that.
-abbrev pub TakesMeant : {S : Type 0} → (taken : S → Option (List ℕ)) → (failures : S → ℕ)
-    → (judge new : ReaderState) → (w_old w_new : Writer) → (sink_old sink_new : S)
-    → Result (Option Marker) Reason → (Is : Event → Type 0) → Type 0
-TakesMeant taken failures judge new w_old w_new sink_old sink_new r Is =
-    (old : ReaderState) (k : Kind) (e : Event) → Means old k judge e → IsTrue (may_have_movetext old.stage)
-    → mode_of_written w_old.written ≡ mode_unless (is_nothing w_old.written) old.profile.mode → Is e
-    → ReaderCall taken failures (game_by w_old old) (game_by w_new new) sink_old sink_new
-    (MeetsEntry (game_by w_old old) k (game_by w_new new) r)
+pub record TakesMeant {S : Type 0} (taken : S → Option (List ℕ)) (failures : S → ℕ)
+    (judge new : ReaderState) (w_old w_new : Writer) (sink_old sink_new : S)
+    (r : Result (Option Marker) Reason) (Is : Event → Type 0) : Type 0 where
+  pub written : w_new.written ≡ w_old.written
+  pub takes : (old : ReaderState) (k : Kind) (e : Event) → Means old k judge e
+      → IsTrue (may_have_movetext old.stage)
+      → mode_of_written w_old.written ≡ mode_unless (is_nothing w_old.written) old.profile.mode → Is e
+      → ReaderCall taken failures (game_by w_old old) (game_by w_new new) sink_old sink_new
+      (MeetsEntry (game_by w_old old) k (game_by w_new new) r)

@@ -1,4 +1,4 @@
-use Rattle.pgn_game.proofs.Words.{◌≡◌, ℕ, Appends-nil, All-nil, Bool, IsToken, List, Parts, PutsTokens, ReaderState, Some, ap, arith, device, false, is_nothing, is_written, length, max, mode_of_written, refl, subst, sym, tokens_at, true, ◌∙◌}
+use Rattle.pgn_game.proofs.Words.{Writer, ◌≡◌, ℕ, Appends-nil, All-nil, Bool, IsToken, List, Parts, PutsTokens, ReaderState, Some, ap, arith, device, false, is_nothing, is_written, length, max, mode_of_written, refl, subst, sym, tokens_at, true, ◌∙◌}
 use Rattle.pgn_layout.specs.declared.sink.WriteFault.{WriteFault}
 use Rattle.pgn_game.specs.calls.MostTried.{CostsToWrite}
 use Rattle.pgn_game.specs.games.Game.{move}
@@ -23,6 +23,7 @@ returns-then-not-writes_move g c =
       counts = λ held.
           let same : old.most_probes ≡ max old.most_probes c.args.probes = omega (arith, held) in
           ap (λ (n : ℕ). record old { most_probes = n }) same;
+      written = refl;
       silent = λ silent. refl;
     }
 
@@ -52,5 +53,6 @@ returns g c =
             rises = put.rises;
           };
       counts = λ held. c.count_probes.ensures;
+      written = ap (λ (w : Writer). w.written) put.writer;
       silent = λ silent. absurd (cc (writes, silent));
     }

@@ -1,5 +1,5 @@
 use Rattle.pgn_game.specs.state.PutResult.{TakesUnlessMarker as Unless}
-use Rattle.pgn_game.proofs.putting.SilentReader.{seen_alike, silence_kept, silence_then}
+use Rattle.pgn_game.proofs.putting.EventToGame.{still_sound}
 use Rattle.pgn_game.proofs.Words.{Writing, kind_of, device, ◌≡◌, None, Err, ap, subst, arith, refl, sym, ◌∙◌, false≢true, game_by, Kind, Mode, Profile, Reason, WriteFault, ReaderState, marker_of, CountsWrites, TakesUnwritten, is_nothing, mode_unless, Option, Written}
 use Rattle.pgn_game.proofs.ReaderLemmas.{game_alike, reader_fits}
 use Rattle.pgn_game.proofs.tokens.PutToAnswer.{entry_met}
@@ -18,6 +18,12 @@ no_write old new k reason takes is =
 
 pub accept_outside-requires : goal.accept_outside-requires
 accept_outside-requires g c = (search reader_fits, rw (← c.self.view_is) at c.requires.few)
+
+pub invariant_of-self : goal.invariant_of-self
+invariant_of-self g c = still_sound c.self.invariant refl (c.in-Some.ensures c.self.inside.writer None 0).keeps.profile
+
+pub invariant_of-self-in-Some : goal.invariant_of-self-in-Some
+invariant_of-self-in-Some g c = still_sound c.self.invariant refl (c.in-Some.ensures c.self.inside.writer None 0).keeps.profile
 
 pub returns-in_err-result-in-Some : goal.returns-in_err-result-in-Some
 returns-in_err-result-in-Some g c =

@@ -1,7 +1,8 @@
-use Rattle.pgn_game.proofs.Words.{◌≡◌, ap, arith, kind_of, refl, subst, sym, Event, Kind, Means, ReaderState, InMovetext, IsTrue, Bool, MayTakeMove, IsPlayed, may_have_movetext, game_by, Writer, Plays, Movetext, Parts, IsSomeAnd, Some, legal, Move, StoredLevels, ◌∙◌}
+use Rattle.pgn_game.proofs.Words.{None, ◌≡◌, ap, arith, kind_of, refl, subst, sym, Event, Kind, Means, ReaderState, InMovetext, IsTrue, Bool, IsPlayed, may_have_movetext, game_by, Writer, Plays, Movetext, Parts, IsSomeAnd, Some, legal, Move, StoredLevels, ◌∙◌}
 use Rattle.pgn_game.specs.declared.event.Event.TheVariants as events
 use Rattle.pgn_game.specs.games.Game as games
 use Rattle.pgn_game.proofs.ReaderLemmas.{reader_fits}
+use Rattle.pgn_game.proofs.putting.EventToGame.{sound_after, still_sound}
 use Rattle.pgn_game.proofs.game.Game.take.Goals as goal
 
 -- a judged token leaves the stage
@@ -21,6 +22,9 @@ pub accept_entry-requires : goal.accept_entry-requires
 accept_entry-requires g c =
     let may = rw (← c.self.view_is) at c.requires.may in
     (search reader_fits, (record { few = may.few; stage = may.stage }, c.requires.token))
+
+pub invariant_of-self : goal.invariant_of-self
+invariant_of-self g c = still_sound c.self.invariant refl (c.in-Err.ensures.takes c.self.inside.writer None 0).keeps.profile
 
 pub returns-in-Err : goal.returns-in-Err
 returns-in-Err g c =
@@ -51,8 +55,16 @@ pub returns-in-Ok-Number : goal.returns-in-Ok-Number
 returns-in-Ok-Number g c =
     let may = rw (← c.self.view_is) at c.requires.may in
     let h = rw c.in-Ok-Number.field-0-is at c.in-Ok-Number.ensures in
-    rw (← c.self.view_is) (c.take_number.ensures c.self.inside.reader (kind_of c.args.kind) events.Number h may.stage c.self.invariant
+    rw (← c.self.view_is)
+    (c.take_number.ensures.takes c.self.inside.reader (kind_of c.args.kind) events.Number h may.stage c.self.invariant
     refl)
+
+pub invariant_of-self-in-Ok-Number : goal.invariant_of-self-in-Ok-Number
+invariant_of-self-in-Ok-Number g c =
+    let may = rw (← c.self.view_is) at c.requires.may in
+    let h = rw c.in-Ok-Number.field-0-is at c.in-Ok-Number.ensures in
+    sound_after c.take_number.ensures c.self.inside.reader (kind_of c.args.kind) events.Number h may.stage c.self.invariant
+    refl
 
 pub take_move-requires : goal.take_move-requires
 take_move-requires g c =
@@ -65,8 +77,16 @@ pub returns-in-Ok-Move : goal.returns-in-Ok-Move
 returns-in-Ok-Move g c =
     let may = rw (← c.self.view_is) at c.requires.may in
     let h = rw c.in-Ok-Move.field-0-is at c.in-Ok-Move.ensures in
-    rw (← c.self.view_is) (c.take_move.ensures c.self.inside.reader (kind_of c.args.kind) (events.Move c.in-Ok-Move.mv c.in-Ok-Move.probes) h may.stage c.self.invariant
+    rw (← c.self.view_is)
+    (c.take_move.ensures.takes c.self.inside.reader (kind_of c.args.kind) (events.Move c.in-Ok-Move.mv c.in-Ok-Move.probes) h may.stage c.self.invariant
     refl)
+
+pub invariant_of-self-in-Ok-Move : goal.invariant_of-self-in-Ok-Move
+invariant_of-self-in-Ok-Move g c =
+    let may = rw (← c.self.view_is) at c.requires.may in
+    let h = rw c.in-Ok-Move.field-0-is at c.in-Ok-Move.ensures in
+    sound_after c.take_move.ensures c.self.inside.reader (kind_of c.args.kind) (events.Move c.in-Ok-Move.mv c.in-Ok-Move.probes) h may.stage c.self.invariant
+    refl
 
 pub take_glyph-requires : goal.take_glyph-requires
 take_glyph-requires g c =
@@ -79,8 +99,16 @@ pub returns-in-Ok-Glyph : goal.returns-in-Ok-Glyph
 returns-in-Ok-Glyph g c =
     let may = rw (← c.self.view_is) at c.requires.may in
     let h = rw c.in-Ok-Glyph.field-0-is at c.in-Ok-Glyph.ensures in
-    rw (← c.self.view_is) (c.take_glyph.ensures c.self.inside.reader (kind_of c.args.kind) (events.Glyph c.in-Ok-Glyph.glyph) h may.stage c.self.invariant
+    rw (← c.self.view_is)
+    (c.take_glyph.ensures.takes c.self.inside.reader (kind_of c.args.kind) (events.Glyph c.in-Ok-Glyph.glyph) h may.stage c.self.invariant
     (record { item = games.glyph c.in-Ok-Glyph.glyph; adds = refl; plain = refl; written = λ b p. refl; untried = refl; moves = λ o n m. m }))
+
+pub invariant_of-self-in-Ok-Glyph : goal.invariant_of-self-in-Ok-Glyph
+invariant_of-self-in-Ok-Glyph g c =
+    let may = rw (← c.self.view_is) at c.requires.may in
+    let h = rw c.in-Ok-Glyph.field-0-is at c.in-Ok-Glyph.ensures in
+    sound_after c.take_glyph.ensures c.self.inside.reader (kind_of c.args.kind) (events.Glyph c.in-Ok-Glyph.glyph) h may.stage c.self.invariant
+    (record { item = games.glyph c.in-Ok-Glyph.glyph; adds = refl; plain = refl; written = λ b p. refl; untried = refl; moves = λ o n m. m })
 
 pub take_annotation-requires : goal.take_annotation-requires
 take_annotation-requires g c =
@@ -93,11 +121,19 @@ pub returns-in-Ok-CommentOpen : goal.returns-in-Ok-CommentOpen
 returns-in-Ok-CommentOpen g c =
     let may = rw (← c.self.view_is) at c.requires.may in
     let h = rw c.in-Ok-CommentOpen.field-0-is at c.in-Ok-CommentOpen.ensures in
-    rw (← c.self.view_is) (c.take_annotation.ensures c.self.inside.reader (kind_of c.args.kind) events.CommentOpen h may.stage c.self.invariant
+    rw (← c.self.view_is)
+    (c.take_annotation.ensures.takes c.self.inside.reader (kind_of c.args.kind) events.CommentOpen h may.stage c.self.invariant
     (record { item = games.comment_open; adds = refl; plain = refl; written = λ b p. refl; untried = refl; moves = λ o n m. m }))
 
-pub take_annotation-in-Ok-Word-requires : goal.take_annotation-in-Ok-Word-requires
-take_annotation-in-Ok-Word-requires g c =
+pub invariant_of-self-in-Ok-CommentOpen : goal.invariant_of-self-in-Ok-CommentOpen
+invariant_of-self-in-Ok-CommentOpen g c =
+    let may = rw (← c.self.view_is) at c.requires.may in
+    let h = rw c.in-Ok-CommentOpen.field-0-is at c.in-Ok-CommentOpen.ensures in
+    sound_after c.take_annotation.ensures c.self.inside.reader (kind_of c.args.kind) events.CommentOpen h may.stage c.self.invariant
+    (record { item = games.comment_open; adds = refl; plain = refl; written = λ b p. refl; untried = refl; moves = λ o n m. m })
+
+pub take_annotation-requires-in-Ok-Word : goal.take_annotation-requires-in-Ok-Word
+take_annotation-requires-in-Ok-Word g c =
     let may = rw (← c.self.view_is) at c.requires.may in
     let begun = rw (← c.self.view_is) at c.requires.begun in
     let h = rw c.in-Ok-Word.field-0-is at c.in-Ok-Word.ensures in
@@ -107,11 +143,19 @@ pub returns-in-Ok-Word : goal.returns-in-Ok-Word
 returns-in-Ok-Word g c =
     let may = rw (← c.self.view_is) at c.requires.may in
     let h = rw c.in-Ok-Word.field-0-is at c.in-Ok-Word.ensures in
-    rw (← c.self.view_is) (c.take_annotation-in-Ok-Word.ensures c.self.inside.reader (kind_of c.args.kind) (events.Word c.in-Ok-Word.word) h may.stage c.self.invariant
+    rw (← c.self.view_is)
+    (c.take_annotation-in-Ok-Word.ensures.takes c.self.inside.reader (kind_of c.args.kind) (events.Word c.in-Ok-Word.word) h may.stage c.self.invariant
     (record { item = games.word c.in-Ok-Word.word.now; adds = refl; plain = refl; written = λ b p. refl; untried = refl; moves = λ o n m. m }))
 
-pub take_annotation-in-Ok-CommentClose-requires : goal.take_annotation-in-Ok-CommentClose-requires
-take_annotation-in-Ok-CommentClose-requires g c =
+pub invariant_of-self-in-Ok-Word : goal.invariant_of-self-in-Ok-Word
+invariant_of-self-in-Ok-Word g c =
+    let may = rw (← c.self.view_is) at c.requires.may in
+    let h = rw c.in-Ok-Word.field-0-is at c.in-Ok-Word.ensures in
+    sound_after c.take_annotation-in-Ok-Word.ensures c.self.inside.reader (kind_of c.args.kind) (events.Word c.in-Ok-Word.word) h may.stage c.self.invariant
+    (record { item = games.word c.in-Ok-Word.word.now; adds = refl; plain = refl; written = λ b p. refl; untried = refl; moves = λ o n m. m })
+
+pub take_annotation-requires-in-Ok-CommentClose : goal.take_annotation-requires-in-Ok-CommentClose
+take_annotation-requires-in-Ok-CommentClose g c =
     let may = rw (← c.self.view_is) at c.requires.may in
     let begun = rw (← c.self.view_is) at c.requires.begun in
     let h = rw c.in-Ok-CommentClose.field-0-is at c.in-Ok-CommentClose.ensures in
@@ -121,11 +165,19 @@ pub returns-in-Ok-CommentClose : goal.returns-in-Ok-CommentClose
 returns-in-Ok-CommentClose g c =
     let may = rw (← c.self.view_is) at c.requires.may in
     let h = rw c.in-Ok-CommentClose.field-0-is at c.in-Ok-CommentClose.ensures in
-    rw (← c.self.view_is) (c.take_annotation-in-Ok-CommentClose.ensures c.self.inside.reader (kind_of c.args.kind) events.CommentClose h may.stage c.self.invariant
+    rw (← c.self.view_is)
+    (c.take_annotation-in-Ok-CommentClose.ensures.takes c.self.inside.reader (kind_of c.args.kind) events.CommentClose h may.stage c.self.invariant
     (record { item = games.comment_close; adds = refl; plain = refl; written = λ b p. refl; untried = refl; moves = λ o n m. m }))
 
-pub take_annotation-in-Ok-Open-requires : goal.take_annotation-in-Ok-Open-requires
-take_annotation-in-Ok-Open-requires g c =
+pub invariant_of-self-in-Ok-CommentClose : goal.invariant_of-self-in-Ok-CommentClose
+invariant_of-self-in-Ok-CommentClose g c =
+    let may = rw (← c.self.view_is) at c.requires.may in
+    let h = rw c.in-Ok-CommentClose.field-0-is at c.in-Ok-CommentClose.ensures in
+    sound_after c.take_annotation-in-Ok-CommentClose.ensures c.self.inside.reader (kind_of c.args.kind) events.CommentClose h may.stage c.self.invariant
+    (record { item = games.comment_close; adds = refl; plain = refl; written = λ b p. refl; untried = refl; moves = λ o n m. m })
+
+pub take_annotation-requires-in-Ok-Open : goal.take_annotation-requires-in-Ok-Open
+take_annotation-requires-in-Ok-Open g c =
     let may = rw (← c.self.view_is) at c.requires.may in
     let begun = rw (← c.self.view_is) at c.requires.begun in
     let h = rw c.in-Ok-Open.field-0-is at c.in-Ok-Open.ensures in
@@ -135,11 +187,19 @@ pub returns-in-Ok-Open : goal.returns-in-Ok-Open
 returns-in-Ok-Open g c =
     let may = rw (← c.self.view_is) at c.requires.may in
     let h = rw c.in-Ok-Open.field-0-is at c.in-Ok-Open.ensures in
-    rw (← c.self.view_is) (c.take_annotation-in-Ok-Open.ensures c.self.inside.reader (kind_of c.args.kind) events.Open h may.stage c.self.invariant
+    rw (← c.self.view_is)
+    (c.take_annotation-in-Ok-Open.ensures.takes c.self.inside.reader (kind_of c.args.kind) events.Open h may.stage c.self.invariant
     (record { item = games.open_variation; adds = refl; plain = refl; written = λ b p. refl; untried = refl; moves = λ o n m. m }))
 
-pub take_annotation-in-Ok-Close-requires : goal.take_annotation-in-Ok-Close-requires
-take_annotation-in-Ok-Close-requires g c =
+pub invariant_of-self-in-Ok-Open : goal.invariant_of-self-in-Ok-Open
+invariant_of-self-in-Ok-Open g c =
+    let may = rw (← c.self.view_is) at c.requires.may in
+    let h = rw c.in-Ok-Open.field-0-is at c.in-Ok-Open.ensures in
+    sound_after c.take_annotation-in-Ok-Open.ensures c.self.inside.reader (kind_of c.args.kind) events.Open h may.stage c.self.invariant
+    (record { item = games.open_variation; adds = refl; plain = refl; written = λ b p. refl; untried = refl; moves = λ o n m. m })
+
+pub take_annotation-requires-in-Ok-Close : goal.take_annotation-requires-in-Ok-Close
+take_annotation-requires-in-Ok-Close g c =
     let may = rw (← c.self.view_is) at c.requires.may in
     let begun = rw (← c.self.view_is) at c.requires.begun in
     let h = rw c.in-Ok-Close.field-0-is at c.in-Ok-Close.ensures in
@@ -149,5 +209,13 @@ pub returns-in-Ok-Close : goal.returns-in-Ok-Close
 returns-in-Ok-Close g c =
     let may = rw (← c.self.view_is) at c.requires.may in
     let h = rw c.in-Ok-Close.field-0-is at c.in-Ok-Close.ensures in
-    rw (← c.self.view_is) (c.take_annotation-in-Ok-Close.ensures c.self.inside.reader (kind_of c.args.kind) events.Close h may.stage c.self.invariant
+    rw (← c.self.view_is)
+    (c.take_annotation-in-Ok-Close.ensures.takes c.self.inside.reader (kind_of c.args.kind) events.Close h may.stage c.self.invariant
     (record { item = games.close_variation; adds = refl; plain = refl; written = λ b p. refl; untried = refl; moves = λ o n m. m }))
+
+pub invariant_of-self-in-Ok-Close : goal.invariant_of-self-in-Ok-Close
+invariant_of-self-in-Ok-Close g c =
+    let may = rw (← c.self.view_is) at c.requires.may in
+    let h = rw c.in-Ok-Close.field-0-is at c.in-Ok-Close.ensures in
+    sound_after c.take_annotation-in-Ok-Close.ensures c.self.inside.reader (kind_of c.args.kind) events.Close h may.stage c.self.invariant
+    (record { item = games.close_variation; adds = refl; plain = refl; written = λ b p. refl; untried = refl; moves = λ o n m. m })
