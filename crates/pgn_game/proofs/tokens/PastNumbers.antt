@@ -2,8 +2,11 @@
 use Rattle.pgn_lexer.specs.Tokens.{period}
 use Rattle.pgn_lexer.specs.WholeTokens.{none}
 use Rattle.pgn_lexer.specs.declared.token.TokenKind.TheVariants as token_kinds
-use Rattle.pgn_game.proofs.Words.{length-drop, Bool, Marker, Kind, Token, Standing, waiting, InMovetext, ReaderState, Profile, Converter, Device, Reason, ◌≡◌, ℕ, ◌+◌, ◌*◌, ◌<◌, ◌≤◌, List, [], ◌++◌, length, take, drop, Option, None, Ok, IsTrue, refl, sym, ap, subst, ◌∙◌, arith, inl, Appends-nil, More, kind_of, TokenKind, Result, Accepted, may_have_movetext, TakesToken, Reaches, SoFar, first, StandsAfter, next_at, still, decided, symbol, Passes, is_passed, over_space, over_token, StepsOn, MeetsEntry, PutsItems, TakesEntry, TakesUnlessMarker, common_steps}
-use Rattle.pgn_game.proofs.ReaderLemmas.{enters, entry_in_movetext, entry_met, begun_before, puts_number, passes_entry, number_no_score, number_free, number_leads, number_untried}
+use Rattle.pgn_game.proofs.Words.{length-drop, Bool, Marker, Kind, Token, Standing, waiting, InMovetext, ReaderState, Profile, Converter, Device, Reason, ◌≡◌, ℕ, ◌+◌, ◌*◌, ◌<◌, ◌≤◌, List, [], ◌++◌, length, take, drop, Option, None, Ok, IsTrue, refl, sym, ap, subst, ◌∙◌, arith, inl, Appends-nil, More, kind_of, TokenKind, Result, Accepted, may_have_movetext, TakesToken, Reaches, SoFar, first, StandsAfter, next_at, still, decided, symbol, Passes, is_passed, over_space, over_token, StepsOn, MeetsEntry, Part, IsEntry, IsOpen, PutResult, CostsToFind, mode_written, going, in_text, text_refusal, with_items, TakesEntry, TakesUnlessMarker, common_steps}
+use Rattle.pgn_game.proofs.putting.ItemToReader.{begun_before, puts_number, to_items}
+use Rattle.pgn_game.proofs.tokens.PairsTriedForToken.{adds_none}
+use Rattle.pgn_game.proofs.tokens.PutToAnswer.{entry_met, takes_put}
+use Rattle.pgn_game.proofs.ReaderLemmas.{counting_none, enters, entry_in_movetext, number_no_score, number_free, number_leads, number_untried}
 use Rattle.pgn_game.proofs.tokens.AcceptedToConverter.{ends_within, follows_own, now_at, read_at, reads_token, still_none}
 use Rattle.pgn_game.proofs.tokens.MarkerToGame.{reads_none, reads_more}
 use Rattle.pgn_game.proofs.tokens.StepsInPiece.{before_any, follows_front, further, reads_on_none, so_far_on, reads_one, so_far_none, stands_here}
@@ -38,18 +41,27 @@ abbrev still_at : Option (List ℕ) → ℕ → Device
 still_at taken failures = record { before = taken; after = taken; failures = failures; failures_after = failures }
 
 -- in movetext such a token adds nothing
-puts_none : (r : ReaderState) (taken : Option (List ℕ)) (failures : ℕ) → r.stage ≡ InMovetext → PutsItems r [] r (Ok More) (still_at taken failures)
+puts_none : (r : ReaderState) (taken : Option (List ℕ)) (failures : ℕ) → r.stage ≡ InMovetext
+    → PutResult r (IsOpen r) (to_items []) r (Ok More) (still_at taken failures)
 puts_none r taken failures at =
     puts_number r r (still_at taken failures) (ap may_have_movetext at) (begun_before r (still_at taken failures) at (Appends-nil taken) refl)
+
+passes : (r : ReaderState) (k : Kind) (taken : Option (List ℕ)) (failures : ℕ) → r.stage ≡ InMovetext
+    → ((part : Part) → IsOpen r part → (text_refusal r.profile part k ≡ None) × (in_text part k ≡ going (with_items part [])))
+    → ((part : Part) → CostsToFind part k 0) → TakesEntry r k r (Ok More) (still_at taken failures)
+passes r k taken failures at says finds =
+    takes_put r (IsEntry r k) (IsOpen r) k 0 0 (counting_none r) (puts_none r taken failures at) tt (λ between. refl) (omega arith)
+    (λ part is. is.is_open)
+    (λ part is. (is.row ∙ (says part is.is_open).0, is.leads ∙ (says part is.is_open).1)) (λ part is. finds part)
+    (λ part is. adds_none (mode_written r) part)
 
 entry_passed : (r : ReaderState) (k : Kind) (taken : Option (List ℕ)) (failures : ℕ) → r.stage ≡ InMovetext → IsTrue (is_passed k)
     → TakesEntry r k r (Ok More) (still_at taken failures)
 entry_passed r (symbol text) taken failures at number =
     let score = number_no_score text number in
-    passes_entry r r (symbol text) (Ok More) (still_at taken failures) (puts_none r taken failures at)
+    passes r (symbol text) taken failures at
     (λ part is. (number_free r.profile part text number score, number_leads part text number score)) (λ part. number_untried part text number)
-entry_passed r period taken failures at h =
-    passes_entry r r period (Ok More) (still_at taken failures) (puts_none r taken failures at) (λ part is. (refl, refl)) (λ part. refl)
+entry_passed r period taken failures at h = passes r period taken failures at (λ part is. (refl, refl)) (λ part. refl)
 entry_passed r _ taken failures at h = absurd (cc)
 
 takes_in_movetext : (r new : ReaderState) (k : TokenKind) (answer : Result Accepted Reason) (d : Device) → r.stage ≡ InMovetext

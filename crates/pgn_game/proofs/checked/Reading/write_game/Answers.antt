@@ -1,5 +1,5 @@
 use Rattle.pgn_game.proofs.Words.{◌≡◌, seen, Device, ℕ, List, Option, Profile, Token, counting, marker_text, Converter, Reading, as_written, ap, refl, sym, ◌∙◌, device, sink_of, CountsFault, EndsGame, IsStill, KeepsSilence, false, Err, [], AfterMarker, ReadsUpToMarker, StandsBetween}
-use Rattle.pgn_game.proofs.ReaderFitsInMemory.{reading_fits_converter}
+use Rattle.pgn_game.proofs.ReaderFitsInMemory.{reading_alike, reading_fits_converter}
 use Rattle.pgn_game.proofs.putting.SilentReader.{seen_alike, silence_then}
 use Rattle.pgn_game.proofs.twice.FailuresOfSteps.{behind_still, counts_changed, reader_reason}
 use Rattle.pgn_game.proofs.twice.GamesOfReadings.{ends_before, game_written, marker_differs, marker_refused_second, second_fails, announced_by, announced_reading}
@@ -40,6 +40,11 @@ module _ (g : Over) (c : After-read_to_marker g) where
 
 pub announce_marker-requires : goal.announce_marker-requires
 announce_marker-requires g c = search reading_fits_converter
+
+pub read_to_marker-requires : goal.read_to_marker-requires
+read_to_marker-requires g c =
+    let going = rw (← c.self.view_is) at c.requires.going in
+    (search reading_alike, rw c.announce_marker.ensures (record { no_fault = going.no_fault; not_finished = going.not_finished }))
 
 pub count-requires : goal.count-requires
 count-requires g c = search reading_fits_converter
