@@ -90,11 +90,7 @@ IsOutside LineStart = Unit {0}
 IsOutside Outside = Unit {0}
 IsOutside _ = ⊥
 
--- how many bytes a run used that a step ended, and what it has reached then
-abbrev pub used_after : ByteResult → ℕ → ℕ
-used_after (EndsBefore form) used = used
-used_after _ used = used + 1
-
+-- what a run has reached that a step ended
 abbrev pub reached_after : ByteResult → PieceResult
 reached_after Used = reached.End
 reached_after (Ends form) = reached.Token form

@@ -3,7 +3,7 @@ use Rattle.pgn_lexer.specs.ByteResult.{brace, line, symbol, word}
 use Rattle.pgn_lexer.specs.declared.partial_token.LexMode.TheVariants.{Dollar, Suffix}
 use Rattle.pgn_lexer.specs.PartialToken.{HasRoom}
 use Rattle.pgn_lexer.specs.declared.partial_token.LexMode.TheVariants as modes
-use Rattle.pgn_lexer.proofs.Words.{Close, Closes, gap_of, is_blank, is_line_end, is_space, AfterBackslash, Text, IsInText, bytes_of, longest_of, is_in, is_plain, continues_word, length-append, is_escaped, ◌≡◌, Bool, ℕ, suc, ◌+◌, ◌-◌, ◌*◌, ◌<◌, ◌≤◌, inl, inr, List, [], ◌∷◌, ◌++◌, length, get_or, take, drop, refl, sym, ap, ◌∙◌, add-one, arith, ◌⊎◌, true, false, Some, take_all, drop-cons, LexFault, LexMode, LexReason, Class, CommentClass, StringClass, Outside, Symbol, Str, BraceWord, Failed, continues_symbol, is_digit, is_suffix, class, comment_class, string_class, TokenForm, ByteResult, Used, Ends, EndsBefore, Fault, PartialToken, tokens_to_come, token_of, IsSound, HasNotFailed, pending, fault_met, fault_in_mode, begin, begin_line, string, into, after_byte, IsAfterByte, IsOutside, Ran, RunsOut, StoodAt, RunGives, RunsToToken, RunsToFault, used_after, reached_after, common_steps, AfterByte, glyph_of, second_suffix, comment_mode, SuffixRun, Glyph, LineWord}
+use Rattle.pgn_lexer.proofs.Words.{Close, Closes, gap_of, is_blank, is_line_end, is_space, AfterBackslash, Text, IsInText, bytes_of, longest_of, is_in, is_plain, continues_word, length-append, is_escaped, ◌≡◌, Bool, ℕ, suc, ◌+◌, ◌-◌, ◌*◌, ◌<◌, ◌≤◌, inl, inr, List, [], ◌∷◌, ◌++◌, length, get_or, take, drop, refl, sym, ap, ◌∙◌, add-one, arith, ◌⊎◌, true, false, Some, take_all, drop-cons, LexFault, LexMode, LexReason, Class, CommentClass, StringClass, Outside, Symbol, Str, BraceWord, Failed, continues_symbol, is_digit, is_suffix, class, comment_class, string_class, TokenForm, ByteResult, Used, Ends, EndsBefore, Fault, PartialToken, tokens_to_come, token_of, IsSound, HasNotFailed, pending, fault_met, fault_in_mode, begin, begin_line, string, into, after_byte, IsAfterByte, IsOutside, Ran, RunsOut, StoodAt, RunsToToken, RunsToFault, common_steps, AfterByte, glyph_of, second_suffix, comment_mode, SuffixRun, Glyph, LineWord}
 use Rattle.pgn_lexer.proofs.stepping.StepGives.{StepGives, front_of}
 use Rattle.pgn_lexer.proofs.stepping.ByteGives.{step_gives}
 
@@ -100,7 +100,7 @@ module _ (place : ℕ) (old : PartialToken) (piece : List ℕ) (h : PartialToken
         });
       }
 
-  ran_fails : (reason : LexReason) (new : PartialToken) → IsAfterByte (after_byte (place + i) h b) new (Fault reason)
+  pub ran_fails : (reason : LexReason) (new : PartialToken) → IsAfterByte (after_byte (place + i) h b) new (Fault reason)
       → RunsToFault place old piece (fault_met reason new) new (i + 1)
   ran_fails reason new t =
       let g = takes_gives _ h b new _ ran.sound t in
@@ -112,10 +112,6 @@ module _ (place : ℕ) (old : PartialToken) (piece : List ℕ) (h : PartialToken
         some = λ _. omega arith;
         comes = λ s. longer s ∙ g.comes s;
       }
-
-  pub ran_stops : (answer : ByteResult) (new : PartialToken) → (answer ≡ Used → ⊥) → IsAfterByte (after_byte (place + i) h b) new answer
-      → RunGives place old piece new (used_after answer i) (reached_after answer)
-  ran_stops answer new h1 h2 = grind (arith, ran_ends, ran_ends_before, ran_fails)
 
 takes_symbol : (place b : ℕ) (h new : PartialToken) (answer : ByteResult) → h.mode ≡ Symbol → IsAfterByte (symbol h b) new answer
     → IsAfterByte (after_byte place h b) new answer

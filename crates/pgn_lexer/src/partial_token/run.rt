@@ -1,7 +1,6 @@
 //! Reads a piece byte by byte, up to the end of a token, and copies the bytes of its text.
 
 ghost use Rattle.std.specs.Prelude.{◌≡◌, ℕ, ◌+◌, ◌<◌, ◌≤◌, ◌^◌, length};
-ghost use Rattle.pgn_lexer.specs.RunResult.{used_after, reached_after};
 
 use crate::class::is_in;
 use crate::partial_token::{ByteResult, LexMode, PartialToken, PieceResult, Text};
@@ -43,7 +42,9 @@ impl PartialToken {
         while used < piece.len() {
             match self.take(piece[used], place + used as u64) {
                 ByteResult::Used => used = self.copy_text(piece, used + 1, place),
-                step => return ended(step, used),
+                ByteResult::Ends(form) => return (used + 1, PieceResult::Token(form)),
+                ByteResult::EndsBefore(form) => return (used, PieceResult::Token(form)),
+                ByteResult::Fault(reason) => return (used + 1, PieceResult::Fault(reason)),
             }
         }
         (used, PieceResult::End)
@@ -103,19 +104,5 @@ impl PartialToken {
             used += 1;
         }
         used
-    }
-}
-
-/// The result of reading a piece, after so many bytes and the step that ended it.
-fn ended(step: ByteResult, used: usize) -> (usize, PieceResult)
-    requires { used < 2 ^ 63 }
-    ensures used { result.0 ≡ used_after step used }
-    ensures reached { result.1 ≡ reached_after step }
-{
-    match step {
-        ByteResult::Used => (used + 1, PieceResult::End),
-        ByteResult::Ends(form) => (used + 1, PieceResult::Token(form)),
-        ByteResult::EndsBefore(form) => (used, PieceResult::Token(form)),
-        ByteResult::Fault(reason) => (used + 1, PieceResult::Fault(reason)),
     }
 }

@@ -21,14 +21,6 @@ use crate::token::{Token, TokenKind};
 /// No byte of white space, of a number or of a period is above this one.
 const LAST_PASSED: u8 = b'9';
 
-/// A token with which the bytes begin, how many of them it has, and the mode behind it.
-#[derive(Clone, Copy)]
-struct Whole<'a> {
-    length: usize,
-    mode: LexMode,
-    kind: TokenKind<'a>,
-}
-
 impl PartialToken {
     ghost use Rattle.pgn_lexer.specs.PartialToken.{IsSound};
     ghost use Rattle.pgn_lexer.specs.RunResult.{IsOutside};
@@ -83,15 +75,12 @@ impl PartialToken {
             (standing_at (place + result.0) self.new) result.0 result.1 }
     {
         let passed = self.pass(piece, place, skips_numbers);
-        let Some(whole) = whole_at(&piece[passed..]) else {
+        let Some((length, mode, kind)) = whole_at(&piece[passed..]) else {
             return (passed, None);
         };
-        self.mode = whole.mode;
-        let token = Token {
-            at: place + passed as u64,
-            kind: whole.kind,
-        };
-        (passed + whole.length, Some(token))
+        self.mode = mode;
+        let at = place + passed as u64;
+        (passed + length, Some(Token { at, kind }))
     }
 
     /// Passes white space, and numbers and periods if these are skipped. Returns how many bytes
@@ -179,14 +168,13 @@ impl PartialToken {
     }
 }
 
-// The token with which the bytes begin, outside comments. `None` if it may go on behind them, has
-// an escape, or is rejected.
+// The length of the token with which the bytes begin, outside comments, the mode behind it, and its
+// kind. `None` if it may go on behind the bytes, has an escape, or is rejected.
 #[inline(always)]
-fn whole_at(piece: &[u8]) -> Option<Whole<'_>>
-    ensures whole { IfSome result (λ whole. IsWhole piece.now whole.length whole.mode
-        (kind_of whole.kind)) }
-    ensures not_passed { BeginsUnpassed piece.now → IfSome result
-        (λ whole. IsFalse (is_passed (kind_of whole.kind))) }
+fn whole_at(piece: &[u8]) -> Option<(usize, LexMode, TokenKind<'_>)>
+    ensures whole { IfSome result (λ r. IsWhole piece.now r.0 r.1 (kind_of r.2)) }
+    ensures not_passed { BeginsUnpassed piece.now
+        → IfSome result (λ r. IsFalse (is_passed (kind_of r.2))) }
 {
     if piece.is_empty() {
         return None;
@@ -195,11 +183,7 @@ fn whole_at(piece: &[u8]) -> Option<Whole<'_>>
         Class::SymbolStart => {
             let length = run_length(piece, Set::Symbol, LONGEST_TEXT)?;
             let kind = TokenKind::Symbol(&piece[..length]);
-            Some(Whole {
-                length,
-                mode: LexMode::Outside,
-                kind,
-            })
+            Some((length, LexMode::Outside, kind))
         }
         Class::Quote => {
             let end = run_length(piece, Set::Data, LONGEST_TEXT + 1)?;
@@ -207,54 +191,19 @@ fn whole_at(piece: &[u8]) -> Option<Whole<'_>>
                 return None;
             }
             let kind = TokenKind::Str(&piece[1..end]);
-            Some(Whole {
-                length: end + 1,
-                mode: LexMode::Outside,
-                kind,
-            })
+            Some((end + 1, LexMode::Outside, kind))
         }
         Class::Dollar => {
             let (length, number) = glyph_in(piece)?;
-            let kind = TokenKind::Glyph(number);
-            Some(Whole {
-                length,
-                mode: LexMode::Outside,
-                kind,
-            })
+            Some((length, LexMode::Outside, TokenKind::Glyph(number)))
         }
         Class::Suffix => {
             let (length, number) = suffix_in(piece)?;
-            let kind = TokenKind::Glyph(number);
-            Some(Whole {
-                length,
-                mode: LexMode::Outside,
-                kind,
-            })
+            Some((length, LexMode::Outside, TokenKind::Glyph(number)))
         }
-        Class::OpenBrace => {
-            let kind = TokenKind::CommentOpen;
-            Some(Whole {
-                length: 1,
-                mode: LexMode::Brace,
-                kind,
-            })
-        }
-        Class::Semicolon => {
-            let kind = TokenKind::CommentOpen;
-            Some(Whole {
-                length: 1,
-                mode: LexMode::Line,
-                kind,
-            })
-        }
-        Class::Alone(single) => {
-            let kind = kind_of_single(single);
-            Some(Whole {
-                length: 1,
-                mode: LexMode::Outside,
-                kind,
-            })
-        }
+        Class::OpenBrace => Some((1, LexMode::Brace, TokenKind::CommentOpen)),
+        Class::Semicolon => Some((1, LexMode::Line, TokenKind::CommentOpen)),
+        Class::Alone(single) => Some((1, LexMode::Outside, kind_of_single(single))),
         Class::LineEnd | Class::Space | Class::Percent | Class::Refused(_) => None,
     }
 }

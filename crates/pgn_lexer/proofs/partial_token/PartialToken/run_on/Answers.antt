@@ -1,14 +1,18 @@
 use Rattle.pgn_lexer.proofs.Words.{refl, arith}
-use Rattle.pgn_lexer.proofs.stepping.PieceByByte.{ran_out, ran_uses, ran_stops}
+use Rattle.pgn_lexer.proofs.stepping.PieceByByte.{ran_ends, ran_ends_before, ran_fails, ran_out, ran_uses}
 use Rattle.pgn_lexer.proofs.partial_token.PartialToken.run_on.Goals as goal
 
 pub loop-used-init : goal.loop-used-init
 loop-used-init c = record { within = omega arith; ran = λ old ran. ran }
 
-pub returns-in_default : goal.returns-in_default
-returns-in_default c = λ old ran.
-    rw (c.ended.ensures.used, c.ended.ensures.reached)
-    (ran_stops _ old _ _ _ _ (omega arith) refl (c.loop-used.invariant.ran old ran) _ _ c.in_default.not-Used c.take.ensures)
+pub returns-in-Ends : goal.returns-in-Ends
+returns-in-Ends c = λ old ran. ran_ends _ old _ _ _ _ (omega arith) refl (c.loop-used.invariant.ran old ran) _ _ c.in-Ends.ensures
+
+pub returns-in-EndsBefore : goal.returns-in-EndsBefore
+returns-in-EndsBefore c = λ old ran. ran_ends_before _ old _ _ _ _ (omega arith) refl (c.loop-used.invariant.ran old ran) _ _ c.in-EndsBefore.ensures
+
+pub returns-in-Fault : goal.returns-in-Fault
+returns-in-Fault c = λ old ran. ran_fails _ old _ _ _ _ (omega arith) refl (c.loop-used.invariant.ran old ran) _ _ c.in-Fault.ensures
 
 pub loop-used-preserved : goal.loop-used-preserved
 loop-used-preserved c = record {

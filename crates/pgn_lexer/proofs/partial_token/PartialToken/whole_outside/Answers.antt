@@ -9,7 +9,7 @@ pub returns-clause-reads : goal.returns-clause-reads
 returns-clause-reads c =
     let passed = c.pass-passed.ensures in
     subst (λ h. ReadsBehind c.args.skips_numbers (standing_at c.args.place c.args.self.now) c.args.piece.now
-    (standing_at (c.args.place + (c.pass-passed.result + c.in-Some.whole.length)) h) (c.pass-passed.result + c.in-Some.whole.length)
-    (record { at = c.args.place + c.pass-passed.result; kind = kind_of c.in-Some.whole.kind }))
-    (sym (ap (λ h. into_mode h c.in-Some.whole.mode) c.self.view_is))
+    (standing_at (c.args.place + (c.pass-passed.result + c.in-Some.length)) h) (c.pass-passed.result + c.in-Some.length)
+    (record { at = c.args.place + c.pass-passed.result; kind = kind_of c.in-Some.kind }))
+    (sym (ap (λ h. into_mode h c.in-Some.mode) c.self.view_is))
     (reads_whole _ _ _ _ _ _ passed.passes passed.outside passed.room _ _ _ (rw take_rest at c.in-Some.ensures.whole) (λ skipped. rw take_rest at c.in-Some.ensures.not_passed (passed.stops skipped)))

@@ -34,7 +34,7 @@ returns-in-Semicolon c = record {
 pub returns-in-Alone : goal.returns-in-Alone
 returns-in-Alone c =
     let is = sym c.class_of.ensures ∙ c.in-Alone.is in
-    rw c.kind_of_single-kind.ensures
+    rw c.kind_of_single.ensures
     (record {
       whole = whole_single _ (Alone _) LexMode.Outside (TokenForm.Single _) (some _ c.if-is_empty.ensures) is tt (λ _ _. refl) (λ _ _. refl) _ (λ _ _. refl);
       not_passed = λ unpassed. single_unpassed _ _ is unpassed.no_period;
