@@ -204,12 +204,11 @@ class Names(unittest.TestCase):
         for old, new, missing in (
             ("        self.levels.depth()\n", "        self.levels.around()\n",
              ["around of Levels"]),
-            ("        self.levels.has_own_move()\n", "        self.level.has_own_move()\n",
-             ["level of Movetext"]),
-            ("        self.levels.has_own_move()\n", "        Self::nothing(self.levels)\n",
-             ["nothing of Movetext"]),
+            ("        self.levels.depth()\n", "        self.level.depth()\n", ["level of Reader"]),
+            ("        self.levels.depth()\n", "        Self::nothing(self.levels)\n",
+             ["nothing of Reader"]),
         ):
-            self.assertEqual(self.planted("pgn_game", "movetext.rt", old, new), missing, new)
+            self.assertEqual(self.planted("pgn_game", "reader.rt", old, new), missing, new)
 
 
 HEAD = "edit: lib-f-is-wrong\nguards: f, text\nfile: src/lib.rt\n"

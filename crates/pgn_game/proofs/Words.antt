@@ -43,11 +43,11 @@ pub use Rattle.pgn_game.specs.games.FaultTable.{Row, fen_fault_field, fen_field,
 unfoldable pub use Rattle.pgn_game.specs.games.FaultTable.{refusal}
 pub use Rattle.pgn_game.specs.laws.Filled.{exported_pairs, filled}
 pub use Rattle.pgn_game.specs.laws.FixedPoint.{AreExportable, ExportIsKept, ExportIsKeptOfSource, ExportingTwice, FewPairsHaveRoom, FixedPoint, IsExportable, IsWrittenAgain, SameOutput, SameText, SliceIsKept, SourceIsKept, TagSectionFits, TextSpells, counted, games_in}
-pub use Rattle.pgn_game.specs.state.ItemResult.{Adds, Annotates, ItemCall, LeadsLevels, Plays, PutsAnnotation, PutsMarker, PutsMove, PutsTokens, TriesItem, after_move_if, ending_if, line_behind, token_if, writes_annotations, item_text, number_due, plies_in, tokens_due, tokens_if, LeavesSink}
+pub use Rattle.pgn_game.specs.state.ItemResult.{Adds, Annotates, ItemCall, LeadsLevels, Plays, PutsAnnotation, PutsMarker, PutsMove, PutsTokens, TriesItem, after_move_if, ending_if, line_behind, token_if, writes_annotations, item_text, plies_in, tokens_if, LeavesSink}
 pub use Rattle.pgn_game.specs.games.Levels.{Level, Levels, back_to, depth, first_level, here, last_position, levels_after, levels_of, main_moves, outermost, plies_of, replayed, start_of, without_last}
 pub use Rattle.pgn_game.specs.games.Markers.{marker_text, missing_of}
 pub use Rattle.pgn_game.specs.calls.Written.{bytes_seen, failures_seen, is_nothing, mode_of_written, mode_unless, seen}
-pub use Rattle.pgn_game.specs.state.Movetext.{HoldsLineOf, ClosesLevel, FitsLevelStore, HoldsItems, Movetext, StoredLevel, StoredLevels, before_last, code_levels, ends_in_move, inside, level_at, level_of, movetext_after_fen, movetext_from, nearest_first, only_level, places_of, stored_level, stored_levels}
+pub use Rattle.pgn_game.specs.state.Movetext.{HoldsLineOf, ClosesLevel, FitsLevelStore, HoldsItems, Movetext, StoredLevel, StoredLevels, before_last, code_levels, ends_in_move, inside, level_at, level_of, movetext_after_fen, movetext_from, nearest_first, places_of, stored_level, stored_levels}
 pub use Rattle.pgn_game.specs.games.Progress.{Next, Progress, Read, at_stage, going, in_text, items_of, move_item, next, next_in, no_progress, output, progress_after, progress_with, read, read_from, refused, totals, verdict, whole, due, verdict_of, written as written_so_far, position_at_fault}
 pub use Rattle.pgn_game.specs.state.PutResult.{BeginsText, Goes, Keeps, PutResult, TakesOutside, TakesToken, at_game_start, gain_to, section_due, section_due_of, CountsMove, EntersMovetext, Finds, FinishesNone, GoesTo, Takes, TakesEntry, TakesUnwritten, counting_probes, unused, MeetsEntry, MeetsMarker, TakesMarker, TakesOther, TakesUnlessMarker, continued}
 pub use Rattle.pgn_game.specs.state.ReaderState.{KeepsSilence, Writing, mode_written, silenced, sink_of, with_announced, Accepted, More, Finished, Agrees, AreSound, CountsWrites, FinishesAtMarker, HoldsPairs, HoldsText, IsBehind, ReaderState, as_written, is_outside_the_table, known_of, known_text, plies_of_finished_games, Answers, IsAccepted, IsKnown, IsStopped, Leads, plies_added, ReaderCall}
@@ -96,7 +96,7 @@ pub use Rattle.pgn_lexer.specs.declared.token.LexFault.{LexFault}
 pub use Rattle.pgn_game.specs.laws.GameEnds.{EndsByMarker, GamesEndByMarker, LastGame, TextsEndBehindMarker, TextsEndBetweenGames}
 pub use Rattle.pgn_game.specs.declared.event.Event.{Event}
 pub use Rattle.pgn_game.specs.declared.writer.Writer.{Writer}
-pub use Rattle.pgn_game.specs.state.Judged.{EndsAtMarker, IsAnnotation, IsPlayed, IsWritable, Judges, JudgesBefore, JudgesInPair, JudgesMarker, JudgesOutside, Means, MeansMarker, MovesText, Refuses, RefusesMarker, TakesMeant, WritesMove, after_move_at, game_at, game_by, is_begun, items_meant, pairs_meant, section_unless, writing_of}
+pub use Rattle.pgn_game.specs.state.Judged.{EndsAtMarker, IsAnnotation, IsPlayed, IsWritable, JudgesBefore, JudgesInPair, JudgesOutside, Means, MovesText, Refuses, RefusesMarker, TakesMeant, WritesMove, after_move_at, game_at, game_by, is_begun, items_meant, pairs_meant, section_unless, writing_of}
 pub use Rattle.pgn_lexer.specs.PartialToken.{tokens_to_come_in}
 pub use Rattle.pgn_lexer.specs.declared.token.LexReason.{LexReason}
 pub use Rattle.pgn_lexer.specs.declared.token.LexReason.TheVariants.{SymbolTooLong, WordTooLong, GlyphRange}

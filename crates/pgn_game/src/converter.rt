@@ -25,9 +25,9 @@ ghost use Rattle.pgn_game.specs.state.ReaderState.{KeepsSilence, sink_of, plies_
 ghost use Rattle.pgn_game.specs.calls.ConverterCalls.{NoWriteFails, StillStands, writing_nothing};
 ghost use Rattle.pgn_game.specs.calls.ConverterCalls.{ReadsByMarker, reading_by_marker};
 
+use crate::game::{Game, WHOLE};
 use crate::marker::{Marker, MissingResult, PlacedMarker};
 use crate::mode::Mode;
-use crate::game::{Game, WHOLE};
 use crate::reason::{Fault, Reason};
 use crate::token_tests::is_end;
 use chess_rules::Position;
@@ -749,9 +749,7 @@ impl<const T: usize, const L: usize> Converter<T, L> {
                 outcome: rest.outcome,
             };
         };
-        let met = self
-            .game
-            .accept_unless_marker::<W, WHOLE>(token.kind, out);
+        let met = self.game.accept_unless_marker::<W, WHOLE>(token.kind, out);
         Step {
             used,
             outcome: settle(token.at, met, &mut self.fault),

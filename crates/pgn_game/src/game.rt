@@ -290,7 +290,13 @@ impl<const T: usize, const L: usize> Game<T, L> {
                 &mut self.writer,
                 out,
             ),
-            Ok(Event::Glyph(glyph)) => take_glyph(begun, glyph, &mut self.reader, &mut self.writer, out),
+            Ok(Event::Glyph(glyph)) => take_glyph(
+                begun,
+                glyph,
+                &mut self.reader,
+                &mut self.writer,
+                out,
+            ),
             Ok(Event::CommentOpen) => take_annotation(
                 begun,
                 b"{",

@@ -1,9 +1,8 @@
 -- From what a marker is judged to what its game answers, once it is written or could not be.
-use Rattle.pgn_game.proofs.Words.{◌≡◌, ◌&&◌, ◌↔◌, ◌++◌, ℕ, Bool, true, false, IsTrue, List, [], Option, Some, Result, Ok, Err, OnOk, is_some, refl, sym, ap, subst, ◌∙◌, arith, rules, common_steps, Appends, AppendsFront, Writes, WritesText, Counts, Device, device, one_more, EndGame, Put, line_at, text_at, Kind, Marker, Reason, Stage, Between, AfterLeftBracket, AfterName, AfterValue, AfterTags, InMovetext, Pair, Part, ReaderState, ReaderCall, KeepsSilence, Writing, BeginsText, EndsAtMarker, RefusesMarker, FinishesAtMarker, IsOpen, ItemCall, LeavesSink, Mode, PutResult, PutsMarker, TakesMarker, Writer, WriteFault, bytes_seen, ending_if, failures_seen, game_by, is_nothing, known_of, line_behind, marker_of, marker_text, may_have_movetext, mode_of_written, mode_unless, section_due, section_due_of, section_unless, seen, tag_section, text_refusal, writing_of, Written}
+use Rattle.pgn_game.proofs.Words.{◌≡◌, ◌&&◌, ◌↔◌, ℕ, Bool, true, false, IsTrue, List, [], Option, Result, Ok, Err, OnOk, is_some, refl, sym, ap, subst, ◌∙◌, arith, Appends, AppendsFront, Writes, WritesText, Device, device, Kind, Marker, Reason, Stage, Between, AfterLeftBracket, AfterName, AfterValue, AfterTags, InMovetext, Pair, ReaderState, ReaderCall, KeepsSilence, Writing, BeginsText, EndsAtMarker, RefusesMarker, FinishesAtMarker, IsOpen, ItemCall, Mode, PutResult, PutsMarker, TakesMarker, Writer, WriteFault, ending_if, game_by, is_nothing, known_of, line_behind, marker_of, marker_text, may_have_movetext, mode_of_written, section_due, section_due_of, section_unless, seen, tag_section, writing_of, Written}
 use Rattle.pgn_game.specs.declared.mode.Written.TheVariants.{Full, Reduced, Nothing}
 use Rattle.pgn_layout.specs.declared.sink.WriteFault.{WriteFault as Fault}
 use Rattle.pgn_game.specs.state.PutResult.{ended}
-use Rattle.pgn_game.proofs.putting.ItemToMovetext.{from_to}
 use Rattle.pgn_game.proofs.putting.MarkerToReader.{EndsText, ends_ill, ends_silent, ends_unbegun, ends_well, ending, finished_reader, to_game, writes_if_failed}
 use Rattle.pgn_game.proofs.putting.SilentReader.{seen_if, unseen}
 use Rattle.pgn_game.proofs.tokens.PairsTriedForToken.{marker_untried}
@@ -114,9 +113,6 @@ module _ {S : Type 0} (taken : S → Option (List ℕ)) (failures : S → ℕ) (
         (r : Result (Unit {0}) Fault) (put : ItemCall begun_w.written taken failures b c (λ by. PutsMarker by (marker_text marker) begun_w new_w r)) where
       abbrev goes : ReaderState
       goes = game_by new_w judge
-
-      abbrev whole : Device
-      whole = seen (is_nothing w.written) (device taken failures a c)
 
       begins : BeginsText {A = Unit {0}} {E = Fault} game (record game { stage = InMovetext }) (Ok tt) first
       begins = record {

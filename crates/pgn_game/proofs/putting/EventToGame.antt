@@ -1,5 +1,5 @@
 -- From what a token means to what its game answers, once it is written or could not be.
-use Rattle.pgn_game.proofs.Words.{Profile, Written, Marker, TakesMeant, ◌≡◌, ◌&&◌, ◌||◌, not, None, Some, Parts, StoredLevels, IsAnnotation, IsWritable, ItemCall, MeetsEntry, PutsAnnotation, PutsMove, WritesMove, token_if, writes_annotations, ◌+◌, ◌<◌, ◌≤◌, ℕ, max, Bool, true, false, IsTrue, List, [], ◌∷◌, Option, Result, Ok, Err, OnOk, inl, inr, refl, sym, ap, subst, ◌∙◌, arith, rules, common_steps, le-max_left, length, Move, Movetext, Kind, Mode, Part, More, Event, InMovetext, Item, going, is_move, is_written, ReaderState, ReaderCall, KeepsSilence, LeavesSink, BeginsText, Means, IsOpen, TakesOther, Adds, PutsTokens, PutResult, Plays, Annotates, Writer, Writing, WriteFault, MovesText, after_move_at, after_move_if, bytes_seen, counting_probes, device, failures_seen, game_by, is_nothing, items_meant, may_have_movetext, mode_of_written, mode_unless, mode_written, one_more, pairs_meant, seen, sink_of, tokens_if, with_items, writing_of, Device, Keeps, Accepted, Reason, FinishesNone, AppendsFront, section_due_of}
+use Rattle.pgn_game.proofs.Words.{Profile, Written, Marker, TakesMeant, ◌≡◌, ◌&&◌, ◌||◌, not, None, Some, Parts, StoredLevels, IsAnnotation, IsWritable, ItemCall, MeetsEntry, PutsAnnotation, PutsMove, WritesMove, token_if, writes_annotations, ◌+◌, ◌<◌, ◌≤◌, ℕ, max, Bool, true, false, IsTrue, List, [], ◌∷◌, Option, Result, Ok, Err, inl, inr, refl, sym, ap, subst, ◌∙◌, arith, common_steps, length, Move, Movetext, Kind, Mode, Part, More, Event, InMovetext, Item, going, is_move, is_written, ReaderState, ReaderCall, KeepsSilence, LeavesSink, BeginsText, Means, IsOpen, TakesOther, Adds, PutsTokens, PutResult, Plays, Annotates, Writer, Writing, WriteFault, MovesText, after_move_at, after_move_if, counting_probes, device, game_by, is_nothing, items_meant, may_have_movetext, mode_of_written, mode_unless, mode_written, pairs_meant, seen, tokens_if, with_items, writing_of, Device, Reason, AppendsFront}
 use Rattle.pgn_layout.specs.declared.sink.WriteFault.{WriteFault as Fault}
 use Rattle.pgn_game.specs.games.Game.{move}
 use Rattle.pgn_game.specs.state.ItemResult.{counted_at}

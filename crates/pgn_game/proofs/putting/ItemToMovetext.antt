@@ -1,5 +1,5 @@
 -- What an item adds to the movetext that is held.
-use Rattle.pgn_game.proofs.Words.{◌≡◌, ℕ, ◌+◌, ◌<◌, ◌≤◌, Bool, true, false, List, [], ◌∷◌, ◌++◌, map, length, Option, None, Some, refl, sym, ap, subst, ◌∙◌, append_assoc, append-nil, arith, All, ◌==◌, IsTrue, is_some, Result, Ok, Err, IsErr, Appends, All-nil, All-cons, All-head, All-tail, length-map, drop-append_seam, Move, legal, Device, IsToken, lines_of, full_lines, last_line, text_of as text_of_lines, Put, laid_from, text_put, line_put, Parts, Played, Mode, play, text_of_move, Item, open_variation, close_variation, Level as ModelLevel, Levels as ModelLevels, levels_after, levels_of, depth, here, outermost, main_moves, Placed, is_move, tokens_out, StoredLevels, Movetext, level_at, ClosesLevel, before_last, stored_level, stored_levels, ends_in_move, HoldsItems, HoldsLineOf, seen, is_nothing, mode_of_written, IsSomeAnd, Event, LeadsLevels, items_meant, not, ◌&&◌, token_if, tokens_at, writes_annotations, PutsTokens, Annotates, Plays, is_written, tokens_due, tokens_if, after_move_if, plies_in, item_text, Adds, rules, san, MarkPairs, disambiguation_pairs, Written, common_steps}
+use Rattle.pgn_game.proofs.Words.{◌≡◌, ℕ, ◌+◌, ◌<◌, ◌≤◌, Bool, true, false, List, [], ◌∷◌, ◌++◌, map, length, Option, None, Some, refl, sym, ap, subst, ◌∙◌, append_assoc, append-nil, arith, All, ◌==◌, Result, Ok, Err, IsErr, Appends, All-nil, All-cons, All-head, All-tail, length-map, drop-append_seam, Move, legal, Device, IsToken, lines_of, full_lines, last_line, text_of as text_of_lines, Put, laid_from, text_put, line_put, Parts, Mode, play, text_of_move, Item, open_variation, close_variation, Level as ModelLevel, Levels as ModelLevels, levels_after, levels_of, depth, here, outermost, main_moves, Placed, is_move, tokens_out, StoredLevels, Movetext, level_at, ClosesLevel, before_last, stored_level, stored_levels, ends_in_move, HoldsItems, HoldsLineOf, is_nothing, mode_of_written, IsSomeAnd, Event, LeadsLevels, items_meant, not, ◌&&◌, token_if, tokens_at, writes_annotations, PutsTokens, Annotates, Plays, is_written, tokens_if, after_move_if, plies_in, item_text, Adds, rules, san, MarkPairs, disambiguation_pairs, Written, common_steps}
 use Rattle.std.proofs.lemmas.List.Elements.{All-append}
 use Rattle.std.proofs.Math.Dec.{eqb-suc-zero}
 use Rattle.pgn_layout.specs.declared.sink.WriteFault.{WriteFault}

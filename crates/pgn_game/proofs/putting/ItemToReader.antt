@@ -1,9 +1,8 @@
 -- What putting a token of movetext adds to what stands written of its game, and to the reader.
-use Rattle.pgn_game.proofs.Words.{◌≡◌, max, ℕ, ◌+◌, ◌<◌, ◌≤◌, true, false, List, [], ◌∷◌, ◌++◌, length, drop, Option, None, Result, refl, sym, ap, subst, ◌∙◌, append-nil, length-append, arith, IsTrue, Ok, Err, list_any-append, drop-append-add, drop-length, Appends-trans, Appends, Move, AppendsFront, Device, one_more, Parts, Mode, Full, Reduced, Stage, Between, AfterTags, InMovetext, Pair, Item, Part, More, is_at, start_of, tag_section, is_move, full_text, torn_at, has_move, Next, going, Movetext, HoldsItems, ReaderState, Agrees, bytes_seen, mode_unless, mode_written, item_text, Bool, Some, as_written, known_of, plies_of_finished_games, IsOpen, may_have_movetext, with_items, Adds, BeginsText, Goes, Keeps, PutResult, gain_to, section_due, section_due_of, rules, le-max_left, common_steps}
+use Rattle.pgn_game.proofs.Words.{◌≡◌, ℕ, ◌+◌, ◌<◌, ◌≤◌, true, false, List, [], ◌∷◌, ◌++◌, length, drop, Option, None, Result, refl, sym, ap, subst, ◌∙◌, append-nil, length-append, arith, IsTrue, Ok, Err, list_any-append, drop-append-add, drop-length, Appends-trans, Appends, AppendsFront, Device, one_more, Parts, Mode, Full, Reduced, Stage, Between, AfterTags, InMovetext, Pair, Item, Part, More, is_at, start_of, tag_section, is_move, full_text, torn_at, has_move, Next, going, HoldsItems, ReaderState, Agrees, bytes_seen, mode_unless, mode_written, item_text, Bool, Some, as_written, known_of, plies_of_finished_games, IsOpen, may_have_movetext, with_items, Adds, BeginsText, Goes, Keeps, PutResult, gain_to, section_due, section_due_of, rules, common_steps}
 use Rattle.pgn_layout.specs.declared.sink.WriteFault.{WriteFault}
 use Rattle.pgn_game.specs.declared.reason.Reason.TheVariants as reasons
-use Rattle.pgn_game.specs.games.Game.{move}
-use Rattle.pgn_game.proofs.putting.WritesInTurn.{front_after, front_of_more}
+use Rattle.pgn_game.proofs.putting.WritesInTurn.{front_after}
 use Rattle.pgn_game.proofs.putting.ItemToMovetext.{from_to}
 
 -- what is written of the lines, besides what was

@@ -11,10 +11,6 @@ module _ {S : Type 0} (old new : ReaderState) (a : S) where
   pub silence_kept : new.writing ≡ old.writing → KeepsSilence old new a a
   silence_kept same = silence_of a same (λ silent. refl)
 
-pub unused_call : {S : Type 0} (taken : S → Option (List ℕ)) (failures : S → ℕ) (old : ReaderState) (a : S) (Takes : Device → Type 0)
-    → ((o : Option (List ℕ)) (m : ℕ) → Takes (unused o m)) → ReaderCall taken failures old old a a Takes
-unused_call taken failures old a Takes takes = record { takes = takes _ _; silent = silence_kept old old a refl }
-
 -- one call after another
 pub silence_then : {S : Type 0} (old mid new : ReaderState) (a b c : S) → KeepsSilence old mid a b → KeepsSilence mid new b c
     → KeepsSilence old new a c
@@ -22,14 +18,6 @@ silence_then old mid new a b c first second = grind (arith, common_steps)
 
 pub writes_some : (w : Written) → (w ≡ Nothing → ⊥) → is_nothing w ≡ false
 writes_some w some = grind arith
-
-pub writes_none : (w : Written) → w ≡ Nothing → is_nothing w ≡ true
-writes_none w none = ap is_nothing none
-
--- what the code stores says whether the reader is silent
-pub holds_some : (w : Written) (held old : ReaderState) → held ≡ old → held.writing.is_silent ≡ is_nothing w → (w ≡ Nothing → ⊥)
-    → old.writing.is_silent ≡ false
-holds_some w held old same is some = sym (ap (λ (r : ReaderState). r.writing.is_silent) same) ∙ is ∙ writes_some w some
 
 -- Of a reader that writes, contracts see the sink as it is.
 pub seen_if : (P : Device → Type 0) (silent : Bool) (d : Device) → silent ≡ false → P d → P (seen silent d)
@@ -42,22 +30,9 @@ pub ready_silently : (old : Converter) {new : Converter} → new ≡ writing_not
 ready_silently old switched not_finished no_fault =
     record { no_fault = ap (λ (c : Converter). c.fault) switched ∙ no_fault; not_finished = ap (λ (c : Converter). c.is_finished) switched ∙ not_finished }
 
--- what is put by what the code stores is put by the mode of the reader
-pub adds_as : {A E : Type 0} (w : Written) (mode : Mode) (silent : Bool) (i : Item) (text new_text : Movetext) (line new_line : List ℕ)
-    (result : Result A E) (d : Device) → mode_of_written w ≡ mode_unless (is_nothing w) mode → is_nothing w ≡ silent
-    → Adds (mode_of_written w) i text line new_text new_line result (seen (is_nothing w) d)
-    → Adds (mode_unless (is_nothing w) mode) i text line new_text new_line result (seen silent d)
-adds_as w mode silent i text new_text line new_line result d by same adds = grind (arith, common_steps)
-
 -- two readers that are both silent, or not, see the same of a sink
 pub seen_alike : (P : Device → Type 0) (p q : Bool) (d : Device) → p ≡ q → P (seen p d) → P (seen q d)
 seen_alike P p q d same h = subst (λ (b : Bool). P (seen b d)) same h
-
--- The section was begun by a reader like this one, and then an item was put.
-pub silence_put : {S : Type 0} (old found new : ReaderState) (w : Written) (a b c : S) → found.writing.is_silent ≡ old.writing.is_silent
-    → is_nothing w ≡ found.writing.is_silent → new.writing.is_silent ≡ is_nothing w → (IsTrue found.writing.is_silent → b ≡ a)
-    → LeavesSink (is_nothing w) b c → KeepsSilence old new a c
-silence_put old found new w a b c alike held same first second = grind (arith, common_steps)
 
 pub unseen : (P : Device → Type 0) (silent : Bool) (d : Device) → silent ≡ false → P (seen silent d) → P d
 unseen P true d writes h = absurd (cc)

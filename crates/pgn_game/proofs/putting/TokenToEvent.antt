@@ -1,5 +1,5 @@
 -- What a reader makes of a token, for the games of all writers beside it.
-use Rattle.pgn_game.proofs.Words.{◌≡◌, ℕ, max, Bool, true, false, List, [], ◌∷◌, Option, None, Some, Result, Ok, Err, IsFalse, IsTrue, refl, sym, ap, subst, ◌∙◌, arith, Move, Parts, Played, Kind, Reason, Stage, Part, Accepted, symbol, legal, going, in_text, is_number, is_score, marker_of, move_of, found_in, ok_or, with_next, IllegalMove, CostsToFind, Event, Finds, IsOpen, JudgesBefore, JudgesInPair, JudgesOutside, Means, MovesText, Movetext, ReaderState, Refuses, TakesOutside, TakesUnwritten, Writer, IsWritable, after_move_at, counting_probes, game_at, game_by, is_begun, is_outside_the_table, items_meant, may_have_movetext, movetext_after_fen, pairs_meant, text_refusal, with_items, Plays}
+use Rattle.pgn_game.proofs.Words.{◌≡◌, ℕ, max, Bool, false, List, [], ◌∷◌, Option, None, Some, Result, Ok, Err, IsFalse, IsTrue, refl, sym, ap, ◌∙◌, arith, Move, Parts, Played, Kind, Reason, Stage, Part, Accepted, symbol, legal, going, in_text, is_number, is_score, marker_of, move_of, found_in, ok_or, with_next, IllegalMove, CostsToFind, Event, Finds, IsOpen, JudgesBefore, JudgesInPair, JudgesOutside, Means, MovesText, Movetext, ReaderState, Refuses, Writer, IsWritable, after_move_at, game_at, game_by, is_begun, is_outside_the_table, items_meant, may_have_movetext, movetext_after_fen, pairs_meant, text_refusal, with_items, Plays}
 use Rattle.pgn_game.specs.declared.event.Event.TheVariants as events
 use Rattle.pgn_game.specs.games.Game.{move}
 use Rattle.pgn_game.proofs.refusals.RefusalsInMovetext.{move_free, move_leads}

@@ -1,15 +1,14 @@
 -- From what putting a token results in, and from its row of the table, to what the reader answers.
 use Rattle.pgn_lexer.specs.declared.token.TokenKind.TheVariants as token_kinds
-use Rattle.pgn_game.specs.games.Game.{move}
-use Rattle.pgn_game.proofs.Words.{Parts, Played, Kind, Reason, Stage, Between, AfterTags, InMovetext, Profile, Item, Part, no_part, ◌≡◌, ◌⊎◌, ℕ, max, Bool, true, false, ◌||◌, [], ◌∷◌, List, length, drop, Option, None, Some, Bor, Result, Ok, Err, IsFalse, IsTrue, is_some, refl, sym, ap, subst, ◌∙◌, arith, Move, legal, Appends-nil, AppendsFront, Device, kind_of, TokenKind, symbol, Accepted, More, Marker, marker_text, move_of, found_in, torn, refusal, is_at, is_comment, is_end, is_number, is_outside_tag_pairs, is_score, marker_of, position_if_move, position_in, Next, going, at_stage, in_text, next, gain, text_next, CostsToFind, Tries, TriesUnwritten, ReaderState, Mode, mode_written, Agrees, Answers, as_written, IsStopped, is_outside_the_table, FinishesAtMarker, IsEntry, IsOpen, may_have_movetext, text_refusal, with_items, Event, Means, Writer, game_by, items_meant, pairs_meant, CountsMove, EntersMovetext, Finds, FinishesNone, GoesTo, PutResult, Takes, TakesEntry, TakesOther, TakesOutside, TakesToken, TakesUnwritten, at_game_start, counting_probes, unused, rules, inl, inr, IllegalMove, false≢true, ok_or, with_next, Finished, le-max_left, MeetsEntry, TakesUnlessMarker, common_steps}
+use Rattle.pgn_game.proofs.Words.{Parts, Kind, Reason, Stage, Between, AfterTags, InMovetext, Profile, Part, no_part, ◌≡◌, ◌⊎◌, ℕ, max, Bool, true, false, ◌||◌, List, length, drop, Option, None, Some, Bor, Result, Ok, Err, IsFalse, IsTrue, is_some, refl, sym, ap, subst, ◌∙◌, arith, Appends-nil, AppendsFront, Device, kind_of, TokenKind, symbol, Accepted, More, Marker, marker_text, torn, refusal, is_at, is_comment, is_end, is_number, is_outside_tag_pairs, is_score, marker_of, position_if_move, position_in, Next, going, at_stage, next, gain, text_next, CostsToFind, Tries, TriesUnwritten, ReaderState, mode_written, Agrees, Answers, as_written, IsStopped, is_outside_the_table, FinishesAtMarker, IsEntry, IsOpen, may_have_movetext, text_refusal, with_items, Event, Means, Writer, game_by, items_meant, pairs_meant, CountsMove, EntersMovetext, Finds, FinishesNone, GoesTo, PutResult, Takes, TakesEntry, TakesOther, TakesOutside, TakesToken, TakesUnwritten, at_game_start, counting_probes, unused, rules, inl, inr, false≢true, Finished, le-max_left, MeetsEntry, TakesUnlessMarker, common_steps}
 use Rattle.pgn_game.specs.state.ReaderState as reader_state
 use Rattle.pgn_game.proofs.refusals.RefusalsByStage.{begins_alike, comment_passes, drops_comments, passes_between}
-use Rattle.pgn_game.proofs.refusals.RefusalsInMovetext.{marker_whole, move_free, move_leads, move_refused as move_row_refused, position_is, refused_inside}
+use Rattle.pgn_game.proofs.refusals.RefusalsInMovetext.{marker_whole, move_refused as move_row_refused, position_is, refused_inside}
 use Rattle.pgn_game.proofs.refusals.ReaderToPart.{held_at, part_stage, position_in_pair}
 use Rattle.pgn_game.proofs.putting.ItemToReader.{to_items}
 use Rattle.pgn_game.proofs.putting.MarkerToReader.{to_game}
 use Rattle.pgn_game.proofs.putting.PairStepToReader.{puts_nothing, no_torn}
-use Rattle.pgn_game.proofs.tokens.PairsTriedForToken.{CostsToPut, TriesPut, adds_item, adds_none, adds_same, costs_found, marker_untried, plain_untried, tries_put, untried_in_pair}
+use Rattle.pgn_game.proofs.tokens.PairsTriedForToken.{CostsToPut, TriesPut, adds_same, costs_found, marker_untried, plain_untried, tries_put, untried_in_pair}
 use Rattle.pgn_game.specs.calls.MostTried as most_tried
 
 pub counting_none : (old : ReaderState) → old ≡ counting_probes old 0

@@ -1,5 +1,5 @@
 -- **Bookkeeping**: what putting an item of movetext does to the levels, the line and the sink.
-use Rattle.std.specs.Prelude.{◌≡◌, ℕ, ◌+◌, ◌-◌, ◌^◌, ◌<◌, ◌≤◌, Bool, true, false, List, [], ◌∷◌, ◌++◌, ◌==◌, ◌&&◌, ◌||◌, not, map, length, drop, Option, None, Some, IsSomeAnd, Result, MatchResult, OnOk, All, IsTrue}
+use Rattle.std.specs.Prelude.{◌≡◌, ℕ, ◌+◌, ◌<◌, ◌≤◌, Bool, true, false, List, [], ◌∷◌, ◌++◌, ◌==◌, ◌&&◌, ◌||◌, not, map, length, drop, Option, None, Some, IsSomeAnd, Result, MatchResult, OnOk, All, IsTrue}
 use Rattle.std.specs.Io.KnownBytes.{Appends}
 use Rattle.chess_rules.specs.declared.position.Move.{Move}
 use Rattle.chess_rules.specs.declared.position.Parts.{Parts}
@@ -28,12 +28,6 @@ pub record PutsTokens {A E : Type 0} (tokens : List (List ℕ)) (line new_line :
   pub held : OnOk result (new_line ≡ (laid_from line (map Put tokens)).line)
   pub each : All IsToken tokens
   pub counted : Counts result d.failures d.failures_after
-
--- the number before the next move, if it needs one
-abbrev pub number_due : Movetext → List (List ℕ)
-number_due text =
-    let here = text.levels.current.position in
-    number_before text.is_after_move (is_black_to_move here) here.full
 
 -- the tokens of the next item
 abbrev pub tokens_due : Movetext → Item → List (List ℕ)

@@ -4,7 +4,7 @@
 -- `new` are the reader before a call and after it.
 --
 -- What a reader does is stated of the games of all writers beside it.
-use Rattle.std.specs.Prelude.{◌≡◌, ℕ, ◌+◌, ◌^◌, ◌<◌, ◌≤◌, max, Bool, true, false, IsFalse, IsSomeAnd, IsTrue, List, [], ◌∷◌, length, Option, None, Some, option_map, Result, Ok, Err}
+use Rattle.std.specs.Prelude.{◌≡◌, ℕ, ◌<◌, ◌≤◌, max, Bool, true, false, IsFalse, IsSomeAnd, IsTrue, List, [], ◌∷◌, length, Option, None, Some, option_map, Result, Ok, Err}
 use Rattle.chess_rules.specs.declared.position.Move.{Move}
 use Rattle.chess_rules.specs.declared.position.Parts.{Parts}
 use Rattle.chess_rules.specs.Legal.{legal}

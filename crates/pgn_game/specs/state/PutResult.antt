@@ -22,17 +22,17 @@ use Rattle.pgn_game.specs.games.FaultTable.{marker_of}
 use Rattle.pgn_game.specs.games.Profile.{Profile}
 use Rattle.pgn_game.specs.games.Pairs.{Pair}
 use Rattle.pgn_game.specs.games.Chess.{first_position, move_of}
-use Rattle.pgn_game.specs.games.Game.{Item, Part}
+use Rattle.pgn_game.specs.games.Game.{Part}
 use Rattle.pgn_game.specs.export.TagSection.{tag_section}
 use Rattle.pgn_game.specs.export.Text.{torn}
 use Rattle.pgn_game.specs.calls.Tried.{Costs}
 use Rattle.pgn_game.specs.calls.MostTried.{CostsToFind}
-use Rattle.pgn_game.specs.games.Progress.{Next, going}
+use Rattle.pgn_game.specs.games.Progress.{Next}
 use Rattle.pgn_game.specs.export.Due.{text_next}
 use Rattle.pgn_game.specs.calls.FoundMove.{found_in}
 use Rattle.pgn_game.specs.state.Movetext.{movetext_from}
 use Rattle.pgn_game.specs.state.ReaderState.{Accepted, More, Finished, ReaderState, Agrees, Answers, as_written, FinishesAtMarker, Leads, Stays, CountsWrites, known_of, plies_added, plies_of_finished_games}
-use Rattle.pgn_game.specs.state.TokenInMovetext.{IsEntry, IsOpen, may_have_movetext, with_items}
+use Rattle.pgn_game.specs.state.TokenInMovetext.{IsEntry, may_have_movetext}
 
 -- A game begins.
 

@@ -1,5 +1,5 @@
 -- **Bookkeeping**: what the reader makes of a token in movetext.
-use Rattle.std.specs.Prelude.{◌≡◌, ℕ, ◌+◌, ◌-◌, ◌^◌, ◌<◌, ◌&&◌, not, nat_le, ◌==◌, Bool, true, false, IsTrue, is_some, List, [], ◌++◌, length, codes, bytes_eq, Option, None, Some, Result, Ok, Err}
+use Rattle.std.specs.Prelude.{◌≡◌, ℕ, ◌-◌, ◌^◌, ◌<◌, ◌&&◌, not, nat_le, ◌==◌, Bool, true, false, IsTrue, List, [], ◌++◌, codes, bytes_eq, Option, None, Some, Result, Ok, Err}
 use Rattle.chess_rules.specs.declared.position.Parts.{Parts}
 use Rattle.pgn_lexer.specs.Tokens as tokens
 use Rattle.pgn_lexer.specs.Tokens.{Kind}

@@ -11,9 +11,9 @@ pub returns-in_err-begin_movetext : goal.returns-in_err-begin_movetext
 returns-in_err-begin_movetext g c = record {
   written = ap (λ (w : Writer). w.written) c.in_err-begin_movetext.ensures.writer;
   takes = λ old k e means at mode is.
-        rw (error_returned _ c.from_residual.ensures.1)
-        (failed WriteFault (section_fails g.W.Sink.taken g.W.Sink.failures c.args.writer.now c.begin_movetext.new.writer old c.args.reader.now c.begin_movetext.new.reader k e means at c.args.out.now c.begin_movetext.new.out
-        c.in_err-begin_movetext.field-0.0 c.in_err-begin_movetext.ensures.section));
+      rw (error_returned _ c.from_residual.ensures.1)
+      (failed WriteFault (section_fails g.W.Sink.taken g.W.Sink.failures c.args.writer.now c.begin_movetext.new.writer old c.args.reader.now c.begin_movetext.new.reader k e means at c.args.out.now c.begin_movetext.new.out
+      c.in_err-begin_movetext.field-0.0 c.in_err-begin_movetext.ensures.section));
 }
 
 pub put_move-requires : goal.put_move-requires
@@ -26,17 +26,17 @@ pub returns-in_err-put_move : goal.returns-in_err-put_move
 returns-in_err-put_move g c = record {
   written = c.in_err-put_move.ensures.written ∙ ap (λ (w : Writer). w.written) c.in_ok-begin_movetext.ensures.writer;
   takes = λ old k e means at mode is.
-        let begun = c.in_ok-begin_movetext.ensures in
-        rw (error_returned _ c.from_residual-in_err-put_move.ensures.1)
-        (failed WriteFault (move_fails g.W.Sink.taken g.W.Sink.failures c.args.writer.now c.begin_movetext.new.writer old c.args.reader.now c.begin_movetext.new.reader k e means at c.args.out.now c.begin_movetext.new.out
-        begun.section mode begun.reader begun.writer c.put_move.new.writer c.put_move.new.out c.put_move.new.reader c.args.mv.now c.args.probes is c.in_err-put_move.field-0.0 c.in_err-put_move.ensures));
+      let begun = c.in_ok-begin_movetext.ensures in
+      rw (error_returned _ c.from_residual-in_err-put_move.ensures.1)
+      (failed WriteFault (move_fails g.W.Sink.taken g.W.Sink.failures c.args.writer.now c.begin_movetext.new.writer old c.args.reader.now c.begin_movetext.new.reader k e means at c.args.out.now c.begin_movetext.new.out
+      begun.section mode begun.reader begun.writer c.put_move.new.writer c.put_move.new.out c.put_move.new.reader c.args.mv.now c.args.probes is c.in_err-put_move.field-0.0 c.in_err-put_move.ensures));
 }
 
 pub returns : goal.returns
 returns g c = record {
   written = c.in_ok-put_move.ensures.written ∙ ap (λ (w : Writer). w.written) c.in_ok-begin_movetext.ensures.writer;
   takes = λ old k e means at mode is.
-        let begun = c.in_ok-begin_movetext.ensures in
-        met (move_taken g.W.Sink.taken g.W.Sink.failures c.args.writer.now c.begin_movetext.new.writer old c.args.reader.now c.begin_movetext.new.reader k e means at c.args.out.now c.begin_movetext.new.out
-        begun.section mode begun.reader begun.writer c.put_move.new.writer c.put_move.new.out c.put_move.new.reader c.args.mv.now c.args.probes is c.in_ok-put_move.ensures);
+      let begun = c.in_ok-begin_movetext.ensures in
+      met (move_taken g.W.Sink.taken g.W.Sink.failures c.args.writer.now c.begin_movetext.new.writer old c.args.reader.now c.begin_movetext.new.reader k e means at c.args.out.now c.begin_movetext.new.out
+      begun.section mode begun.reader begun.writer c.put_move.new.writer c.put_move.new.out c.put_move.new.reader c.args.mv.now c.args.probes is c.in_ok-put_move.ensures);
 }

@@ -1,6 +1,5 @@
-use Rattle.pgn_game.specs.state.PutResult.{TakesUnlessMarker as Unless}
 use Rattle.pgn_game.proofs.putting.EventToGame.{still_sound}
-use Rattle.pgn_game.proofs.Words.{Writing, kind_of, device, ◌≡◌, None, Err, ap, subst, arith, refl, sym, ◌∙◌, false≢true, game_by, Kind, Mode, Profile, Reason, WriteFault, ReaderState, marker_of, CountsWrites, TakesUnwritten, is_nothing, mode_unless, Option, Written}
+use Rattle.pgn_game.proofs.Words.{kind_of, ◌≡◌, None, Err, subst, arith, refl, false≢true, game_by, Kind, Reason, WriteFault, ReaderState, marker_of, CountsWrites, TakesUnwritten}
 use Rattle.pgn_game.proofs.ReaderLemmas.{game_alike, reader_fits}
 use Rattle.pgn_game.proofs.tokens.PutToAnswer.{entry_met}
 use Rattle.pgn_game.proofs.reader.ErrorReturned.{error_returned}

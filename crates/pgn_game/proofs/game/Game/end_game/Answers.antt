@@ -1,5 +1,5 @@
-use Rattle.pgn_game.proofs.Words.{ap, refl, sym, ◌∙◌, Between, IsTrue, ReaderState, Reason, WriteFault, has_whole_pairs, is_nothing, mode_unless, subst}
-use Rattle.pgn_game.proofs.ReaderLemmas.{reader_alike, reader_fits}
+use Rattle.pgn_game.proofs.Words.{refl}
+use Rattle.pgn_game.proofs.ReaderLemmas.{reader_fits}
 use Rattle.pgn_game.proofs.putting.EndToGame.{marker_fails, marker_refused, marker_taken, unbegun_marker}
 use Rattle.pgn_game.proofs.reader.ErrorReturned.{error_returned}
 use Rattle.pgn_game.proofs.game.Game.end_game.Goals as goal

@@ -1,4 +1,4 @@
-use Rattle.pgn_game.proofs.Words.{None, ◌≡◌, ap, arith, kind_of, refl, subst, sym, Event, Kind, Means, ReaderState, InMovetext, IsTrue, Bool, IsPlayed, may_have_movetext, game_by, Writer, Plays, Movetext, Parts, IsSomeAnd, Some, legal, Move, StoredLevels, ◌∙◌}
+use Rattle.pgn_game.proofs.Words.{None, ◌≡◌, ap, arith, kind_of, refl, Event, Kind, Means, ReaderState, InMovetext, IsTrue, Bool, IsPlayed, may_have_movetext, game_by, Move, ◌∙◌}
 use Rattle.pgn_game.specs.declared.event.Event.TheVariants as events
 use Rattle.pgn_game.specs.games.Game as games
 use Rattle.pgn_game.proofs.ReaderLemmas.{reader_fits}

@@ -1,4 +1,4 @@
-use Rattle.pgn_game.proofs.Words.{Stage, ap, has_whole_pairs, subst, sym}
+use Rattle.pgn_game.proofs.Words.{ap, has_whole_pairs}
 use Rattle.pgn_game.proofs.ReaderLemmas.{reader_fits}
 use Rattle.pgn_game.proofs.game.Game.write_section.Goals as goal
 

@@ -1,4 +1,4 @@
-use Rattle.pgn_game.proofs.Words.{◌≡◌, IsTrue, Move, Movetext, None, Plays, ReaderState, ap, is_legal, marker_of, or_parts, refl, subst, sym, symbol, ◌∙◌, arith}
+use Rattle.pgn_game.proofs.Words.{IsTrue, Movetext, Plays, ReaderState, ap, is_legal, marker_of, or_parts, refl, subst, sym, ◌∙◌, arith}
 use Rattle.pgn_game.proofs.ReaderLemmas.{text_fits}
 use Rattle.pgn_game.proofs.putting.TokenToEvent.{move_means, move_refuses}
 use Rattle.pgn_game.proofs.reader.Reader.accept_move.Goals as goal

@@ -1,4 +1,4 @@
-use Rattle.pgn_game.proofs.Words.{◌≡◌, ap, sym, ◌∙◌, Stage, ReaderState, false, game_by, is_begun, may_have_movetext}
+use Rattle.pgn_game.proofs.Words.{◌≡◌, ap, sym, ◌∙◌, Stage, ReaderState, game_by, is_begun, may_have_movetext}
 use Rattle.pgn_game.proofs.ReaderLemmas.{entry_in_movetext, enters}
 use Rattle.pgn_game.proofs.putting.TokenToEvent.{before_outside, pair_outside}
 use Rattle.pgn_game.proofs.reader.Reader.accept_outside.Goals as goal

@@ -1,4 +1,4 @@
-use Rattle.pgn_game.proofs.Words.{◌≡◌, ◌||◌, ℕ, List, None, Option, Some, is_some, true, false, refl, sym, ◌∙◌, symbol, Marker, marker_of, is_number, is_score}
+use Rattle.pgn_game.proofs.Words.{◌≡◌, ◌||◌, ℕ, List, None, Option, Some, is_some, false, refl, sym, ◌∙◌, symbol, Marker, marker_of, is_number, is_score}
 use Rattle.pgn_game.specs.declared.event.Event.TheVariants as events
 use Rattle.pgn_game.proofs.ReaderLemmas.{reader_alike, number_no_score, number_free, number_leads, number_untried}
 use Rattle.pgn_game.proofs.putting.TokenToEvent.{entry_means}

@@ -1,4 +1,4 @@
-use Rattle.pgn_game.proofs.Words.{Annotates, Close, Movetext, ReaderState, Writer, game_by, subst, ◌≡◌, ℕ, ◌==◌, length, refl, sym, ap, ◌∙◌, ne_eqb, UnmatchedClose, depth, levels_of_part, right_paren, arith}
+use Rattle.pgn_game.proofs.Words.{Annotates, Close, Movetext, ReaderState, game_by, subst, ◌≡◌, ℕ, ◌==◌, length, refl, sym, ap, ◌∙◌, ne_eqb, UnmatchedClose, depth, levels_of_part, right_paren}
 use Rattle.pgn_game.proofs.ReaderLemmas.{text_fits, hit, pass, depth_is}
 use Rattle.pgn_game.proofs.putting.TokenToEvent.{entry_refuses, none_tried}
 use Rattle.pgn_game.proofs.reader.Reader.close_variation.Goals as goal

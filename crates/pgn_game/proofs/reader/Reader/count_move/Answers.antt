@@ -1,4 +1,4 @@
-use Rattle.pgn_game.proofs.Words.{sym, ◌∙◌, ap, false, game_at}
+use Rattle.pgn_game.proofs.Words.{sym, ◌∙◌, false, game_at}
 use Rattle.pgn_game.proofs.ReaderLemmas.{no_symbol_counted, plain_counted}
 use Rattle.pgn_game.proofs.reader.Reader.count_move.Goals as goal
 

@@ -1,4 +1,4 @@
-use Rattle.pgn_game.proofs.Words.{IsOpen, IsTrue, Part, ReaderState, TagPairs, Writer, game_by, is_some, ◌≡◌, Bool, true, false, length, refl, sym, ap, ◌∙◌, arith, codes, Some, le-leb, Kind, MarkerInVariation, ResultDiffers, Between, value_of, marker_text, depth, levels_of_part, marker_of, result_for, Marker}
+use Rattle.pgn_game.proofs.Words.{IsOpen, Part, ReaderState, TagPairs, Writer, game_by, ◌≡◌, Bool, true, false, length, refl, sym, ap, ◌∙◌, arith, codes, le-leb, Between, value_of, marker_text, depth, levels_of_part, result_for, Marker}
 use Rattle.pgn_game.proofs.ReaderLemmas.{tags_fit, text_fits, no_name, depth_is, marker_inside, marker_differs, marker_free, none_around, test_of, differs}
 use Rattle.pgn_game.proofs.reader.Reader.end_game.Given.{Over}
 use Rattle.pgn_game.proofs.reader.Reader.end_game.Goals.{After-ne}

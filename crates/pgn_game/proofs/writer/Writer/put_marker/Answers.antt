@@ -1,4 +1,4 @@
-use Rattle.pgn_game.proofs.Words.{◌≡◌, ℕ, List, [], Option, OnOk, Result, Appends, Counts, PutsMarker, Written, Writer, Writes, is_nothing, mode_of_written, marker_text, Put, EndGame, line_at, text_at, sym, subst, refl, ap}
+use Rattle.pgn_game.proofs.Words.{◌≡◌, ℕ, List, [], Option, OnOk, Result, Appends, Counts, PutsMarker, Written, Writer, Writes, is_nothing, mode_of_written, marker_text, Put, EndGame, line_at, text_at, refl}
 use Rattle.pgn_game.specs.declared.mode.Written.TheVariants.{Full, Reduced, Nothing}
 use Rattle.pgn_layout.specs.declared.sink.WriteFault.{WriteFault}
 use Rattle.pgn_game.proofs.putting.ItemToMovetext.{from_to}

@@ -1,4 +1,4 @@
-use Rattle.pgn_game.proofs.Words.{arith, rules, refl, ◌≡◌, ◌<◌, ◌≤◌, length, ◌∷◌, [], List, ℕ, ap, subst, ◌∙◌, device, is_black_to_move, number_before, IsToken, text_of_move, PutsTokens, Writer}
+use Rattle.pgn_game.proofs.Words.{arith, refl, ◌≡◌, ◌<◌, ◌≤◌, length, ◌∷◌, [], List, ℕ, subst, ◌∙◌, device, is_black_to_move, number_before, IsToken, text_of_move, PutsTokens}
 use Rattle.pgn_game.proofs.putting.ItemToMovetext.{puts_after, puts_fail, is_text, is_token, writes_move}
 use Rattle.pgn_game.proofs.putting.NumberToTokens.{puts_token}
 use Rattle.pgn_game.proofs.writer.Writer.put_move.Goals as goal
