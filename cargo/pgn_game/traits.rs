@@ -49,7 +49,7 @@ impl<R> Debug for Inlet<R> {
 impl<const T: usize, const L: usize> Debug for Converter<T, L> {
     fn fmt(&self, out: &mut Formatter<'_>) -> fmt::Result {
         out.debug_struct("Converter")
-            .field("count", &self.count())
+            .field("place", &self.place())
             .field("games", &self.games())
             .field("fault", &self.fault())
             .field("is_finished", &self.is_finished())

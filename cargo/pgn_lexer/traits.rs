@@ -38,7 +38,7 @@ impl Error for LexFault {}
 impl Debug for Lexer {
     fn fmt(&self, out: &mut Formatter<'_>) -> fmt::Result {
         out.debug_struct("Lexer")
-            .field("count", &self.count())
+            .field("place", &self.place())
             .finish_non_exhaustive()
     }
 }

@@ -53,7 +53,7 @@ fn a_converter_begins_within_the_limit() {
         Converter::<64, 33>::begin_at(FULL, (1 << 62) + 1, false)
     });
     let converter = Converter::<64, 33>::begin_at(FULL, 1 << 62, false);
-    assert_eq!(converter.count(), 1 << 62);
+    assert_eq!(converter.place(), 1 << 62);
 }
 
 fn inlet() -> Inlet<&'static [u8]> {

@@ -21,7 +21,7 @@ fn a_byte_after_2_to_62_is_refused() {
 fn the_last_byte_of_2_to_62_is_read() {
     let mut lexer = lexer_at((1 << 62) - 3);
     assert_eq!(lexer.next(b"Nf3").outcome, Outcome::NeedMore);
-    assert_eq!(lexer.count(), 1 << 62);
+    assert_eq!(lexer.place(), 1 << 62);
 }
 
 #[test]

@@ -206,7 +206,7 @@ impl<const T: usize, const L: usize> Reading<T, L> {
         self.converter.announce_marker(expected.marker);
         match self.read_to_marker(source, out) {
             Err(fault) => Err(changed(fault)),
-            Ok(None) => Err(differs(self.converter.count())),
+            Ok(None) => Err(differs(self.converter.place())),
             Ok(Some(found)) => {
                 if is_other(found, expected) {
                     return Err(differs(found.at));

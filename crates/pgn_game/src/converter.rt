@@ -336,7 +336,7 @@ impl<const T: usize, const L: usize> Converter<T, L> {
         if let Some(fault) = self.fault {
             return Err(fault);
         }
-        let front = within_limit(self.lexer.count(), piece);
+        let front = within_limit(self.lexer.place(), piece);
         match self.feed_front(front, out)? {
             FedUpTo::Marker(used, marker) => Ok(FedUpTo::Marker(used, marker)),
             FedUpTo::All => {
@@ -477,7 +477,7 @@ impl<const T: usize, const L: usize> Converter<T, L> {
             ≡ record self.old { just_finished = None; fault = Some result } }
     {
         let fault = Fault {
-            at: self.lexer.count(),
+            at: self.lexer.place(),
             reason: Reason::ReadFault,
         };
         self.has_finished_game = false;
@@ -613,10 +613,10 @@ impl<const T: usize, const L: usize> Converter<T, L> {
     ///
     /// `feed` raises it by the bytes that it used. On an error these are at most the whole piece.
     /// `finish` leaves it as it is, also on an error.
-    pub fn count(&self) -> u64
+    pub fn place(&self) -> u64
         ensures { result ≡ self.now.lexer.count }
     {
-        self.lexer.count()
+        self.lexer.place()
     }
 
     /// Returns the number of games finished so far.

@@ -82,7 +82,7 @@ impl Lexer {
     }
 
     /// Returns the place of the next byte: where it began, and how many bytes were used since.
-    pub fn count(&self) -> u64
+    pub fn place(&self) -> u64
         ensures { result ≡ self.now.count }
     {
         self.count

@@ -64,15 +64,15 @@ fn feed(
     let mut seen = seen;
     for _ in 0..LONGEST {
         let rest = piece.get(from..)?;
-        if lexer.count() > LONGEST as u64 || rest.len() > LONGEST {
+        if lexer.place() > LONGEST as u64 || rest.len() > LONGEST {
             return None;
         }
         if way != Way::Next {
-            let begin = lexer.count();
+            let begin = lexer.place();
             let (used, token) = lexer.whole_token(rest, way == Way::PastNumbers);
             from = from.checked_add(used)?;
             if way == Way::PastNumbers {
-                let end = token.map_or(lexer.count(), |token| token.at);
+                let end = token.map_or(lexer.place(), |token| token.at);
                 seen = passed(outcomes, seen, begin, end)?;
             }
             if let Some(token) = token {
@@ -84,7 +84,7 @@ fn feed(
             }
         }
         let rest = piece.get(from..)?;
-        if lexer.count() > LONGEST as u64 || rest.len() > LONGEST {
+        if lexer.place() > LONGEST as u64 || rest.len() > LONGEST {
             return None;
         }
         let scan = lexer.next(rest);
@@ -201,17 +201,17 @@ fn gives(
         return false;
     }
     let opened = lexer.whole_token(before, false);
-    if opened.0 != before.len() || lexer.count() > LONGEST as u64 {
+    if opened.0 != before.len() || lexer.place() > LONGEST as u64 {
         return false;
     }
     let (passed, token) = lexer.whole_token(piece, skips_numbers);
     let end = (10 + before.len() as u64).checked_add(used as u64);
-    passed == used && token == given && Some(lexer.count()) == end
+    passed == used && token == given && Some(lexer.place()) == end
 }
 
 /// Whether `whole_token` uses no byte of the piece, and gives no token.
 fn gives_nothing(lexer: &mut Lexer, piece: &[u8]) -> bool {
-    if lexer.count() > LONGEST as u64 || piece.len() > LONGEST {
+    if lexer.place() > LONGEST as u64 || piece.len() > LONGEST {
         return false;
     }
     let (used, token) = lexer.whole_token(piece, true);

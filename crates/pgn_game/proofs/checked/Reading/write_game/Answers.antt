@@ -46,8 +46,8 @@ read_to_marker-requires g c =
     let going = rw (← c.self.view_is) at c.requires.going in
     (search reading_alike, rw c.announce_marker.ensures (record { no_fault = going.no_fault; not_finished = going.not_finished }))
 
-pub count-requires : goal.count-requires
-count-requires g c = search reading_fits_converter
+pub place-requires : goal.place-requires
+place-requires g c = search reading_fits_converter
 
 pub returns-in-Err : goal.returns-in-Err
 returns-in-Err g c =
@@ -71,7 +71,7 @@ returns-in-Ok-None g c =
     (record {
       writes = λ q left_old given here.
           let h = here.has_given in
-          rw (c.count.ensures ∙ ap (λ (r : Reading). r.converter.lexer.count) c.self-2.view_is)
+          rw (c.place.ensures ∙ ap (λ (r : Reading). r.converter.lexer.count) c.self-2.view_is)
           (ends_before q left_old _ given c.args.expected c.tokens_rise.ensures h.takes h.has_read.passes here.between
           c.read_to_marker.new.self _ _ (by g place q left_old given here) (rw (c.in-Ok-None.is, c.in-Ok-None.field-0-is) at (reads g place q left_old given here)));
       going = tt;

@@ -8,8 +8,8 @@ use Rattle.pgn_game.proofs.converter.Converter.feed_to_marker.Goals as goal
 use Rattle.pgn_game.proofs.converter.Converter.feed_to_marker.Goals.{After-feed_front}
 
 -- the bytes before the piece are those before its front
-limit_at : (g : _) (c : After-feed_front g) {place : ℕ} → c.args.self.now.lexer.count ≡ place → place + (2 ^ 62 - c.count.result) ≡ 2 ^ 62
-limit_at g c at = omega (arith, rw (← c.self.view_is) at at, c.count.ensures, c.self.invariant.count)
+limit_at : (g : _) (c : After-feed_front g) {place : ℕ} → c.args.self.now.lexer.count ≡ place → place + (2 ^ 62 - c.place.result) ≡ 2 ^ 62
+limit_at g c at = omega (arith, rw (← c.self.view_is) at at, c.place.ensures, c.self.invariant.count)
 
 pub returns-in_err-used-clause-feeds : goal.returns-in_err-used-clause-feeds
 returns-in_err-used-clause-feeds g c =
@@ -24,7 +24,7 @@ returns-in_err-used-clause-feeds g c =
 pub returns-in_err-used-clause-goes : goal.returns-in_err-used-clause-goes
 returns-in_err-used-clause-goes g c =
     let e = err_from_is_err_and c.from_residual.result c.from_residual.ensures.1 in
-    rw (e.1, e.2) (front_goes c.args.piece.now (2 ^ 62 - c.count.result) tt (rw c.within_limit-front.ensures at c.in_err-used.ensures.goes))
+    rw (e.1, e.2) (front_goes c.args.piece.now (2 ^ 62 - c.place.result) tt (rw c.within_limit-front.ensures at c.in_err-used.ensures.goes))
 
 pub returns-in-Marker-clause-feeds : goal.returns-in-Marker-clause-feeds
 returns-in-Marker-clause-feeds g c =
@@ -32,12 +32,12 @@ returns-in-Marker-clause-feeds g c =
     let piece = c.args.piece.now in
     let fed = rw (c.in-Marker.is, c.within_limit-front.ensures) at c.in_ok-used.ensures in
     λ p u b given reaches follows.
-    front_marker p u b given piece _ _ _ c.feed_front.new.self _ _ (front_used piece (2 ^ 62 - c.count.result) c.in-Marker.used fed.goes.used)
+    front_marker p u b given piece _ _ _ c.feed_front.new.self _ _ (front_used piece (2 ^ 62 - c.place.result) c.in-Marker.used fed.goes.used)
     (limit_at g after reaches.lexer.count) (fed.feeds p u b given reaches (follows_front b piece _ follows))
 
 pub returns-in-Marker-clause-goes : goal.returns-in-Marker-clause-goes
 returns-in-Marker-clause-goes g c =
-    front_goes c.args.piece.now (2 ^ 62 - c.count.result) tt (rw (c.in-Marker.is, c.within_limit-front.ensures) at c.in_ok-used.ensures.goes)
+    front_goes c.args.piece.now (2 ^ 62 - c.place.result) tt (rw (c.in-Marker.is, c.within_limit-front.ensures) at c.in_ok-used.ensures.goes)
 
 pub returns-then-front-piece-clause-feeds : goal.returns-then-front-piece-clause-feeds
 returns-then-front-piece-clause-feeds g c =
@@ -55,13 +55,13 @@ returns-then-front-piece-clause-goes g c =
     let fed = rw (c.in-All.is, c.within_limit-front.ensures) at c.in_ok-used.ensures in
     let more = limit_left piece _ (rw c.within_limit-front.ensures at c.if-front-piece.true) in
     let now = ap (λ (s : Converter). record s { fault = c.too_long.new.kept }) c.self-2.view_is in
-    rw (now, c.too_long.ensures.kept, c.too_long.ensures.fault) (too_long_goes piece (2 ^ 62 - c.count.result) fed.goes more)
+    rw (now, c.too_long.ensures.kept, c.too_long.ensures.fault) (too_long_goes piece (2 ^ 62 - c.place.result) fed.goes more)
 
 pub returns-else-front-piece-clause-feeds : goal.returns-else-front-piece-clause-feeds
 returns-else-front-piece-clause-feeds g c =
     let piece = c.args.piece.now in
     let fed = rw (c.in-All.is, c.within_limit-front.ensures) at c.in_ok-used.ensures in
-    let whole = front_used piece (2 ^ 62 - c.count.result) (length piece) (rw c.within_limit-front.ensures at c.if-front-piece.false) in
+    let whole = front_used piece (2 ^ 62 - c.place.result) (length piece) (rw c.within_limit-front.ensures at c.if-front-piece.false) in
     λ p u b given reaches follows.
     front_all p u b given piece _ _ _ c.feed_front.new.self whole (fed.feeds p u b given reaches (follows_front b piece _ follows))
 
@@ -69,8 +69,8 @@ pub returns-else-front-piece-clause-goes : goal.returns-else-front-piece-clause-
 returns-else-front-piece-clause-goes g c =
     let piece = c.args.piece.now in
     let fed = rw (c.in-All.is, c.within_limit-front.ensures) at c.in_ok-used.ensures in
-    let whole = front_used piece (2 ^ 62 - c.count.result) (length piece) (rw c.within_limit-front.ensures at c.if-front-piece.false) in
-    rw (take_all (2 ^ 62 - c.count.result) piece whole) at fed.goes
+    let whole = front_used piece (2 ^ 62 - c.place.result) (length piece) (rw c.within_limit-front.ensures at c.if-front-piece.false) in
+    rw (take_all (2 ^ 62 - c.place.result) piece whole) at fed.goes
 
 pub feed_front-requires : goal.feed_front-requires
 feed_front-requires g c =
@@ -79,7 +79,7 @@ feed_front-requires g c =
       search fits_alike,
       (
         record { not_finished = rw (← c.self.view_is) at c.requires; no_fault = c.in_default.is },
-        omega (arith, front, length-take (2 ^ 62 - c.count.result) c.args.piece.now, c.count.ensures, c.self.invariant.count),
+        omega (arith, front, length-take (2 ^ 62 - c.place.result) c.args.piece.now, c.place.ensures, c.self.invariant.count),
       ),
     )
 
