@@ -21,7 +21,7 @@ ghost use Rattle.pgn_game.specs.declared.event.Event.TheVariants as events;
 ghost use Rattle.pgn_game.specs.state.Judged.{IsAnnotation, IsPlayed, TakesMeant, WritesMove, after_move_at, game_by, section_unless};
 ghost use Rattle.pgn_game.specs.state.Movetext.{movetext_from};
 ghost use Rattle.pgn_game.specs.state.PutResult.{BeginsText, MeetsEntry, TakesMarker, TakesUnlessMarker};
-ghost use Rattle.pgn_game.specs.state.ReaderState.{ReaderCall, known_of, plies_of_finished_games, silenced, with_announced};
+ghost use Rattle.pgn_game.specs.state.ReaderState.{ReaderCall, known_of, plies_of_finished_games, silenced, unread, with_announced};
 ghost use Rattle.pgn_game.specs.state.TokenInMovetext.{MayTakeMove, has_whole_pairs, may_have_movetext};
 
 use crate::event::Event;
@@ -69,22 +69,7 @@ impl<const T: usize, const L: usize> Game<T, L> {
     /// Returns a game of which no token was read.
     pub fn new(mode: Mode) -> Self
         requires { 1 ≤ L }
-        ensures { result ≡ record {
-          profile = record {
-            tags = T;
-            depth = L - 1;
-            mode = mode;
-            missing_result = counts_as (codes "*");
-          };
-          writing = record { announced = None; is_silent = false };
-          stage = Between;
-          tags = record { held = []; pending_name = None };
-          text = movetext_from first_position;
-          earlier_plies = 0;
-          most_probes = 0;
-          line = [];
-          marker = codes "*";
-        } }
+        ensures { result ≡ unread T L mode }
     {
         Game {
             reader: Reader::new(mode),

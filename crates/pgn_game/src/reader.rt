@@ -14,7 +14,7 @@ ghost use Rattle.pgn_game.specs.games.Markers.{marker_text, missing_of};
 ghost use Rattle.pgn_game.specs.declared.writer.Writer.{Writer};
 ghost use Rattle.pgn_game.specs.state.Judged.{game_at, Judges, JudgesBefore, JudgesInPair, JudgesMarker, JudgesOutside};
 ghost use Rattle.pgn_game.specs.state.Movetext.{IsDepth, movetext_from};
-ghost use Rattle.pgn_game.specs.state.ReaderState.{plies_of_finished_games};
+ghost use Rattle.pgn_game.specs.state.ReaderState.{plies_of_finished_games, unread};
 ghost use Rattle.pgn_game.specs.state.TokenInMovetext.{MayTakeMove, has_whole_pairs, may_have_movetext};
 ghost use Rattle.pgn_game.specs.state.TokenInMovetext.{fen_position as position_in_fen};
 ghost use Rattle.pgn_game.specs.state.PutResult.{CountsMove, Finds, at_game_start, continued};
@@ -88,22 +88,7 @@ impl<const T: usize, const L: usize> Reader<T, L> {
     /// Returns a reader that has read no token.
     pub fn new(mode: Mode) -> Self
         requires { 1 ≤ L }
-        ensures { result ≡ record {
-          profile = record {
-            tags = T;
-            depth = L - 1;
-            mode = mode;
-            missing_result = counts_as (codes "*");
-          };
-          writing = record { announced = None; is_silent = false };
-          stage = Between;
-          tags = record { held = []; pending_name = None };
-          text = movetext_from first_position;
-          earlier_plies = 0;
-          most_probes = 0;
-          line = [];
-          marker = codes "*";
-        } }
+        ensures { result ≡ unread T L mode }
     {
         Reader {
             mode,

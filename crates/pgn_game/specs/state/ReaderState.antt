@@ -2,7 +2,7 @@
 -- Letters: k is the kind of a token, g a game, p a profile. `old` and `new` are the reader before a
 -- call and after it. `before` and `after` are the bytes that the sink has taken then, if it reports
 -- them.
-use Rattle.std.specs.Prelude.{◌≡◌, ℕ, ◌+◌, ◌<◌, ◌≤◌, nat_le, false, IsTrue, is_some, Bool, true, List, [], length, Option, None, Some, IsSomeAnd, Result, Ok, Err}
+use Rattle.std.specs.Prelude.{◌≡◌, ℕ, ◌+◌, ◌-◌, codes, ◌<◌, ◌≤◌, nat_le, false, IsTrue, is_some, Bool, true, List, [], length, Option, None, Some, IsSomeAnd, Result, Ok, Err}
 use Rattle.std.specs.Io.KnownBytes.{Appends}
 use Rattle.pgn_layout.specs.Device.{AppendsFront, Device, IsStill, device, one_more}
 use Rattle.pgn_lexer.specs.Tokens.{Kind}
@@ -13,6 +13,7 @@ use Rattle.pgn_game.specs.declared.stage.Stage.TheVariants.{Between, AfterLeftBr
 use Rattle.pgn_game.specs.declared.mode.Mode.{Mode}
 use Rattle.pgn_game.specs.calls.Written.{mode_unless, seen}
 use Rattle.pgn_game.specs.games.Profile.{Missing, Profile, counting, counts_as, known_result, takes_the_marker}
+use Rattle.pgn_game.specs.games.Chess.{first_position}
 use Rattle.pgn_game.specs.games.Pairs.{has_pair}
 use Rattle.pgn_game.specs.state.StoredPairs.{TagPairs}
 use Rattle.pgn_game.specs.games.Game.{Game, Part, no_part}
@@ -44,6 +45,25 @@ pub record ReaderState : Type 0 where
   pub most_probes : ℕ
   pub line : List ℕ
   pub marker : List ℕ
+
+-- a reader that has read no token, with room for so many pairs and levels
+abbrev pub unread : (tags levels : ℕ) → Mode → ReaderState
+unread tags levels mode = record {
+  profile = record {
+    tags = tags;
+    depth = levels - 1;
+    mode = mode;
+    missing_result = counts_as (codes "*");
+  };
+  writing = record { announced = None; is_silent = false };
+  stage = Between;
+  tags = record { held = []; pending_name = None };
+  text = movetext_from first_position;
+  earlier_plies = 0;
+  most_probes = 0;
+  line = [];
+  marker = codes "*";
+}
 
 -- the mode by which the reader writes; a silent one has none
 abbrev pub mode_written : ReaderState → Option Mode
