@@ -1,5 +1,5 @@
 -- What calls in turn do to the sink of a silent reader.
-use Rattle.pgn_game.proofs.Words.{Converter, IsGoing, writing_nothing, None, CountsFault, CountsReason, NoWriteFails, Fault, Reason, Ok, Err, Adds, LeavesSink, Device, Item, List, ℕ, Mode, Movetext, Option, Result, mode_of_written, mode_unless, seen, ◌≡◌, Bool, true, false, IsTrue, refl, sym, ap, subst, ◌∙◌, arith, ReaderState, Writing, KeepsSilence, is_nothing, unused, ReaderCall, Written, common_steps}
+use Rattle.pgn_game.proofs.Words.{Converter, IsGoing, writing_nothing, None, CountsFault, CountsReason, NoWriteFails, Fault, Reason, Ok, Err, Device, Result, seen, ◌≡◌, Bool, true, false, IsTrue, refl, ap, subst, ◌∙◌, arith, ReaderState, Writing, KeepsSilence, is_nothing, Written, common_steps}
 use Rattle.pgn_game.specs.declared.mode.Written.TheVariants.{Nothing}
 
 -- a call that leaves how the reader writes

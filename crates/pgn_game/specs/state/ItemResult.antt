@@ -13,9 +13,8 @@ use Rattle.pgn_game.specs.declared.mode.Mode.{Mode}
 use Rattle.pgn_game.specs.declared.mode.Mode.TheVariants.{Full, Reduced}
 use Rattle.pgn_game.specs.declared.mode.Written.{Written}
 use Rattle.pgn_game.specs.declared.writer.Writer.{Writer}
-use Rattle.pgn_game.specs.games.Chess.{is_black_to_move}
 use Rattle.pgn_game.specs.games.Game.{Item, move}
-use Rattle.pgn_game.specs.export.Text.{is_move, number_before, tokens_at, full_text}
+use Rattle.pgn_game.specs.export.Text.{is_move, tokens_at, full_text}
 use Rattle.pgn_game.specs.state.Movetext.{Movetext, StoredLevels, HoldsItems, ClosesLevel, level_at}
 use Rattle.pgn_game.specs.calls.MostTried.{CostsToWrite, is_written}
 use Rattle.pgn_game.specs.calls.Written.{is_nothing, mode_of_written, seen}
