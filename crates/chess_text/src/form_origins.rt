@@ -1,8 +1,7 @@
 //! From which squares a form's move is a step (pseudo-legal move), and from which it is legal.
 
-ghost use Rattle.std.specs.Prelude.{◌≡◌, ◌+◌, ◌<◌, ◌≤◌, ◌^◌, IsTrue, is_some, length};
+ghost use Rattle.std.specs.Prelude.{◌≡◌, ◌+◌, ◌<◌, ◌≤◌, ◌^◌, IsTrue, is_some};
 ghost use Rattle.chess_rules.specs.Board.{cell_of};
-ghost use Rattle.chess_rules.specs.Candidate.{candidates};
 ghost use Rattle.chess_rules.specs.Step.{step};
 ghost use Rattle.chess_text.specs.FormOrigins as spec;
 ghost use Rattle.chess_text.specs.MoveOfForm.{describes as is_described, form_pairs};

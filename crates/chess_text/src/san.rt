@@ -7,7 +7,6 @@ ghost use Rattle.chess_rules.specs.Candidate.{candidates};
 ghost use Rattle.chess_rules.specs.Legal.{legal, is_legal};
 ghost use Rattle.chess_rules.specs.Step.{own};
 ghost use Rattle.chess_text.specs.Form.{promotion_letter as letter_of};
-ghost use Rattle.chess_text.specs.Letter as letters;
 ghost use Rattle.chess_text.specs.San as spec;
 ghost use Rattle.chess_text.specs.San.{MarkPairs};
 

@@ -1,5 +1,5 @@
 //! Where reading goes on behind a bad game, as C gets it.
-ghost use Rattle.std.specs.Prelude.{◌≡◌, ◌+◌, ◌<◌, ◌^◌, Some, length};
+ghost use Rattle.std.specs.Prelude.{◌≡◌, ◌<◌, ◌^◌, Some};
 ghost use Rattle.pgn_c.specs.NextSection as spec;
 
 use crate::game_result::{BAD_PLACE, MORE, NO_GAME};

@@ -2,7 +2,7 @@
 ghost use Rattle.std.specs.Prelude.{◌≡◌, Some, Ok};
 ghost use Rattle.chess_rules.specs.Legal.{legal};
 ghost use Rattle.pgn_game.specs.calls.Notations.{named_in};
-ghost use Rattle.pgn_c.specs.Positions.{failed_move, move_result, notation_of, san_result};
+ghost use Rattle.pgn_c.specs.Positions.{failed_move, move_result, notation_of};
 
 use crate::pgn_result::{FAULT, NO_MODE, OK, padded};
 use chess_rules::{Position, Probes};

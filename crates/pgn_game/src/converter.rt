@@ -5,7 +5,6 @@ ghost use Rattle.std.specs.Option.{option_copied};
 ghost use Rattle.pgn_layout.specs.Device.{WritesText, device};
 ghost use Rattle.pgn_game.specs.games.Markers.{marker_text};
 ghost use Rattle.pgn_game.specs.calls.ConverterCalls.{finished_game_marker, finished_game_section};
-ghost use Rattle.pgn_lexer.specs.Standing.{waiting};
 ghost use Rattle.pgn_lexer.specs.WhiteSpace.{white_space};
 ghost use Rattle.pgn_game.specs.declared.converter.Fed.TheVariants as fed;
 ghost use Rattle.pgn_game.specs.declared.reason.Reason.TheVariants.{InputTooLong, Lexical, ReadFault};

@@ -1,16 +1,14 @@
 //! The current game: each token is judged, and then written.
-ghost use Rattle.std.specs.Prelude.{◌≡◌, ◌&&◌, ◌+◌, ◌-◌, ◌<◌, ◌≤◌, ◌^◌, ◌↔◌, [], None, false, codes, decimal, IsTrue, length, ◌++◌};
+ghost use Rattle.std.specs.Prelude.{◌≡◌, ◌&&◌, ◌+◌, ◌-◌, ◌<◌, ◌≤◌, ◌^◌, ◌↔◌, None, false, codes, decimal, IsTrue, length, ◌++◌};
 ghost use Rattle.std.specs.Option.{option_copied};
 ghost use Rattle.pgn_layout.specs.Device.{WritesText, device};
 ghost use Rattle.pgn_lexer.specs.Tokens.{HasLength};
 ghost use Rattle.pgn_lexer.specs.Scanned.{kind_of};
 ghost use Rattle.pgn_game.specs.declared.stage.Stage.TheVariants.{Between, InMovetext};
 ghost use Rattle.pgn_game.specs.export.TagSection.{exported, tag_section};
-ghost use Rattle.pgn_game.specs.games.Chess.{first_position};
 ghost use Rattle.pgn_game.specs.games.FaultTable.{result_for};
 ghost use Rattle.pgn_game.specs.games.Markers.{marker_text, missing_of};
 ghost use Rattle.pgn_game.specs.games.Pairs.{value_of};
-ghost use Rattle.pgn_game.specs.games.Profile.{counts_as};
 ghost use Rattle.pgn_game.specs.calls.MostTried.{is_written};
 ghost use Rattle.pgn_game.specs.calls.Written.{mode_of_written};
 ghost use Rattle.chess_rules.specs.declared.position.Move.{Move as MoveSeen};
@@ -19,7 +17,6 @@ ghost use Rattle.pgn_game.specs.state.ItemResult.{ItemCall};
 ghost use Rattle.pgn_layout.specs.Lines.{IsToken};
 ghost use Rattle.pgn_game.specs.declared.event.Event.TheVariants as events;
 ghost use Rattle.pgn_game.specs.state.Judged.{IsAnnotation, IsPlayed, TakesMeant, WritesMove, after_move_at, game_by, section_unless};
-ghost use Rattle.pgn_game.specs.state.Movetext.{movetext_from};
 ghost use Rattle.pgn_game.specs.state.PutResult.{BeginsText, MeetsEntry, TakesMarker, TakesUnlessMarker};
 ghost use Rattle.pgn_game.specs.state.ReaderState.{ReaderCall, known_of, plies_of_finished_games, silenced, unread, with_announced};
 ghost use Rattle.pgn_game.specs.state.TokenInMovetext.{MayTakeMove, has_whole_pairs, may_have_movetext};

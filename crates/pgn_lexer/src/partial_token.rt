@@ -1,6 +1,6 @@
 //! The current token: its place, its mode, and what was read of it.
 
-ghost use Rattle.std.specs.Prelude.{◌≡◌, ◌==◌, ◌≤◌, [], if◌then◌else◌, length, IfSome, IsTrue, MatchOption};
+ghost use Rattle.std.specs.Prelude.{◌≡◌, ◌==◌, [], if◌then◌else◌, IfSome, IsTrue, MatchOption};
 ghost use Rattle.pgn_lexer.specs.ByteResult as byte_result;
 ghost use Rattle.pgn_lexer.specs.PartialToken.{PartialToken};
 ghost use Rattle.pgn_lexer.specs.Scanned.{kind_of};

@@ -1,5 +1,5 @@
 //! What the lines of a bad game had so far, and what ends it.
-ghost use Rattle.std.specs.Prelude.{◌≡◌, ◌+◌, ◌<◌, ◌≤◌, ◌^◌, IfSome, length};
+ghost use Rattle.std.specs.Prelude.{◌≡◌, ◌+◌, ◌<◌, ◌^◌, IfSome, length};
 ghost use Rattle.std.specs.List.{list_all};
 ghost use Rattle.pgn_sections.specs.BadGame as spec;
 ghost use Rattle.pgn_sections.specs.declared.bad_game.Ends.TheVariants.{Anywhere};

@@ -1,5 +1,5 @@
 //! The lines of a text, and where reading goes on in them behind a bad game.
-ghost use Rattle.std.specs.Prelude.{ℕ, List, ◌≡◌, ◌+◌, ◌-◌, ◌<◌, ◌≤◌, ◌^◌, ◌++◌, IfSome, Some, None, length, drop};
+ghost use Rattle.std.specs.Prelude.{◌≡◌, ◌+◌, ◌-◌, ◌<◌, ◌≤◌, ◌^◌, IfSome, Some, None, length};
 ghost use Rattle.pgn_sections.specs.FirstLine.{line_from, line_to_return as line_to_return_of};
 ghost use Rattle.pgn_sections.specs.Pieces.{FindsPlace, IsSameGame};
 

@@ -1,7 +1,7 @@
 //! Carries out `export --checked`, which reads its file twice.
 ghost use Rattle.std.specs.Prelude.{◌≡◌, ◌≤◌, ℕ, List, true};
 ghost use Rattle.pgn_layout.specs.Device.{device};
-ghost use Rattle.pgn_tool.specs.TaskRun.{IsFlushed, IsSmooth, mode_for};
+ghost use Rattle.pgn_tool.specs.TaskRun.{IsFlushed, IsSmooth};
 ghost use Rattle.pgn_tool.specs.CheckedRun.{AnswersSame, AnswersTwice, Gives, RunsTwice, WritesFront};
 ghost use Rattle.pgn_tool.specs.CheckedRun.{checked_mode, is_checked};
 

@@ -1,6 +1,6 @@
 //! Reads a piece byte by byte, up to the end of a token, and copies the bytes of its text.
 
-ghost use Rattle.std.specs.Prelude.{◌≡◌, ℕ, ◌+◌, ◌<◌, ◌≤◌, ◌^◌, length};
+ghost use Rattle.std.specs.Prelude.{◌+◌, ◌<◌, ◌≤◌, ◌^◌, length};
 
 use crate::class::is_in;
 use crate::partial_token::{ByteResult, LexMode, PartialToken, PieceResult, Text};
