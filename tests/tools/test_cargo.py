@@ -253,9 +253,10 @@ class Built(unittest.TestCase):
         """For this machine, and for each target without std that is installed."""
         packages = ["--package=" + it for it in WITHOUT_STD]
         word = "clippy" if programs.found("cargo-clippy") else "check"
-        ran = cargo(word, "--no-default-features", *packages)
-        self.assertEqual(ran.returncode, 0, ran.stderr.decode())
-        self.assertNotIn(b"warning", ran.stderr)
+        for words in ([word], ["doc", "--no-deps"]):
+            ran = cargo(*words, "--no-default-features", *packages)
+            self.assertEqual(ran.returncode, 0, ran.stderr.decode())
+            self.assertNotIn(b"warning", ran.stderr)
         ran = self.bare("default-features = false")
         self.assertEqual((ran.returncode, ran.stderr), (0, b""))
         for target in self.targets_without_std():
@@ -789,7 +790,8 @@ def added_to_root(crate, lines, script):
     if "mod text;" in lines:
         added += ["pub use text::TextFault;"]
     if crate in script.WITHOUT_STD:
-        added += [script.NO_STD] + ['#[cfg(feature = "std")]'] * (2 * (crate == "pgn_layout"))
+        added += [script.NO_STD, *script.OTHER_LINKS.get(crate, [])]
+        added += ['#[cfg(feature = "std")]'] * (2 * (crate == "pgn_layout"))
     return added
 
 
