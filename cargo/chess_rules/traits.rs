@@ -1,8 +1,9 @@
 //! What Rust's users expect of the types. **Not proved**: written for Cargo.
 
-use crate::{Board, Colour, Kind, Piece, Position, PositionFault, Probes, Square};
-use std::error::Error;
-use std::fmt::{self, Debug, Display, Formatter, Write};
+use crate::text::letter;
+use crate::{Board, Colour, Position, PositionFault, Probes, Rights, Square};
+use core::fmt::{self, Debug, Display, Formatter, Write};
+use core::hash::{Hash, Hasher};
 
 impl Display for PositionFault {
     fn fmt(&self, out: &mut Formatter<'_>) -> fmt::Result {
@@ -16,7 +17,41 @@ impl Display for PositionFault {
     }
 }
 
-impl Error for PositionFault {}
+#[cfg(feature = "std")]
+impl std::error::Error for PositionFault {}
+
+/// The parts of a position that a FEN has. What is stored besides follows from them.
+type Fields<'a> = (&'a Board, Colour, Rights, Option<Square>, u32, u32);
+
+fn fields(position: &Position) -> Fields<'_> {
+    (
+        position.board(),
+        position.side(),
+        position.rights(),
+        position.target(),
+        position.half(),
+        position.full(),
+    )
+}
+
+impl PartialEq for Position {
+    /// Whether all six fields of the two FENs are equal, the counters too.
+    ///
+    /// By the rule of repetition (FIDE Laws 9.2.3) more positions are the same:
+    /// `chess_text::write_position_key`.
+    #[inline]
+    fn eq(&self, other: &Position) -> bool {
+        fields(self) == fields(other)
+    }
+}
+
+impl Eq for Position {}
+
+impl Hash for Position {
+    fn hash<H: Hasher>(&self, state: &mut H) {
+        fields(self).hash(state);
+    }
+}
 
 impl Debug for Position {
     /// Writes the ranks from the eighth to the first, as `r...k..r`, and the other parts.
@@ -38,27 +73,12 @@ impl Debug for Board {
         for rank in (0..8).rev() {
             let squares = (0..8).filter_map(|file| Square::new(file, rank));
             for square in squares {
-                out.write_char(self.at(square).map_or('.', letter))?;
+                out.write_char(self.at(square).map_or('.', |it| letter(it).into()))?;
             }
             out.write_str(if rank == 0 { "" } else { "/" })?;
         }
         Ok(())
     }
-}
-
-fn letter(piece: Piece) -> char {
-    let letter = match piece.kind {
-        Kind::King => 'k',
-        Kind::Queen => 'q',
-        Kind::Rook => 'r',
-        Kind::Bishop => 'b',
-        Kind::Knight => 'n',
-        Kind::Pawn => 'p',
-    };
-    if piece.colour == Colour::White {
-        return letter.to_ascii_uppercase();
-    }
-    letter
 }
 
 impl Default for Probes {

@@ -1,9 +1,8 @@
 //! What Rust's users expect of the types. **Not proved**: written for Cargo.
 
-use crate::{write_fen, FenFault, FenWriter, Played, SanFault, UciFault};
+use crate::{FenFault, FenWriter, Played, SanFault, UciFault};
 use chess_rules::{try_pair, Position, Probes};
-use std::error::Error;
-use std::fmt::{self, Debug, Display, Formatter};
+use core::fmt::{self, Debug, Display, Formatter};
 
 impl Display for FenFault {
     /// Writes the words that the program reports for such a FEN tag.
@@ -12,7 +11,8 @@ impl Display for FenFault {
     }
 }
 
-impl Error for FenFault {}
+#[cfg(feature = "std")]
+impl std::error::Error for FenFault {}
 
 impl Display for SanFault {
     /// Writes the words that the program reports for such a move.
@@ -24,7 +24,8 @@ impl Display for SanFault {
     }
 }
 
-impl Error for SanFault {}
+#[cfg(feature = "std")]
+impl std::error::Error for SanFault {}
 
 impl Display for UciFault {
     /// Writes the words that the program reports for such a move.
@@ -36,7 +37,8 @@ impl Display for UciFault {
     }
 }
 
-impl Error for UciFault {}
+#[cfg(feature = "std")]
+impl std::error::Error for UciFault {}
 
 impl Debug for FenWriter {
     fn fmt(&self, out: &mut Formatter<'_>) -> fmt::Result {
@@ -61,6 +63,5 @@ impl Debug for Played {
 
 /// Whether the move is legal, and the position is the one after it.
 pub(crate) fn is_played(position: &Position, played: &Played) -> bool {
-    let next = try_pair(position, played.mv, &mut Probes::new());
-    next.is_some_and(|it| write_fen(&it) == write_fen(&played.next))
+    try_pair(position, played.mv, &mut Probes::new()) == Some(played.next)
 }

@@ -1,8 +1,9 @@
 //! What Rust's users expect of the types. **Not proved**: written for Cargo.
 
-use crate::{CurrentLine, Layout, Outlet, WriteFault};
-use std::error::Error;
-use std::fmt::{self, Debug, Display, Formatter};
+#[cfg(feature = "std")]
+use crate::Outlet;
+use crate::{CurrentLine, Layout, WriteFault};
+use core::fmt::{self, Debug, Display, Formatter};
 
 impl Display for WriteFault {
     /// Writes the words that the program reports.
@@ -11,8 +12,10 @@ impl Display for WriteFault {
     }
 }
 
-impl Error for WriteFault {}
+#[cfg(feature = "std")]
+impl std::error::Error for WriteFault {}
 
+#[cfg(feature = "std")]
 impl<W> Debug for Outlet<W> {
     fn fmt(&self, out: &mut Formatter<'_>) -> fmt::Result {
         out.debug_struct("Outlet").finish_non_exhaustive()

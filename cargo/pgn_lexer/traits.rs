@@ -1,8 +1,7 @@
 //! What Rust's users expect of the types. **Not proved**: written for Cargo.
 
 use crate::{LexFault, LexReason, Lexer};
-use std::error::Error;
-use std::fmt::{self, Debug, Display, Formatter};
+use core::fmt::{self, Debug, Display, Formatter};
 
 impl Display for LexReason {
     /// Writes the words that the program reports.
@@ -24,7 +23,8 @@ impl Display for LexReason {
     }
 }
 
-impl Error for LexReason {}
+#[cfg(feature = "std")]
+impl std::error::Error for LexReason {}
 
 impl Display for LexFault {
     /// Writes the line that the program reports, such as `byte 3: stray byte`.
@@ -33,7 +33,8 @@ impl Display for LexFault {
     }
 }
 
-impl Error for LexFault {}
+#[cfg(feature = "std")]
+impl std::error::Error for LexFault {}
 
 impl Debug for Lexer {
     fn fmt(&self, out: &mut Formatter<'_>) -> fmt::Result {

@@ -24,11 +24,89 @@ fn main() {
     assert_eq!((totals.games, totals.plies), (1, 2));
 }
 """
+# What follows a sample that is the reader NAME, which tries an interrupted read again.
+READS = """
+/// Is interrupted before each byte, and breaks behind the last one.
+struct Interrupted(&'static [u8], bool);
+
+impl Read for Interrupted {
+    fn read(&mut self, buffer: &mut [u8]) -> Result<usize> {
+        self.1 = !self.1;
+        match (self.1, self.0) {
+            (true, _) => Err(ErrorKind::Interrupted.into()),
+            (_, []) => Err(ErrorKind::TimedOut.into()),
+            _ => self.0.read(&mut buffer[..1]),
+        }
+    }
+}
+
+fn main() {
+    use pgn_game::{Games, Inlet, Mode, Nowhere};
+    let games = || (Games::<64, 33>::new(Mode::Full), Interrupted(b"e4 * d4 e5 *", false));
+    let (mut plain, source) = games();
+    let fault = plain.next(&mut Inlet::new(source), &mut Nowhere).unwrap_err();
+    assert_eq!(fault.to_string(), "byte 0: input cannot be read");
+    let (mut games, source) = games();
+    let mut source = Inlet::new(NAME(source));
+    for plies in [1, 2] {
+        assert_eq!(games.next(&mut source, &mut Nowhere), Ok(true));
+        assert_eq!(games.plies(), plies);
+    }
+    let fault = games.next(&mut source, &mut Nowhere).unwrap_err();
+    assert_eq!(fault.to_string(), "byte 12: input cannot be read");
+}
+"""
+# A library with a panic handler of its own, so that it has to have nothing of std.
+BARE = """#![no_std]
+use chess_rules::{Move, Position, TextFault};
+use core::fmt::{self, Write};
+use core::panic::PanicInfo;
+use pgn_layout::{Layout, Sink, WriteFault};
+use pgn_lexer::{Lexer, Outcome};
+
+#[panic_handler]
+fn panicked(_: &PanicInfo) -> ! {
+    loop {}
+}
+
+pub struct Line([u8; 200], usize);
+
+impl Sink for Line {
+    fn write_some(&mut self, bytes: &[u8]) -> Result<usize, WriteFault> {
+        let Some(place) = self.0.get_mut(self.1) else { return Err(WriteFault) };
+        *place = bytes[0];
+        self.1 += 1;
+        Ok(1)
+    }
+
+    fn flush(&mut self) -> Result<(), WriteFault> {
+        Ok(())
+    }
+}
+
+impl Write for Line {
+    fn write_str(&mut self, text: &str) -> fmt::Result {
+        pgn_layout::write_all(self, text.as_bytes()).map_err(|_| fmt::Error)
+    }
+}
+
+pub fn show(out: &mut Line, fen: &str, text: &str) -> Result<(), TextFault> {
+    let (position, played) = (fen.parse::<Position>()?, text.parse::<Move>()?);
+    let is_same = chess_text::read_fen(fen.as_bytes()) == Ok(position);
+    let _ = write!(out, "{position} {played} {is_same}");
+    let mut lexer = Lexer::new();
+    if let Outcome::Fault(fault) = lexer.next(text.as_bytes()).outcome {
+        let _ = write!(out, "{fault}");
+    }
+    let _ = Layout::new().put(b"e4", out);
+    Ok(())
+}
+"""
 # Prints of each reason its number, and the line of a fault at byte 7, which ends in its words.
 SAMPLE_OF_REASONS = """use pgn_game::{Fault, LexReason, Reason};
 fn main() {
     for reason in [%(values)s] {
-        let _: u8 = match reason { %(cases)s };
+        let _: u8 = match reason { %(cases)s%(others)s };
         let fault = Fault { at: 7, reason };
         assert_eq!(fault.to_string(), format!("byte 7: {reason}"));
         println!("{}: {}", reason.number(), fault);
@@ -69,6 +147,7 @@ fn main() {
 }
 """
 LIBRARIES = ("chess_rules", "chess_text", "pgn_lexer", "pgn_layout", "pgn_game", "pgn_sections")
+WITHOUT_STD = LIBRARIES[:4]
 # The crates whose calls of the toolchain are renamed. Of the others lines only go.
 RENAMED = ("pgn_tool", "pgn_arguments", "pgn_c")
 # The tests of files, pipes and devices, which are those of the proved program too.
@@ -139,8 +218,10 @@ class Built(unittest.TestCase):
 
     def test_the_examples_of_the_docstrings_pass(self):
         files = [it for name in LIBRARIES for it in glob.glob("%s/crates/%s/src/*.rt" % (ROOT, name))]
-        fences = sum(len(re.findall(r"^ *//[/!] ```", read(it), re.M)) for it in files)
-        self.assertGreaterEqual(fences, 44)
+        pages = glob.glob(ROOT + "/cargo/*/lib.md")
+        self.assertEqual(len(pages), len(WITHOUT_STD))
+        fences = sum(len(re.findall(r"^(?: *//[/!] )?```", read(it), re.M)) for it in files + pages)
+        self.assertGreaterEqual(fences, 52)
         ran = cargo("test", "--doc", *("--package=" + it for it in LIBRARIES))
         said = (ran.stdout + ran.stderr).decode()
         self.assertEqual(ran.returncode, 0, said)
@@ -168,6 +249,47 @@ class Built(unittest.TestCase):
         self.check_conditions({"CARGO_PROFILE_DEV_DEBUG_ASSERTIONS": "false"},
                               wanted - checked_in_debug)
 
+    def test_four_libraries_build_without_std(self):
+        """For this machine, and for each target without std that is installed."""
+        packages = ["--package=" + it for it in WITHOUT_STD]
+        word = "clippy" if programs.found("cargo-clippy") else "check"
+        for words in ([word], ["doc", "--no-deps"]):
+            ran = cargo(*words, "--no-default-features", *packages)
+            self.assertEqual(ran.returncode, 0, ran.stderr.decode())
+            self.assertNotIn(b"warning", ran.stderr)
+        ran = self.bare("default-features = false")
+        self.assertEqual((ran.returncode, ran.stderr), (0, b""))
+        for target in self.targets_without_std():
+            ran = self.bare("default-features = false", "--target=" + target)
+            self.assertEqual((ran.returncode, ran.stderr), (0, b""), target)
+        # The same with std is refused.
+        ran = self.bare("default-features = true")
+        self.assertIn("error[E0152]: found duplicate lang item `panic_impl`", ran.stderr.decode())
+
+    def bare(self, features, *words):
+        """What cargo says of a library that has std only if its dependencies have it."""
+        folder = programs.new_folder(self)
+        os.mkdir(folder + "/src")
+        shutil.copytree(OUT + "/.cargo", folder + "/.cargo")
+        lines = ["[package]", 'name = "bare"', 'version = "0.1.0"', 'edition = "2021"',
+                 "[lib]", 'crate-type = ["staticlib"]',
+                 "[profile.dev]", 'panic = "abort"', "[dependencies]"]
+        lines += ['%s = { path = "%s/crates/%s", %s }' % (it, OUT, it, features)
+                  for it in WITHOUT_STD]
+        for name, text in (("Cargo.toml", "\n".join(lines) + "\n"), ("src/lib.rs", BARE)):
+            with open("%s/%s" % (folder, name), "w", encoding="utf-8") as file:
+                file.write(text)
+        env = dict(os.environ, PATH=programs.PATH, CARGO_TARGET_DIR=OUT + "/bare")
+        return run(["cargo", "build", "--offline", "--quiet", *words], cwd=folder, env=env,
+                   timeout=300)
+
+    def targets_without_std(self):
+        root = run(["rustc", "--print=sysroot"]).stdout.decode().strip() + "/lib/rustlib/"
+        with_core, with_std = ({os.path.relpath(it, root).split("/")[0]
+                                for it in glob.glob("%s*/lib/lib%s-*.rlib" % (root, name))}
+                               for name in ("core", "std"))
+        return sorted(with_core - with_std)
+
     def test_a_call_needs_room_for_its_pairs(self):
         self.build_libraries()
         ran = self.run_sample(SAMPLE_OF_ROOM)
@@ -191,12 +313,20 @@ class Built(unittest.TestCase):
         for row, name in zip(rows, reasons):
             value = "Lexical(LexReason::%s)" % name if int(row[0]) < 20 else name
             arms.append(value + "(_)" * (name == "BadFen"))
-        # A match with no wildcard: a reason that the table lacks is an error.
+        # The table has each reason of the source, in its order.
+        lexical, others = (self.cases_of(*it) for it in (("pgn_lexer/src/token.rt", "LexReason"),
+                                                         ("pgn_game/src/reason.rt", "Reason")))
+        self.assertEqual(others[0], "Lexical")
+        self.assertEqual(reasons, lexical + others[1:])
         values = "".join("Reason::%s, " % it.replace("(_)", "(3)") for it in arms)
         cases = "".join("Reason::%s => %d, " % (it, at) for at, it in enumerate(arms))
-        text = SAMPLE_OF_REASONS % {"values": values, "cases": cases}
+        text = {"values": values, "cases": cases, "others": "_ => 255"}
         self.build_libraries()
-        ran = self.run_sample(text)
+        # More reasons may come: a match that has all of them needs a wildcard all the same.
+        ran = self.compiled(SAMPLE_OF_REASONS % {**text, "others": ""})
+        self.assertIn("error[E0004]: non-exhaustive patterns: `_` not covered", ran.stderr.decode())
+        self.assertEqual(ran.stderr.decode().count("error["), 1)
+        ran = self.run_sample(SAMPLE_OF_REASONS % text)
         shown = [it.split(": ", 2) for it in ran.stdout.decode().splitlines()]
         words = [row[3].strip("`").replace("field N", "field 3") for row in rows]
         wanted = [[row[0], "byte 7", it] for row, it in zip(rows, words)]
@@ -235,18 +365,30 @@ class Built(unittest.TestCase):
         left = {os.path.basename(it): read(it) for it in glob.glob(to + "/*")}
         return shown(ran), left
 
-    def run_sample(self, text):
-        called = re.search(r"fn (\w+)\(input: &\[u8\], text: &mut Vec<u8>\)", text)
-        if called and "fn main(" not in text:
-            text += CALL.replace("NAME", called[1])
-        elif "fn main(" not in text:
-            text = "fn main() {\n%s}\n" % text
+    def cases_of(self, file, name):
+        """The names of the cases of an enum."""
+        found = re.search(r"(?s)\npub enum %s \{\n(.*?)\n\}" % name, read(ROOT + "/crates/" + file))
+        return re.findall(r"(?m)^    (\w+)(?:\(\w+\))?,$", found[1])
+
+    def compiled(self, text):
+        """What rustc says of a program with the libraries."""
         with open(OUT + "/target/sample.rs", "w", encoding="utf-8") as file:
             file.write(text)
         words = ["rustc", "--edition=2021", "-Dwarnings", "-Ltarget/debug/deps", "target/sample.rs",
                  "-otarget/sample"]
         words += ["--extern=%s=target/debug/lib%s.rlib" % (it, it) for it in LIBRARIES]
-        ran = run(words, cwd=OUT)
+        return run(words, cwd=OUT)
+
+    def run_sample(self, text):
+        called = re.search(r"fn (\w+)\(input: &\[u8\], text: &mut Vec<u8>\)", text)
+        reader = re.search(r"impl<R: Read> Read for (\w+)<R>", text)
+        if called and "fn main(" not in text:
+            text += CALL.replace("NAME", called[1])
+        elif reader and "fn main(" not in text:
+            text += READS.replace("NAME", reader[1])
+        elif "fn main(" not in text:
+            text = "fn main() {\n%s}\n" % text
+        ran = self.compiled(text)
         self.assertEqual(ran.returncode, 0, ran.stderr.decode())
         return run([OUT + "/target/sample"])
 
@@ -384,14 +526,18 @@ class Written(Folder, unittest.TestCase):
         return out, ran.returncode, (ran.stdout + ran.stderr).decode()
 
     def pairs(self, out, crates=(*LIBRARIES, *RENAMED)):
-        """Each file that is written from one of ours, and that one."""
+        """Each file that is written from one of ours, and that one, which its first line names."""
+        copies = programs.load("bin/to_cargo").COPIED
         for crate in crates:
             folder = "%s/crates/%s/src/" % (out, crate)
             for path in glob.glob(folder + "**/*.rs", recursive=True):
-                source = "%s/crates/%s/src/%s.rt" % (ROOT, crate, path[len(folder) : -3])
                 first, text = read(path).split("\n", 1)
                 if first.startswith("// From "):
-                    yield path, text.split("\n"), read(source)
+                    name = path[len(folder) : -3]
+                    other, copied = copies.get(crate, (None, ()))
+                    source = "crates/%s/src/%s.rt" % (other if name in copied else crate, name)
+                    self.assertTrue(first.startswith("// From %s, without its " % source), first)
+                    yield path, text.split("\n"), read(os.path.join(ROOT, source))
 
     def test_lines_only_go(self):
         """But for the assertions and the modules that are written for Cargo."""
@@ -587,7 +733,7 @@ class Written(Folder, unittest.TestCase):
         copy = tempfile.mkdtemp(dir=self.folder)
         names = ["bin/to_cargo", "crates.txt", "LICENSE-MIT", "CHANGELOG.md", "cargo/README.md",
                  "crates/pgn_c/pgn.h"]
-        for folder in ("cargo/*/**/*.rs", "crates/*/src/**/*.rt"):
+        for folder in ("cargo/*/**/*.rs", "cargo/*/*.md", "crates/*/src/**/*.rt"):
             found = glob.glob(os.path.join(ROOT, folder), recursive=True)
             names += [os.path.relpath(it, ROOT) for it in found if not it.startswith(OUT + "/")]
         for name in names:
@@ -609,13 +755,17 @@ def without_added(path, lines):
         added += [line for words in conditions for line in script.assertion(*words)]
     for line, others in script.OTHER_LINES.get(file, {}).values():
         added += [script.SOURCE_HAS % line, *others]
-    modules = ("traits", "ffi", "conditions", "own_pair")
+    modules = ("traits", "text", "ffi", "conditions", "own_pair")
     for module in (it for it in modules if "mod %s;" % it in lines):
         is_test = module in ("conditions", "own_pair")
         added += ["#[cfg(test)]"] if is_test else ["// Written for Cargo, not proved."]
         added += ["mod %s;" % module]
-    if path.endswith("/lib.rs") and "pub mod laws;" in lines:
-        added += ["#[doc(hidden)]"]
+    if path.endswith("/lib.rs"):
+        crate = path.split("/")[-3]
+        added += added_to_root(crate, lines, script)
+        lines = without_first_page(crate, lines)
+    if file == "crates/pgn_game/src/reason.rt":
+        added += ["#[non_exhaustive]"]
     left = []
     hints = ["#[track_caller]"]
     hints += ["#[inline]"] * (path.split("/crates/")[1].split("/")[0] in LIBRARIES)
@@ -631,14 +781,44 @@ def without_added(path, lines):
     return left
 
 
+def added_to_root(crate, lines, script):
+    """The lines that bin/to_cargo adds to the first file of a crate."""
+    added = ["#[doc(hidden)]"] * ("pub mod laws;" in lines)
+    if crate in script.COPIED:
+        added += ["// What reads and writes a FEN is also in chess_text."]
+        added += ["mod %s;" % it for it in script.COPIED[crate][1]]
+    if "mod text;" in lines:
+        added += ["pub use text::TextFault;"]
+    if crate in script.WITHOUT_STD:
+        added += [script.NO_STD, *script.OTHER_LINKS.get(crate, [])]
+        added += ['#[cfg(feature = "std")]'] * (2 * (crate == "pgn_layout"))
+    return added
+
+
+def without_first_page(crate, lines):
+    """The lines without the documentation of cargo/CRATE/lib.md, which ends that of the crate."""
+    if crate not in WITHOUT_STD:
+        return lines
+    page = ["", *read("%s/cargo/%s/lib.md" % (ROOT, crate)).splitlines()]
+    page = [("//! " + it).rstrip() for it in page]
+    end = max(at for at, it in enumerate(lines) if it.startswith("//!")) + 1
+    assert lines[end - len(page) : end] == page, crate
+    return lines[: end - len(page)] + lines[end:]
+
+
 def is_made(line, source):
     """Whether the line is the source's, or that with what stands behind a contract or without what
-    only the prover reads."""
+    only the prover reads, or has `Hash`, `core` or `crate` for Cargo."""
     source = source.replace('pub extern "C" fn', "pub fn")
+    if line.startswith("use crate::"):
+        source = re.sub("^use chess_rules::", "use crate::", source)
+    line = re.sub("^use core::", "use std::", line)
     made = []
     for left in (source, source.replace(", Drop", ""), source.replace(" + Drop", "")):
         made += [left, left + " {", left + " {}", left + ";"]
     made.append(source.replace("#[rattlefmt::", "#[rustfmt::"))
     if source == "use std::marker::{Brand, PhantomData};":
         made.append("use std::marker::PhantomData;")
-    return line in made
+    without_hash = line.replace(", Eq, Hash", ", Eq")
+    without_eq = line.replace("(Clone, Copy, PartialEq, Eq, Hash)", "(Clone, Copy)")
+    return any(it in made for it in (line, without_hash, without_eq))
