@@ -256,7 +256,7 @@ class Choice(unittest.TestCase):
         self.assertIn("apt-get could not install them", told)
 
     def check_hint(self, told, again=""):
-        """Root is asked to install packages and nothing else: what it builds, only it can replace."""
+        """Root installs packages and nothing else: what root builds, only root can replace."""
         self.assertRegex(told, r"as root: apt-get install --no-install-recommends cargo\b.*\n"
                                "bin/build_program: then again, without root%s\n" % again)
         self.assertNotIn("bin/install --deps", told)
