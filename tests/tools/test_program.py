@@ -258,7 +258,7 @@ class Choice(unittest.TestCase):
     def check_hint(self, told, again=""):
         """Root installs packages and nothing else: what root builds, only root can replace."""
         self.assertRegex(told, r"as root: apt-get install --no-install-recommends cargo\b.*\n"
-                               "bin/build_program: then again, without root%s\n" % again)
+                               "bin/build_program: +then again, without root%s\n" % again)
         self.assertNotIn("bin/install --deps", told)
 
     def test_deps_without_root(self):
