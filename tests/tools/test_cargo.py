@@ -464,6 +464,9 @@ class Release(Folder, unittest.TestCase):
         super().setUp()
 
     def dist(self, script="bin/dist"):
+        """Into a repository of git, where cargo would package what is committed alone."""
+        programs.need("git")
+        run(["git", "init", "--quiet", self.folder])
         out = self.folder + "/out"
         ran = run([sys.executable, script, "--part", "cargo", "--part", "python", out], timeout=500)
         return out, ran.returncode, ran.stdout.decode(), ran.stderr.decode()
@@ -482,6 +485,7 @@ class Release(Folder, unittest.TestCase):
             with tarfile.open("%s/%s-%s.crate" % (out, name, version)) as package:
                 names = {it.split("/", 1)[1] for it in package.getnames()}
             self.assertLessEqual({"Cargo.toml", "README.md", "LICENSE-MIT"}, names, name)
+            self.assertNotIn(".cargo_vcs_info.json", names)
         # nothing of this machine
         self.assertEqual(sorted(os.listdir(workspace)),
                          ["CHANGELOG.md", "Cargo.toml", "LICENSE-MIT", "README.md", "crates"])

@@ -236,7 +236,7 @@ class Small(unittest.TestCase):
         ran = here.call(self.prefix, script=INSTALL)
         self.assertEqual((ran.returncode, ran.stdout), (127, b""))
         self.assertIn(b"cargo is not on the PATH", ran.stderr)
-        said = 'as root: bin/install --deps "%s" (on Debian 12' % self.prefix
+        said = 'on Debian, as root: bin/install --deps "%s"\n' % self.prefix
         self.assertIn(said, ran.stderr.decode())
         self.assertFalse(os.path.exists(self.prefix))
 

@@ -2,7 +2,9 @@
 import glob
 import hashlib
 import os
+import re
 import subprocess
+import sys
 import tarfile
 import unittest
 import zipfile
@@ -63,6 +65,14 @@ class Debian(unittest.TestCase):
                    *glob.glob(self.folder + "/*.deb")], env=env, timeout=None)
         self.assertEqual(ran.returncode, 0, ran.stdout)
 
+    def test_a_program_depends_on_the_minor_version_of_the_library(self):
+        """Which is in the name of the shared library; until 1.0 another may change a call."""
+        file, = glob.glob(self.folder + "/libpgn-c0_*.deb")
+        ran = run(["dpkg-deb", "-I", file, "shlibs"])
+        major, minor, _ = programs.load("bin/to_cargo").version().split(".")
+        self.assertEqual(ran.stdout.decode(), "libpgn_c {0}.{1} libpgn-c0 (>= {0}.{1}), "
+                         "libpgn-c0 (<< {0}.{2}~)\n".format(major, minor, int(minor) + 1))
+
     def test_the_program(self):
         ran = run(["pgn_tool", "export"], input=LOOSE, env=self.env(), cwd=self.folder)
         self.assertEqual((ran.returncode, ran.stdout, ran.stderr), (0, TIDY, b""))
@@ -99,6 +109,60 @@ class Debian(unittest.TestCase):
                          "fish/vendor_completions.d/%s.fish", "zsh/vendor-completions/_%s"):
                 self.assertTrue(os.path.isfile(usr + path % name), path % name)
         self.assertTrue(os.path.isfile(usr + "man/man3/pgn_c.3.gz"))
+
+
+class Sources(unittest.TestCase):
+    """What debian/ says beside what is built."""
+
+    def test_the_build_depends_on_what_the_build_by_cargo_needs(self):
+        with open(ROOT + "/debian/control", encoding="ascii") as file:
+            control = file.read()
+        named = re.search(r"^Build-Depends:\n((?: .*\n)+)", control, re.MULTILINE)[1]
+        names = [it.strip().rstrip(",") for it in named.splitlines()]
+        oldest = "%d.%d" % programs.OLDEST_CARGO
+        self.assertIn("cargo-web | cargo (>= %s)" % oldest, names)
+        for crate in programs.CRATES:
+            self.assertIn("librust-%s-dev" % crate, names)
+
+    def test_git_ignores_what_the_build_leaves(self):
+        programs.need("git")
+        left = [".debhelper/x", "pgn-tool.debhelper.log", "libpgn-c0.substvars",
+                "debhelper-build-stamp", "files", "tmp/usr/bin/pgn_tool",
+                *(it + "/DEBIAN/control" for it in PACKAGES)]
+        kept = ["control", "rules", "pgn-tool.install"]
+        ran = run(["git", "check-ignore", *("debian/" + it for it in left + kept)], cwd=ROOT)
+        self.assertEqual(ran.stdout.decode().split(), ["debian/" + it for it in left])
+
+
+class Lacking(Folder, unittest.TestCase):
+    """What bin/dist says where something is missing."""
+
+    def dist(self, part):
+        env = {"PATH": self.folder + "/bin"}
+        os.makedirs(env["PATH"], exist_ok=True)
+        ran = run([sys.executable, ROOT + "/bin/dist", "--part", part, self.folder + "/out"],
+                  env=env)
+        return ran.returncode, ran.stdout.decode(), ran.stderr.decode()
+
+    def command(self, name, script):
+        os.chmod(self.put("bin/" + name, "#!/bin/sh\n" + script), 0o755)
+
+    def test_a_part_that_was_asked_for(self):
+        for part, why in (("cargo", "cargo is missing"), ("debian", "of Debian's package dpkg-dev"),
+                          ("proved", "rt is not on the PATH")):
+            status, out, told = self.dist(part)
+            self.assertEqual((status, out), (127, ""))
+            self.assertRegex(told, r"\Abin/dist: .*%s\n\Z" % why)
+        self.command("dpkg-buildpackage", "exit 9\n")
+        self.command("dh", "exit 9\n")
+        self.assertIn("of Debian's package dh-python\n", self.dist("debian")[2])
+
+    def test_a_cargo_that_is_too_old(self):
+        """As that of Debian 12 is."""
+        self.command("cargo", "echo '      --no-verify  Do not verify the contents'\n")
+        status, out, told = self.dist("cargo")
+        self.assertEqual((status, out), (127, ""))
+        self.assertIn("this cargo is too old to write packages", told)
 
 
 class Others(Folder, unittest.TestCase):

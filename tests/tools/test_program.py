@@ -255,12 +255,23 @@ class Choice(unittest.TestCase):
         self.assertEqual((status, out), (127, ""))
         self.assertIn("apt-get could not install them", told)
 
+    def check_hint(self, told, again=""):
+        """Root installs packages and nothing else: what root builds, only root can replace."""
+        self.assertRegex(told, r"as root: apt-get install --no-install-recommends cargo\b.*\n"
+                               "bin/build_program: +then again, without root%s\n" % again)
+        self.assertNotIn("bin/install --deps", told)
+
     def test_deps_without_root(self):
         self.apt(user="1000")
+        self.remove("rt")
         status, out, told = self.build("--deps")
         self.assertEqual((status, out), (127, ""))
         self.assertRegex(told, "--deps needs root on Debian: there it installs cargo\\b")
-        self.assertIn("as root: bin/install --deps\n", told)
+        self.check_hint(told)
+        # so it is said where --deps is not given
+        self.check_hint(self.build()[2])
+        self.check_hint(self.build(env={"INSTALL_PREFIX": "/to there"})[2],
+                        ': bin/install "/to there"')
         self.assertFalse(os.path.exists(self.here.root + "/asked"))
 
     def test_arguments(self):
