@@ -218,7 +218,11 @@ class Choice(unittest.TestCase):
         """Puts commands of Debian in place, which keep a list of what they are asked for."""
         self.remove("id", "cargo")
         self.here.command("id", "#!/bin/sh\necho %s\n" % user)
-        self.here.command("apt-cache", "#!/bin/sh\n[ -e ../only-cargo-web ]\n")
+        # policy: the version of cargo; show: whether there is a cargo-web
+        self.here.command("apt-cache", "#!/bin/sh\ncd %s\n"
+                          "case $* in 'policy cargo') [ ! -e policy ] || cat policy ;;\n"
+                          "'show cargo-web') [ -e cargo-web ] ;; *) exit 9 ;; esac\n"
+                          % self.here.root)
         self.here.write("cargo-of-debian", "")
         self.here.command("apt-get", "#!/bin/sh\nhere=%s\necho \"$*\" >>$here/asked\n"
                           "[ $1 = update ] && exit\n[ ! -e $here/broken ] || exit 100\n"
@@ -247,6 +251,19 @@ class Choice(unittest.TestCase):
         # nothing is installed for a program that is there
         self.check(self.build("--deps"), self.by_cargo)
         self.assertEqual(len(self.asked()), 3)
+
+    def test_the_package_of_cargo(self):
+        """The one by another name is taken where the usual one is too old."""
+        self.apt()
+        self.remove("rt")
+        self.here.write("cargo-web", "")
+        for version, package in (("0.66.0+ds1-1", "cargo-web"), ("(none)", "cargo-web"),
+                                 ("1.74.0+dfsg1-1", "cargo"), ("1.85.1+dfsg1-1", "cargo")):
+            self.here.write("policy", "cargo:\n  Installed: (none)\n  Candidate: %s\n" % version)
+            self.assertRegex(self.build("--deps")[2], "installs %s( |\\n)" % package)
+        os.unlink(self.here.root + "/cargo-web")
+        self.here.write("policy", "")
+        self.assertRegex(self.build("--deps")[2], "installs cargo( |\\n)")
 
     def test_deps_that_are_not_had(self):
         self.apt()
