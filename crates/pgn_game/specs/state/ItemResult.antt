@@ -4,7 +4,7 @@ use Rattle.std.specs.Io.KnownBytes.{Appends}
 use Rattle.chess_rules.specs.declared.position.Move.{Move}
 use Rattle.chess_rules.specs.declared.position.Parts.{Parts}
 use Rattle.chess_rules.specs.Legal.{is_legal}
-use Rattle.chess_text.specs.declared.resolution.Played.{Played}
+use Rattle.chess_rules.specs.declared.position.Played.{Played}
 use Rattle.pgn_layout.specs.Device.{AppendsFront, Counts, Device, Writes, device}
 use Rattle.pgn_layout.specs.Lines.{IsToken}
 use Rattle.pgn_layout.specs.Layout.{Put, laid_from}
