@@ -52,15 +52,6 @@ impl Default for FenWriter {
     }
 }
 
-impl Debug for Played {
-    fn fmt(&self, out: &mut Formatter<'_>) -> fmt::Result {
-        out.debug_struct("Played")
-            .field("mv", &self.mv)
-            .field("next", &self.next)
-            .finish()
-    }
-}
-
 /// Whether the move is legal, and the position is the one after it.
 pub(crate) fn is_played(position: &Position, played: &Played) -> bool {
     try_pair(position, played.mv, &mut Probes::new()) == Some(played.next)

@@ -115,7 +115,7 @@ fn main() {
 """
 # Calls each function that counts pairs with too little room, and then with enough. Only chess_rules
 # can make such a count, so this does what the libraries forbid.
-SAMPLE_OF_ROOM = """use chess_rules::{has_legal_move, try_pair, Position, Probes};
+SAMPLE_OF_ROOM = """use chess_rules::{has_legal_move, try_pair, LegalMoves, Position, Probes};
 use chess_text::{origins_of_form, read_form, read_uci, resolve, resolve_move};
 use chess_text::{write_position_key, write_san};
 use std::panic::{catch_unwind, set_hook};
@@ -131,6 +131,8 @@ fn main() {
         let is_refused = [
             catch_unwind(|| try_pair(&position, played.mv, &mut with_room_for(room - 7))).is_err(),
             catch_unwind(|| has_legal_move(&position, &mut with_room_for(1016 + room))).is_err(),
+            catch_unwind(|| LegalMoves::new(&position).next(&mut with_room_for(4088 + room)))
+                .is_err(),
             catch_unwind(|| resolve(&position, &form, &mut with_room_for(room)).is_ok()).is_err(),
             catch_unwind(|| resolve_move(&position, &form, &mut with_room_for(room)).is_ok())
                 .is_err(),
@@ -142,7 +144,7 @@ fn main() {
                 .is_err(),
             catch_unwind(|| write_position_key(&position, &mut with_room_for(room - 6))).is_err(),
         ];
-        assert_eq!(is_refused, [room == 7; 8]);
+        assert_eq!(is_refused, [room == 7; 9]);
     }
 }
 """

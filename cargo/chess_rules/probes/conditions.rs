@@ -1,7 +1,7 @@
 //! The condition of each call that takes `Probes`. Written for Cargo.
 
 use super::Probes;
-use crate::{has_legal_move, try_pair, Move, Position, Square};
+use crate::{has_legal_move, try_pair, LegalMoves, Move, Position, Square};
 
 fn with_room_for(pairs: u32) -> Probes {
     Probes {
@@ -31,6 +31,12 @@ fn has_legal_move_needs_room() {
 }
 
 #[test]
+#[should_panic(expected = "the count of Probes has room for 4,096 more")]
+fn legal_moves_need_room() {
+    LegalMoves::new(&Position::initial()).next(&mut with_room_for(4095));
+}
+
+#[test]
 fn there_is_room() {
     let mut probes = with_room_for(1);
     try_pair(&Position::initial(), a1_to_a1(), &mut probes);
@@ -39,4 +45,7 @@ fn there_is_room() {
         &Position::initial(),
         &mut with_room_for(1024)
     ));
+    let position = Position::initial();
+    let mut moves = LegalMoves::new(&position);
+    assert!(moves.next(&mut with_room_for(4096)).is_some());
 }

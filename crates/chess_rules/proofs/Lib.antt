@@ -1,4 +1,5 @@
 mod Words
+mod listing
 mod lines
 mod moves
 mod positions

@@ -6,6 +6,12 @@ unfoldable pub use Rattle.chess_rules.specs.Candidate.{pair_count}
 pub use Rattle.chess_rules.specs.Codes.{code_of, code_reaches, kind_code}
 pub use Rattle.chess_rules.specs.Laws.{CandidatesComplete, CasesApart, FewCandidates, LeavesPosition, PromotionsAlike, StepsFromCandidates}
 pub use Rattle.chess_rules.specs.Legal.{every_promotion, has_legal_move, if_safe, is_check, is_legal, legal}
+pub use Rattle.chess_rules.specs.LegalMoves.{moves_between, played, legal_moves}
+unfoldable pub use Rattle.chess_rules.specs.LegalMoves.{every_move, legal_among}
+pub use Rattle.chess_rules.specs.Tries.{is_tried, promotions_from}
+unfoldable pub use Rattle.chess_rules.specs.Tries.{pending_tries, tries_from, tries_left, tries_to, with_later}
+pub use Rattle.chess_rules.specs.declared.legal_moves.Tries.{Tries}
+pub use Rattle.chess_rules.specs.declared.position.Played.{Played}
 pub use Rattle.chess_rules.specs.Pairs.{Counts, is_king_step, is_untried, is_untried_aligned, one_move, HasAttacker, MeetsAttack}
 unfoldable pub use Rattle.chess_rules.specs.Pairs.{count_king_steps, count_untried, has_king_step, has_untried_move, is_legal_pair}
 pub use Rattle.chess_rules.specs.Position.{initial, is_position, one_king, pawn_on_edge, target_fits, target_rank, built}

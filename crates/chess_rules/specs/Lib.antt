@@ -14,3 +14,5 @@ pub mod StepKinds
 pub mod StoredPosition
 pub mod Pairs
 pub mod RankNumbers
+pub mod LegalMoves
+pub mod Tries

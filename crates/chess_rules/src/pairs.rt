@@ -15,6 +15,21 @@ use crate::probes::Probes;
 use crate::square::Square;
 use crate::squares::Squares;
 
+// The move of a pair. A pawn that reaches the last rank becomes a queen.
+pub(crate) fn one_move(position: &Position, from: Square, to: Square) -> Move
+    ensures { result ≡ spec.one_move position.now from to }
+{
+    let side = position.side();
+    let is_last = to.rank() == rank_from(side, 7);
+    let is_promotion = is_last && position.board().has_piece(from, side, Kind::Pawn);
+    let promotion = is_promotion.then_some(Promotion::Queen);
+    Move {
+        from,
+        to,
+        promotion,
+    }
+}
+
 // Whether the pair is legal; this counts as one tried. A pawn that reaches the last rank becomes a
 // queen: all four promotions are legal, or none.
 #[tactic(auto, unfolding(crate::proofs::Words::is_legal_pair))]
@@ -23,15 +38,7 @@ fn is_legal_pair(position: &Position, from: Square, to: Square, probes: &mut Pro
     ensures found { result ≡ spec.is_legal_pair position.now from to }
     ensures count { probes.new ≡ probes.old + 1 }
 {
-    let side = position.side();
-    let is_last = to.rank() == rank_from(side, 7);
-    let is_promotion = is_last && position.board().has_piece(from, side, Kind::Pawn);
-    let promotion = is_promotion.then_some(Promotion::Queen);
-    let mv = Move {
-        from,
-        to,
-        promotion,
-    };
+    let mv = one_move(position, from, to);
     try_pair(position, mv, probes).is_some()
 }
 

@@ -104,6 +104,15 @@ impl Model for Position {
     ghost inverse_ok = { store_of_parts };
 }
 
+/// A legal move, and the position after it.
+#[derive(Clone, Copy)]
+pub struct Played {
+    /// The move.
+    pub mv: Move,
+    /// The position after it.
+    pub next: Position,
+}
+
 impl Position {
     /// Returns the usual first position. (FIDE Laws 2.3)
     pub fn initial() -> Position

@@ -2,6 +2,7 @@
 //! and check.
 
 mod candidates;
+mod perft;
 
 ghost use Rattle.std.specs.Prelude.{◌<◌};
 

@@ -56,7 +56,7 @@ pub use Rattle.chess_text.specs.declared.fen.FenFault.{FenFault}
 pub use Rattle.chess_text.specs.declared.form.Form.{Form}
 pub use Rattle.chess_text.specs.declared.form.Form.TheVariants.{Castle, Man}
 pub use Rattle.chess_text.specs.declared.form_origins.OriginKind.{OriginKind}
-pub use Rattle.chess_text.specs.declared.resolution.Played.{Played}
+pub use Rattle.chess_rules.specs.declared.position.Played.{Played}
 pub use Rattle.chess_text.specs.declared.resolution.SanFault.{SanFault}
 pub use Rattle.chess_text.specs.declared.resolution.SanFault.TheVariants.{Ambiguous, NoMove}
 pub use Rattle.std.proofs.lemmas.Option.{cond_some, same_Some}

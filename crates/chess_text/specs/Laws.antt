@@ -13,7 +13,7 @@ use Rattle.chess_rules.specs.Step.{own}
 use Rattle.chess_rules.specs.Legal.{legal, is_legal}
 use Rattle.chess_text.specs.declared.fen.FenFault.{FenFault}
 use Rattle.chess_text.specs.declared.form.Form.{Form}
-use Rattle.chess_text.specs.declared.resolution.Played.{Played}
+use Rattle.chess_rules.specs.declared.position.Played.{Played}
 use Rattle.chess_text.specs.declared.resolution.SanFault.TheVariants.{NoMove, Ambiguous}
 use Rattle.chess_text.specs.Placement.{placement_of}
 use Rattle.chess_text.specs.Field.{side_text, side_of, rights_text, rights_of, target_text, target_of, number_of}

@@ -9,7 +9,7 @@ use Rattle.chess_rules.specs.declared.position.Parts.{Parts}
 use Rattle.chess_rules.specs.Square.{Square, squares}
 use Rattle.chess_rules.specs.Step.{is_on_board}
 use Rattle.chess_rules.specs.Legal.{every_promotion, legal, is_legal}
-use Rattle.chess_text.specs.declared.resolution.Played.{Played}
+use Rattle.chess_rules.specs.declared.position.Played.{Played}
 use Rattle.chess_text.specs.declared.uci.UciFault.{UciFault}
 use Rattle.chess_text.specs.declared.uci.UciFault.TheVariants.{NotAMove, IllegalMove}
 use Rattle.chess_text.specs.Letter.{square_text}

@@ -17,11 +17,12 @@ mod resolution;
 mod san;
 mod uci;
 
+pub use chess_rules::Played;
 pub use fen::{FenFault, read_fen, write_fen};
 pub use fen_writer::FenWriter;
 pub use form::{Form, read_form};
 pub use form_origins::{OriginKind, origins_of_form};
 pub use key::write_position_key;
-pub use resolution::{Played, SanFault, resolve, resolve_move};
+pub use resolution::{SanFault, resolve, resolve_move};
 pub use san::{write_san, write_san_of};
 pub use uci::{UciFault, read_uci, write_uci};

@@ -12,18 +12,9 @@ ghost use Rattle.chess_text.specs.MoveOfForm as spec;
 use crate::form::Form;
 use chess_rules::laws::candidates_are_complete;
 use chess_rules::{
-    Colour, Kind, Move, Position, Probes, Promotion, Square, only_origin, origins, position_after,
-    try_pair,
+    Colour, Kind, Move, Played, Position, Probes, Promotion, Square, only_origin, origins,
+    position_after, try_pair,
 };
-
-/// A legal move, and the position after it.
-#[derive(Clone, Copy)]
-pub struct Played {
-    /// The move.
-    pub mv: Move,
-    /// The position after it.
-    pub next: Position,
-}
 
 /// Why a form names no single move.
 #[derive(Clone, Copy, PartialEq, Eq, Debug)]

@@ -11,11 +11,11 @@ ghost use Rattle.chess_text.specs.San as spec;
 ghost use Rattle.chess_text.specs.San.{MarkPairs};
 
 use crate::letter::{letter, push_square};
-use crate::resolution::{Played, is_castling};
+use crate::resolution::is_castling;
 use arrayvec::ArrayVec;
 use chess_rules::laws::candidates_are_complete;
 use chess_rules::{
-    Kind, Move, Position, Probes, Promotion, Square, has_legal_move, in_check,
+    Kind, Move, Played, Position, Probes, Promotion, Square, has_legal_move, in_check,
     may_have_two_origins, origins, try_pair,
 };
 

@@ -9,9 +9,9 @@ ghost use Rattle.chess_text.specs.declared.uci.UciFault.TheVariants.{NotAMove};
 
 use crate::form::square_of;
 use crate::letter::push_square;
-use crate::resolution::{Played, play};
+use crate::resolution::play;
 use arrayvec::ArrayVec;
-use chess_rules::{Move, Position, Probes, Promotion, Square, try_pair};
+use chess_rules::{Move, Played, Position, Probes, Promotion, Square, try_pair};
 
 /// Why a text in UCI names no legal move.
 #[derive(Clone, Copy, PartialEq, Eq, Debug)]

@@ -6,7 +6,7 @@
 ghost use Rattle.std.specs.Prelude.{◌≡◌, Ok, Some, IsSomeAnd};
 ghost use Rattle.chess_rules.specs.declared.position.Parts.{Parts};
 ghost use Rattle.chess_text.specs.declared.form.Form.{Form};
-ghost use Rattle.chess_text.specs.declared.resolution.Played.{Played};
+ghost use Rattle.chess_rules.specs.declared.position.Played.{Played};
 ghost use Rattle.chess_text.specs.Fen.{read};
 ghost use Rattle.chess_text.specs.Form.{form_of};
 ghost use Rattle.chess_text.specs.MoveOfForm.{move_of_form};

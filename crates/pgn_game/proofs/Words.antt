@@ -2,7 +2,7 @@
 -- profiles, tag pairs and games.
 pub use Rattle.pgn_lexer.specs.Tokens.{Kind, Token, left_paren, right_paren, EndsAt, asterisk, left_bracket, right_bracket, str, symbol}
 pub use Rattle.chess_rules.specs.declared.position.Parts.{Parts}
-pub use Rattle.chess_text.specs.declared.resolution.Played.{Played}
+pub use Rattle.chess_rules.specs.declared.position.Played.{Played}
 pub use Rattle.chess_text.specs.declared.resolution.SanFault.{SanFault}
 pub use Rattle.pgn_game.specs.declared.mode.Mode.{Mode}
 pub use Rattle.pgn_game.specs.declared.mode.Mode.TheVariants.{Full, Reduced}

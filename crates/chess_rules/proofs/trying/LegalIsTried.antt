@@ -157,7 +157,7 @@ moves_with_other p h = by_target (some_square (λ t. list_any (λ s. is_legal_pa
 -- A legal move is hit.
 
 -- the piece is one of some kind
-kind_there : (c : Colour) (cell : Option Piece) → has_colour c cell ≡ true → (k : Kind) × (has_piece c k cell ≡ true)
+pub kind_there : (c : Colour) (cell : Option Piece) → has_colour c cell ≡ true → (k : Kind) × (has_piece c k cell ≡ true)
 kind_there c None h = cc
 kind_there c (Some x) h = (x.kind, and_from _ _ h (itself x.kind))
   where

@@ -7,14 +7,14 @@ use Rattle.chess_rules.proofs.trying.SearchThatCounts.{CountsLeft, next_counts}
 
 -- The targets of one origin.
 
-jump_back : (s t : Square) → is_jump s t ≡ is_jump t s
+pub jump_back : (s t : Square) → is_jump s t ≡ is_jump t s
 jump_back s t = grind arith
 
 module _ (p : Parts) (s t : Square) where
   pub knight_pair : own p Knight s ≡ true → is_jump t s ≡ is_untried p t s
   knight_pair knight = search (rules, jump_back)
 
-  seen_back : (is_aligned t s && is_clear p.board t s) ≡ (is_aligned s t && is_clear p.board s t)
+  pub seen_back : (is_aligned t s && is_clear p.board t s) ≡ (is_aligned s t && is_clear p.board s t)
   seen_back = ap₂ (λ x y. x && y) (aligned_back t s) (clear_back p.board t s)
 
   pub other_pair : has_colour p.side (at p.board s) ≡ true → own p Knight s ≡ false → own p King s ≡ false
@@ -43,7 +43,7 @@ module _ (p : Parts) (s t : Square) where
 
 -- Sums both ways.
 
-sum_kept : {X : Type 0} (cost : X → ℕ) (kept : X → Bool) (xs : List X)
+pub sum_kept : {X : Type 0} (cost : X → ℕ) (kept : X → Bool) (xs : List X)
     → sum_by cost (filter kept xs) ≡ sum_by (λ x. cond (kept x) (cost x) 0) xs
 sum_kept cost kept [] = refl
 sum_kept {X = X} cost kept (x ∷ xs) =

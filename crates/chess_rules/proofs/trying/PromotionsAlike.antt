@@ -146,7 +146,7 @@ promotions_alike p s t x y position =
 
 -- A legal move names a promotion exactly if a pawn reaches its last rank.
 
-abbrev arrives : Parts → Move → Bool
+abbrev pub arrives : Parts → Move → Bool
 arrives p m = (m.to.rank == last_rank p.side) && own p Pawn m.from
 
 named_by_pawn : (p : Parts) (m : Move) → own p Pawn m.from ≡ true → promotion_fits p m ≡ true → is_some m.promotion ≡ arrives p m
@@ -158,7 +158,7 @@ named_by_other p m owns none = grind arith
 king_no_pawn : (p : Parts) (s : Square) → own p King s ≡ true → own p Pawn s ≡ false
 king_no_pawn p s h = grind arith
 
-named : (p q : Parts) (m : Move) → Legal p m q → is_some m.promotion ≡ arrives p m
+pub named : (p q : Parts) (m : Move) → Legal p m q → is_some m.promotion ≡ arrives p m
 named p q m l =
     elim (way_of p m l.board l.stepped) [
       | by_piece h _ ↦ (let w = piece_step_means p m h in named_by_other p m w.no_pawn w.plain)

@@ -3,7 +3,7 @@
 use Rattle.std.specs.Prelude.{◌≡◌, ℕ, ◌+◌, ◌<◌, Bool, ◌||◌, not, List, [], ◌∷◌, ◌++◌, length, filter, ◌==◌, if◌then◌else◌, Option, None, Some, Result, Ok, Err}
 use Rattle.std.specs.List.{list_all}
 use Rattle.chess_rules.specs.declared.position.Parts.{Parts}
-use Rattle.chess_text.specs.declared.resolution.Played.{Played}
+use Rattle.chess_rules.specs.declared.position.Played.{Played}
 use Rattle.pgn_lexer.specs.Bytes.{is_digit, is_space}
 use Rattle.pgn_game.specs.declared.line_of_play.MoveOfLine.{MoveOfLine}
 use Rattle.pgn_game.specs.declared.line_of_play.Ply.{Ply as CodePly}

@@ -5,7 +5,7 @@
 use Rattle.std.specs.Prelude.{◌≡◌, ℕ, ◌≤◌, List, Option, None, Some, Result, Ok, Err}
 use Rattle.chess_rules.specs.declared.position.Parts.{Parts}
 use Rattle.chess_text.specs.declared.form.Form.{Form}
-use Rattle.chess_text.specs.declared.resolution.Played.{Played}
+use Rattle.chess_rules.specs.declared.position.Played.{Played}
 use Rattle.chess_text.specs.declared.resolution.SanFault.{SanFault}
 use Rattle.chess_text.specs.declared.resolution.SanFault.TheVariants.{NoMove, Ambiguous}
 use Rattle.chess_text.specs.Form.{form_of}

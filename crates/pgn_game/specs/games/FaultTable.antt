@@ -4,7 +4,7 @@
 use Rattle.std.specs.Prelude.{ℕ, ◌+◌, Bool, true, false, ◌||◌, ◌&&◌, not, List, [], ◌∷◌, length, nat_lt, nat_le, ◌==◌, Option, None, Some, Result, Ok, Err, bytes_eq, unwrap_or, is_some, codes}
 use Rattle.chess_rules.specs.declared.position.Parts.{Parts}
 use Rattle.chess_text.specs.declared.fen.FenFault.{FenFault}
-use Rattle.chess_text.specs.declared.resolution.Played.{Played}
+use Rattle.chess_rules.specs.declared.position.Played.{Played}
 use Rattle.chess_text.specs.declared.resolution.SanFault.{SanFault}
 use Rattle.chess_text.specs.declared.resolution.SanFault.TheVariants.{NoMove, Ambiguous}
 use Rattle.std.specs.List.{list_all}

@@ -5,7 +5,7 @@
 -- a game, s a text or that of a symbol, r what was read.
 use Rattle.std.specs.Prelude.{ℕ, true, false, List, [], ◌∷◌, ◌++◌, length, map, sum, Option, None, Some, Result, Ok, Err}
 use Rattle.chess_rules.specs.declared.position.Parts.{Parts}
-use Rattle.chess_text.specs.declared.resolution.Played.{Played}
+use Rattle.chess_rules.specs.declared.position.Played.{Played}
 use Rattle.chess_text.specs.declared.resolution.SanFault.{SanFault}
 use Rattle.pgn_lexer.specs.Tokens as tokens
 use Rattle.pgn_lexer.specs.Tokens.{Kind, Token}

@@ -7,7 +7,7 @@ use Rattle.std.specs.Option.{ok_or}
 use Rattle.chess_rules.specs.declared.position.Move.{Move}
 use Rattle.chess_rules.specs.declared.position.Parts.{Parts}
 use Rattle.chess_rules.specs.Legal.{is_legal, legal}
-use Rattle.chess_text.specs.declared.resolution.Played.{Played}
+use Rattle.chess_rules.specs.declared.position.Played.{Played}
 use Rattle.chess_text.specs.MoveOfForm.{with_next}
 use Rattle.pgn_layout.specs.Device.{AppendsFront, Counts, Device, IsStill, Writes}
 use Rattle.pgn_lexer.specs.Tokens.{Kind}

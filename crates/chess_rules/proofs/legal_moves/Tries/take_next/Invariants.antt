@@ -1,0 +1,10 @@
+use Rattle.chess_rules.proofs.Words.{members, length, ◌≡◌, None}
+use Rattle.chess_rules.specs.Tries.{tries_left}
+use Rattle.chess_rules.proofs.legal_moves.Tries.take_next.Given as goal
+
+abbrev pub invariant-loop-target : goal.invariant-loop-target
+invariant-loop-target l =
+    (l.self.pending ≡ None) × (tries_left l.position l.self ≡ tries_left l.position l.fn.self)
+
+abbrev pub decreases-loop-target : goal.decreases-loop-target
+decreases-loop-target l = length (members l.self.origins)
