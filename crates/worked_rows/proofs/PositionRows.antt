@@ -1,8 +1,9 @@
 -- The definitions, computed on worked positions.
-use Rattle.worked_rows.proofs.Words.{Promotion, ◌≡◌, ℕ, [], ◌∷◌, refl, sum_by, count_by, Option, None, Some, Bool, true, false, White, Black, Queen, Knight, Pawn, Move, Parts, square, squares}
+use Rattle.worked_rows.proofs.Words.{Promotion, ◌≡◌, ℕ, [], ◌∷◌, length, map, refl, Option, None, Some, Bool, true, false, White, Black, Queen, Knight, Pawn, Move, Parts, square, squares}
 use Rattle.chess_rules.specs.declared.position.PositionFault.TheVariants.{Kings, PawnOnEdge, KingCapturable, TargetRank, NumberRange}
 use Rattle.chess_rules.specs.Position.{position_fault, is_position, initial}
-use Rattle.chess_rules.specs.Legal.{legal, is_legal, is_check, is_mate, has_legal_move, every_promotion}
+use Rattle.chess_rules.specs.Legal.{legal, is_legal, is_check, is_mate, has_legal_move}
+use Rattle.chess_rules.specs.LegalMoves.{every_move, legal_among, legal_moves}
 use Rattle.chess_rules.specs.Candidate.{candidates}
 use Rattle.worked_rows.proofs.Drawn.{black, position, white, sq, promoting, move}
 
@@ -153,17 +154,41 @@ piece_candidates =
 
 -- How many moves are legal, in positions whose counts are well known.
 
-abbrev legal_moves : Parts → ℕ
-legal_moves p =
-    sum_by (λ from. sum_by (λ to. count_by (λ promotion.
-    is_legal p (record { from = from; to = to; promotion = promotion })) every_promotion) squares) squares
-
 move_counts : Unit {0}
-unfolding squares
+unfolding squares every_move legal_among
 move_counts =
-    let first_moves : legal_moves initial ≡ 20 = refl in
-    let castling_and_pins : legal_moves (position "r3k2r/p1ppqpb1/bn2pnp1/3PN3/1p2P3/2N2Q1p/PPPBBPPP/R3K2R" White "KQkq" None 0 1) ≡ 48 = refl in
-    let rook_ending : legal_moves (white "8/2p5/3p4/KP5r/1R3p1k/8/4P1P1/8") ≡ 14 = refl in
-    let answers_to_check : legal_moves (position "r3k2r/Pppp1ppp/1b3nbN/nP6/BBP1P3/q4N2/Pp1P2PP/R2Q1RK1" White "kq" None 0 1) ≡ 6 = refl in
-    let promotions_with_capture : legal_moves (position "rnbq1k1r/pp1Pbppp/2p5/8/2B5/8/PPP1NnPP/RNBQK2R" White "KQ" None 1 8) ≡ 44 = refl in
+    let first_moves : length (legal_moves initial) ≡ 20 = refl in
+    let castling_and_pins : length (legal_moves (position "r3k2r/p1ppqpb1/bn2pnp1/3PN3/1p2P3/2N2Q1p/PPPBBPPP/R3K2R" White "KQkq" None 0 1)) ≡ 48 = refl in
+    tt
+
+more_counts : Unit {0}
+unfolding squares every_move legal_among
+more_counts =
+    let rook_ending : length (legal_moves (white "8/2p5/3p4/KP5r/1R3p1k/8/4P1P1/8")) ≡ 14 = refl in
+    let answers_to_check : length (legal_moves (position "r3k2r/Pppp1ppp/1b3nbN/nP6/BBP1P3/q4N2/Pp1P2PP/R2Q1RK1" White "kq" None 0 1)) ≡ 6 = refl in
+    tt
+
+count_of_promotions : Unit {0}
+unfolding squares every_move legal_among
+count_of_promotions =
+    let promotions_with_capture : length (legal_moves (position "rnbq1k1r/pp1Pbppp/2p5/8/2B5/8/PPP1NnPP/RNBQK2R" White "KQ" None 1 8)) ≡ 44 = refl in
+    tt
+
+-- All legal moves, with the positions after them.
+
+lists_of_moves : Unit {0}
+unfolding squares every_move legal_among
+lists_of_moves =
+    let moves_of_a_king : map (λ x. x.mv) (legal_moves (white "7k/8/8/8/8/8/8/K7"))
+    ≡ move "a1" "b1" ∷ move "a1" "a2" ∷ move "a1" "b2" ∷ [] = refl in
+    let each_promotion : map (λ x. x.mv.promotion) (legal_moves (white "8/5P1k/8/8/8/8/8/K7"))
+    ≡ None ∷ None ∷ None ∷ Some Promotion.Queen ∷ Some Promotion.Rook ∷ Some Promotion.Bishop ∷ Some Promotion.Knight ∷ [] = refl in
+    tt
+
+single_moves : Unit {0}
+unfolding squares every_move legal_among
+single_moves =
+    let only_move : legal_moves (white "8/8/8/8/8/1k6/8/K7")
+    ≡ record { mv = move "a1" "b1"; next = position "8/8/8/8/8/1k6/8/1K6" Black "" None 1 1 } ∷ [] = refl in
+    let stalemate : legal_moves (white "8/8/8/8/8/k7/p7/K7") ≡ [] = refl in
     tt
