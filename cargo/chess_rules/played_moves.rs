@@ -1,8 +1,8 @@
 //! The legal moves of a position as an iterator. **Not proved**: written for Cargo.
 
 use crate::{LegalMoves, Played, Probes};
-use std::fmt::{self, Debug, Formatter};
-use std::iter::FusedIterator;
+use core::fmt::{self, Debug, Formatter};
+use core::iter::FusedIterator;
 
 /// An iterator over the legal moves of a position, each with the position after it.
 ///
