@@ -222,6 +222,7 @@ class Built(unittest.TestCase):
         files = [it for name in LIBRARIES for it in glob.glob("%s/crates/%s/src/*.rt" % (ROOT, name))]
         pages = glob.glob(ROOT + "/cargo/*/lib.md")
         self.assertEqual(len(pages), len(WITHOUT_STD))
+        files += glob.glob(ROOT + "/cargo/*/*.rs")
         fences = sum(len(re.findall(r"^(?: *//[/!] )?```", read(it), re.M)) for it in files + pages)
         self.assertGreaterEqual(fences, 52)
         ran = cargo("test", "--doc", *("--package=" + it for it in LIBRARIES))
@@ -301,7 +302,7 @@ class Built(unittest.TestCase):
                  for it in re.finditer(r"catch_unwind\(\|\|", SAMPLE_OF_ROOM)]
         self.assertEqual(re.findall(r"sample\.rs:(\d+):", said), [str(it) for it in lines])
         rooms = re.findall(r"the count of Probes has room for ([\d,]+) more", said)
-        self.assertEqual(rooms, ["1", "1,024", "8", "8", "8", "1,032", "1", "2"])
+        self.assertEqual(rooms, ["1", "1,024", "4,096", "8", "8", "8", "1,032", "1", "2"])
 
     def build_libraries(self):
         ran = cargo("build", "--lib", *("--package=" + it for it in LIBRARIES))
@@ -761,7 +762,7 @@ def without_added(path, lines):
         added += [line for words in conditions for line in script.assertion(*words)]
     for line, others in script.OTHER_LINES.get(file, {}).values():
         added += [script.SOURCE_HAS % line, *others]
-    modules = ("traits", "text", "ffi", "conditions", "own_pair")
+    modules = ("traits", "text", "played_moves", "ffi", "conditions", "own_pair")
     for module in (it for it in modules if "mod %s;" % it in lines):
         is_test = module in ("conditions", "own_pair")
         added += ["#[cfg(test)]"] if is_test else ["// Written for Cargo, not proved."]
@@ -795,6 +796,8 @@ def added_to_root(crate, lines, script):
         added += ["mod %s;" % it for it in script.COPIED[crate][1]]
     if "mod text;" in lines:
         added += ["pub use text::TextFault;"]
+    if "mod played_moves;" in lines:
+        added += ["pub use played_moves::PlayedMoves;"]
     if crate in script.WITHOUT_STD:
         added += [script.NO_STD, *script.OTHER_LINKS.get(crate, [])]
         added += ['#[cfg(feature = "std")]'] * (2 * (crate == "pgn_layout"))
