@@ -1,7 +1,6 @@
 -- **Definition**: the list of all legal moves of a position, each with the position after it.
 use Rattle.std.specs.Prelude.{List, Option, map, option_map}
 use Rattle.std.specs.List.{filter_map, flat_map}
-use Rattle.chess_rules.specs.declared.piece.Promotion.{Promotion}
 use Rattle.chess_rules.specs.declared.position.Move.{Move}
 use Rattle.chess_rules.specs.declared.position.Parts.{Parts}
 use Rattle.chess_rules.specs.declared.position.Played.{Played}

@@ -1,6 +1,6 @@
 -- **Bookkeeping**: which moves `LegalMoves` tries, and in which order. No rule of play rests on it.
 -- Letters: p is a position, s an origin, t a target, m a move.
-use Rattle.std.specs.Prelude.{◌≡◌, Bool, ◌&&◌, not, List, [], ◌∷◌, ◌++◌, Option, None, Some, filter, map, if◌then◌else◌}
+use Rattle.std.specs.Prelude.{Bool, ◌&&◌, not, List, [], ◌∷◌, ◌++◌, Option, None, Some, filter, map, if◌then◌else◌}
 use Rattle.std.specs.List.{flat_map}
 use Rattle.chess_rules.specs.declared.legal_moves.Tries.{Tries}
 use Rattle.chess_rules.specs.declared.piece.Kind.TheVariants.{Knight}
@@ -35,13 +35,16 @@ promotions_from (Some promotions.Knight) = Some promotions.Knight ∷ []
 unfoldable pub with_later : Move → List Move
 with_later m = map (λ promotion. record { from = m.from; to = m.to; promotion = promotion }) (promotions_from m.promotion)
 
+-- the pending move, and those of its pair that are tried after it
 unfoldable pub pending_tries : Option Move → List Move
 pending_tries None = []
 pending_tries (Some m) = with_later m
 
+-- the moves of one pair
 unfoldable pub tries_to : Parts → Square → Square → List Move
 tries_to p s t = with_later (one_move p s t)
 
+-- the moves from one origin
 unfoldable pub tries_from : Parts → Square → List Move
 tries_from p s = flat_map (tries_to p s) (filter (is_tried p s) squares)
 

@@ -1,5 +1,5 @@
 -- The legal moves that are still to come, while moves are tried one by one.
-use Rattle.chess_rules.proofs.Words.{Move, Parts, Played, legal_among, played, ◌≡◌, ℕ, ◌+◌, ◌<◌, ◌≤◌, List, [], ◌∷◌, length, Option, None, Some, refl, sym, ◌∙◌, ap, arith, filter_map, cons_option, common_steps}
+use Rattle.chess_rules.proofs.Words.{Move, Parts, Played, legal_among, played, ◌≡◌, ℕ, ◌+◌, ◌≤◌, List, [], ◌∷◌, length, None, Some, refl, sym, ◌∙◌, ap, arith, filter_map, cons_option}
 
 -- The legal ones among the moves that are left are those still to come. Each move so far was
 -- counted.

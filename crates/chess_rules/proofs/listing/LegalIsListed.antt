@@ -1,12 +1,12 @@
 -- Each legal move is tried: those among the moves that are tried are all legal moves.
-use Rattle.chess_rules.proofs.Words.{Colour, King, Knight, Pawn, Kind, Promotion, Move, Parts, Played, Square, squares, is_jump, Board, at, has_colour, is_empty, other, own, sees, is_clear, is_aligned, is_advance, is_double_step, is_pawn_way, last_rank, legal, every_promotion, every_move, legal_among, legal_moves, moves_between, played, is_tried, promotions_from, tries_from, tries_to, with_later, short_right, long_right, short_wing, long_wing, ◌≡◌, ℕ, Bool, true, false, not, ◌&&◌, ◌||◌, ◌==◌, inl, inr, List, [], ◌∷◌, ◌++◌, map, Option, None, Some, is_some, option_map, if◌then◌else◌, refl, sym, ◌∙◌, ap, ap₂, subst, arith, cons_option, filter, filter_map, flat_map, cond, or_cases, and_from, not-true, false_from_ne_true, rules, common_steps}
+use Rattle.chess_rules.proofs.Words.{Colour, Knight, Pawn, Kind, Promotion, Move, Parts, Played, Square, squares, is_jump, Board, at, has_colour, is_empty, other, own, sees, is_clear, is_aligned, is_advance, is_double_step, is_pawn_way, last_rank, legal, every_promotion, every_move, legal_among, legal_moves, moves_between, played, is_tried, promotions_from, tries_from, tries_to, with_later, short_right, long_right, short_wing, long_wing, ◌≡◌, Bool, true, false, not, ◌&&◌, ◌==◌, inl, inr, List, [], ◌∷◌, map, Option, None, Some, is_some, option_map, if◌then◌else◌, refl, sym, ◌∙◌, ap, subst, arith, cons_option, filter, filter_map, flat_map, or_cases, false_from_ne_true}
 use Rattle.chess_rules.specs.declared.piece.Promotion.TheVariants as promotions
 use Rattle.chess_rules.proofs.sets.AllSquares.{second_true}
 use Rattle.chess_rules.proofs.listing.FlatMaps.{all_kept, all_nothing, each_same, found_in_all, none_found}
 use Rattle.chess_rules.proofs.moves.WaysToStep.{piece_step_means, pawn_step_means, passing_means, castles_means, way_of, by_piece, by_pawn, by_passing, by_short, by_long}
 use Rattle.chess_rules.proofs.moves.StepsKeepBoard.{castling_ends_empty, long_is_wing, not_both, one_kind, short_is_wing}
 use Rattle.chess_rules.proofs.moves.LegalToPosition.{Legal, board_stays, legal_means}
-use Rattle.chess_rules.proofs.positions.RulesOfPosition.{Sound, sound_from_position}
+use Rattle.chess_rules.proofs.positions.RulesOfPosition.{Sound}
 use Rattle.chess_rules.proofs.trying.CandidatesAreFew.{is_rider, kind_cases, sees_by_way}
 use Rattle.chess_rules.proofs.trying.LegalIsTried.{kind_there, step_seen}
 use Rattle.chess_rules.proofs.trying.PairsFromOrigin.{jump_back, own_squares, seen_back}

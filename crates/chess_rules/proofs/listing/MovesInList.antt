@@ -1,5 +1,5 @@
 -- A move is in the list exactly if it is legal, and the position after it is with it.
-use Rattle.chess_rules.proofs.Words.{Promotion, Move, Parts, Played, Square, squares, cell_of, legal, every_promotion, every_move, legal_among, legal_moves, moves_between, played, ◌≡◌, ℕ, zero, suc, ◌<◌, List, [], ◌∷◌, ◌++◌, map, Option, None, Some, option_map, inl, inr, ◌⊎◌, refl, sym, ◌∙◌, ap, subst, arith, length, get_or, cons_option, filter_map, flat_map}
+use Rattle.chess_rules.proofs.Words.{Promotion, Move, Parts, Played, Square, squares, cell_of, legal, every_promotion, every_move, legal_among, legal_moves, moves_between, played, ◌≡◌, zero, suc, List, [], ◌∷◌, map, Option, None, Some, option_map, inl, inr, ◌⊎◌, refl, sym, ◌∙◌, ap, subst, arith, cons_option, filter_map, flat_map}
 use Rattle.std.specs.Prelude.{Contains, ◌↔◌}
 use Rattle.std.proofs.lemmas.List.Elements.{Contains-append_left, Contains-append_right}
 use Rattle.chess_rules.specs.declared.piece.Promotion.TheVariants.{Queen, Rook, Bishop, Knight}

@@ -1,4 +1,4 @@
-use Rattle.chess_rules.proofs.Words.{code_reaches, word, refl, ◌/◌, ◌%◌, arith}
+use Rattle.chess_rules.proofs.Words.{code_reaches, word, refl, arith}
 use Rattle.chess_rules.proofs.sets.TablesOfSquares.{mask, mask_to, table_of_pairs}
 use Rattle.chess_rules.proofs.geometry.origins_by_code.Goals as goal
 

@@ -1,4 +1,4 @@
-use Rattle.chess_rules.proofs.Words.{refl, arith}
+use Rattle.chess_rules.proofs.Words.{arith}
 use Rattle.chess_rules.specs.Tries.{with_later, pending_tries}
 use Rattle.chess_rules.proofs.legal_moves.later.Goals as goal
 

@@ -1,5 +1,5 @@
 use mir.Val.{bool_byte}
-use Rattle.chess_rules.proofs.Words.{Option, Piece, None, Some, at, cell_of, has, code_of, straight_of, diagonal_of, is_near, ◌≡◌, ◌<◌, ◌+◌, ◌*◌, ℕ, Bool, true, false, refl, ◌∙◌, arith, if◌then◌else◌}
+use Rattle.chess_rules.proofs.Words.{Option, Piece, None, Some, at, cell_of, code_of, straight_of, diagonal_of, is_near, ◌≡◌, ◌+◌, ◌*◌, ℕ, Bool, true, false, refl, ◌∙◌, arith, if◌then◌else◌}
 use Rattle.chess_rules.proofs.sets.WordsToCells.{bits_there, BitsOf}
 use Rattle.chess_rules.proofs.board.Board.code_at.Goals as goal
 

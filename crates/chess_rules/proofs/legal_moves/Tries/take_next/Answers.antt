@@ -1,4 +1,4 @@
-use Rattle.chess_rules.proofs.Words.{length, members, sym, ◌∙◌, ap, arith}
+use Rattle.chess_rules.proofs.Words.{sym, ◌∙◌, arith}
 use Rattle.chess_rules.proofs.listing.TriesInOrder.{pending_first, target_first, origin_first, none_left}
 use Rattle.chess_rules.proofs.legal_moves.Tries.take_next.Goals as goal
 
