@@ -269,6 +269,18 @@ class Small(unittest.TestCase):
         _, _, told = self.call(self.prefix, env=env)
         self.assertEqual(told.count("\n"), 1, told)
 
+    def test_ldconfig(self):
+        """It is asked for where the loader knows the folder, and not yet the library there."""
+        known = "echo '%s/lib: (from /etc/ld.so.conf.d/libc.conf:2)'" % self.prefix
+        cached = "echo '\tlibpgn_c.so.1.2 (libc6,x86-64) => %s/lib/libpgn_c.so.1.2'" % self.prefix
+        for folders_of, cache, asks in ((known, ":", True), (known, cached, False),
+                                        (":", ":", False)):
+            self.here.command("ldconfig", "#!/bin/sh\ncase $* in '-N -X -v') %s ;; -p) %s ;;\n"
+                              "*) exit 9 ;; esac\n" % (folders_of, cache))
+            status, _, told = self.call(self.prefix)
+            self.assertEqual(status, 0, told)
+            self.assertEqual("as root: ldconfig\n" in told, asks, told)
+
     def test_arguments(self):
         for script in (INSTALL, UNINSTALL):
             for words in (["--no"], ["a", "b"], ["--cargo", "--proved"]):

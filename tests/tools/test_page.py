@@ -1782,8 +1782,8 @@ class Builder(unittest.TestCase):
         ran = run(words, env=env)
         self.assertEqual((ran.returncode, ran.stderr.decode()), (
             127, "bin/build_page: Rust has no target wasm32-unknown-unknown here. Where rustup "
-            "installed Rust, `rustup target add wasm32-unknown-unknown` adds it. From Debian 13 on "
-            "it is in the package libstd-rust-dev-wasm32\n"))
+            "installed Rust, `rustup target add wasm32-unknown-unknown` adds it. Debian 13 has it "
+            "and its linker in the packages libstd-rust-dev-wasm32 and rust-llvm\n"))
         command("rustc", "echo %s/libraries\n" % copy)
         ran = run(words, env=env)
         self.assertEqual(ran.returncode, 1)
