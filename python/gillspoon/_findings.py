@@ -123,7 +123,7 @@ class Linter(Reader):
 
         Now and then `step` is called with the number of a game.
         """
-        look_at = self._watcher.game if self._watcher else lambda game: ()
+        look_at = self._watcher.game if self._watcher else lambda game: []
         try:
             for game in self.games(self._add):
                 warnings = look_at(game)

@@ -271,7 +271,7 @@ explain: Callable[[bytes, int, bytes, int], Explanation] = _library.pgn_explain
 
 def address_of(data: Union[bytes, Buffer]) -> ctypes.c_void_p:
     """Where bytes are, or a buffer; it keeps them in memory."""
-    return ctypes.cast(data, ctypes.c_void_p)
+    return ctypes.cast(data, ctypes.c_void_p)  # type: ignore[arg-type]
 
 
 def front_of(buffer: Buffer, length: int) -> bytes:

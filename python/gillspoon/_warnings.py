@@ -179,8 +179,10 @@ class Watcher:
 
 ASCII = bytes(range(128))
 COMMENT_SIGNS = (b"{", b";")
-# An expression finds it in less time than bytes.find does.
-ESCAPE_LINE = re.compile(rb"\n%")
+# What an escape line is behind: a line end, or nothing at the begin of a text.
+BEFORE_ESCAPE = (b"\n", b"\r", b"")
+# So many are looked at one by one; of more an expression finds one in less time than bytes.find.
+FEW, ESCAPE_LINE = 2, re.compile(rb"\n%")
 NONE: "List[Said]" = []
 
 
@@ -192,7 +194,13 @@ def _begin_behind_carriage_return(text: bytes) -> int:
 
 def _may_have_escapes(text: bytes, percent: int) -> bool:
     """Whether a line may begin with % in a text whose first % is at a place."""
-    return not percent or ESCAPE_LINE.search(text, percent - 1) is not None \
+    for _ in range(FEW):
+        if text[percent - 1:percent] in BEFORE_ESCAPE:
+            return True
+        percent = text.find(b"%", percent + 1)
+        if percent < 0:
+            return False
+    return ESCAPE_LINE.search(text, percent - 1) is not None \
         or b"\r" in text and b"\r%" in text
 
 
