@@ -123,14 +123,15 @@ class Linter(Reader):
 
         Now and then `step` is called with the number of a game.
         """
+        look_at = self._watcher.game if self._watcher else lambda game: []
         try:
             for game in self.games(self._add):
-                warnings = self._watcher.game(game) if self._watcher else ()
+                warnings = look_at(game)
                 if warnings:
                     self._watch(game, warnings)
                 if self.found:
                     yield from self._taken()
-                if not game.number % STEP:
+                if not game._number % STEP:
                     step(game.number)
             if self._watcher:
                 self._watch(None, self._watcher.file(self.number > 1, self.at))

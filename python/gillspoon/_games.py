@@ -229,12 +229,14 @@ class Reader:
         """The games in turn; a fault is raised, or given to `on_fault`."""
         window, call, size = self.window, _library.read_game, _CAPACITY
         buffer, base, data = ctypes.create_string_buffer(size), window.base, window.data
-        length = len(data)
+        length, address_of = len(data), _library.address_of
         # arguments that stay the same are made once
         mode, missing = ctypes.c_uint32(self.mode), ctypes.c_uint32(self.missing)
         limit, room = ctypes.c_size_t(length), ctypes.c_size_t(size)
+        text, target, at = address_of(data), address_of(buffer), ctypes.c_size_t()
         while True:
-            found = call(data, limit, self.at - base, mode, missing, buffer, room)
+            at.value = self.at - base
+            found = call(text, limit, at, mode, missing, target, room)
             status, end = found.status, found.end
             if status == _library.OK and (end < length or window.is_whole):
                 game = self._game(found, end)
@@ -252,6 +254,7 @@ class Reader:
             if status == _library.FULL:
                 size *= 2
                 buffer, room = ctypes.create_string_buffer(size), ctypes.c_size_t(size)
+                target = address_of(buffer)
                 continue
             if status == _library.FAULT or status == _library.MORE and window.is_whole:
                 self._go_on(self._fault(found), on_fault)
@@ -262,7 +265,7 @@ class Reader:
                     return
                 window.more(self.at)
             base, data = window.base, window.data
-            length = len(data)
+            length, text = len(data), address_of(data)
             limit = ctypes.c_size_t(length)
 
     def _game(self, found: _library.NextGame, end: int) -> Game:

@@ -201,7 +201,9 @@ class Section(ctypes.Structure):
 
 
 Buffer = ctypes.Array[ctypes.c_char]
-# An int of ctypes that is made once for many calls is passed several times as fast.
+# What is made once for many calls, and is of ctypes, is passed several times as fast.
+_Bytes = Union[bytes, ctypes.c_void_p]
+_Room = Union[Buffer, ctypes.c_void_p]
 _Size = Union[int, ctypes.c_size_t]
 _Number = Union[int, ctypes.c_uint32]
 
@@ -259,12 +261,17 @@ normalize_fen: Callable[[bytes, int, Buffer, int], Text] = _library.pgn_fen_norm
 key: Callable[[bytes, int, Buffer, int], Text] = _library.pgn_key
 san: Callable[[bytes, int, bytes, int, int], Move] = _library.pgn_san
 line: Callable[[bytes, int, bytes, int, int, Buffer, int], Plies] = _library.pgn_line
-next_game: Callable[[bytes, _Size, int, _Number, _Number, Buffer, _Size],
+next_game: Callable[[_Bytes, _Size, _Size, _Number, _Number, _Room, _Size],
                     NextGame] = _library.pgn_next_game
-read_game: Callable[[bytes, _Size, int, _Number, _Number, Buffer, _Size],
+read_game: Callable[[_Bytes, _Size, _Size, _Number, _Number, _Room, _Size],
                     NextGame] = _library.pgn_read_game
 next_section: Callable[[BadGame, bytes, int, bool], Section] = _library.pgn_next_section
 explain: Callable[[bytes, int, bytes, int], Explanation] = _library.pgn_explain
+
+
+def address_of(data: Union[bytes, Buffer]) -> ctypes.c_void_p:
+    """Where bytes are, or a buffer; it keeps them in memory."""
+    return ctypes.cast(data, ctypes.c_void_p)  # type: ignore[arg-type]
 
 
 def front_of(buffer: Buffer, length: int) -> bytes:

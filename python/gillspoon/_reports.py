@@ -11,7 +11,7 @@ from typing import Dict, List, NamedTuple, Optional, TextIO, Tuple, Union
 from urllib.parse import quote
 
 from ._edits import Edit
-from ._findings import Finding, Warned, board
+from ._findings import TAGS_ALONE, Finding, Warned, board
 from ._own_errors import guarded
 from ._texts import in_a_line, printable, text_of
 
@@ -138,6 +138,13 @@ def _replacement(error: UnicodeError) -> "Tuple[Union[str, bytes], int]":
     return {"\u2013": "-", "\u2192": "->"}.get(character, "?"), error.start + 1
 
 
+def _what_is_wrong(it: Finding) -> str:
+    """The reason and its note, or the note alone where the reason would mislead."""
+    if it.note == TAGS_ALONE:
+        return it.note
+    return it.reason + (": " + it.note if it.note else "")
+
+
 class Report:
     """Lines for people: one for each fault, and with `with_board` what explains it."""
 
@@ -148,7 +155,7 @@ class Report:
     def fault(self, it: Finding) -> None:
         """Writes a fault."""
         place = "%s:%d:%d:" % (in_a_line(it.file), it.line, it.column)
-        reason = it.reason + (": " + it.note if it.note else "")
+        reason = _what_is_wrong(it)
         self._put("%s %s (game %d, %s \u2013 %s)" % (
             self._in(BOLD, place), self._in(RED, reason), it.game, it.white, it.black))
         if self.with_board:
@@ -264,7 +271,7 @@ class SarifReport:
         """Takes a fault."""
         self.rules.setdefault(it.number, it.reason.partition(", field")[0])
         game = " (game %d, %s \u2013 %s)" % (it.game, it.white, it.black)
-        reason = it.reason + (": " + it.note if it.note else "")
+        reason = _what_is_wrong(it)
         text = ". ".join([reason + game, it.explanation]) if it.explanation else reason + game
         result: "Dict[str, object]" = {
             "ruleId": _rule(it.number),

@@ -7,7 +7,6 @@ import re
 # A variation that has marks alone, and a pawn's move with its letter.
 MARKS_ALONE = re.compile(rb"\(\s*[!?$][!?$0-9\s]*\)")
 PAWN_MOVE = re.compile(rb"P([a-h]?[1-8]?x?[a-h][1-8][+#]*)")
-_NULL_MOVE = re.compile(rb"0000")
 # The move numbers with their periods, each with the one above it.
 _NUMBERS = tuple((b"%d." % number, b"%d." % (number + 1)) for number in range(400))
 
@@ -15,7 +14,7 @@ _NUMBERS = tuple((b"%d." % number, b"%d." % (number + 1)) for number in range(40
 def is_suspect(text: bytes, begin: int, plies: int) -> bool:
     """Whether the movetext of a game may have a doubt; it begins with a line at `begin`."""
     last = (plies + 1) // 2
-    return not text.startswith(b"1.", begin) or text.startswith(b"1..", begin) \
+    return text[begin:begin + 2] != b"1." or text.startswith(b".", begin + 2) \
         or has_odd_token(text, begin) or not has_last_number(text, begin, last) \
         and not has_last_number(main_line(text[begin:]), 0, last)
 
@@ -44,12 +43,12 @@ def main_line(movetext: bytes) -> bytes:
 def has_odd_token(text: bytes, begin: int) -> bool:
     """Whether there may be a `0000`, a `;`, a variation of marks, or a P before a square."""
     find = text.find
-    # a single byte is found in far less time than more of them
+    # a single byte is found in far less time than more of them, and four from behind in less
     pawn, bracket, semicolon = find(b"P", begin), find(b"(", begin), find(b";", begin)
     return (pawn >= 0 and PAWN_MOVE.search(text, pawn) is not None
             or bracket >= 0 and MARKS_ALONE.search(text, bracket) is not None
             or semicolon >= 0 and _has_line_comment(text, begin, semicolon)
-            or _NULL_MOVE.search(text, begin) is not None)
+            or text.rfind(b"0000", begin) >= 0)
 
 
 def _has_line_comment(text: bytes, begin: int, at: int) -> bool:

@@ -98,19 +98,24 @@ class Watcher:
 
     def game(self, game: Game) -> List[Said]:
         """The warnings of a valid game, whose text has the comments before it."""
-        text = self._text_of(game)
-        find, section, begin = text.find, section_of(game), _begin_of_movetext(text)
+        # this is run for each game: slots are read, and no call is made that most need not
+        unwritten, plies = game._unwritten, game._plies
+        text = unwritten[0] if unwritten else self._text_of(game)
+        find, section = text.find, game._section or section_of(game)
+        begin = find(b'"]\n\n') + 4
+        if begin < 4:
+            begin = _begin_behind_carriage_return(text)
         found: List[Tuple[int, str]] = []
-        if text.startswith(COMMENT_SIGNS):
+        if text[:1] in COMMENT_SIGNS:
             found.append((0, DROPPED))
         if find(b'"', begin) >= 0:
             found += _games_in_comments(text)
         if not USUAL_SECTION.match(section) and OTHER_FORM.search(section):
             found += _of_tags(text, section)
-        if not game.plies:
+        if not plies:
             found += _of_nothing(game, text)
-        elif is_suspect(text, begin, game.plies):
-            found += self._doubts(text, game.plies)
+        elif is_suspect(text, begin, plies):
+            found += self._doubts(text, plies)
         percent = find(b"%")
         if percent >= 0 and _may_have_escapes(text, percent):
             self._count_escapes(game.offset, game.end)
@@ -121,9 +126,7 @@ class Watcher:
         return [self._said(game.offset + at, reason) for at, reason in found] if found else NONE
 
     def _text_of(self, game: Game) -> bytes:
-        """The bytes of a game from its first one on that is no white space."""
-        if game._unwritten:
-            return game._unwritten[0]
+        """The bytes of a game from its first one on that is no white space, from the window."""
         base = self._window.base
         return self._window.data[game.offset - base:game.end - base]
 
@@ -176,23 +179,28 @@ class Watcher:
 
 ASCII = bytes(range(128))
 COMMENT_SIGNS = (b"{", b";")
-# An expression finds it in less time than bytes.find does.
-ESCAPE_LINE = re.compile(rb"\n%")
+# What an escape line is behind: a line end, or nothing at the begin of a text.
+BEFORE_ESCAPE = (b"\n", b"\r", b"")
+# So many are looked at one by one; of more an expression finds one in less time than bytes.find.
+FEW, ESCAPE_LINE = 2, re.compile(rb"\n%")
 NONE: "List[Said]" = []
 
 
-def _begin_of_movetext(text: bytes) -> int:
-    """The index behind the first empty line after a tag, or 0 if there is none."""
-    at = text.find(b'"]\n\n')
-    if at >= 0:
-        return at + 4
+def _begin_behind_carriage_return(text: bytes) -> int:
+    """The index behind the first empty line of CR LF after a tag, or 0 if there is none."""
     at = text.find(b'"]\r\n\r\n')
     return at + 6 if at >= 0 else 0
 
 
 def _may_have_escapes(text: bytes, percent: int) -> bool:
     """Whether a line may begin with % in a text whose first % is at a place."""
-    return not percent or ESCAPE_LINE.search(text, percent - 1) is not None \
+    for _ in range(FEW):
+        if text[percent - 1:percent] in BEFORE_ESCAPE:
+            return True
+        percent = text.find(b"%", percent + 1)
+        if percent < 0:
+            return False
+    return ESCAPE_LINE.search(text, percent - 1) is not None \
         or b"\r" in text and b"\r%" in text
 
 

@@ -65,7 +65,7 @@ WAYS = {
     "an angle bracket": (b"1. e4 <2> *\n", [
         "1:7: reserved character: PGN 7 keeps < and > for later (game 1, ? \u2013 ?)"]),
     "tags alone": (b'\n\n[White "Ada"]\n\n[White "Bob"]\n\n1. e4 *\n', [
-        "5:2: tag is given twice: the game before may have tags alone, without moves and a result "
+        "5:2: the game before may have tags alone, without moves and a result "
         "(game 1, Ada \u2013 ?)"]),
     "a tag twice": (b'[White "Ada"]\n[White "Bob"]\n\n1. e4 *\n', [
         "2:2: tag is given twice (game 1, Ada \u2013 ?)"]),
@@ -927,6 +927,18 @@ class Options(Lint):
             "A white rook can go to d2 from e2, but its king would then be in check.", []])
         self.assertEqual(summary, {"kind": "summary", "files": 1, "games": 1, "faults": 1,
                                    "bad_files": 1})
+
+    def test_tags_alone(self):
+        """A line has the note in place of a reason that would mislead; a record has both."""
+        note = "the game before may have tags alone, without moves and a result"
+        self.put("a.pgn", WAYS["tags alone"][0])
+        fault = self.records("a.pgn")[0]
+        self.assertEqual((fault["number"], fault["reason"], fault["note"]),
+                         (22, "tag is given twice", note))
+        ran, = json.loads(self.lint("--sarif", "a.pgn")[1])["runs"]
+        self.assertEqual(ran["results"][0]["message"]["text"], note + " (game 1, Ada \u2013 ?)")
+        self.assertEqual(ran["tool"]["driver"]["rules"][0]["shortDescription"]["text"],
+                         "tag is given twice")
 
     def test_the_fields_are_documented(self):
         with open(ROOT + "/share/man/man1/gillspoon.1", encoding="utf-8") as page:

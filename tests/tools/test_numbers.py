@@ -1,0 +1,138 @@
+"""Tests of the warning of move numbers, on many made games, beside a plain look at each number."""
+import random
+import re
+import unittest
+
+import test_lint
+from programs import ROOT
+
+GAMES, LONGEST = 4000, 30
+REASON = re.compile("move number ([0-9]+) behind ([0-9]+): perhaps a marker or moves are missing")
+NOTES = ("best", "better is 3. Nf3", "1. e4 (2. d4) 7...", "see game 12.", "a; b", "5.", "100% 4.")
+
+
+def setUpModule():
+    test_lint.setUpModule()
+
+
+def numbers_of(movetext):
+    """The place of each number of the main line with a period behind, and the plies before it.
+
+    It reads letter by letter: a comment ends at its brace, and one from `;` at the line's end.
+    """
+    found, plies, depth, at = [], 0, 0, 0
+    while at < len(movetext):
+        letter, end = movetext[at], at + 1
+        if letter == "{":
+            end = movetext.index("}", at) + 1
+        elif letter == ";":
+            end = movetext.index("\n", at) + 1
+        elif letter in "()":
+            depth += 1 if letter == "(" else -1
+        elif letter == "$" or letter.isalnum():
+            while end < len(movetext) and (movetext[end].isalnum() or movetext[end] in "+#=:/-"):
+                end += 1
+            word = movetext[at:end]
+            if depth == 0 and word.isdigit() and movetext[end:end + 1] == ".":
+                found.append((at, int(word), plies))
+            plies += depth == 0 and letter.isalpha()
+        at = end
+    return found
+
+
+def wrong(numbers):
+    """The first number that is lower than the one before, or higher by more than moves between."""
+    for (_, last, before), (at, number, plies) in zip(numbers, numbers[1:]):
+        moves = (plies - before + 1) // 2
+        if number < last or number - last > moves:
+            return at, number, last
+    return None
+
+
+class Maker:
+    """Makes movetext whose numbers may be wrong or missing."""
+
+    def __init__(self, rng, first, is_black):
+        self.rng, self.ply = rng, 2 * first + is_black
+        self.is_sound = rng.random() < 0.4
+        self.blank = rng.choice((" ", "", "\n"))
+        self.noise = rng.choice((0, 0.05, 0.3))
+        self.words = []
+
+    def number(self):
+        """The number of the next move, or one that is not that."""
+        number = self.ply // 2
+        if not self.is_sound and self.rng.random() < 0.1:
+            number = self.rng.choice((number + 1, number - 1, number + 7, 1, 10 * number, number % 10))
+        return max(number, 0)
+
+    def add(self, move):
+        """Adds a move, and what is before and behind it."""
+        rng, is_black = self.rng, self.ply % 2
+        if rng.random() < (0.08 if self.is_sound else 0.2):
+            is_black = not is_black
+        if not is_black:
+            dots = "..." if self.ply % 2 else rng.choice((".", ".", ".", ".", ".", " .", ""))
+            self.words.append("%d%s%s" % (self.number(), dots, self.blank or " " * (dots != "...")))
+        self.words.append(move + " ")
+        if rng.random() < self.noise:
+            self.words.append("{%s} " % rng.choice(NOTES))
+        if rng.random() < self.noise:
+            inner = rng.choice(("%s {%s} (%s)" % (move, rng.choice(NOTES), move), move, "1. " + move))
+            self.words.append("(%d%s%s) " % (self.ply // 2, ".." * (self.ply % 2) + ". ", inner))
+        if rng.random() < self.noise / 4:
+            self.words.append("; 2. a\n")
+        self.ply += 1
+
+
+def games(rng):
+    """The tag section, the movetext and the plies of made games."""
+    with open(ROOT + "/bench/games.txt", encoding="ascii") as file:
+        lines = [it.split()[1:] for it in file]
+    with open(ROOT + "/bench/puzzles.txt", encoding="ascii") as file:
+        puzzles = [it.split() for it in file]
+    for _ in range(GAMES):
+        first, is_black, tags = 1, False, ""
+        if rng.random() < 0.8:
+            moves = rng.choice(lines)[:rng.randrange(1, LONGEST)]
+        else:
+            *fen, moves = *rng.choice(puzzles),
+            fields, moves = (fen + [moves])[:4], (fen + [moves])[4:]
+            first, is_black = rng.randrange(1, 60), fields[1] == "b"
+            tags = '[SetUp "1"]\n[FEN "%s 0 %d"]\n' % (" ".join(fields), first)
+        maker = Maker(rng, first, is_black)
+        for move in moves:
+            maker.add(move)
+        yield '[Event "a"]\n%s\n' % tags, "".join(maker.words), len(moves)
+
+
+class Numbers(test_lint.Lint):
+    def test_made_games(self):
+        """What is warned of is wrong, and what is wrong is warned of if no last number is there."""
+        made = list(games(random.Random(1994)))
+        self.put("a.pgn", "".join("%s%s*\n\n" % it[:2] for it in made).encode())
+        records = self.records("a.pgn")
+        self.assertNotIn("fault", [it["kind"] for it in records])
+        warned = {it["game"]: it for it in records
+                  if it["kind"] == "warning" and REASON.fullmatch(it["reason"])}
+        seen, offset = [0, 0, 0], 0
+        for game, (tags, movetext, plies) in enumerate(made, 1):
+            numbers = numbers_of(movetext)
+            found, it = wrong(numbers), warned.get(game)
+            begin, offset = offset + len(tags), offset + len(tags) + len(movetext) + 3
+            if it:
+                self.assertEqual((it["offset"] - begin, *REASON.fullmatch(it["reason"]).groups()),
+                                 (found[0], str(found[1]), str(found[2])), movetext)
+                seen[0] += 1
+            elif found and numbers[0][2] == 0:
+                _, first, _ = numbers[0]
+                is_black = movetext.startswith("%d.." % first)
+                last = first + (plies - 1 + is_black) // 2
+                self.assertIn("%d." % last, movetext, movetext)
+                seen[1] += 1
+            seen[2] += not found
+        self.assertTrue(all(it > GAMES // 40 for it in seen), seen)
+
+
+if __name__ == "__main__":
+    unittest.main()
