@@ -123,7 +123,7 @@ fn what_a_user_prints_can_be_printed() {
     let shown = format!("{converter:?}");
     assert_eq!(
         shown,
-        "Converter { count: 4, games: 1, fault: None, is_finished: true, .. }"
+        "Converter { place: 4, games: 1, fault: None, is_finished: true, .. }"
     );
     let mut games = Games::<64, 33>::new(Mode::Full);
     games
