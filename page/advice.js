@@ -1,7 +1,7 @@
 // What a person would try next, by the fault and by what is at its place.
 //
-// README.md has the same table. docs/TOOLS.md names what gillspoon lint --fix mends, and which of it the
-// button of the page does.
+// README.md has the same table. docs/TOOLS.md names what gillspoon lint --fix mends, and which of it
+// the button of the page does.
 import { DRAW, RESULTS } from "./text.js";
 
 // A button that a fault may have.

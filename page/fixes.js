@@ -1,5 +1,5 @@
-// The fixes of gillspoon lint that have their patterns in fixes.json, which gillspoon lint reads too: each
-// proposes one edit for a fault, or none. Text is a string here, with a character for each byte.
+// The fixes of gillspoon lint that have their patterns in fixes.json, which gillspoon lint reads too:
+// each proposes one edit for a fault, or none. Text is a string here, with a character for each byte.
 import { OK } from "./module.js";
 import { RESULT_VALUES, encoded } from "./text.js";
 import { piecesOf } from "./board.js";
@@ -80,7 +80,7 @@ export class Fixes {
       found[0] === "[" ? found.replace(/\\s/g, "\\t-\\r ") : OTHER_SIGNS[found] || found), flags);
   }
 
-  // The edits that may mend a fault, in the order of gillspoon lint; each has the names of its fixes.
+  // The edits that may mend a fault, as gillspoon lint orders them, each with the names of its fixes.
   *proposals(here, withSmallLetters) {
     if (REASONS_OF_MOVES.includes(here.fault)) {
       const edit = this.respelled(here, withSmallLetters);

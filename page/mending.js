@@ -1,5 +1,5 @@
-// Finds the edits that mend bad games, as gillspoon lint --fix does: an edit is kept if the library then
-// reads the game to its end, or if fewer bytes are behind its first fault than before.
+// Finds the edits that mend bad games, as gillspoon lint --fix does: an edit is kept if the library
+// then reads the game to its end, or if fewer bytes are behind its first fault than before.
 import { FULL, MISSING_RESULTS, MODES, NO_GAME, OK } from "./module.js";
 import { DRAW, latin1, lineAround, startsWithByteOrderMark } from "./text.js";
 import { edited } from "./fixes.js";

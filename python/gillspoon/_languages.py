@@ -3,8 +3,8 @@
 One token says little: T is a rook in German, and R a king in French. So all moves are written anew,
 from the first one on, and only if the game has a letter that no English move has.
 
-A P is such a letter, and a Dutch knight. A game that is sound with its pawns' moves has no fault, so
-it stays.
+A P is such a letter, and a Dutch knight. A game that is valid with its pawns' moves has no fault,
+so it stays.
 """
 import os
 import re

@@ -143,7 +143,7 @@ NO_PART_OF_A_MOVE = re.compile(rb"[^KQRBNa-h1-8]")
 
 
 def _is_other_letter(here: Here, match: "re.Match[bytes]", text: bytes, fen: str) -> bool:
-    """Whether a letter may be that of another piece in its language: a Russian knight, a Greek queen.
+    """Whether a letter may be another piece's in its language: a Russian knight, a Greek queen.
 
     It is one if the move is legal with it, or if its language is that of other moves.
     """

@@ -46,7 +46,8 @@ too: it ends where gillspoon sieve parts it from the next one.
 
 """
 # What pgn_tool and gillspoon fmt print of a fault, and gillspoon lint; each is a whole line.
-BYTE = re.compile(r"(?:gillspoon: (?P<file>.+): )?byte (?P<offset>[0-9]+): (?P<reason>.*)", re.DOTALL)
+BYTE = re.compile(r"(?:gillspoon: (?P<file>.+): )?byte (?P<offset>[0-9]+): (?P<reason>.*)",
+                  re.DOTALL)
 PLACE = re.compile(
     r"(?P<file>.+?):(?P<line>[0-9]+):(?P<column>[0-9]+): (?P<reason>.+ \(game [0-9]+, .*\))")
 RECORD = '{"kind": "fault", '
