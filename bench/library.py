@@ -1,6 +1,7 @@
 """The library through Python beside the program: one call in this process, and in one of its own.
 
-Each has to write the same bytes. The library is the one that bin/build_program --library names.
+Each has to write the same bytes. The library is the one that GILLSPOON_LIBRARY names, or
+bin/build_program --library; --record builds the proved one.
 """
 import importlib
 import os
@@ -15,10 +16,11 @@ TOOLS, OTHERS, VERSIONS = ("hyperfine",), (), ("python3",)
 CALL = "import sys, gillspoon; sys.stdout.buffer.write(gillspoon.convert(sys.argv[1]))"
 
 
-def load(options):
+def load(*options):
     """The module over the library of a build, which is built if need be."""
-    static = measure.built("--library", *options)
-    os.environ["GILLSPOON_LIBRARY"] = os.path.join(os.path.dirname(static), "libpgn_c.so")
+    if options or not os.environ.get("GILLSPOON_LIBRARY"):
+        static = measure.built("--library", *options)
+        os.environ["GILLSPOON_LIBRARY"] = os.path.join(os.path.dirname(static), "libpgn_c.so")
     os.environ["PYTHONPATH"] = ROOT + "/python"
     sys.path.insert(0, ROOT + "/python")
     return importlib.import_module("gillspoon")
@@ -30,7 +32,7 @@ def read(path):
 
 
 def figures(given):
-    gillspoon, rows = load(["--proved"] if given.record else []), []
+    gillspoon, rows = load("--proved") if given.record else load(), []
     for style in ("plain", "annotated"):
         path = archive(style, given.games)
         calls = {"program": [given.program, "export", path],
@@ -49,8 +51,4 @@ def figures(given):
     return {"table": tables.table(head, rows)}
 
 
-def lines(result):
-    return [*tables.machine(result), *result["table"]][:-1]
-
-
-RECORDS = ((HERE + "/README.md", lines),)
+RECORDS = ((HERE + "/README.md", tables.measured_table),)

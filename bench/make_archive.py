@@ -166,7 +166,7 @@ class Game:
             text = kind + self.hint(kind, origin, to) + ("x" if takes else "") + NAMES[to]
         if not after.checked():
             return text
-        return text + ("+" if any(after.after(it) for it in after.steps()) else "#")
+        return text + ("+" if after.has_move() else "#")
 
     def hint(self, kind, origin, to):
         """What tells the piece from others of its kind that can go there."""
@@ -186,6 +186,22 @@ class Game:
         if all(it // 8 != origin // 8 for it in rivals):
             return RANKS[origin // 8]
         return NAMES[origin]
+
+    def has_move(self):
+        return any(self.after(it) for it in self.steps())
+
+    def played(self, rng, count, without=()):
+        """At most so many moves from here, each with the position before it and the one after it.
+
+        The first one is none of these moves.
+        """
+        game = self
+        for _ in range(count):
+            move, after = game.choose(rng, without)
+            if not move:
+                return
+            yield game, move, after
+            game, without = after, ()
 
     def choose(self, rng, without=()):
         """A legal move that looks good at first sight, and the position after it."""
@@ -215,13 +231,9 @@ class Line:
 
     def __init__(self, rng):
         game, self.moves, self.result = Game(), [], None
-        for _ in range(rng.randrange(30, 130)):
-            move, after = game.choose(rng)
-            if not move:
-                break
-            self.moves.append((game, move, game.san(move, after)))
-            game = after
-        if any(game.after(it) for it in game.steps()):
+        for before, move, game in game.played(rng, rng.randrange(30, 130)):
+            self.moves.append((before, move, before.san(move, game)))
+        if game.has_move():
             self.result = rng.choice(("1-0", "0-1", "1/2-1/2", "1/2-1/2", "*"))
         elif game.checked():
             self.result = "0-1" if game.white else "1-0"
@@ -256,10 +268,7 @@ def numbered(game, text, after_move):
 def variation(rng, game, without, depth):
     """The words of a variation in the place of these moves."""
     words, after_move = [], False
-    for _ in range(rng.randrange(1, 8)):
-        move, after = game.choose(rng, without)
-        if not move:
-            break
+    for game, move, after in game.played(rng, rng.randrange(1, 8), without):
         words += numbered(game, game.san(move, after), after_move)
         after_move = True
         if rng.random() < 0.1:
@@ -269,7 +278,6 @@ def variation(rng, game, without, depth):
             inner = variation(rng, game, (move,), depth + 1)
             words += inner
             after_move = after_move and not inner
-        game, without = after, ()
     if not words:
         return []
     words[0] = "(" + words[0]

@@ -12,6 +12,7 @@ The player of make_archive.py plays them all.
 """
 import os
 import random
+import re
 import sys
 
 sys.dont_write_bytecode = True
@@ -24,26 +25,17 @@ GAMES, QUEENS = 2000, 100
 
 def fen(game):
     """The FEN of a position, without a half move clock."""
-    ranks = []
-    for rank in range(7, -1, -1):
-        text, empty = "", 0
-        for piece in game.board[8 * rank:8 * rank + 8]:
-            if piece == ".":
-                empty += 1
-                continue
-            text += (str(empty) if empty else "") + piece
-            empty = 0
-        ranks.append(text + (str(empty) if empty else ""))
+    ranks = "/".join("".join(game.board[at:at + 8]) for at in range(56, -1, -8))
+    board = re.sub(r"\.+", lambda empty: str(len(empty[0])), ranks)
     target = make_archive.NAMES[game.target] if game.target is not None else "-"
-    side = "w" if game.white else "b"
-    return "%s %s %s %s" % ("/".join(ranks), side, game.rights or "-", target)
+    return "%s %s %s %s" % (board, "w" if game.white else "b", game.rights or "-", target)
 
 
 def mates(game):
     """The moves that mate, with their positions."""
     for move in game.steps():
         after = game.after(move)
-        if after and after.checked() and not any(after.after(it) for it in after.steps()):
+        if after and after.checked() and not after.has_move():
             yield move, after
 
 
@@ -73,14 +65,7 @@ def queens(rng):
         white_safe = not game.attacked(board.index("k"), True)
         if white_safe and not game.attacked(board.index("K"), False):
             break
-    moves = []
-    at = game
-    for _ in range(rng.randrange(4, 12)):
-        move, after = at.choose(rng)
-        if not move:
-            break
-        moves.append(at.san(move, after))
-        at = after
+    moves = [at.san(move, after) for at, move, after in game.played(rng, rng.randrange(4, 12))]
     return game, moves
 
 

@@ -45,6 +45,8 @@ STACK_STEP = 4
 TASKS = ("export", "export --checked", "check", "list")
 # what a small file takes in memory, and more than that
 BLOCK = 8192
+# The games of two archives. What a game costs is their difference, without the start of a program.
+SMALL, LARGE = 100, 300
 
 
 def stop(why):
@@ -107,6 +109,7 @@ def archive(style, games):
     """The path of an archive of so many games, which is made where it is missing."""
     file = "%s/%s-%d.pgn" % (OUT, style, games)
     if not os.path.exists(file):
+        os.makedirs(OUT, exist_ok=True)
         words = [sys.executable, HERE + "/make_archive.py", "--style", style, "--games", str(games)]
         call(words, file + ".new")
         os.replace(file + ".new", file)
@@ -162,14 +165,14 @@ def same(it):
 
 
 def instructions(calls, styles):
-    """The instructions of a game by call and style: the difference of 300 and 100 games.
+    """The instructions of a game by call and style.
 
     A call reads standard input. It has its words, the change that it needs of an archive, and what
     it must write of what the first call writes for the archive as it is.
     """
     spent = {}
     for style in styles:
-        small, large = archive(style, 100), archive(style, 300)
+        small, large = archive(style, SMALL), archive(style, LARGE)
         text = None
         for name, (words, change, part) in calls.items():
             call(words, output_of(name), change(large))
@@ -178,8 +181,8 @@ def instructions(calls, styles):
             text = written if text is None else text
             if written != part(text):
                 stop("%s does not write what it should for %s" % (name, large))
-            few, many = (callgrind(words, change(it))[0]["Ir"] for it in (small, large))
-            spent[name, style] = (many - few) / 200
+            runs = (callgrind(words, change(it)) for it in (small, large))
+            spent[name, style] = difference(*runs)["Ir"]
     return spent
 
 
@@ -252,8 +255,8 @@ def inlined(costs):
             for part, names in missing.items() if names}
 
 
-def difference(small, large, games):
-    """Of two results of callgrind the costs of one game, so without the start of the program."""
+def difference(small, large, games=LARGE - SMALL):
+    """The costs of one game, of what callgrind says of two archives."""
     a, b = ({**it[0], **by_part(it)} for it in (small, large))
     return {what: (b[what] - a.get(what, 0)) / games for what in b}
 
@@ -332,7 +335,7 @@ def split_figures(program, file, games, rounds):
     return {task: wall for task, (wall, _) in took.items()}
 
 
-def split_calls(program, small, large, games):
+def split_calls(program, small, large):
     """System calls a game of export and split, or None without strace."""
     spent = {"export": [], "split": []}
     for file in (small, large):
@@ -341,16 +344,16 @@ def split_calls(program, small, large, games):
                 spent[task].append(system_calls([program, task, *words]))
     if None in spent["export"]:
         return None
-    return {task: (b - a) / games for task, (a, b) in spent.items()}
+    return {task: (b - a) / (LARGE - SMALL) for task, (a, b) in spent.items()}
 
 
-def checked_figures(program, file, small, large, games, rounds):
+def checked_figures(program, file, small, large, rounds):
     """The least wall time and the instructions of a game, of export and of the tasks beside it."""
     calls = {it: [program, *it.split()] for it in TASKS}
     took = times({task: [*words, file] for task, words in calls.items()}, rounds)
     figures = {}
     for task, words in calls.items():
-        spent = difference(callgrind([*words, small]), callgrind([*words, large]), games)
+        spent = difference(*(callgrind([*words, it]) for it in (small, large)))
         figures[task] = {"wall": took[task][0], "instructions": spent["Ir"]}
     return figures
 

@@ -72,8 +72,4 @@ def figures(given):
     return {"table": tables.table(head, rows)}
 
 
-def lines(result):
-    return [*tables.machine(result), *result["table"]][:-1]
-
-
-RECORDS = ((HERE + "/README.md", lines),)
+RECORDS = ((HERE + "/README.md", tables.measured_table),)

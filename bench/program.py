@@ -23,7 +23,6 @@ VERSIONS = ("pgn-extract", "valgrind", "strace")
 STYLES = ("plain", "annotated")
 # of the last one only the instructions of the builds are counted
 COUNTED = (*STYLES, "server")
-SMALL, LARGE = 100, 300
 SIZES = (1, 10, 100)
 # what --record writes, and its lines
 RECORDS = (
@@ -68,7 +67,7 @@ def converter_figures(calls, file, small, large, rounds):
     figures, costs = {}, {}
     for name, words in calls.items():
         runs = [measure.callgrind([*words, it]) for it in (small, large)]
-        spent = measure.difference(*runs, LARGE - SMALL)
+        spent = measure.difference(*runs)
         costs.setdefault("parts", {it: spent[it] for it in measure.by_part(runs[1])})
         costs.setdefault("inlined", measure.inlined(runs[1]))
         figures[name] = {"wall": wall[name][0], "memory": measure.memory([*words, file]),
@@ -90,15 +89,15 @@ def size_figures(program, file, rounds):
 
 def archive_figures(given, calls, name):
     """All that is measured of one archive."""
-    file, small, large = (archive(name, it) for it in (given.games, SMALL, LARGE))
-    games, step = games_in(given.program, file), LARGE - SMALL
+    file, small, large = (archive(name, it)
+                          for it in (given.games, measure.SMALL, measure.LARGE))
+    games = games_in(given.program, file)
     check_output(calls["pgn-extract"], given.program, file)
     print("%s: %d games: the output converts to itself" % (name, games), file=sys.stderr)
     figures, costs = converter_figures(calls, file, small, large, given.rounds)
     wall = measure.split_figures(given.program, file, games, given.rounds)
-    split = wall and {"wall": wall,
-                      "calls": measure.split_calls(given.program, small, large, step)}
-    checked = measure.checked_figures(given.program, file, small, large, step, given.rounds)
+    split = wall and {"wall": wall, "calls": measure.split_calls(given.program, small, large)}
+    checked = measure.checked_figures(given.program, file, small, large, given.rounds)
     sizes = size_figures(given.program, file, given.rounds) if given.sizes else []
     return {"name": name, "games": games, "bytes": os.path.getsize(file), "converters": figures,
             **costs, "split": split, "checked": checked, "sizes": sizes}

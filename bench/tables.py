@@ -85,6 +85,11 @@ def machine(result):
     return [line for item in items for line in prose(item)] + [""]
 
 
+def measured_table(result):
+    """A table alone, below what it was measured on."""
+    return [*machine(result), *result["table"]][:-1]
+
+
 def converters(archive):
     rows = []
     for name, it in archive["converters"].items():
@@ -168,9 +173,6 @@ def report(result):
         lines += ["### %s: %s games, %.1f MB"
                   % (it["name"].capitalize(), format(it["games"], ","), it["bytes"] / 1e6), ""]
         lines += converters(it) + parts(it) + split(it) + checked(it) + sizes(it)
-    if result["stack"]:
-        rows = [[task, kib] for task, kib in result["stack"].items()]
-        lines += ["### Least stack", "", *table(["task", "KiB"], rows)]
     return (lines + builds(result))[:-1]
 
 

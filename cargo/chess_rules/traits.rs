@@ -1,7 +1,7 @@
 //! What Rust's users expect of the types. **Not proved**: written for Cargo.
 
 use crate::text::letter;
-use crate::{Board, Colour, Position, PositionFault, Probes, Rights, Square};
+use crate::{Board, Colour, Played, Position, PositionFault, Probes, Rights, Square};
 use core::fmt::{self, Debug, Display, Formatter, Write};
 use core::hash::{Hash, Hasher};
 
@@ -78,6 +78,23 @@ impl Debug for Board {
             out.write_str(if rank == 0 { "" } else { "/" })?;
         }
         Ok(())
+    }
+}
+
+impl PartialEq for Played {
+    /// Whether the moves are equal, and the positions after them.
+    #[inline]
+    fn eq(&self, other: &Played) -> bool {
+        self.mv == other.mv && self.next == other.next
+    }
+}
+
+impl Eq for Played {}
+
+impl Hash for Played {
+    fn hash<H: Hasher>(&self, state: &mut H) {
+        self.mv.hash(state);
+        self.next.hash(state);
     }
 }
 

@@ -1,6 +1,8 @@
 //! What Rust's users expect of the types. **Not proved**: written for Cargo.
 
-use crate::{Converter, Fault, Games, Inlet, LineOfPlay, MoveOfLine, Ply, ReadFailed, Reason};
+use crate::{
+    Converter, Fault, Games, Inlet, Items, LineOfPlay, MoveOfLine, Ply, ReadFailed, Reason,
+};
 use std::error::Error;
 use std::fmt::{self, Debug, Display, Formatter};
 
@@ -62,6 +64,23 @@ impl<const T: usize, const L: usize> Debug for Games<T, L> {
         out.debug_struct("Games")
             .field("games", &self.games())
             .finish_non_exhaustive()
+    }
+}
+
+impl<const T: usize, const L: usize> Debug for Items<T, L> {
+    fn fmt(&self, out: &mut Formatter<'_>) -> fmt::Result {
+        out.debug_struct("Items")
+            .field("place", &self.place())
+            .field("games", &self.games())
+            .field("depth", &self.depth())
+            .finish_non_exhaustive()
+    }
+}
+
+impl<const T: usize, const L: usize> Default for Items<T, L> {
+    #[track_caller]
+    fn default() -> Items<T, L> {
+        Items::new()
     }
 }
 

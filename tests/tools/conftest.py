@@ -8,20 +8,18 @@ def pytest_addoption(parser):
     parser.addoption("--all", action="store_true", help="a skipped test counts as failed")
 
 
-def without_skips(report, config):
-    if report.skipped and config.getoption("all"):
-        report.outcome, report.longrepr = "failed", "skipped: %s" % (report.longrepr,)
-
-
-@pytest.hookimpl(hookwrapper=True)
-def pytest_runtest_makereport(item):
-    without_skips((yield).get_result(), item.config)
+@pytest.hookimpl(tryfirst=True)
+def pytest_sessionfinish(session):
+    """The tests that were skipped are listed at the end, by what they lack, and fail the run."""
+    reporter = session.config.pluginmanager.get_plugin("terminalreporter")
+    is_skipped = session.config.getoption("all") and reporter and reporter.stats.get("skipped")
+    if is_skipped and session.exitstatus in (pytest.ExitCode.OK, pytest.ExitCode.NO_TESTS_COLLECTED):
+        session.exitstatus = pytest.ExitCode.TESTS_FAILED
 
 
 @pytest.hookimpl(hookwrapper=True)
 def pytest_make_collect_report(collector):
     report = (yield).get_result()
-    without_skips(report, collector.config)
     if isinstance(collector, pytest.Module) and report.passed and not report.result:
         report.outcome, report.longrepr = "failed", "it has no test"
 

@@ -133,9 +133,18 @@ def wrapped_move(rng, text):
     return [(at, at, rng.choice((b"\n", b"\n", b"\r\n", b"\r")))]
 
 
-def no_break_space(rng, text):
-    blank = one_of(rng, re.compile(rb" ").finditer(text, *movetext_or_all(rng, text)))
-    return [(blank.start(), blank.end(), rng.choice(NO_BREAK))] if blank else []
+def replaced(pattern, *texts, is_anywhere=False):
+    """A damage by which one of some texts is in the place of a match."""
+    pattern = re.compile(pattern)
+
+    def damage(rng, text):
+        place = () if is_anywhere else movetext_or_all(rng, text)
+        found = one_of(rng, pattern.finditer(text, *place))
+        if not found:
+            return []
+        return [(found.start(), found.end(), rng.choice(texts) if texts[1:] else texts[0])]
+
+    return damage
 
 
 def zero_width(rng, text):
@@ -297,29 +306,12 @@ def time_of_a_move(rng, text):
     return [(move.end(), move.end(), time)] if move else []
 
 
-def ellipsis(rng, text):
-    dots = one_of(rng, re.compile(rb"\.\.\.").finditer(text))
-    return [(dots.start(), dots.end(), ELLIPSIS)] if dots else []
-
-
 def soft_hyphen(rng, text):
     """In most cases it is beside a blank."""
     blank = one_of(rng, re.compile(rb"[ \n]").finditer(text, *movetext_or_all(rng, text)))
     at = rng.choice((blank.start(), blank.end())) if blank and rng.random() < 0.8 \
         else rng.randrange(len(text))
     return [(at, at, SOFT_HYPHEN)]
-
-
-def line_break_of_a_page(rng, text):
-    blank = one_of(rng, re.compile(rb"[ \n]").finditer(text, *movetext_or_all(rng, text)))
-    return [(blank.start(), blank.end(), rng.choice((b"<br>", b"<BR/>", b"<br>\n")))] if blank \
-        else []
-
-
-def equals_sign_of_a_mail(rng, text):
-    """A mail program writes =3D for an =."""
-    sign = one_of(rng, re.compile(rb"(?<=[a-h][18])=(?=[QRBN])").finditer(text))
-    return [(sign.start(), sign.end(), b"=3D")] if sign else []
 
 
 def result_misread(rng, text):
@@ -338,11 +330,6 @@ def space_put_in(rng, text):
     return [(at, at, b" ")]
 
 
-def space_taken_out(rng, text):
-    blank = one_of(rng, re.compile(rb"[ \n]").finditer(text, *movetext_or_all(rng, text)))
-    return [(blank.start(), blank.end(), b"")] if blank else []
-
-
 def cr_for_lf(rng, text):
     ends = [(it.start(), it.end(), b"\r") for it in re.finditer(rb"\n", text)]
     return ends if rng.random() < 0.3 else [rng.choice(ends)] if ends else []
@@ -351,7 +338,8 @@ def cr_for_lf(rng, text):
 # The kinds of damage, which are equally frequent, and in each its damages.
 KINDS = (
     {"a line wrapped inside a move": wrapped_move, "CR for LF": cr_for_lf},
-    {"a no-break space": no_break_space, "a zero-width character": zero_width},
+    {"a no-break space": replaced(rb" ", *NO_BREAK),
+     "a zero-width character": zero_width},
     {"8 and B": confused(b"8", b"B")},
     {"0 and O": confused(b"0", b"O")},
     {"1, l and I": confused(b"1", b"l", b"I")},
@@ -361,14 +349,17 @@ KINDS = (
     {"files joined without an end": files_joined},
     {"a cut file": file_cut},
     {"curly quotes": other_quotes(QUOTES)},
-    {"a space put in": space_put_in, "a space taken out": space_taken_out},
+    {"a space put in": space_put_in, "a space taken out": replaced(rb"[ \n]", b"")},
     {"a look-alike letter": look_alike},
     {"two moves joined": moves_joined, "a result misread": result_misread},
     {"quotes missing": other_quotes((b"", b"")), "single quotes": other_quotes((b"'", b"'")),
      "a sign behind a name": sign_behind_name, "a bracket missing": bracket_missing},
-    {"a soft hyphen": soft_hyphen, "a line break of a page": line_break_of_a_page,
-     "=3D": equals_sign_of_a_mail},
-    {"an ellipsis": ellipsis, "braces in a comment": braces_in_a_comment},
+    {"a soft hyphen": soft_hyphen,
+     "a line break of a page": replaced(rb"[ \n]", b"<br>", b"<BR/>", b"<br>\n"),
+     # a mail program writes =3D for an =
+     "=3D": replaced(rb"(?<=[a-h][18])=(?=[QRBN])", b"=3D", is_anywhere=True)},
+    {"an ellipsis": replaced(rb"\.\.\.", ELLIPSIS, is_anywhere=True),
+     "braces in a comment": braces_in_a_comment},
     {"a capture without a rank": capture_without_rank, "a time of a move": time_of_a_move,
      "a king's move for castling": king_for_castling},
 )

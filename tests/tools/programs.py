@@ -1,9 +1,11 @@
 """What several tests of the tools need: the program, and other programs that may be missing."""
 import bz2
+import contextlib
 import fcntl
 import functools
 import glob
 import gzip
+import importlib
 import importlib.machinery
 import importlib.util
 import io
@@ -12,14 +14,22 @@ import lzma
 import os
 import pty
 import re
+import resource
 import shutil
+import signal
 import subprocess
+import sys
 import tempfile
 import termios
+import time
 import unittest
 import zipfile
 
 ROOT = os.path.dirname(os.path.dirname(os.path.dirname(os.path.realpath(__file__))))
+PACKAGE = ROOT + "/python"
+# The export of a game of nothing, up to the marker.
+HEAD = (b'[Event "?"]\n[Site "?"]\n[Date "????.??.??"]\n[Round "?"]\n[White "?"]\n[Black "?"]\n'
+        b'[Result "*"]\n\n')
 # Debian keeps games apart.
 PATH = os.environ.get("PATH", "") + ":/usr/games:/usr/sbin"
 DEBIAN = "/usr/share/cargo/registry"
@@ -42,6 +52,14 @@ def need(*names):
     for name in names:
         if not found(name):
             not_tried(name + " is missing")
+
+
+def need_module(name, package):
+    """A module of Python; the test is left out without it, which a package of Debian has."""
+    try:
+        return importlib.import_module(name)
+    except ImportError:
+        return not_tried(package + " is missing")
 
 
 @functools.lru_cache(maxsize=None)
@@ -105,10 +123,32 @@ def need_library(build):
     return library
 
 
-def _zip_of(text):
+def library():
+    """The shared library that GILLSPOON_LIBRARY names, or the one that is built if need be.
+
+    The test is left out if it cannot be built.
+    """
+    named = os.environ.get("GILLSPOON_LIBRARY")
+    static = named or printed_by_build("--library") or not_tried("the library cannot be built")
+    return named or os.path.join(os.path.dirname(static), "libpgn_c.so")
+
+
+def need_package():
+    """The Python package over that library, for the tests of a module."""
+    if not os.environ.get("GILLSPOON_LIBRARY"):
+        os.environ["GILLSPOON_LIBRARY"] = library()
+        unittest.addModuleCleanup(os.environ.pop, "GILLSPOON_LIBRARY")
+    if PACKAGE not in sys.path:
+        sys.path.insert(0, PACKAGE)
+    return importlib.import_module("gillspoon")
+
+
+def zip_of(*members):
+    """A zip with files: their names and texts."""
     held = io.BytesIO()
-    with zipfile.ZipFile(held, "w", zipfile.ZIP_DEFLATED) as archive:
-        archive.writestr("games.pgn", text)
+    with zipfile.ZipFile(held, "w", zipfile.ZIP_DEFLATED) as packed:
+        for name, text in members:
+            packed.writestr(name, text)
     return held.getvalue()
 
 
@@ -118,13 +158,19 @@ def _zstd_of(text):
 
 # How a text is compressed, by the end of a name.
 PACKERS = {"gz": gzip.compress, "bz2": bz2.compress, "xz": lzma.compress, "zst": _zstd_of,
-           "zip": _zip_of}
+           "zip": lambda text: zip_of(("games.pgn", text))}
 
 
 def vectors():
     """The worked inputs, as vectors/vectors.json has them."""
     with open(os.path.join(ROOT, "vectors", "vectors.json"), encoding="utf-8") as file:
         return json.load(file)["vectors"]
+
+
+def archive(games, style, lines=20):
+    """The bytes of an archive of bench/make_archive.py."""
+    return run([sys.executable, "bench/make_archive.py", "--games", str(games), "--lines",
+                str(lines), "--style", style], timeout=300).stdout
 
 
 def new_folder(test):
@@ -153,6 +199,10 @@ class Folder:
         """The bytes of a file."""
         with open(os.path.join(self.folder, name), "rb") as file:
             return file.read()
+
+    def check(self, ran, status, out, err=b""):
+        """A program ended so."""
+        self.assertEqual((ran.returncode, ran.stdout, ran.stderr), (status, out, err))
 
 
 def load(script):
@@ -192,6 +242,52 @@ def on_a_terminal(words, **more):
                 break
     os.close(ours)
     return shown.decode(errors="replace")
+
+
+@contextlib.contextmanager
+def closed_pipe():
+    """The end of a pipe to write into, whose other end is closed."""
+    ours, its = os.pipe()
+    os.close(ours)
+    with open(its, "wb") as closed:
+        yield closed
+
+
+@contextlib.contextmanager
+def full_device():
+    """A device that has no room; the test is left out without one."""
+    if not os.path.exists("/dev/full"):
+        not_tried("/dev/full is missing")
+    with open("/dev/full", "wb") as full:
+        yield full
+
+
+def files_up_to(size):
+    """What limits the files of a child to so many bytes, as `preexec_fn`: as a full disk does."""
+    def limit():
+        signal.signal(signal.SIGXFSZ, signal.SIG_IGN)
+        resource.setrlimit(resource.RLIMIT_FSIZE, (size, size))
+
+    return limit
+
+
+def signalled(words, number, folder, files=1, text=None, **more):
+    """The status and the streams of a child that gets a signal once files are added to a folder.
+
+    Temporary files there show that it is at work. It gets the signal as from a shell, and then the
+    text.
+    """
+    added = len(os.listdir(folder)) + files
+    words = ["env", "--default-signal=INT", "--default-signal=HUP", *words]
+    more = {"cwd": folder, "stdout": subprocess.PIPE, "stderr": subprocess.PIPE, **more}
+    with subprocess.Popen(words, **more) as child:
+        until = time.monotonic() + 60
+        while len(os.listdir(folder)) < added and child.poll() is None \
+                and time.monotonic() < until:
+            time.sleep(0.01)
+        child.send_signal(number)
+        out, told = child.communicate(text, timeout=20)
+    return child.returncode, out, told
 
 
 def run(words, **more):

@@ -125,6 +125,11 @@ class Repository:
             for name in folders + files:
                 os.utime(os.path.join(folder, name), (then, then), follow_symlinks=False)
 
+    def told(self, *words, **more):
+        """The status, the output and the errors of a call."""
+        ran = self.call(*words, **more)
+        return ran.returncode, ran.stdout.decode(), ran.stderr.decode()
+
     def call(self, *words, script="bin/pgn_tool", env=(), **more):
         env = dict({"PATH": self.root + "/path", "HOME": self.root}, **dict(env))
         return run([os.path.join(self.root, script), *words], env=env, **more)

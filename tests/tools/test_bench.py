@@ -7,6 +7,7 @@ import re
 import shutil
 import sys
 import unittest
+from unittest import mock
 
 import documents
 from programs import ROOT, Folder, load, need, new_folder, not_tried, run
@@ -308,12 +309,10 @@ class Readers(unittest.TestCase):
 
     def test_the_room_in_memory(self):
         folder = new_folder(self)
-        self.addCleanup(setattr, measure, "IN_MEMORY", measure.IN_MEMORY)
-        measure.IN_MEMORY = folder
-        self.assertTrue(measure.has_room(__file__, 1))
-        self.assertFalse(measure.has_room(__file__, 10 ** 15))
-        measure.IN_MEMORY = folder + "/none"
-        self.assertFalse(measure.has_room(__file__, 1))
+        for place, games, has_room in ((folder, 1, True), (folder, 10 ** 15, False),
+                                       (folder + "/none", 1, False)):
+            with mock.patch.object(measure, "IN_MEMORY", place):
+                self.assertEqual(measure.has_room(__file__, games), has_room)
 
     def test_strace(self):
         self.assertEqual(measure.read_strace(STRACE.splitlines(True)), 84)
@@ -344,33 +343,32 @@ class OtherWork(unittest.TestCase):
                          [False, False, True, True])
         self.assertEqual([self.stops(it, True) for it in (0, 0.21, 3)], [False] * 3)
 
+    @mock.patch.object(measure, "SECONDS", 0)
     def test_before_it_begins(self):
-        self.addCleanup(setattr, measure, "SECONDS", measure.SECONDS)
-        self.addCleanup(setattr, measure, "work", measure.work)
-        measure.SECONDS = 0
         for busy in (1.9, 2.1):
             answers = [(0, 10, 1), (10, 10 + busy, 1)]
-            measure.work = lambda: answers.pop(0)
-            if busy < 2:
-                measure.wait_for_quiet(False)
-            else:
-                self.assertRaises(SystemExit, measure.wait_for_quiet, False)
-            self.assertEqual(answers, [])
+            with mock.patch.object(measure, "work", side_effect=answers) as work:
+                if busy < 2:
+                    measure.wait_for_quiet(False)
+                else:
+                    self.assertRaises(SystemExit, measure.wait_for_quiet, False)
+            self.assertEqual(work.call_count, 2)
 
 
 class Tables(unittest.TestCase):
     def test_goals(self):
-        text = "\n".join(tables.goals(RESULT))
-        self.assertIn("| wall time | plain | 0.20 | 0.150 | met |\n", text)
-        self.assertIn("| wall time | annotated | 0.20 | 0.250 | NOT MET |\n", text)
-        self.assertIn("| instructions | plain | 0.19 | 0.200 | NOT MET |\n", text)
-        self.assertIn("| instructions | annotated | 0.22 | 0.200 | met |\n", text)
-        self.assertIn("| least stack | export | 128 KiB | 128 KiB | met |\n", text)
-        self.assertIn("| least stack | export --checked | 192 KiB | 180 KiB | met |\n", text)
-        self.assertIn("| --checked to export | plain | 2.2 | 2.00 | met |\n", text)
-        self.assertIn("| Cargo to proved | server | 1.01 | 1.009 | met |\n", text)
-        self.assertIn("| dependent to proved | plain | 1.08 | 1.050 | met |\n", text)
-        missed = re.findall(r"^- (.*)$", text, re.M)
+        lines = tables.goals(RESULT)
+        for line in ("| wall time | plain | 0.20 | 0.150 | met |",
+                     "| wall time | annotated | 0.20 | 0.250 | NOT MET |",
+                     "| instructions | plain | 0.19 | 0.200 | NOT MET |",
+                     "| instructions | annotated | 0.22 | 0.200 | met |",
+                     "| least stack | export | 128 KiB | 128 KiB | met |",
+                     "| least stack | export --checked | 192 KiB | 180 KiB | met |",
+                     "| --checked to export | plain | 2.2 | 2.00 | met |",
+                     "| Cargo to proved | server | 1.01 | 1.009 | met |",
+                     "| dependent to proved | plain | 1.08 | 1.050 | met |"):
+            self.assertIn(line, lines)
+        missed = [it[2:] for it in lines if it.startswith("- ")]
         self.assertEqual(missed, ["wall time, annotated: 0.250 instead of 0.20",
                                   "instructions, plain: 0.200 instead of 0.19",
                                   "least stack, list: 132 KiB instead of 128 KiB",
@@ -399,7 +397,7 @@ class Tables(unittest.TestCase):
                      "| export --checked | 2000 | 390 |",
                      "| check | 5000 | 150 |",
                      "| 1.0 | 0.05 | 50.0 | 2.0 | 1.5 |",
-                     "| list | 132 |",
+                     "| least stack | list | 128 KiB | 132 KiB | NOT MET |",
                      "### The builds",
                      "| instructions a game | plain | ratio | server | ratio |",
                      "| proved | 2,000 | 1.000 | 1,000 | 1.000 |",
@@ -459,11 +457,12 @@ class Builds(Folder, unittest.TestCase):
 
     def setUp(self):
         super().setUp()
-        for name, other in (("found", lambda name: None), ("archive", self.archive),
-                            ("callgrind", lambda words, file: [{"Ir": os.path.getsize(file)}]),
-                            ("output_of", lambda name: "%s/%s" % (self.folder, name))):
-            self.addCleanup(setattr, measure, name, getattr(measure, name))
-            setattr(measure, name, other)
+        patched = mock.patch.multiple(
+            measure, found=lambda name: None, archive=self.archive,
+            callgrind=lambda words, file: ({"Ir": os.path.getsize(file)}, {}, {}),
+            output_of=lambda name: "%s/%s" % (self.folder, name))
+        patched.start()
+        self.addCleanup(patched.stop)
 
     def archive(self, style, games):
         with open("%s/%s-%d" % (self.folder, style, games), "w", encoding="ascii") as file:
@@ -488,10 +487,9 @@ class Builds(Folder, unittest.TestCase):
         self.assertEqual(builds.built(), {})
 
     def test_a_cargo_that_fails(self):
-        self.addCleanup(setattr, builds, "WORKSPACE", builds.WORKSPACE)
-        builds.WORKSPACE = self.folder + "/workspace"
-        measure.found = lambda name: "/bin/false"
-        with contextlib.redirect_stderr(io.StringIO()) as said:
+        with mock.patch.object(builds, "WORKSPACE", self.folder + "/workspace"), \
+                mock.patch.object(measure, "found", lambda name: "/bin/false"), \
+                contextlib.redirect_stderr(io.StringIO()) as said:
             self.assertEqual(builds.built(), {})
         self.assertIn("cargo failed; goes on without", said.getvalue())
 

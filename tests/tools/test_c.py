@@ -2,13 +2,13 @@
 import ctypes
 import os
 import re
-import sys
 import unittest
-from ctypes import c_char, c_size_t, c_uint32, c_uint64, c_void_p
+from ctypes import c_char, c_size_t, c_uint8, c_uint32, c_uint64, c_void_p
 
+import test_library
 from documents import samples
-from programs import (ROOT, need, need_library, need_program, need_proved_program, new_folder,
-                      run, vectors)
+from programs import (ROOT, archive, need, need_library, need_program, need_proved_program,
+                      new_folder, run, vectors)
 
 OK, FAULT, FULL, NO_MODE, NO_GAME, MORE, BAD_PLACE = range(7)
 SAN, UCI, SAN_FEN, UCI_FEN, SAN_KEY, UCI_KEY = range(6)
@@ -17,97 +17,42 @@ MARKERS = {1: b"1-0", 2: b"0-1", 3: b"1/2-1/2", 4: b"*"}
 OPEN_GAME = b"rnbqkbnr/pppp1ppp/8/4p3/4P3/8/PPPP1PPP/RNBQKBNR w KQkq e6 0 2"
 INITIAL = b"rnbqkbnr/pppppppp/8/8/8/8/PPPPPPPP/RNBQKBNR w KQkq - 0 1"
 TEXT = b'[White "A \\"B\\""] [Result "1-0"] e4 (d4 d5) e5 {a word} 1-0\n% a line\n[A "b"] Nf3 *'
+KINDS = {"uint32_t": c_uint32, "uint64_t": c_uint64, "size_t": c_size_t}
 
 
-class Result(ctypes.Structure):
-    """struct pgn_result of pgn.h"""
-
-    _fields_ = [("status", c_uint32), ("fault", c_uint32), ("place", c_uint64),
-                ("written", c_size_t), ("games", c_uint64), ("plies", c_uint64),
-                ("reason_at", c_size_t), ("message", c_char * 104)]
-
-
-class Move(ctypes.Structure):
-    """struct pgn_move of pgn.h"""
-
-    _fields_ = [("status", c_uint32), ("fault", c_uint32), ("field", c_uint32),
-                ("san", c_char * 8), ("uci", c_char * 8), ("fen", c_char * 96)]
+def field(text):
+    """A field as the header has it. Bytes are a text that a zero ends, or a number a square."""
+    kind, name, size = re.fullmatch(r"(\w+) (\w+)(?:\[(\d+)\])?", text).groups()
+    byte = c_uint8 if name == "origins" else c_char
+    return name, byte * int(size) if size else KINDS[kind]
 
 
-class Plies(ctypes.Structure):
-    """struct pgn_plies of pgn.h"""
-
-    _fields_ = [("status", c_uint32), ("fault", c_uint32), ("field", c_uint32),
-                ("place", c_uint64), ("written", c_size_t), ("plies", c_size_t)]
-
-
-class Game(ctypes.Structure):
-    """struct pgn_game of pgn.h"""
-
-    _fields_ = [("status", c_uint32), ("fault", c_uint32), ("place", c_uint64),
-                ("written", c_size_t), ("end", c_size_t), ("marker_at", c_size_t),
-                ("plies", c_uint64), ("reason_at", c_size_t), ("marker", c_uint32),
-                ("message", c_char * 104), ("fen", c_char * 96)]
-
-
-class Text(ctypes.Structure):
-    """struct pgn_text of pgn.h"""
-
-    _fields_ = [("status", c_uint32), ("field", c_uint32), ("length", c_size_t)]
-
-
-class BadGame(ctypes.Structure):
-    """struct pgn_bad_game of pgn.h"""
-
-    _fields_ = [*((name, c_size_t) for name in ("begin", "fault", "at", "comment_at", "escapes_at")),
-                *((name, c_uint32) for name in ("ends", "has_tags", "has_movetext", "is_behind_text",
-                                                "has_comment", "has_escapes"))]
-
-
-class Section(ctypes.Structure):
-    """struct pgn_section of pgn.h"""
-
-    _fields_ = [("status", c_uint32), ("place", c_size_t)]
-
-
-class Tag(ctypes.Structure):
-    """struct pgn_tag of pgn.h"""
-
-    _fields_ = [("status", c_uint32), ("name_at", c_size_t), ("name_length", c_size_t),
-                ("value_at", c_size_t), ("value_length", c_size_t), ("next", c_size_t)]
-
-
-class Explanation(ctypes.Structure):
-    """struct pgn_explanation of pgn.h"""
-
-    _fields_ = [("status", c_uint32), ("fault", c_uint32), ("field", c_uint32), ("form", c_uint32),
-                ("piece", c_uint32), ("target", c_uint32), ("origins", ctypes.c_uint8 * 64)]
+STRUCTS = {name: type(name, (ctypes.Structure,), {"_fields_": [*map(field, fields)]})
+           for name, fields in test_library.c_structs().items()}
 
 
 class Library:
-    """The calls of a shared library."""
+    """The calls of a shared library, as the header declares them."""
 
     def __init__(self, path):
-        self.calls, size, mode = ctypes.CDLL(path), c_size_t, c_uint32
-        text = (c_void_p, size)
-        for name, result, words in (
-                ("pgn_check", Result, text), ("pgn_convert", Result, (*text, *text, mode)),
-                ("pgn_next_game", Game, (*text, size, mode, mode, *text)),
-                ("pgn_read_game", Game, (*text, size, mode, mode, *text)),
-                ("pgn_san", Move, (*text, *text, mode)),
-                ("pgn_line", Plies, (*text, *text, mode, *text)),
-                ("pgn_fen_normalize", Text, text + text), ("pgn_key", Text, text + text),
-                ("pgn_next_section", Section, (c_void_p, *text, mode)),
-                ("pgn_tag_at", Tag, (*text, size)), ("pgn_explain", Explanation, text + text)):
+        self.calls = ctypes.CDLL(path)
+        for name, (result, words) in test_library.declared().items():
             function = getattr(self.calls, name)
-            function.restype, function.argtypes = result, words
+            function.restype = {**STRUCTS, **KINDS}[result]
+            function.argtypes = [KINDS.get(it, c_void_p) for it in words]
 
-    def convert(self, data, mode=0):
+    def filled(self, capacity, call):
+        """The result of a call that gets a buffer, and what it wrote there. All behind it stays."""
+        buffer = ctypes.create_string_buffer(b"\xAA" * (capacity + 8), capacity + 8)
+        result = call(buffer, capacity)
+        assert buffer.raw[result.written :] == b"\xAA" * (capacity + 8 - result.written)
+        return result, buffer.raw[: result.written]
+
+    def convert(self, data, mode=0, capacity=None):
         """The result for the whole text, and what was written."""
-        capacity = 64 * len(data) + 65536
-        buffer = ctypes.create_string_buffer(capacity)
-        result = self.calls.pgn_convert(data, len(data), buffer, capacity, mode)
-        return result, ctypes.string_at(buffer, result.written)
+        capacity = 64 * len(data) + 65536 if capacity is None else capacity
+        return self.filled(
+            capacity, lambda *room: self.calls.pgn_convert(data, len(data), *room, mode))
 
     def next_game(self, data, at=0, mode=0, missing=0, capacity=None):
         """The result for the game behind a place, and what was written."""
@@ -120,18 +65,13 @@ class Library:
     def game_by(self, call, data, at, mode, missing, capacity):
         """What a call finds behind a place, and what was written."""
         capacity = 64 * len(data) + 65536 if capacity is None else capacity
-        buffer = ctypes.create_string_buffer(b"\xAA" * (capacity + 8), capacity + 8)
-        game = call(data, len(data), at, mode, missing, buffer, capacity)
-        assert buffer.raw[game.written :] == b"\xAA" * (capacity + 8 - game.written)
-        return game, ctypes.string_at(buffer, game.written)
+        return self.filled(capacity, lambda *room: call(data, len(data), at, mode, missing, *room))
 
     def line(self, fen, data, line_format=0, capacity=None):
         """The result for a line of play, and the lines that were written."""
         capacity = 108 * (len(data) + 1) if capacity is None else capacity
-        buffer = ctypes.create_string_buffer(b"\xAA" * (capacity + 8), capacity + 8)
-        result = self.calls.pgn_line(fen, len(fen), data, len(data), line_format, buffer, capacity)
-        assert buffer.raw[result.written :] == b"\xAA" * (capacity + 8 - result.written)
-        text = ctypes.string_at(buffer, result.written)
+        result, text = self.filled(capacity, lambda *room: self.calls.pgn_line(
+            fen, len(fen), data, len(data), line_format, *room))
         assert text.count(b"\n") == result.plies
         return result, text
 
@@ -201,10 +141,6 @@ class Installed:
             file.write(data)
         return path
 
-    def archive(self, games, style):
-        words = ["--games", str(games), "--lines", "30", "--style", style]
-        return run([sys.executable, "bench/make_archive.py", *words]).stdout
-
     # ---- a program in C
 
     def compiled(self, words, **env):
@@ -219,7 +155,7 @@ class Installed:
 
     def check_loop(self, loop):
         program = need_program()
-        texts = [self.archive(30, style) for style in ("plain", "annotated")]
+        texts = [archive(30, style, 30) for style in ("plain", "annotated")]
         for name in sorted(os.listdir(ROOT + "/examples")):
             if name.endswith(".pgn"):
                 with open(ROOT + "/examples/" + name, "rb") as file:
@@ -231,12 +167,16 @@ class Installed:
             self.assertEqual(ours.stderr, theirs.stderr)
             self.assertEqual(ours.returncode, theirs.returncode)
 
-    def test_a_program_with_the_shared_library(self):
+    def flags(self, *words):
+        """What pkg-config says of the library that is installed."""
         need("pkg-config")
         env = dict(os.environ, PKG_CONFIG_PATH=self.prefix + "/lib/pkgconfig")
-        said = run(["pkg-config", "--cflags", "--libs", "pgn_c"], env=env)
+        said = run(["pkg-config", "--cflags", "--libs", *words, "pgn_c"], env=env)
         self.assertEqual((said.returncode, said.stderr), (0, b""))
-        words = said.stdout.decode().split()
+        return said.stdout.decode().split()
+
+    def test_a_program_with_the_shared_library(self):
+        words = self.flags()
         self.assertEqual(words, ["-I%s/include" % self.prefix, "-L%s/lib" % self.prefix, "-lpgn_c"])
         self.check_loop(self.compiled(words, LD_LIBRARY_PATH=self.prefix + "/lib"))
         used = run(["ldd", self.folder + "/loop"]).stdout
@@ -248,11 +188,9 @@ class Installed:
         self.assertNotIn(b"libpgn_c", run(["ldd", self.folder + "/loop"]).stdout)
 
     def test_what_the_static_library_needs_is_said(self):
-        need("pkg-config")
-        env = dict(os.environ, PKG_CONFIG_PATH=self.prefix + "/lib/pkgconfig")
-        words = run(["pkg-config", "--cflags", "--libs", "--static", "pgn_c"], env=env).stdout
-        words = words.decode().replace("-lpgn_c", self.prefix + "/lib/libpgn_c.a").split()
-        self.check_loop(self.compiled(words))
+        static = self.prefix + "/lib/libpgn_c.a"
+        self.check_loop(self.compiled([static if it == "-lpgn_c" else it
+                                       for it in self.flags("--static")]))
 
     def test_version(self):
         """That of the header, which is in the name of the shared library too."""
@@ -263,10 +201,7 @@ class Installed:
         self.assertEqual(os.readlink(self.prefix + "/lib/libpgn_c.so"), "libpgn_c.so." + minor)
 
     def test_a_program_that_is_all_static(self):
-        need("pkg-config")
-        env = dict(os.environ, PKG_CONFIG_PATH=self.prefix + "/lib/pkgconfig")
-        words = run(["pkg-config", "--cflags", "--libs", "--static", "pgn_c"], env=env).stdout
-        self.check_loop(self.compiled([*words.decode().split(), "-static"]))
+        self.check_loop(self.compiled([*self.flags("--static"), "-static"]))
         said = run(["ldd", self.folder + "/loop"])
         self.assertIn(b"not a dynamic executable", said.stdout + said.stderr)
 
@@ -276,7 +211,7 @@ class Installed:
         ran = run(["cc", "-std=c99", "-Wall", "-Wextra", "-Werror", "-O2", ROOT + "/bench/calls.c",
                    "-I%s/include" % self.prefix, self.prefix + "/lib/libpgn_c.a", "-o", program])
         self.assertEqual((ran.returncode, ran.stderr), (0, b""))
-        data = self.archive(10, "annotated")
+        data = archive(10, "annotated")
         _, wanted = self.library.convert(data)
         for way in ("whole", "games", "from-marker"):
             ran = run(["sh", "-c", 'ulimit -s 128 && exec "$@"', "sh", program, way], input=data)
@@ -357,7 +292,7 @@ class Installed:
         """Plies and the last position are those of `list`."""
         program = need_program()
         for style in ("plain", "annotated"):
-            data = self.archive(40, style)
+            data = archive(40, style, 30)
             rows = run([program, "list"], input=data).stdout.splitlines()
             found = list(self.library.games(data))
             self.assertEqual((found[-1][0].status, len(found)), (NO_GAME, 41))
@@ -384,7 +319,7 @@ class Installed:
     def check_nothing(self, found, status):
         """The status, and nothing else."""
         game, text = found
-        self.assertEqual(fields(game), (status, *fields(Game())[1:]))
+        self.assertEqual(fields(game), (status, *fields(STRUCTS["pgn_game"]())[1:]))
         self.assertEqual(text, b"")
 
     def test_places(self):
@@ -404,6 +339,25 @@ class Installed:
             self.check_nothing(self.library.next_game(TEXT, 0, mode, missing), NO_MODE)
         # before the place
         self.check_nothing(self.library.next_game(TEXT, len(TEXT) + 1, 2), NO_MODE)
+
+    def test_conversions_into_buffers_of_each_size(self):
+        """A front is written, and nothing behind it."""
+        all_games, whole = self.library.convert(TEXT)
+        self.assertEqual((all_games.status, all_games.games, all_games.plies, all_games.message),
+                         (OK, 2, 3, b""))
+        for capacity in range(len(whole)):
+            part, text = self.library.convert(TEXT, 0, capacity)
+            self.assertEqual((part.status, part.fault, part.games, text),
+                             (FULL, 51, 0, whole[:capacity]))
+            self.assertLessEqual(part.place, len(TEXT))
+        for capacity in range(len(whole), len(whole) + 3):
+            same, text = self.library.convert(TEXT, 0, capacity)
+            self.assertEqual((fields(same), text), (fields(all_games), whole))
+        none, text = self.library.convert(TEXT, 2)
+        self.assertEqual((none.status, text), (NO_MODE, b""))
+        reduced, text = self.library.convert(TEXT, 1)
+        self.assertEqual(reduced.status, OK)
+        self.assertLess(len(text), len(whole))
 
     def test_buffers_of_each_size(self):
         for missing in (0, 1):
@@ -527,7 +481,7 @@ class Installed:
 
     def test_lines_of_archives(self):
         """The plies of each game end in its last position, in SAN and in UCI."""
-        for game, export in self.library.games(self.archive(40, "plain")):
+        for game, export in self.library.games(archive(40, "plain", 30)):
             if game.status != OK:
                 break
             movetext = export.partition(b"\n\n")[2][: -len(MARKERS[game.marker]) - 2]
@@ -682,14 +636,15 @@ class InstalledByCargo(Installed, unittest.TestCase):
         self.assertEqual(calls.pgn_fen_normalize(INITIAL, len(INITIAL), None, 0).status, FULL)
         self.assertEqual(calls.pgn_key(None, 0, None, 0).field, 1)
         self.assertEqual(calls.pgn_key(INITIAL, len(INITIAL), None, 0).status, FULL)
-        bad = BadGame()
+        bad = STRUCTS["pgn_bad_game"]()
         self.assertEqual(calls.pgn_next_section(ctypes.addressof(bad), None, 0, 1).status, NO_GAME)
 
     def test_null_pointers_with_a_length(self):
         """Each pointer of each call in turn: `PGN_NO_MODE`, and nothing is written."""
         text = b'[A "b"]\n\n1. e4 *\n\n[A "b"]\n\n1. d4 *\n'
         fen, move = (INITIAL, len(INITIAL)), (b"e4", 2)
-        buffer, bad = ctypes.create_string_buffer(b"\xAA" * 999, 999), BadGame(fault=9)
+        buffer = ctypes.create_string_buffer(b"\xAA" * 999, 999)
+        bad = STRUCTS["pgn_bad_game"](fault=9)
         room, game, text = (ctypes.addressof(buffer), 999), ctypes.addressof(bad), (text, len(text))
         pointers = (INITIAL, move[0], text[0], room[0], game)
         calls = {"pgn_check": text, "pgn_convert": (*text, *room, 0),
@@ -698,9 +653,7 @@ class InstalledByCargo(Installed, unittest.TestCase):
                  "pgn_line": (*fen, *move, 0, *room), "pgn_next_game": (*text, 0, 0, 0, *room),
                  "pgn_read_game": (*text, 0, 0, 0, *room), "pgn_tag_at": (*text, 0),
                  "pgn_explain": fen + move, "pgn_next_section": (game, *text, 1)}
-        with open(ROOT + "/crates/pgn_c/pgn.h", encoding="utf-8") as header:
-            self.assertEqual({*calls, "pgn_version"},
-                             set(re.findall(r"(?m)^\w+ (\w+)\(", header.read())))
+        self.assertEqual({*calls, "pgn_version"}, set(test_library.declared()))
         before, tried = (buffer.raw, bytes(bad)), 0
         for name, words in calls.items():
             call = getattr(self.library.calls, name)

@@ -118,6 +118,7 @@ fn main() {
 SAMPLE_OF_ROOM = """use chess_rules::{has_legal_move, try_pair, LegalMoves, Position, Probes};
 use chess_text::{origins_of_form, read_form, read_uci, resolve, resolve_move};
 use chess_text::{write_position_key, write_san};
+use pgn_game::{find_move, read_move, Notation};
 use std::panic::{catch_unwind, set_hook};
 fn with_room_for(pairs: u32) -> Probes {
     unsafe { std::mem::transmute(u32::MAX - pairs) }
@@ -143,8 +144,11 @@ fn main() {
             catch_unwind(|| read_uci(&position, b"e2e4", &mut with_room_for(room - 7)).is_ok())
                 .is_err(),
             catch_unwind(|| write_position_key(&position, &mut with_room_for(room - 6))).is_err(),
+            catch_unwind(|| find_move(&position, b"e4", &mut with_room_for(room)).is_ok()).is_err(),
+            catch_unwind(|| read_move(&position, b"e4", Notation::San, &mut with_room_for(room))
+                .is_ok()).is_err(),
         ];
-        assert_eq!(is_refused, [room == 7; 9]);
+        assert_eq!(is_refused, [room == 7; 11]);
     }
 }
 """
@@ -302,7 +306,7 @@ class Built(unittest.TestCase):
                  for it in re.finditer(r"catch_unwind\(\|\|", SAMPLE_OF_ROOM)]
         self.assertEqual(re.findall(r"sample\.rs:(\d+):", said), [str(it) for it in lines])
         rooms = re.findall(r"the count of Probes has room for ([\d,]+) more", said)
-        self.assertEqual(rooms, ["1", "1,024", "4,096", "8", "8", "8", "1,032", "1", "2"])
+        self.assertEqual(rooms, ["1", "1,024", "4,096", "8", "8", "8", "1,032", "1", "2", "8", "8"])
 
     def build_libraries(self):
         ran = cargo("build", "--lib", *("--package=" + it for it in LIBRARIES))
@@ -348,10 +352,8 @@ class Built(unittest.TestCase):
         files = sorted(glob.glob(ROOT + "/examples/*.pgn"))
         for style in ("plain", "annotated"):
             file = "%s/%s.pgn" % (folder, style)
-            words = ["--games", "60", "--lines", "60", "--style", style]
-            made = run([sys.executable, "bench/make_archive.py", *words])
             with open(file, "wb") as out:
-                out.write(made.stdout)
+                out.write(programs.archive(60, style, 60))
             files.append(file)
         calls = [["export"], ["export", "--reduced"], ["export", "--checked"], ["check"], ["list"]]
         for words in [it + [file] for file in files + [folder + "/none"] for it in calls]:
@@ -524,19 +526,20 @@ def shown(ran):
     return ran.returncode, ran.stdout, ran.stderr
 
 
-class Written(Folder, unittest.TestCase):
+class Workspace(unittest.TestCase):
     """What bin/to_cargo writes, without cargo."""
 
-    def write(self, *words):
-        out = self.folder + "/out"
-        ran = run([sys.executable, *(words or ["bin/to_cargo"]), out])
-        return out, ran.returncode, (ran.stdout + ran.stderr).decode()
+    @classmethod
+    def setUpClass(cls):
+        cls.out = programs.new_folder(cls) + "/out"
+        ran = run([sys.executable, "bin/to_cargo", cls.out])
+        assert ran.returncode == 0, ran.stderr.decode()
 
-    def pairs(self, out, crates=(*LIBRARIES, *RENAMED)):
+    def pairs(self, crates=(*LIBRARIES, *RENAMED)):
         """Each file that is written from one of ours, and that one, which its first line names."""
         copies = programs.load("bin/to_cargo").COPIED
         for crate in crates:
-            folder = "%s/crates/%s/src/" % (out, crate)
+            folder = "%s/crates/%s/src/" % (self.out, crate)
             for path in glob.glob(folder + "**/*.rs", recursive=True):
                 first, text = read(path).split("\n", 1)
                 if first.startswith("// From "):
@@ -548,10 +551,8 @@ class Written(Folder, unittest.TestCase):
 
     def test_lines_only_go(self):
         """But for the assertions and the modules that are written for Cargo."""
-        out, status, said = self.write()
-        self.assertEqual(status, 0, said)
         count = 0
-        for path, lines, source in self.pairs(out, (*LIBRARIES, "pgn_tool", "pgn_c")):
+        for path, lines, source in self.pairs((*LIBRARIES, "pgn_tool", "pgn_c")):
             is_renamed = "/pgn_tool/" in path or "/pgn_c/" in path
             left = source.split("\n")
             lines = without_added(path, lines)
@@ -565,10 +566,9 @@ class Written(Folder, unittest.TestCase):
         self.assertGreater(count, 60)
 
     def test_no_function_goes(self):
-        out, _, _ = self.write()
         head = re.compile(r"^ *(?:pub(?:\(crate\))? )?(?:const )?fn \w+", re.MULTILINE)
         count = 0
-        for path, lines, source in self.pairs(out):
+        for path, lines, source in self.pairs():
             source = source.replace('pub extern "C" fn', "pub fn")
             source = source.replace("pub(crate) fn add_one(", "pub fn add_one(")
             self.assertEqual(head.findall("\n".join(lines)), head.findall(source), path)
@@ -576,46 +576,85 @@ class Written(Folder, unittest.TestCase):
         self.assertGreater(count, 400)
 
     def test_no_contract_is_left(self):
-        out, _, _ = self.write()
-        for path, lines, _ in self.pairs(out):
+        for path, lines, _ in self.pairs():
             self.assertNotRegex("\n".join(lines), r"(?m)^\s*(?:ghost|requires|ensures)\b", path)
 
     def test_each_exception_of_clippy_has_its_reason(self):
-        out, _, _ = self.write()
-        lines = read(out + "/Cargo.toml").split("[workspace.lints.clippy]\n")[1].split("\n\n")[0]
-        for line in lines.split("\n"):
+        lints = read(self.out + "/Cargo.toml").split("[workspace.lints.clippy]\n")[1]
+        for line in lints.split("\n\n")[0].split("\n"):
             self.assertRegex(line, r'^\w+ = "allow" # .')
 
     def test_dead_code_is_a_warning(self):
         """With which the tests of what Cargo builds fail. bin/unused does not look for it."""
-        out, _, _ = self.write()
-        self.assertNotIn("dead_code", read(out + "/Cargo.toml"))
+        self.assertNotIn("dead_code", read(self.out + "/Cargo.toml"))
 
     def test_what_is_not_proved_says_so(self):
-        out, _, _ = self.write()
-        text = read(out + "/crates/rattle_std/src/lib.rs")
+        text = read(self.out + "/crates/rattle_std/src/lib.rs")
         self.assertIn("**Not proved.**", text.split("\n", 1)[0])
         self.assertLess(text.count("\n"), 110)
         for file in ("src/ffi.rs", "build.rs"):
-            text = read(out + "/crates/pgn_c/" + file)
+            text = read(self.out + "/crates/pgn_c/" + file)
             self.assertIn("**Not proved.**", text.split("\n", 1)[0])
-        self.assertIn("**Nothing in this folder is proved", read(out + "/README.md"))
+        self.assertIn("**Nothing in this folder is proved", read(self.out + "/README.md"))
 
     def test_one_file_has_unsafe_code(self):
-        out, _, _ = self.write()
-        files = glob.glob(out + "/crates/**/*.rs", recursive=True)
+        files = glob.glob(self.out + "/crates/**/*.rs", recursive=True)
         found = [it for it in files if re.search(r"(?m)^[^/]*\bunsafe\b", read(it))]
-        self.assertEqual([os.path.relpath(it, out) for it in found], ["crates/pgn_c/src/ffi.rs"])
-        self.assertIn('unsafe_code = "forbid"', read(out + "/Cargo.toml"))
-        for file in glob.glob(out + "/crates/*/Cargo.toml"):
+        self.assertEqual(found, [self.out + "/crates/pgn_c/src/ffi.rs"])
+        self.assertIn('unsafe_code = "forbid"', read(self.out + "/Cargo.toml"))
+        for file in glob.glob(self.out + "/crates/*/Cargo.toml"):
             is_face = "/pgn_c/" in file
             self.assertEqual("[lints]\nworkspace = true\n" in read(file), not is_face, file)
             self.assertEqual('unsafe_code = "deny"' in read(file), is_face, file)
 
     def test_the_header_is_the_same(self):
-        out, _, _ = self.write()
         header = "/crates/pgn_c/pgn.h"
-        self.assertEqual(read(out + header), read(ROOT + header))
+        self.assertEqual(read(self.out + header), read(ROOT + header))
+
+    def test_each_line_that_is_another_has_its_row(self):
+        """In the README of the workspace, with the reason."""
+        rows = [[it.strip("`") for it in row]
+                for row in table("cargo/README.md", *OTHER_LINES)]
+        made = [[name, file.replace("crates/", "").replace(".rt", ".rs"), line, " ".join(others)]
+                for file, lines in programs.load("bin/to_cargo").OTHER_LINES.items()
+                for name, (line, others) in lines.items()]
+        self.assertEqual(sorted(it[:4] for it in rows), sorted(made))
+        for _, file, line, other, reason in rows:
+            text = " ".join(read(self.out + "/crates/" + file).split())
+            self.assertIn("// Written for Cargo. The source has `%s` %s" % (line, other), text)
+            self.assertRegex(reason, r"\w+ \w+")
+        files = glob.glob(self.out + "/crates/*/src/**/*.rs", recursive=True)
+        self.assertEqual(sum(read(it).count("// Written for Cargo. The source") for it in files),
+                         len(rows))
+
+    def test_laws_are_not_in_the_documents(self):
+        """They are functions without a body, which say something to the prover alone."""
+        files = glob.glob(self.out + "/crates/*/src/laws.rs")
+        self.assertEqual(len(files), 5)
+        for file in files:
+            root = read(os.path.dirname(file) + "/lib.rs")
+            self.assertIn("\n#[doc(hidden)]\npub mod laws;\n", root, file)
+
+    def test_each_function_of_the_libraries_has_a_hint(self):
+        """Whether it may be inlined; laws do nothing, and what a trait asks for has no body."""
+        head = re.compile(
+            r"(?m)^((?: *#\[.*\]\n)*) *(?:pub(?:\(crate\))? )?(?:const )?fn (?s:.*?)([{;])$")
+        count = 0
+        for path, lines, _ in self.pairs(LIBRARIES):
+            for found in head.finditer("" if path.endswith("/laws.rs") else "\n".join(lines)):
+                has_body = found[2] == "{"
+                self.assertEqual(found[1].count("#[inline"), int(has_body), (path, found[0]))
+                count += has_body
+        self.assertGreater(count, 400)
+
+
+class Written(Folder, unittest.TestCase):
+    """What bin/to_cargo does in a folder of its own, and with sources that are changed."""
+
+    def write(self, *words):
+        out = self.folder + "/out"
+        ran = run([sys.executable, *(words or ["bin/to_cargo"]), out])
+        return out, ran.returncode, (ran.stdout + ran.stderr).decode()
 
     def test_another_folder_is_left_alone(self):
         os.mkdir(self.folder + "/out")
@@ -666,23 +705,6 @@ class Written(Folder, unittest.TestCase):
             ("    ghost failures = { λ _. 0 };", "    ghost failures = { λ _. 0 }; fn f() {}"),
         ])
 
-    def test_each_line_that_is_another_has_its_row(self):
-        """In the README of the workspace, with the reason."""
-        out, _, _ = self.write()
-        rows = [[it.strip("`") for it in row]
-                for row in table("cargo/README.md", *OTHER_LINES)]
-        made = [[name, file.replace("crates/", "").replace(".rt", ".rs"), line, " ".join(others)]
-                for file, lines in programs.load("bin/to_cargo").OTHER_LINES.items()
-                for name, (line, others) in lines.items()]
-        self.assertEqual(sorted(it[:4] for it in rows), sorted(made))
-        for _, file, line, other, reason in rows:
-            text = " ".join(read(out + "/crates/" + file).split())
-            self.assertIn("// Written for Cargo. The source has `%s` %s" % (line, other), text)
-            self.assertRegex(reason, r"\w+ \w+")
-        files = glob.glob(out + "/crates/*/src/**/*.rs", recursive=True)
-        self.assertEqual(sum(read(it).count("// Written for Cargo. The source") for it in files),
-                         len(rows))
-
     def test_a_line_that_is_not_there_once_stops_it(self):
         shift = INDEX.replace("index as usize", "index as usize + 0")
         for new in (shift + "\n", (INDEX + "\n") * 2):
@@ -690,28 +712,6 @@ class Written(Folder, unittest.TestCase):
             _, status, said = self.write(copy + "/bin/to_cargo")
             self.assertEqual(status, 1, said)
             self.assertIn("square.rt: not there once: self.index as usize", said)
-
-    def test_laws_are_not_in_the_documents(self):
-        """They are functions without a body, which say something to the prover alone."""
-        out, _, _ = self.write()
-        files = glob.glob(out + "/crates/*/src/laws.rs")
-        self.assertEqual(len(files), 5)
-        for file in files:
-            root = read(os.path.dirname(file) + "/lib.rs")
-            self.assertIn("\n#[doc(hidden)]\npub mod laws;\n", root, file)
-
-    def test_each_function_of_the_libraries_has_a_hint(self):
-        """Whether it may be inlined; laws do nothing, and what a trait asks for has no body."""
-        out, _, _ = self.write()
-        head = re.compile(
-            r"(?m)^((?: *#\[.*\]\n)*) *(?:pub(?:\(crate\))? )?(?:const )?fn (?s:.*?)([{;])$")
-        count = 0
-        for path, lines, _ in self.pairs(out, LIBRARIES):
-            for found in head.finditer("" if path.endswith("/laws.rs") else "\n".join(lines)):
-                has_body = found[2] == "{"
-                self.assertEqual(found[1].count("#[inline"), int(has_body), (path, found[0]))
-                count += has_body
-        self.assertGreater(count, 400)
 
     def test_a_call_with_a_condition_that_is_not_there_once_stops_it(self):
         copy = self.copied("crates/pgn_game/src/find.rt", "pub fn find_move(", "pub fn find(")

@@ -4,10 +4,10 @@ import subprocess
 import time
 import unittest
 
-from programs import Folder, need_program, not_tried, run, vectors
+import programs
+from programs import Folder, full_device, need_program, not_tried, run, vectors
 
-HEAD = (b'[Event "?"]\n[Site "?"]\n[Date "????.??.??"]\n[Round "?"]\n[White "?"]\n[Black "?"]\n'
-        b'[Result "%s"]\n\n')
+HEAD = programs.HEAD.replace(b"*", b"%s")
 DIFFERS = b"byte %d: second reading differs\n"
 
 
@@ -25,9 +25,6 @@ class CheckedTest(Folder, unittest.TestCase):
 
     def export(self, *words, **more):
         return run([self.program, "export", "--checked", *words], **more)
-
-    def check(self, ran, status, out, err=b""):
-        self.assertEqual((ran.returncode, ran.stdout, ran.stderr), (status, out, err))
 
     def test_missing_result_takes_the_marker(self):
         path = self.write(b"1. e4 e5 1-0\n0-1 {end}")
@@ -143,8 +140,6 @@ class CheckedTest(Folder, unittest.TestCase):
         self.assertTrue((begun + out).startswith(HEAD % b"1-0"))
 
     def test_full_device(self):
-        if not os.path.exists("/dev/full"):
-            not_tried("/dev/full is missing")
-        with open("/dev/full", "wb") as full:
+        with full_device() as full:
             ran = run([self.program, "export", "--checked", self.write(b"1-0")], stdout=full)
         self.assertEqual((ran.returncode, ran.stderr), (1, b"output cannot be written\n"))

@@ -3,8 +3,7 @@ import os
 import unittest
 
 import programs
-from programs import PACKERS, ROOT, Folder, need, run
-from test_python import library
+from programs import PACKERS, ROOT, Folder, library, need, run
 
 # A bad game of 30 bytes between two sound ones of 27; what is mended of it, and its place.
 SOUND = b'[White "Ada"]\n\n1. e4 e5 *\n\n'

@@ -1,19 +1,13 @@
 """Tests of what gillspoon lint --fix makes of damaged games, which damage.py makes by seed."""
-import sys
 import unittest
 import unittest.mock
 
 import damage
-from test_lint import setUpModule as _set_up_lint
-from test_python import PACKAGE
+from programs import need_package
 
+setUpModule = need_package
 # Of each of the four classes: texts, and how often each damage has to be there and not silent.
 COUNT, LEAST = 3000, 20
-
-
-def setUpModule():
-    _set_up_lint()
-    sys.path.insert(0, PACKAGE)
 
 
 class Damages:

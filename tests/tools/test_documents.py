@@ -258,22 +258,26 @@ class Names(unittest.TestCase):
         for name in ("chess_rules", "chess_text", "pgn_layout", "pgn_lexer", "pgn_game"):
             self.assertIn(" ".join([name + ":", *USES[name]]), lines)
 
+    def test_the_first_line_of_a_file_says_what_it_has(self):
+        """ARCHITECTURE lists no files for that reason."""
+        paths = glob.glob("crates/*/src/**/*.rt", root_dir=ROOT, recursive=True)
+        self.assertGreater(len(paths), 100)
+        for path in paths:
+            with self.subTest(path):
+                self.assertRegex(lines_of(path)[0], r"^//!? [A-Z]\w*\W+\w")
+
     def test_rooms_of_a_crate(self):
-        """The tables of rooms have each file of src/ that is no test, and no other."""
-        rooms, crate, is_in_table = {it: set() for it in USES}, None, False
+        """The tables of rooms name files of src/."""
+        crate, is_in_table, found = None, False, 0
         for line in lines_of("docs/ARCHITECTURE.md"):
             if line.startswith("## "):
                 crate = next((it for it in code_of(line) if it in USES), None)
             is_in_table = line.startswith("|") and (is_in_table or line.startswith("| Room |"))
-            if is_in_table and crate:
-                rooms[crate].update(code_of(line.split(" | ")[0]))
-        for crate, names in rooms.items():
-            with self.subTest(crate):
-                folder = "%s/crates/%s/src" % (ROOT, crate)
-                files = {it[:-3] for it in glob.glob("*.rt", root_dir=folder)}
-                with open("%s/%s.rt" % (folder, "lib" if "lib" in files else "main")) as root:
-                    of_tests = re.findall(r"#\[cfg\(test\)\]\s+mod (\w+);", root.read())
-                self.assertEqual(files - {"lib", *of_tests}, names)
+            for room in code_of(line.split(" | ")[0]) if is_in_table and crate else []:
+                found += 1
+                with self.subTest(crate=crate, room=room):
+                    self.assertTrue(os.path.isfile("%s/crates/%s/src/%s.rt" % (ROOT, crate, room)))
+        self.assertGreater(found, 5)
 
     def test_a_file_of_specs_is_a_definition_or_bookkeeping(self):
         paths = glob.glob(ROOT + "/crates/*/specs/**/*.antt", recursive=True)

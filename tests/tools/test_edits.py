@@ -86,6 +86,13 @@ class Edits(unittest.TestCase):
         self.assertEqual([row.words for row in bare if not any(it <= row.names for it in alone)], [])
         self.assertEqual([it for it in alone if not any(it <= row.names for row in bare)], [])
 
+    def test_an_edit_without_a_row_is_of_a_file_that_shows_nothing(self):
+        private = [it for it in self.edits if not it.guards]
+        self.assertGreater(len(private), 30)
+        for it in private:
+            root = text_of("crates", it.crate, "src", "lib.rt")
+            self.assertNotRegex(root, r"pub (use|mod) %s\b" % it.name.split("-")[0], it.name)
+
     def test_the_page_names_each(self):
         ran = call("--guards")
         self.assertEqual((ran.returncode, ran.stderr), (0, ""))
@@ -133,7 +140,7 @@ class Edits(unittest.TestCase):
         self.assertEqual(last[0], "%d edits, %d of them tried on each change" % (
             len(self.edits), len(each)))
         rows = [set(re.findall("`(%s)`" % loaded().NAME, it))
-                for it in call("--guards").stdout.split("\n- ")]
+                for it in call("--guards").stdout.partition("## Private")[0].split("\n- ")]
         names = {it.name for it in each}
         self.assertEqual(last[1], "%d rows of docs/PROVED.md have edits, %d of them one that is "
                          "tried on each change" % (sum(1 for it in rows if it),
@@ -233,6 +240,10 @@ class Reading(unittest.TestCase):
         self.assertEqual([it.name for it in edits], ["lib-f-is-wrong"] * 2)
         self.assertRegex(edits[1].place, r"low\.edits:13$")
 
+    def test_an_edit_of_a_private_function_has_no_row(self):
+        edit, = self.read("edit: lib-f-is-wrong\nfile: src/lib.rt\nold: a\nnew: b\n")
+        self.assertEqual((edit.guards, edit.changes), ([], [("src/lib.rt", "a", "b")]))
+
     def test_what_else_guards_a_row(self):
         found = self.read("test: a_b\nguards: f, text\nguards: g\n\nrows: ARows\nguards: h\n\n"
                           "noticed: a word: `b`\n# why\nguards: i\n")
@@ -242,14 +253,14 @@ class Reading(unittest.TestCase):
 
     def test_what_cannot_be_read(self):
         pair = "an `old:` line is followed by its `new:` line"
-        incomplete = "each has a `guards:` line, and an edit changes something"
+        incomplete = "an edit changes something, and all else has a `guards:` line"
         for text, number, why in (
             (HEAD + "old: a\n", 5, pair),
             (HEAD + "old: a\n\nnew: b\n", 5, pair),
             (HEAD + "new: a\n", 4, pair),
             (HEAD + "old: a\nold: b\nnew: c\n", 5, pair),
             (HEAD, 1, incomplete),
-            ("edit: lib-f-is-wrong\nfile: a\nold: a\nnew: b\n", 1, incomplete),
+            ("edit: lib-f-is-wrong\nfile: a\n", 1, incomplete),
             ("test: a_b\n", 1, incomplete),
             ("test:\n", 1, "this line is out of place: test:"),
             ("test: a_b\nfile: a\n", 2, "this line is out of place: file: a"),
@@ -348,6 +359,13 @@ No edit and no test is named for:
 - `end`: `never`
 - `T::g`, `off`: `requires`
 """)
+
+    def test_edits_of_private_functions_come_last(self):
+        page = self.page(("edit", "lib-f-a"), ("edit", "lib-end-a", "all of it"),
+                         ("edit", "lib-f-b"), ("edit", "a_b-f-a"))
+        self.assertEqual(page.partition("\n## Private functions\n\n")[2],
+                         "- `lib::f` of `low`\n  - `lib-f-a`, `lib-f-b`\n"
+                         "- `a_b::f` of `low`\n  - `a_b-f-a`\n")
 
     def test_its_lines_are_short_and_break_in_no_name(self):
         names = ["lib-put-%s" % ("ab" * number) for number in range(1, 40)]

@@ -9,13 +9,11 @@ import signal
 import stat
 import subprocess
 import sys
-import time
 import unittest
 
-from programs import ROOT, need, not_tried, run
+from programs import PACKAGE, ROOT, files_up_to, need, need_package, not_tried, run, signalled
 from spellings import DOUBTFUL, LEFT, SAFE, UNSAFE
-from test_lint import LINT, Lint, setUpModule as _set_up_lint
-from test_python import PACKAGE
+from test_lint import LINT, Lint
 
 BAD = b'[White "Ada"]\n[Black "Bob"]\n\n1. e2-e4 e5 *\n'
 MENDED = b'[White "Ada"]\n[Black "Bob"]\n\n1. e2e4 e5 *\n'
@@ -24,9 +22,7 @@ LINE = "a.pgn:4:4: fixed: long notation: e2-e4 \u2192 e2e4\n"
 
 def setUpModule():
     global gillspoon
-    _set_up_lint()
-    sys.path.insert(0, PACKAGE)
-    import gillspoon
+    gillspoon = need_package()
 
 
 def applied(text, edits):
@@ -724,16 +720,11 @@ class Command(Lint):
 
     def test_a_full_disk(self):
         """A limit on the size of files stands for it."""
-        import resource
         text = BAD + MENDED * 4000
         self.put("a.pgn", text)
-
-        def limit():
-            signal.signal(signal.SIGXFSZ, signal.SIG_IGN)
-            resource.setrlimit(resource.RLIMIT_FSIZE, (1 << 16, 1 << 16))
-
         for words in ([], ["--verbose"], ["--json"]):
-            status, out, told = self.lint("--fix", *words, "a.pgn", preexec_fn=limit)
+            status, out, told = self.lint("--fix", *words, "a.pgn",
+                                          preexec_fn=files_up_to(1 << 16))
             self.assertEqual((status, told), (
                 3, "gillspoon: a.pgn: File too large; it is left as it is\n"))
             self.assertNotIn("fix", out.replace("fixed\": 0", ""))
@@ -765,16 +756,9 @@ class Command(Lint):
     def test_a_kill(self):
         text = BAD * 20000
         self.put("a.pgn", text)
-        words = ["env", "--default-signal=INT", *LINT, "--fix", "a.pgn"]
         for number in (signal.SIGTERM, signal.SIGHUP, signal.SIGINT, signal.SIGKILL):
-            with subprocess.Popen(words, cwd=self.folder, stdout=subprocess.PIPE,
-                                  stderr=subprocess.DEVNULL, env=self.env) as running:
-                # a temporary file shows that an edit was made
-                while len(os.listdir(self.folder)) == 1 and running.poll() is None:
-                    time.sleep(0.01)
-                running.send_signal(number)
-                out = running.stdout.read()
-            self.assertEqual((running.returncode, out), (-number, b""))
+            ran = signalled([*LINT, "--fix", "a.pgn"], number, self.folder, env=self.env)
+            self.assertEqual(ran[:2], (-number, b""))
             left = sorted(os.listdir(self.folder))
             self.assertEqual(self.get("a.pgn"), text)
             if number != signal.SIGKILL:
@@ -935,16 +919,9 @@ class Processes(Lint):
         for number in (signal.SIGTERM, signal.SIGHUP, signal.SIGINT):
             for name in ("a.pgn", "b.pgn", "c.pgn"):
                 self.put(name, text)
-            words = ["env", "--default-signal=INT", *LINT, "--fix", "-j", "2", "a.pgn", "b.pgn",
-                     "c.pgn"]
-            with subprocess.Popen(words, cwd=self.folder, stdout=subprocess.DEVNULL,
-                                  stderr=subprocess.PIPE, env=self.env) as running:
-                # a temporary file shows that an edit was made
-                while len(os.listdir(self.folder)) == 3 and running.poll() is None:
-                    time.sleep(0.01)
-                running.send_signal(number)
-                told = running.stderr.read()
-            self.assertEqual((running.returncode, told), (-number, b""))
+            ran = signalled([*LINT, "--fix", "-j", "2", "a.pgn", "b.pgn", "c.pgn"], number,
+                            self.folder, env=self.env)
+            self.assertEqual(ran[::2], (-number, b""))
             self.assertEqual(sorted(os.listdir(self.folder)), ["a.pgn", "b.pgn", "c.pgn"])
             for name in ("a.pgn", "b.pgn", "c.pgn"):
                 self.assertIn(self.get(name), (text, MENDED * 20000))

@@ -4,25 +4,20 @@ import importlib
 import os
 import re
 import signal
-import subprocess
 import sys
-import time
 import unittest
 import zipfile
 
-from programs import ROOT, Folder, need, need_program, run, vectors
-from test_python import PACKAGE, setUpModule as _set_up_package
+from programs import (PACKAGE, ROOT, Folder, closed_pipe, full_device, need, need_package,
+                      need_program, run, signalled, vectors)
 
+setUpModule = need_package
 FMT = [ROOT + "/bin/gillspoon", "fmt"]
 HEAD = (b'[Event "?"]\n[Site "?"]\n[Date "????.??.??"]\n[Round "?"]\n[White "%s"]\n[Black "?"]\n'
         b'[Result "*"]\n\n')
 # Inputs, and the text that PGN 3.2 and 8 ask for.
 LOOSE, TIDY = b'[White "A"] e4 e5 *', HEAD % b"A" + b"1. e4 e5 *\n\n"
 BAD = b'[White "B"] e4 e9 *\n'
-
-
-def setUpModule():
-    _set_up_package()
 
 
 class FmtTest(Folder, unittest.TestCase):
@@ -34,9 +29,6 @@ class FmtTest(Folder, unittest.TestCase):
 
     def call(self, *words, **more):
         return run([sys.executable, *FMT, *words], cwd=self.folder, **more)
-
-    def check(self, ran, status, out, err=b""):
-        self.assertEqual((ran.returncode, ran.stdout, ran.stderr), (status, out, err))
 
     def test_export(self):
         self.check(self.call("loose.pgn"), 0, TIDY)
@@ -219,7 +211,7 @@ class FmtTest(Folder, unittest.TestCase):
             self.check(ran, *((1, b"/dev/stdin\n") if words else (0, TIDY)))
 
     def test_output_that_cannot_be_written(self):
-        with open("/dev/full", "wb") as full:
+        with full_device() as full:
             for words in (["loose.pgn"], ["--check", "loose.pgn"]):
                 ran = self.call(*words, stdout=full)
                 self.assertEqual((ran.returncode, ran.stderr.count(b"\n")), (3, 1), ran.stderr)
@@ -233,9 +225,7 @@ class FmtTest(Folder, unittest.TestCase):
     def test_a_closed_pipe_ends_it_silently(self):
         self.put("many.pgn", LOOSE * 3000)
         for words in (["many.pgn"], ["--check", "loose.pgn"]):
-            ours, its = os.pipe()
-            os.close(ours)
-            with open(its, "wb") as closed:
+            with closed_pipe() as closed:
                 ran = self.call(*words, stdout=closed)
             self.assertEqual((ran.returncode, ran.stderr), (3, b""))
 
@@ -332,13 +322,7 @@ class FmtTest(Folder, unittest.TestCase):
     def test_signal_leaves_the_file(self):
         self.put("loose.pgn", LOOSE * 200000)
         for number in (signal.SIGTERM, signal.SIGINT, signal.SIGHUP):
-            words = ["env", "--default-signal=INT", "--default-signal=HUP", *FMT, "-w", "loose.pgn"]
-            with subprocess.Popen(words, cwd=self.folder) as started:
-                # a temporary file shows that it is at work
-                while len(os.listdir(self.folder)) == 3 and started.poll() is None:
-                    time.sleep(0.01)
-                started.send_signal(number)
-                self.assertEqual(started.wait(timeout=20), -number)
+            self.assertEqual(signalled([*FMT, "-w", "loose.pgn"], number, self.folder)[0], -number)
             self.assertEqual(sorted(os.listdir(self.folder)),
                              ["bad.pgn", "loose.pgn", "tidy.pgn"])
             self.assertEqual(self.get("loose.pgn"), LOOSE * 200000)
@@ -425,7 +409,6 @@ class LeftOut(unittest.TestCase):
 
     @classmethod
     def setUpClass(cls):
-        sys.path.insert(0, PACKAGE)
         cls.package = importlib.import_module("gillspoon")
         cls.module = importlib.import_module("gillspoon._left_out")
 

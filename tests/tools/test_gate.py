@@ -15,6 +15,7 @@ for word; do
   last=$word
 done
 [ "$name $#" != 'rt 2' ] || exit 2
+[ "$name" != test_tools ] || echo "SKIPPED [1] test_c.py:8: cc is missing"
 [ "$name" != "$FAILS" ] || exit 3
 """
 SCRIPTS = ("try_edits", "build_program", "build_page", "test_tools")
@@ -34,6 +35,7 @@ class Gate(Folder, unittest.TestCase):
         log = self.put("log", "")
         env = dict(os.environ, PATH=self.folder + "/path:" + os.environ["PATH"], LOG=log, FAILS=fails)
         ran = run([self.folder + "/bin/test", *words], env=env, timeout=60)
+        self.last = ran.stdout.decode().splitlines()[-1:]
         return ran.returncode, sorted(self.get("log").decode().splitlines())
 
     def test_calls(self):
@@ -49,7 +51,16 @@ class Gate(Folder, unittest.TestCase):
         self.assertEqual((status, len(calls)), (0, 1))
         self.assertRegex(calls[0], r"^rt all test --jobs \d+$")
 
+    def test_what_was_skipped_is_the_last_line(self):
+        for words, skipped in (
+                ([], "the library for C, the page, and the tests of the scripts"),
+                (["--all"], "[1] test_c.py:8: cc is missing"),
+                (["--quick"], "proofs from nothing, wrong bodies, and the tests of the scripts")):
+            self.call(*words)
+            self.assertEqual(self.last, ["bin/test: skipped: " + skipped])
+
     def test_status(self):
         for name in ("rt", *SCRIPTS):
             self.assertEqual(self.call("--all", fails=name)[0], 3, name)
+            self.assertEqual(self.call("--quick", fails=name)[0], 3 if name == "rt" else 0, name)
         self.assertEqual(self.call("--some"), (2, []))

@@ -49,8 +49,7 @@ class Small(unittest.TestCase):
         self.prefix = self.here.root + "/to there"
 
     def call(self, *words, script=INSTALL, **more):
-        ran = self.here.call(*words, script=script, **more)
-        return ran.returncode, ran.stdout.decode(), ran.stderr.decode()
+        return self.here.told(*words, script=script, **more)
 
     def is_built(self):
         return self.here.call("--built", script="bin/build_program").returncode == 0

@@ -3,7 +3,7 @@ import os
 import subprocess
 import unittest
 
-from programs import Folder, need, need_program, run
+from programs import HEAD, Folder, need, need_program, run
 
 # Interrupts one call of read, of write, or of open for a file of games: CALL is its name, AT its
 # number from 1. The file MET is made when that happens. Standard error is left alone.
@@ -66,8 +66,6 @@ int open64(const char *path, int flags, ...) {
 }
 """
 
-HEAD = (b'[Event "?"]\n[Site "?"]\n[Date "????.??.??"]\n[Round "?"]\n[White "?"]\n[Black "?"]\n'
-        b'[Result "*"]\n\n')
 UNKNOWN = HEAD + b"*\n\n"
 UNREAD = b"byte %d: input cannot be read\n"
 UNWRITTEN = b"output cannot be written\n"

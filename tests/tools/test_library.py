@@ -46,8 +46,7 @@ class Builder(unittest.TestCase):
                         ignore=shutil.ignore_patterns("out"))
 
     def build(self, *words, **env):
-        ran = self.here.call(*words, script="examples/build", cwd=self.here.root, env=env)
-        return ran.returncode, ran.stdout.decode(), ran.stderr.decode()
+        return self.here.told(*words, script="examples/build", cwd=self.here.root, env=env)
 
     def test_either_build(self):
         for words in ([], ["--proved"], ["--cargo"]):
@@ -233,48 +232,6 @@ class HeaderTest(unittest.TestCase):
 
 # ---- the example in C
 
-CALLS = r"""
-#include <stdio.h>
-#include <string.h>
-#include "pgn.h"
-
-/* Converts into buffers of each capacity: a front is written, and nothing behind it. */
-int main(void) {
-    const char *words = "[Result \"1-0\"] e4 (d4) e5 1-0 [A \"b\"] Nf3 *";
-    const uint8_t *text = (const uint8_t *)words;
-    size_t capacity, i, length = strlen(words);
-    static uint8_t whole[4096], part[4096];
-    pgn_result all = pgn_convert(text, length, whole, sizeof whole, PGN_FULL_FORMAT), r;
-
-    if (all.status != PGN_OK || all.games != 2 || all.plies != 3 || all.message[0])
-        return 1;
-    for (capacity = 0; capacity < all.written + 3; capacity++) {
-        memset(part, 0xAA, sizeof part);
-        r = pgn_convert(text, length, part, capacity, PGN_FULL_FORMAT);
-        if (r.status != (capacity < all.written ? PGN_FULL : PGN_OK))
-            return 2;
-        if (r.written != (capacity < all.written ? capacity : all.written))
-            return 3;
-        if (memcmp(part, whole, r.written))
-            return 4;
-        for (i = r.written; i < sizeof part; i++)
-            if (part[i] != 0xAA)
-                return 5;
-        if (r.status == PGN_FULL && (r.fault != 51 || r.games || r.place > length))
-            return 6;
-    }
-    memset(part, 0xAA, sizeof part);
-    r = pgn_convert(text, length, part, sizeof part, 2);
-    if (r.status != PGN_NO_MODE || r.written || part[0] != 0xAA)
-        return 7;
-    r = pgn_convert(text, length, part, sizeof part, PGN_REDUCED_FORMAT);
-    if (r.status != PGN_OK || r.written >= all.written)
-        return 8;
-    return 0;
-}
-"""
-
-
 def c_program(sample):
     """A sample that is a program, or one whose lines belong into main."""
     lines = sample.split("\n")
@@ -324,14 +281,6 @@ class CExample:
             theirs = run([program, "export", file])
             self.assertEqual(ours.returncode, theirs.returncode, file)
             self.assertEqual(ours.stdout, theirs.stdout, file)
-
-    def test_every_capacity(self):
-        with open(self.path("calls.c"), "w", encoding="ascii") as file:
-            file.write(CALLS)
-        ran = run(["cc", "-std=c99", "-Wall", "-Wextra", "-Werror", "-O2", "-I" + CRATE,
-                   self.path("calls.c"), need_library(self.build), "-o", self.path("calls")])
-        self.assertEqual((ran.returncode, ran.stderr), (0, b""))
-        self.assertEqual(run([self.path("calls")]).returncode, 0)
 
     def test_small_stack(self):
         words = ["sh", "-c", "ulimit -s 256 && exec \"$@\"", "sh"]

@@ -1,10 +1,8 @@
 """Tests of gillspoon lint: what it says of bad games, its options and statuses, who reads it."""
-import bz2
 import doctest
 import glob
 import gzip
 import importlib
-import io
 import json
 import os
 import random
@@ -15,13 +13,14 @@ import subprocess
 import sys
 import time
 import unittest
-import zipfile
 
 import programs
 from documents import blocks_of, lines_of, table
-from programs import ROOT, Folder, need, not_tried, run, vectors
-from test_python import PACKAGE, REAL, library
+from programs import (PACKAGE, PACKERS, ROOT, Folder, full_device, need, need_module, need_package,
+                      not_tried, run, vectors, zip_of)
+from test_python import REAL
 
+setUpModule = need_package
 LINT = [ROOT + "/bin/gillspoon", "lint"]
 INITIAL = "rnbqkbnr/pppppppp/8/8/8/8/PPPPPPPP/RNBQKBNR w KQkq - 0 1"
 AFTER_E4_E5 = "rnbqkbnr/pppp1ppp/8/4p3/4P3/8/PPPP1PPP/RNBQKBNR w KQkq e6 0 2"
@@ -91,94 +90,40 @@ WAYS = {
     "an escape sequence in a name": (b'[White "a\x1b[2J"]\n\n1. e4 *\n', [
         "1:10: control byte (game 1, ? \u2013 ?)"]),
 }
-# What is below a line with --board.
+# What is below a line with --board: the line, where the caret is, and for a rejected move the
+# position and what is said of it.
 BOARDS = {
-    "no such move": """\
-  1. e4 e5 2. Ke3 *
-              ^
-  8  r n b q k b n r
-  7  p p p p . p p p
-  6  . . . . . . . .
-  5  . . . . p . . .
-  4  . . . . P . . .
-  3  . . . . . . . .
-  2  P P P P . P P P
-  1  R N B Q K B N R
-     a b c d e f g h   White to move
-  rnbqkbnr/pppp1ppp/8/4p3/4P3/8/PPPP1PPP/RNBQKBNR w KQkq e6 0 2
-  The white king cannot go to e3.
-""",
-    "an exposed king": """\
-  Rd2 *
-  ^
-  8  . . . . r . . k
-  7  . . . . . . . .
-  6  . . . . . . . .
-  5  . . . . . . . .
-  4  . . . . . . . .
-  3  . . . . . . . .
-  2  . . . . R . . .
-  1  . . . . K . . .
-     a b c d e f g h   White to move
-  4r2k/8/8/8/8/8/4R3/4K3 w - - 0 1
-  A white rook can go to d2 from e2, but its king would then be in check.
-""",
-    "two knights": """\
-  1. Nd3 *
-     ^
-  8  . . . . k . . .
-  7  . . . . . . . .
-  6  . . . . . . . .
-  5  . . . . . . . .
-  4  . N . . . N . .
-  3  . . . . . . . .
-  2  . . . . . . . .
-  1  . . . . K . . .
-     a b c d e f g h   White to move
-  4k3/8/8/8/1N3N2/8/8/4K3 w - - 0 1
-  2 white knights may go to d3, from b4 and f4: write Nbd3 or Nfd3.
-""",
-    "a move in a variation": """\
-  1. e4 (1. Ke3) *
-            ^
-  8  r n b q k b n r
-  7  p p p p p p p p
-  6  . . . . . . . .
-  5  . . . . . . . .
-  4  . . . . . . . .
-  3  . . . . . . . .
-  2  P P P P P P P P
-  1  R N B Q K B N R
-     a b c d e f g h   White to move
-  rnbqkbnr/pppppppp/8/8/8/8/PPPPPPPP/RNBQKBNR w KQkq - 0 1
-  The white king cannot go to e3.
-""",
-    "UTF-8": """\
-  1. e4 {\u00e4\u4e16} Ke3 *
-              ^
-  8  r n b q k b n r
-  7  p p p p p p p p
-  6  . . . . . . . .
-  5  . . . . . . . .
-  4  . . . . P . . .
-  3  . . . . . . . .
-  2  P P P P . P P P
-  1  R N B Q K B N R
-     a b c d e f g h   Black to move
-  rnbqkbnr/pppppppp/8/8/4P3/8/PPPP1PPP/RNBQKBNR b KQkq e3 0 1
-  The black king cannot go to e3.
-""",
-    "no closing quote": """\
-  [White "Ada
-         ^
-""",
-    "no result at the end": """\
-
-  ^
-""",
+    "no such move": ("1. e4 e5 2. Ke3 *", 12, AFTER_E4_E5, "The white king cannot go to e3."),
+    "an exposed king": (
+        "Rd2 *", 0, "4r2k/8/8/8/8/8/4R3/4K3 w - - 0 1",
+        "A white rook can go to d2 from e2, but its king would then be in check."),
+    "two knights": (
+        "1. Nd3 *", 3, "4k3/8/8/8/1N3N2/8/8/4K3 w - - 0 1",
+        "2 white knights may go to d3, from b4 and f4: write Nbd3 or Nfd3."),
+    "a move in a variation": ("1. e4 (1. Ke3) *", 10, INITIAL, "The white king cannot go to e3."),
+    "UTF-8": (
+        "1. e4 {\u00e4\u4e16} Ke3 *", 12,
+        "rnbqkbnr/pppppppp/8/8/4P3/8/PPPP1PPP/RNBQKBNR b KQkq e3 0 1",
+        "The black king cannot go to e3."),
+    "no closing quote": ('[White "Ada', 7),
+    "no result at the end": ("", 0),
 }
-PACKERS = ((".gz", gzip.compress), (".bz2", bz2.compress), (".zst", lambda it: subprocess.run(
-    ["zstd", "-qc"], input=it, stdout=subprocess.PIPE, check=True).stdout))
+
+
+def board_of(line, column, fen=None, said=None):
+    """What --board shows below the line of a fault."""
+    shown = [line, " " * column + "^"]
+    if fen:
+        ranks, side = fen.split()[:2]
+        for number, rank in zip(range(8, 0, -1), ranks.split("/")):
+            squares = re.sub(r"\d", lambda empty: int(empty[0]) * ".", rank)
+            shown.append("%d  %s" % (number, " ".join(squares)))
+        shown.append("   a b c d e f g h   %s to move" % ("White" if side == "w" else "Black"))
+        shown += [fen, said]
+    return "".join("  %s\n" % it if it else "\n" for it in shown)
+
+
+PACKED = ("gz", "bz2", "zst")
 QUEENS = "1k6/8/8/8/4Q2Q/8/8/K6Q w - - 0 1"
 KINGS = "4k3/8/8/8/8/8/8/4K3 %s - - 0 %s"
 CASTLING = ("White may not castle by %s here: the right is lost, a square between is occupied, "
@@ -290,13 +235,6 @@ SARIF = record(
                               byteOffset={"type": "integer", "minimum": 0})))))))))
 
 
-def setUpModule():
-    file, named = library(), os.environ.get("GILLSPOON_LIBRARY")
-    os.environ["GILLSPOON_LIBRARY"] = file
-    if not named:
-        unittest.addModuleCleanup(os.environ.pop, "GILLSPOON_LIBRARY")
-
-
 class Lint(Folder, unittest.TestCase):
     """A test with a folder of its own."""
 
@@ -386,9 +324,8 @@ class Faults(Lint):
                 text, lines = WAYS[name]
                 self.put("a.pgn", text)
                 _, out, _ = self.lint("--board", "--quiet", "a.pgn")
-                shown = re.sub(r"(?m)^ +$", "", shown)
                 self.assertEqual(re.sub(r"(?m)^ +$", "", out),
-                                 "a.pgn:%s\n%s\n" % (lines[0], shown))
+                                 "a.pgn:%s\n%s\n" % (lines[0], board_of(*shown)))
 
     def test_a_mark_behind_a_pawn_s_move(self):
         """A check mark belongs to no promotion that is proposed."""
@@ -437,7 +374,6 @@ class Faults(Lint):
         return found
 
     def test_doctests(self):
-        sys.path.insert(0, PACKAGE)
         for name in ("_doubts", "_findings", "_kinds", "_reports", "_warnings"):
             module = importlib.import_module("gillspoon." + name)
             self.assertEqual(doctest.testmod(module).failed, 0, name)
@@ -551,9 +487,9 @@ class Files(Lint):
         # the rest of the 58 are some of them once more, compressed
         packed = list(texts)[:58 - len(texts)]
         for number, name in enumerate(packed):
-            end, pack = PACKERS[number % len(PACKERS)]
-            texts[name + end] = texts[name]
-            self.put(name + end, pack(texts[name]))
+            kind = PACKED[number % len(PACKED)]
+            texts[name + "." + kind] = texts[name]
+            self.put(name + "." + kind, PACKERS[kind](texts[name]))
         for name in [it for it in texts if it.endswith(".pgn")]:
             self.put(name, texts[name])
         self.assertEqual(len(texts), 58)
@@ -592,10 +528,8 @@ class Files(Lint):
         need("zstd")
         self.put("all/b.pgn", GOOD)
         self.put("all/a.PGN", BAD)
-        self.put("all/below/c.pgn.GZ", gzip.compress(BAD))
-        self.put("all/below/d.pgn.bz2", bz2.compress(BAD))
-        self.put("all/below/e.pgn.zst", subprocess.run(
-            ["zstd", "-qc"], input=BAD, stdout=subprocess.PIPE, check=True).stdout)
+        for name, kind in zip(("c.pgn.GZ", "d.pgn.bz2", "e.pgn.zst"), PACKED):
+            self.put("all/below/" + name, PACKERS[kind](BAD))
         for name in ("all/.hidden.pgn", "all/.git/f.pgn", "all/readme.txt", "all/pgn"):
             self.put(name, BAD)
         wanted = ["all/%s:%s" % (it, BAD_LINE) for it in (
@@ -701,15 +635,6 @@ OTHERS = {
     "feed.pgn": (b"<?xml version='1.0'?>\n<games/>\n", PAGE),
     "guide.pgn": (b"%PDF-1.4\n%\xe2\xe3\xcf\xd3\n1 0 obj\n<</Type/Catalog>>\nendobj\n", PDF),
 }
-
-
-def zip_of(*members):
-    """A zip with files: their names and texts."""
-    held = io.BytesIO()
-    with zipfile.ZipFile(held, "w", zipfile.ZIP_DEFLATED) as archive:
-        for name, text in members:
-            archive.writestr(name, text)
-    return held.getvalue()
 
 
 class OtherKinds(Lint):
@@ -949,10 +874,7 @@ class Options(Lint):
         self.assertEqual([it for row in rows for it in re.findall(r"`(\w+)`", row[0])], FIELDS)
 
     def test_sarif(self):
-        try:
-            import jsonschema
-        except ImportError:
-            not_tried("python3-jsonschema is missing")
+        jsonschema = need_module("jsonschema", "python3-jsonschema")
         self.put("my games/a:b.pgn", BAD + b"\n" + WAYS["an exposed king"][0]
                  + b'\n[White "Cy"]\n\n1. e4 &\n')
         status, out, _ = self.lint("--sarif", "my games", "missing")
@@ -1005,10 +927,7 @@ class Options(Lint):
                 jsonschema.validate(broken, SARIF)
 
     def test_sarif_of_each_way_to_be_bad(self):
-        try:
-            import jsonschema
-        except ImportError:
-            not_tried("python3-jsonschema is missing")
+        jsonschema = need_module("jsonschema", "python3-jsonschema")
         for name, (text, _) in WAYS.items():
             self.put("ways/" + name + ".pgn", text)
         self.put("ways/a\n%\u00fc.pgn", BAD)
@@ -1069,7 +988,7 @@ class Streams(Lint):
     def test_a_full_device(self):
         self.put("a.pgn", BAD)
         for words in ([], ["--json"], ["--sarif"], ["-j", "2", "a.pgn"]):
-            with open("/dev/full", "wb") as full:
+            with full_device() as full:
                 status, _, told = self.lint("a.pgn", *words, stdout=full)
             self.assertEqual((status, told), (
                 3, "gillspoon: output cannot be written: No space left on device\n"))

@@ -296,11 +296,10 @@ class Statuses(Shell):
         return self.shell(script).returncode
 
     def test_statuses(self):
-        self.assertEqual(self.status("pgn_tool --help"), 0)
-        self.assertEqual(self.status("pgn_tool --version"), 0)
-        self.assertEqual(self.status("echo '*' | pgn_tool check"), 0)
-        self.assertEqual(self.status("echo 'e9' | pgn_tool check"), 1)
-        self.assertEqual(self.status("pgn_tool check --reduced"), 2)
+        for script, status in (("pgn_tool --help", 0), ("pgn_tool --version", 0),
+                               ("echo '*' | pgn_tool check", 0), ("echo 'e9' | pgn_tool check", 1),
+                               ("pgn_tool check --reduced", 2)):
+            self.assertEqual(self.status(script), status, script)
         ran = self.shell("pgn_tool export $'\\xff'")
         self.assertEqual((ran.returncode, ran.stderr), (2, b"arguments cannot be read\n"))
         for words in ("export missing", "check .", "check - <games"):
@@ -377,15 +376,11 @@ class Completions(Shell):
     def test_fish(self):
         programs.need("fish")
         open(self.folder + "/games.pgn", "wb").close()
-        lines = ["pgn_tool "] + ["pgn_tool %s --" % it for it in commands()] + ["pgn_tool list ga"]
-        wanted = [sorted(commands())]
-        wanted += [sorted(["--help"] + options(it)) for it in commands()] + [["games.pgn"]]
-        for line, words in zip(lines, wanted):
-            script = "source %spgn_tool.fish; complete -C '%s'" % (COMPLETIONS, line)
-            env = dict(os.environ, HOME=self.folder, XDG_CONFIG_HOME=self.folder)
-            ran = run(["fish", "-c", script], cwd=self.folder, env=env)
-            found = sorted(it.split("\t")[0] for it in ran.stdout.decode().splitlines())
-            self.assertEqual(found, words, line)
+        self.assertEqual(self.fish_words("pgn_tool "), sorted(commands()))
+        for command in commands():
+            self.assertEqual(self.fish_words("pgn_tool %s --" % command),
+                             sorted(["--help"] + options(command)))
+        self.assertEqual(self.fish_words("pgn_tool list ga"), ["games.pgn"])
 
     def test_zsh(self):
         programs.need("zsh")

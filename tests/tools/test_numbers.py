@@ -4,15 +4,12 @@ import re
 import unittest
 
 import test_lint
-from programs import ROOT
+from programs import ROOT, need_package
 
+setUpModule = need_package
 GAMES, LONGEST = 4000, 30
 REASON = re.compile("move number ([0-9]+) behind ([0-9]+): perhaps a marker or moves are missing")
 NOTES = ("best", "better is 3. Nf3", "1. e4 (2. d4) 7...", "see game 12.", "a; b", "5.", "100% 4.")
-
-
-def setUpModule():
-    test_lint.setUpModule()
 
 
 def numbers_of(movetext):

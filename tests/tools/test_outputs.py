@@ -7,8 +7,7 @@ import os
 import unittest
 
 import programs
-from programs import PACKERS, ROOT, Folder, need, need_program, run, without_rights
-from test_python import library
+from programs import PACKERS, ROOT, Folder, library, need, need_program, run, without_rights
 
 SOUND = b'[White "Ada"]\n\n1. e4 e5 *\n\n'
 BAD = b'[White "Bob"]\n\n1. e4 e9 *\n\n'

@@ -18,7 +18,7 @@ from browser import Browser
 from documents import lines_of
 from programs import PACKERS, ROOT, need_program, run
 from spellings import DOUBTFUL, LEFT, SAFE, UNSAFE
-from test_fix import damaged, setUpModule as _set_up_fix
+from test_fix import damaged
 from test_library import c_structs
 from test_sieve import BAD, sound
 
@@ -140,8 +140,7 @@ BEAT = """
 
 def setUpModule():
     global gillspoon
-    _set_up_fix()
-    import gillspoon
+    gillspoon = programs.need_package()
 
 
 def as_text(value):

@@ -140,8 +140,7 @@ class Choice(unittest.TestCase):
         self.by_cargo = self.here.root + "/cargo/out/pgn_tool\n"
 
     def build(self, *options, **more):
-        ran = self.here.call(*options, script=BUILD, **more)
-        return ran.returncode, ran.stdout.decode(), ran.stderr.decode()
+        return self.here.told(*options, script=BUILD, **more)
 
     def check(self, built, path, *told):
         self.assertEqual(built[:2], (0, path), built)

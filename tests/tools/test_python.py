@@ -1,7 +1,6 @@
 #!/usr/bin/env python3
 """Tests of the Python package (python/gillspoon): its calls, its wheel, and docs/PYTHON.md."""
 import ast
-import bz2
 import copy as copies
 import doctest
 import glob
@@ -30,10 +29,10 @@ from unittest import mock
 sys.path.insert(0, os.path.dirname(os.path.realpath(__file__)))
 import programs
 from documents import blocks_of, lines_of, samples, table
-from programs import PACKERS, ROOT, need, need_program, not_tried, run, vectors
+from programs import (PACKAGE, PACKERS, ROOT, archive, library, need, need_program, not_tried, run,
+                      vectors, zip_of)
 from test_sieve import BAD, sound
 
-PACKAGE = ROOT + "/python"
 # Debian's, which has the modules of Debian's packages.
 PYTHON = "/usr/bin/python3" if os.path.exists("/usr/bin/python3") else sys.executable
 INITIAL = "rnbqkbnr/pppppppp/8/8/8/8/PPPPPPPP/RNBQKBNR w KQkq - 0 1"
@@ -42,37 +41,15 @@ RANDOM_GAMES = 100000
 DAMAGED_FILES = 60
 
 
-def library():
-    """The shared library, which is built if need be; the test is left out if it cannot be."""
-    named = os.environ.get("GILLSPOON_LIBRARY")
-    if named:
-        return named
-    static = programs.printed_by_build("--library") or not_tried("the library cannot be built")
-    return os.path.join(os.path.dirname(static), "libpgn_c.so")
-
-
 def setUpModule():
     global gillspoon
-    file, named = library(), os.environ.get("GILLSPOON_LIBRARY")
-    os.environ["GILLSPOON_LIBRARY"] = file
-    if not named:
-        unittest.addModuleCleanup(os.environ.pop, "GILLSPOON_LIBRARY")
-    if PACKAGE not in sys.path:
-        sys.path.insert(0, PACKAGE)
-    gillspoon = importlib.import_module("gillspoon")
+    gillspoon = programs.need_package()
 
 
 def environment(**more):
     """The environment of a program that imports the package from here."""
     return dict(os.environ, PATH=programs.PATH, PYTHONPATH=PACKAGE, PYTHONDONTWRITEBYTECODE="1",
                 **more)
-
-
-def archive(games, style, seed=()):
-    """The bytes of an archive of bench/make_archive.py."""
-    words = [sys.executable, "bench/make_archive.py", "--games", str(games), "--lines", "20",
-             "--style", style]
-    return run([*words, *seed]).stdout
 
 
 def seen(source, **options):
@@ -100,6 +77,24 @@ class Pieces(io.RawIOBase):
         return data
 
 
+def fault_of(error, call, *words, **options):
+    """The error of this type that a call ends with."""
+    try:
+        call(*words, **options)
+    except error as fault:
+        return fault
+    raise AssertionError("no %s: %s" % (error.__name__, words))
+
+
+def in_threads(call, values):
+    """Calls a function of each value, in threads side by side."""
+    threads = [threading.Thread(target=call, args=(it,)) for it in values]
+    for it in threads:
+        it.start()
+    for it in threads:
+        it.join()
+
+
 def cut(data, sizes):
     """The data in parts of these sizes, in turn."""
     at = 0
@@ -125,18 +120,23 @@ def damaged(source, data):
     return bytes(data)
 
 
-class Folder(unittest.TestCase):
+class Folder(programs.Folder, unittest.TestCase):
     """A test with a folder of its own."""
 
-    def setUp(self):
-        self.folder = tempfile.mkdtemp()
-        self.addCleanup(shutil.rmtree, self.folder)
-
-    def put(self, name, data):
-        path = os.path.join(self.folder, name)
-        with open(path, "wb") as file:
-            file.write(data)
-        return path
+    def sources_of(self, data):
+        """Data as sources of each kind, which are closed after their use; none has a suffix."""
+        path = self.put("source", data)
+        yield from (path, pathlib.Path(path), type("P", (), {"__fspath__": lambda self: path})(),
+                    data, bytearray(data), memoryview(data), io.BytesIO(data),
+                    Pieces(cut(data, ever(4000))), Pieces(cut(data, ever(400))))
+        with open(path, "rb") as file, open(path, "rb", buffering=0) as raw:
+            yield from (file, raw)
+            if data:  # of nothing there is no map
+                with mmap.mmap(file.fileno(), 0, access=mmap.ACCESS_READ) as mapped:
+                    yield mapped
+        for source in (lambda pipe: pipe, lambda pipe: "/dev/fd/%d" % pipe.fileno()):
+            with subprocess.Popen(["cat", path], stdout=subprocess.PIPE) as child:
+                yield source(child.stdout)
 
 
 # ---- games and their parts
@@ -253,17 +253,15 @@ class Games(unittest.TestCase):
 
     def test_options(self):
         data = b"1. e4 (1. d4) e5 1-0"
-        with self.assertRaises(gillspoon.PgnFault) as raised:
-            list(gillspoon.games(data))
-        self.assertEqual(raised.exception.number, 41)
+        self.assertEqual(fault_of(gillspoon.PgnFault, list, gillspoon.games(data)).number, 41)
         game = next(gillspoon.games(data, checked=True, reduced=True))
         self.assertEqual((game.result, game.tags["Result"]), ("1-0", "1-0"))
         self.assertTrue(game.text.endswith(b"\n\n1. e4 e5 1-0\n\n"))
         self.assertEqual(gillspoon.convert(data, checked=True, reduced=True), game.text)
         self.assertEqual(gillspoon.check(data, checked=True), (1, 2))
-        with self.assertRaises(gillspoon.PgnFault) as raised:
-            gillspoon.convert(b'[FEN "%s"] *' % INITIAL.encode(), reduced=True)
-        self.assertEqual(raised.exception.number, 31)
+        fault = fault_of(gillspoon.PgnFault, gillspoon.convert,
+                         b'[FEN "%s"] *' % INITIAL.encode(), reduced=True)
+        self.assertEqual(fault.number, 31)
 
     def test_pickle(self):
         game = next(gillspoon.games(self.TEXT))
@@ -325,11 +323,9 @@ class LateTexts(Folder):
 
     def sources(self, data):
         """The data as sources of several kinds."""
-        path = self.put("a.pgn", data)
-        yield from (data, path, io.BytesIO(data), self.put("a.pgn.gz", gzip.compress(data)))
+        yield from self.sources_of(data)
+        yield self.put("a.pgn.gz", gzip.compress(data))
         yield from (Pieces(cut(data, ever(size))) for size in (1, 3, 50))
-        with subprocess.Popen(["cat", path], stdout=subprocess.PIPE) as child:
-            yield child.stdout
 
     def test_archives(self):
         for name, data in self.ARCHIVES.items():
@@ -659,11 +655,7 @@ class Positions(unittest.TestCase):
                 found[game.number] = [it.fen for it in game.mainline()]
 
         found = [{} for _ in range(4)]
-        threads = [threading.Thread(target=read, args=(it,)) for it in found]
-        for it in threads:
-            it.start()
-        for it in threads:
-            it.join()
+        in_threads(read, found)
         self.assertEqual(found, [wanted] * 4)
 
 
@@ -726,9 +718,7 @@ class Keys(unittest.TestCase):
                          "rnbqkbnr/pp1ppppp/8/2p5/4P3/8/PPPP1PPP/RNBQKBNR w KQkq -")
         with self.assertRaises(AttributeError):
             plies[0].key = ""
-        with self.assertRaises(gillspoon.FenFault) as raised:
-            gillspoon.position_key("x")
-        self.assertEqual(raised.exception.field, 1)
+        self.assertEqual(fault_of(gillspoon.FenFault, gillspoon.position_key, "x").field, 1)
 
 
 class Views(unittest.TestCase):
@@ -904,12 +894,9 @@ class Built(unittest.TestCase):
                 with self.assertRaisesRegex(error, said):
                     call(*words, **options)
         self.assertEqual((len(line), ply.notes), (1, []))
-        with self.assertRaises(gillspoon.MoveFault) as raised:
-            line.append("e4")
-        self.assertEqual(raised.exception.fen, ply.fen)
-        with self.assertRaises(gillspoon.MoveFault) as raised:
-            ply.add_variation("e5")
-        self.assertEqual(raised.exception.fen, INITIAL)
+        self.assertEqual(fault_of(gillspoon.MoveFault, line.append, "e4").fen, ply.fen)
+        fault = fault_of(gillspoon.MoveFault, ply.add_variation, "e5")
+        self.assertEqual(fault.fen, INITIAL)
         with self.assertRaises(gillspoon.FenFault):
             gillspoon.Line("4k3/8 w")
         with self.assertRaisesRegex(TypeError, "a FEN is a str, not Ply"):
@@ -1098,9 +1085,7 @@ class Faults(Folder):
     def test_attributes(self):
         with open(ROOT + "/examples/no-such-move.pgn", "rb") as file:
             data = file.read()
-        with self.assertRaises(gillspoon.PgnFault) as raised:
-            list(gillspoon.games(data))
-        fault = raised.exception
+        fault = fault_of(gillspoon.PgnFault, list, gillspoon.games(data))
         self.assertEqual(str(fault), "line 4, column 37: move is not legal: Bd4 "
                                      "(game 1, Nowak, A. - Silva, J.)")
         self.assertEqual(
@@ -1121,10 +1106,9 @@ class Faults(Folder):
                 for call in (gillspoon.check, gillspoon.convert):
                     file.seek(0)
                     other.seek(0)
-                    with self.assertRaises(gillspoon.PgnFault) as raised:
-                        call(source)
-                    self.assertEqual(raised.exception.file, name, (source, call))
-                    self.assertEqual(str(raised.exception),
+                    fault = fault_of(gillspoon.PgnFault, call, source)
+                    self.assertEqual(fault.file, name, (source, call))
+                    self.assertEqual(str(fault),
                                      said if name else said[said.index("line 1"):])
 
     def test_the_move(self):
@@ -1133,10 +1117,9 @@ class Faults(Folder):
                            (b"e4 Ra1=Q+ *", "Ra1=Q+"), (b"e4 ] *", None), (b'e4 "e5" *', None),
                            (b"e4 & *", None), (b"e4 )", None), (b"e4 1-0", None), (b"e4", None),
                            (b"Nf3 e6 Nd4 e5 c3 e4 Na3 e3 Nc2 *", "Nc2")):
-            with self.assertRaises(gillspoon.PgnFault) as raised:
-                gillspoon.check(text)
-            self.assertEqual(raised.exception.move, move, text)
-            self.assertEqual(": %s (game 1)" % move in str(raised.exception), move is not None)
+            fault = fault_of(gillspoon.PgnFault, gillspoon.check, text)
+            self.assertEqual(fault.move, move, text)
+            self.assertEqual(": %s (game 1)" % move in str(fault), move is not None)
 
     def test_the_players(self):
         white, black = '[White "M\xfcller \\"x\\""]\n', '[Black "\x9b2J"]\n'
@@ -1149,9 +1132,7 @@ class Faults(Folder):
             for end in ("\n", "\r\n", "\r"):
                 data = text.replace("\n", end).encode()
                 for source in (data, Pieces(cut(data, ever(1)))):
-                    with self.assertRaises(gillspoon.PgnFault) as raised:
-                        gillspoon.check(source)
-                    fault = raised.exception
+                    fault = fault_of(gillspoon.PgnFault, gillspoon.check, source)
                     self.assertEqual((fault.white, fault.black), names, data)
                     said = " - ".join(names).replace("\x9b", "\ufffd")
                     self.assertEqual(", %s)" % said in str(fault), names != ("?", "?"), data)
@@ -1179,18 +1160,15 @@ class Faults(Folder):
         self.assertEqual((copy.args, str(copy)), (faults[0].args, str(faults[0])))
         for call, error in ((lambda: gillspoon.san(INITIAL, "e5"), gillspoon.MoveFault),
                             (lambda: gillspoon.san("x", "e5"), gillspoon.FenFault)):
-            with self.assertRaises(error) as raised:
-                call()
-            copy = pickle.loads(pickle.dumps(raised.exception))
-            self.assertEqual((str(copy), copy.fen), (str(raised.exception), raised.exception.fen))
+            fault = fault_of(error, call)
+            copy = pickle.loads(pickle.dumps(fault))
+            self.assertEqual((str(copy), copy.fen), (str(fault), fault.fen))
 
     def test_position_only_of_a_refused_move(self):
         for text, fen in ((b"1. e4 e5 (1... e6 2. Ke3) *",
                            "rnbqkbnr/pppp1ppp/4p3/8/4P3/8/PPPP1PPP/RNBQKBNR w KQkq - 0 2"),
                           (b"1. e4 e9 *", None), (b"1. e4 & *", None)):
-            with self.assertRaises(gillspoon.PgnFault) as raised:
-                gillspoon.convert(text)
-            self.assertEqual(raised.exception.fen, fen, text)
+            self.assertEqual(fault_of(gillspoon.PgnFault, gillspoon.convert, text).fen, fen, text)
 
     def test_words_are_those_of_the_fault_table(self):
         rows = {int(row[0]): row[3].strip("`")
@@ -1266,11 +1244,7 @@ class Calls(unittest.TestCase):
         def work(number):
             got[number] = gillspoon.convert(text, reduced=number % 2 == 1)
 
-        threads = [threading.Thread(target=work, args=(it,)) for it in range(4)]
-        for thread in threads:
-            thread.start()
-        for thread in threads:
-            thread.join()
+        in_threads(work, range(4))
         self.assertTrue(got == wanted * 2)
 
     def test_short_text_with_a_long_export(self):
@@ -1281,22 +1255,19 @@ class Calls(unittest.TestCase):
         for field, wrong in enumerate(("9/8", "x", "KK", "e5", "x", ""), 1):
             fields = INITIAL.split(" ")
             fields[field - 1] = wrong
-            with self.assertRaises(gillspoon.FenFault) as raised:
-                gillspoon.normalize_fen(" ".join(fields))
-            self.assertEqual(raised.exception.field, field)
-        with self.assertRaises(gillspoon.PgnFault) as raised:
-            gillspoon.convert(b'[FEN "8/8/8/8/8/8/8/8 x - - 0 1"] *')
-        self.assertEqual((raised.exception.number, raised.exception.reason),
-                         (26, "bad FEN, field 2"))
+            fault = fault_of(gillspoon.FenFault, gillspoon.normalize_fen, " ".join(fields))
+            self.assertEqual(fault.field, field)
+        fault = fault_of(gillspoon.PgnFault, gillspoon.convert,
+                         b'[FEN "8/8/8/8/8/8/8/8 x - - 0 1"] *')
+        self.assertEqual((fault.number, fault.reason), (26, "bad FEN, field 2"))
 
     def test_fen(self):
         self.assertEqual(gillspoon.normalize_fen("4k3/44/8/8/8/8/8/4K3 w - - 00 01"),
                          "4k3/8/8/8/8/8/8/4K3 w - - 0 1")
         for fen, field in (("x", 1), (INITIAL.replace(" w ", " x "), 2), ("\xfc", 1),
                            ("8/8/8/8/8/8/8/8 w - - 0 1", 7)):
-            with self.assertRaises(gillspoon.FenFault) as raised:
-                gillspoon.normalize_fen(fen)
-            self.assertEqual((raised.exception.field, raised.exception.fen), (field, fen))
+            fault = fault_of(gillspoon.FenFault, gillspoon.normalize_fen, fen)
+            self.assertEqual((fault.field, fault.fen), (field, fen))
             for call in (gillspoon.san, gillspoon.explain):
                 with self.assertRaises(gillspoon.FenFault):
                     call(fen, "e4")
@@ -1306,17 +1277,13 @@ class Calls(unittest.TestCase):
         self.assertEqual(gillspoon.san(fen, "Ra1a8"),
                          ("Ra8#", "R5k1/5ppp/8/8/8/8/8/4K2R b K - 1 1", "a1a8"))
         self.assertEqual(gillspoon.san(fen, "0-0").san, "O-O")
-        for move, number, reason in (("e9", 33, "not a move"), ("Ke3", 34, "move is not legal"),
-                                     ("", 33, "not a move")):
-            with self.assertRaises(gillspoon.MoveFault) as raised:
-                gillspoon.san(fen, move)
-            self.assertEqual((raised.exception.number, raised.exception.reason), (number, reason))
-        with self.assertRaises(gillspoon.MoveFault) as raised:
-            gillspoon.san("7k/8/8/8/8/8/8/R4R1K b - - 0 99999", "Kg7")
-        self.assertEqual(raised.exception.number, 36)
-        with self.assertRaises(gillspoon.MoveFault) as raised:
-            gillspoon.san("1k6/8/8/8/8/8/4K3/R6R w - - 0 1", "Rd1")
-        self.assertEqual(raised.exception.number, 35)
+        for fen, move, number, reason in (
+                (fen, "e9", 33, "not a move"), (fen, "Ke3", 34, "move is not legal"),
+                (fen, "", 33, "not a move"),
+                ("1k6/8/8/8/8/8/4K3/R6R w - - 0 1", "Rd1", 35, "move is ambiguous"),
+                ("7k/8/8/8/8/8/8/R4R1K b - - 0 99999", "Kg7", 36, "move number limit")):
+            fault = fault_of(gillspoon.MoveFault, gillspoon.san, fen, move)
+            self.assertEqual((fault.number, fault.reason), (number, reason))
         for words in ((b"x", "e4"), (INITIAL, b"e4"), (INITIAL, None)):
             with self.assertRaises(TypeError):
                 gillspoon.san(*words)
@@ -1329,9 +1296,8 @@ class Calls(unittest.TestCase):
             self.assertEqual(gillspoon.san(fen, san), played)
         for move, number in (("O-O", 33), ("E1G1", 33), ("e1g1 ", 33), ("0000", 33), ("", 33),
                              ("g7g8", 34), ("e1c1", 34)):
-            with self.assertRaises(gillspoon.MoveFault) as raised:
-                gillspoon.san(fen, move, uci=True)
-            self.assertEqual((raised.exception.number, raised.exception.move), (number, move))
+            fault = fault_of(gillspoon.MoveFault, gillspoon.san, fen, move, uci=True)
+            self.assertEqual((fault.number, fault.move), (number, move))
 
     def test_explain(self):
         fen = "k3r3/8/8/8/8/8/N3N3/4K2R w K - 0 1"
@@ -1354,22 +1320,11 @@ class Sources(Folder):
         self.wanted = seen(self.data)
 
     def test_kinds(self):
-        path = self.put("a.pgn", self.data)
         self.assertEqual(len(self.wanted), 300)
-        with open(path, "rb") as file, open(path, "rb", buffering=0) as raw, \
-                open(path, "rb") as other, \
-                mmap.mmap(other.fileno(), 0, access=mmap.ACCESS_READ) as mapped:
-            for source in (path, type("P", (), {"__fspath__": lambda self: path})(), file, raw,
-                           mapped, bytearray(self.data), memoryview(self.data),
-                           io.BytesIO(self.data), Pieces(cut(self.data, ever(4000)))):
-                self.assertEqual(seen(source), self.wanted, type(source))
+        for source in self.sources_of(self.data):
+            self.assertEqual(seen(source), self.wanted, type(source))
         for source in (b"", bytearray(), self.put("empty.pgn", b"")):
             self.assertEqual(seen(source), [])
-
-    def test_a_pipe(self):
-        with subprocess.Popen(["cat", self.put("a.pgn", self.data)],
-                              stdout=subprocess.PIPE) as child:
-            self.assertEqual(seen(child.stdout), self.wanted)
 
     def test_a_game_comes_before_the_pipe_ends(self):
         begin, end = os.pipe()
@@ -1382,13 +1337,9 @@ class Sources(Folder):
             self.assertEqual(len(list(games)), 1)
 
     def compressed(self, name):
-        data = self.data
-        if name == "gz":
-            return gzip.compress(data[:1000]) + gzip.compress(data[1000:])
-        if name == "bz2":
-            return bz2.compress(data[:1000]) + bz2.compress(data[1000:])
+        """The data in two parts, one behind the other."""
         need("zstd")
-        return b"".join(run(["zstd", "-qc"], input=it).stdout for it in (data[:1000], data[1000:]))
+        return b"".join(PACKERS[name](it) for it in (self.data[:1000], self.data[1000:]))
 
     def test_compressed(self):
         for name in ("gz", "bz2", "zst"):
@@ -1404,24 +1355,18 @@ class Sources(Folder):
                 self.assertIn("b.pgn." + name, str(raised.exception))
 
     def test_compressed_files_are_known_by_their_first_bytes(self):
-        import lzma
-        import zipfile
         whole = self.compressed("gz")
         self.assertEqual(gillspoon.check(self.put("a.PGN", whole)).games, 300)
         text = b"1. e4 *"
-        self.assertEqual(gillspoon.check(self.put("b", lzma.compress(text))).games, 1)
-        path = self.put("c.bin", b"")
-        with zipfile.ZipFile(path, "w", zipfile.ZIP_DEFLATED) as archive:
-            # two games without a line end between them, and a file that is no PGN
-            for name, data in (("x/a.PGN", text), ("read.me", b"&"), ("b.pgn", text)):
-                archive.writestr(name, data)
+        self.assertEqual(gillspoon.check(self.put("b", PACKERS["xz"](text))).games, 1)
+        # two games without a line end between them, and a file that is no PGN
+        members = ("x/a.PGN", text), ("read.me", b"&"), ("b.pgn", text)
+        path = self.put("c.bin", zip_of(*members))
         self.assertEqual(gillspoon.check(path).games, 2)
-        with zipfile.ZipFile(path, "w") as archive:
-            archive.writestr("read.me", b"&")
-        for bad in (path, self.put("d.xz", lzma.compress(text)[:-4]), self.put("e.zip", b"no")):
-            with self.assertRaises(OSError) as raised:
-                gillspoon.check(bad)
-            self.assertIn(bad, str(raised.exception))
+        self.put("c.bin", zip_of(members[1]))
+        for bad in (path, self.put("d.xz", PACKERS["xz"](text)[:-4]), self.put("e.zip", b"no")):
+            fault = fault_of(OSError, gillspoon.check, bad)
+            self.assertIn(bad, str(fault))
 
     def test_each_source_may_be_compressed(self):
         """It is known by its first bytes, whatever its name is, and by all calls that read it."""
@@ -1429,30 +1374,17 @@ class Sources(Folder):
         bad = b"[White \"Ada\"]\n\n1. e2-e4 *\n"
         edits = list(gillspoon.fixes(bad))
         self.assertEqual(len(edits), 1)
-        for name, pack in PACKERS.items():
-            for source in self.sources(pack(self.data)):
-                self.assertEqual(seen(source), self.wanted, (name, type(source)))
-            for source in self.sources(pack(self.data)):
-                self.assertTrue(gillspoon.convert(source) == wanted, (name, type(source)))
-            for source in self.sources(pack(bad)):
-                self.assertEqual(list(gillspoon.fixes(source)), edits, (name, type(source)))
-            for source in self.sources(pack(self.data + bad)):
-                with self.assertRaises(gillspoon.PgnFault) as raised:
-                    gillspoon.convert(source)
-                self.assertEqual(raised.exception.offset, len(self.data) + bad.index(b"e2"))
-
-    def sources(self, data):
-        """Data as sources of each kind, which are closed after their use; none has a suffix."""
         need("zstd")
-        path = self.put("packed", data)
-        yield from (path, pathlib.Path(path), data, bytearray(data), memoryview(data),
-                    io.BytesIO(data), Pieces(cut(data, ever(4000))))
-        with open(path, "rb") as file, open(path, "rb", buffering=0) as raw, \
-                mmap.mmap(file.fileno(), 0, access=mmap.ACCESS_READ) as mapped:
-            yield from (mapped, file, raw)
-        for source in (lambda pipe: pipe, lambda pipe: "/dev/fd/%d" % pipe.fileno()):
-            with subprocess.Popen(["cat", path], stdout=subprocess.PIPE) as child:
-                yield source(child.stdout)
+        for name, pack in PACKERS.items():
+            for source in self.sources_of(pack(self.data)):
+                self.assertEqual(seen(source), self.wanted, (name, type(source)))
+            for source in self.sources_of(pack(self.data)):
+                self.assertTrue(gillspoon.convert(source) == wanted, (name, type(source)))
+            for source in self.sources_of(pack(bad)):
+                self.assertEqual(list(gillspoon.fixes(source)), edits, (name, type(source)))
+            for source in self.sources_of(pack(self.data + bad)):
+                fault = fault_of(gillspoon.PgnFault, gillspoon.convert, source)
+                self.assertEqual(fault.offset, len(self.data) + bad.index(b"e2"))
 
     def test_compressed_data_that_is_cut_off(self):
         """The error names no temporary file, and none is left."""
@@ -1465,9 +1397,8 @@ class Sources(Folder):
                 half = data[:len(data) // 2]
                 for call in (gillspoon.check, gillspoon.convert):
                     for source in (half, Pieces([half])):
-                        with self.assertRaises(OSError) as raised:
-                            call(source)
-                        self.assertNotIn("/", str(raised.exception), name)
+                        fault = fault_of(OSError, call, source)
+                        self.assertNotIn("/", str(fault), name)
                 # it can be left at any time
                 self.assertEqual(next(gillspoon.games(data)).number, 1)
             self.assertEqual(os.listdir(folder), [])
@@ -1690,27 +1621,14 @@ class Converted(Folder):
         self.assertGreater(len(threads), 4)
         self.assertEqual(len(set(threads)), 2)
 
-    def sources(self, data):
-        """The data as sources of each kind, which are closed after their use."""
-        path = self.put("a.pgn", data)
-        yield from (path, type("P", (), {"__fspath__": lambda self: path})(), data, bytearray(data),
-                    memoryview(data), io.BytesIO(data), Pieces(cut(data, ever(400))))
-        yield self.put("a.pgn.gz", gzip.compress(data))
-        with open(path, "rb") as file, \
-                mmap.mmap(file.fileno(), 0, access=mmap.ACCESS_READ) as mapped:
-            yield mapped
-            yield file
-        for source in (lambda pipe: pipe, lambda pipe: "/dev/fd/%d" % pipe.fileno()):
-            with subprocess.Popen(["cat", path], stdout=subprocess.PIPE) as child:
-                yield source(child.stdout)
-
     def test_kinds_of_sources(self):
         """A fault is found again, though a pipe or an open file can be read only once."""
         for more in (b"", b"1. e4 e5 2. Ke3 *\n" + sound(b"b")):
             data = archive(10, "plain") + more
             wanted = self.check(data)
             self.assertEqual(isinstance(wanted, tuple), more != b"")
-            for source in self.sources(data):
+            packed = self.put("a.pgn.gz", gzip.compress(data))
+            for source in itertools.chain(self.sources_of(data), [packed]):
                 self.assertEqual(self.converted(source), wanted, type(source))
 
 
@@ -1915,9 +1833,9 @@ class Written(unittest.TestCase):
         self.check("1. e4 e5 0-1 \n", "0-1", "1. e4 e5 0-1", Result="0-1")
         self.check("*", "*", "*")
         for moves, number in (("e4 1-0", 41), ("e4 {", 12), ("e4 Ke3", 34), ("e4 [A", 32)):
-            with self.assertRaises(gillspoon.PgnFault) as raised:
-                gillspoon.write_game({"Result": "0-1", "White": "Ada"}, moves)
-            self.assertEqual((raised.exception.number, raised.exception.white), (number, "Ada"))
+            fault = fault_of(gillspoon.PgnFault, gillspoon.write_game,
+                             {"Result": "0-1", "White": "Ada"}, moves)
+            self.assertEqual((fault.number, fault.white), (number, "Ada"))
 
     def test_one_game_alone(self):
         line = next(gillspoon.games(b"e4 e5 *")).moves()
@@ -2361,10 +2279,6 @@ class Documents(Folder):
         inner = next(inner for number, before, inner in blocks_of(lines)
                      if number > at and lines[number - 1] == "```python")
         return "\n".join(inner) + "\n"
-
-    def get(self, name):
-        with open(os.path.join(self.folder, name), "rb") as file:
-            return file.read()
 
     def test_the_five_lines(self):
         shown = self.sample("The Python package")

@@ -4,15 +4,11 @@ The texts are those of fuzz/corpus, the worked inputs, the examples, games as be
 mutations of all of these, from a seed.
 """
 import glob
-import importlib
-import os
 import random
-import sys
 import unittest
 
 import section_rule
-from programs import ROOT, run, vectors
-from test_python import PACKAGE, library
+from programs import ROOT, archive, need_package, vectors
 
 SEED = 20261128
 MUTATIONS = 10000
@@ -27,9 +23,7 @@ PARTS = [
 
 def setUpModule():
     global calls
-    os.environ["GILLSPOON_LIBRARY"] = library()
-    sys.path.insert(0, PACKAGE)
-    calls = importlib.import_module("gillspoon._library")
+    calls = need_package()._library
 
 
 def texts():
@@ -41,8 +35,7 @@ def texts():
         if "input" in row:
             yield row["input"].encode()
     for style in ("plain", "annotated", "server"):
-        words = [sys.executable, "bench/make_archive.py", "--games", "60", "--style", style]
-        made = run(words, timeout=300).stdout
+        made = archive(60, style, 60)
         for at in range(0, len(made), 2000):
             yield made[at:at + 2500]
 

@@ -6,24 +6,16 @@ import signal
 import subprocess
 import sys
 import tempfile
-import time
 import unittest
-import zipfile
 
 import programs
-from programs import ROOT, need_program, run
+from programs import PACKAGE, ROOT, need_package, need_program, run
 
-PACKAGE = ROOT + "/python"
+setUpModule = need_package
 SIEVE = [ROOT + "/bin/gillspoon", "sieve"]
 NOTE = re.compile(
     rb"% byte (\d+): (.*); line (\d+)\n"
     rb"% bytes (\d+) to (\d+), up to [^\n]*\n(% the fault[^\n]*\n)?")
-
-
-def setUpModule():
-    # which takes bad games from here
-    import test_python
-    test_python.setUpModule()
 
 
 def sound(name, movetext=b"1. e4 e5 2. Nf3 *"):
@@ -89,27 +81,22 @@ def export(text, *options):
     return ran.stdout
 
 
-class Sieved:
+class Sieved(programs.Folder):
     """A run of the sieve on a text, and its two outputs."""
 
     def __init__(self, test, text, *options):
         need_program()
         self.folder = programs.new_folder(test)
         self.paths = [self.folder + it for it in ("/in.pgn", "/good.pgn", "/bad.pgn")]
-        with open(self.paths[0], "wb") as file:
-            file.write(text)
+        self.put("in.pgn", text)
         self.text = text
         self.ran = call([*options, *self.paths])
-        self.good, self.bad = (self.read(it) for it in self.paths[1:])
+        self.good, self.bad = (self.get(it) for it in self.paths[1:])
         found = list(NOTE.finditer(self.bad))
         ends = [it.start() for it in found[1:]] + [len(self.bad)]
         # (offset, reason, line, begin, end) as BAD tells, and the text that it has there
         self.notes = [(int(it[1]), it[2], int(it[3]), int(it[4]), int(it[5])) for it in found]
         self.pieces = [self.bad[it.end():end] for it, end in zip(found, ends)]
-
-    def read(self, path):
-        with open(path, "rb") as file:
-            return file.read()
 
     def left(self):
         """The input without what is in BAD, and without marks that joining left."""
@@ -120,7 +107,7 @@ class Sieved:
         return b"\n".join([*parts, self.text[at:]]).replace(b"\xef\xbb\xbf", b"")
 
 
-class SieveTest(unittest.TestCase):
+class SieveTest(programs.Folder, unittest.TestCase):
     def check(self, done, bad, dropped=""):
         """Nothing is lost: what is not in BAD is sound, and its export is GOOD."""
         told = done.ran.stderr.partition(b"good.pgn: dropped ")[2]
@@ -308,10 +295,8 @@ class SieveTest(unittest.TestCase):
 
     def test_refused_files(self):
         need_program()
-        folder = programs.new_folder(self)
-        file, link, other = folder + "/a.pgn", folder + "/link.pgn", folder + "/b.pgn"
-        with open(file, "wb") as out:
-            out.write(sound(b"A"))
+        folder, file = self.folder, self.put("a.pgn", sound(b"A"))
+        link, other = folder + "/link.pgn", folder + "/b.pgn"
         os.link(file, link)
         for words in ([file, file, other], [file, other, link], [file, other, other], [file],
                       [file, other, folder], [file, other, "-"], [file, "-", other],
@@ -325,8 +310,7 @@ class SieveTest(unittest.TestCase):
             self.assertEqual((ran.returncode, ran.stdout, ran.stderr.count(b"\n")), (3, b"", 1),
                              (words, ran.stderr))
         self.assertEqual(sorted(os.listdir(folder)), ["a.pgn", "link.pgn"])
-        with open(file, "rb") as text:
-            self.assertEqual(text.read(), sound(b"A"))
+        self.assertEqual(self.get("a.pgn"), sound(b"A"))
 
     def test_a_compressed_archive(self):
         import gzip
@@ -342,16 +326,15 @@ class SieveTest(unittest.TestCase):
         packed = gzip.compress(plain.text)
         outputs = [plain.folder + "/g", plain.folder + "/b"]
         self.assertEqual(call(["-", *outputs], input=packed).returncode, 1)
-        self.assertEqual([plain.read(it) for it in outputs], [plain.good, plain.bad])
-        with open(plain.paths[0], "wb") as file:
-            file.write(packed[:-9])
+        self.assertEqual([plain.get(it) for it in outputs], [plain.good, plain.bad])
+        plain.put("in.pgn", packed[:-9])
         for name, more in (("-", {"input": packed[:-9]}), (plain.paths[0], {})):
             ran = call([name, *outputs], **more)
             said = "<stdin>" if name == "-" else name
             self.assertEqual((ran.returncode, ran.stdout, ran.stderr.decode()), (
                 3, b"", "gillspoon: %s: Compressed file ended before the end-of-stream marker was "
                 "reached\n" % said))
-            self.assertEqual([plain.read(it) for it in outputs], [plain.good, plain.bad])
+            self.assertEqual([plain.get(it) for it in outputs], [plain.good, plain.bad])
 
     def test_a_pipe_is_read(self):
         done = Sieved(self, sound(b"A") + BAD[0][1])
@@ -359,7 +342,7 @@ class SieveTest(unittest.TestCase):
         ran = run(["sh", "-c", script, "sh", done.paths[0], sys.executable, *SIEVE,
                    done.folder + "/g", done.folder + "/b"])
         self.assertEqual((ran.returncode, ran.stderr), (1, b""))
-        self.assertEqual([done.read(done.folder + it) for it in ("/g", "/b")],
+        self.assertEqual([done.get(done.folder + it) for it in ("/g", "/b")],
                          [done.good, done.bad])
 
     def test_many_files(self):
@@ -367,14 +350,10 @@ class SieveTest(unittest.TestCase):
         bad = b'[White "Bo"]\n\n1. e4 e9 *\n'
         done = Sieved(self, sound(b"A") + bad)
         folder = done.folder + "/all"
-        os.makedirs(folder + "/sub")
-        with zipfile.ZipFile(folder + "/c.zip", "w") as archive:
-            archive.writestr("x.pgn", bad)
-            archive.writestr("y.pgn", sound(b"Y"))
         for name, text in (("a.pgn", sound(b"A") + bad), ("sub/b\n.pgn", sound(b"B")),
+                           ("c.zip", programs.zip_of(("x.pgn", bad), ("y.pgn", sound(b"Y")))),
                            ("left.pgn", b"<!DOCTYPE html>")):
-            with open(folder + "/" + name, "wb") as file:
-                file.write(text)
+            done.put("all/" + name, text)
         good = export(sound(b"A") + sound(b"Y") + sound(b"B") + sound(b"S"))
         notes = [(it, begin, end) for it, begin, end in (
             (folder + "/a.pgn", len(sound(b"A")), len(sound(b"A") + bad)),
@@ -387,7 +366,7 @@ class SieveTest(unittest.TestCase):
             ran = call(["--exclude", "left*", "-j", jobs, *outputs, folder, "-"],
                        input=sound(b"S"))
             self.assertEqual((ran.returncode, ran.stderr), (1, b""))
-            self.assertEqual((done.read(done.folder + "/g"), done.read(done.folder + "/b")),
+            self.assertEqual((done.get(done.folder + "/g"), done.get(done.folder + "/b")),
                              (good, wanted))
             self.assertIn(b"/g: 4 games\n%s/b: 2 bad games set aside, 50 bytes" %
                           done.folder.encode(), ran.stdout)
@@ -396,14 +375,14 @@ class SieveTest(unittest.TestCase):
             self.assertEqual((ran.returncode, ran.stdout, ran.stderr.decode()), (
                 3, b"", "gillspoon: %s/left.pgn: is a page of HTML or XML, and no text of games; "
                 "nothing was written\n" % folder))
-            self.assertEqual(done.read(done.folder + "/g"), good)
+            self.assertEqual(done.get(done.folder + "/g"), good)
 
     def test_one_output_alone(self):
         done = Sieved(self, sound(b"A") + BAD[0][1])
         for option, wanted in (("--good", done.good), ("--bad", done.bad)):
             ran = call([option, done.folder + "/it", done.paths[0]])
             self.assertEqual((ran.returncode, ran.stderr), (1, b""))
-            self.assertEqual(done.read(done.folder + "/it"), wanted)
+            self.assertEqual(done.get(done.folder + "/it"), wanted)
 
     def test_standard_input(self):
         text = sound(b"A") + BAD[0][1] + b"\n" + sound(b"B") + BAD[-1][1]
@@ -412,8 +391,8 @@ class SieveTest(unittest.TestCase):
             for more in ({"input": text}, {"stdin": file}):
                 ran = call(["-", done.folder + "/g", done.folder + "/b"], **more)
                 self.assertEqual((ran.returncode, ran.stderr), (1, b""))
-                self.assertEqual(done.read(done.folder + "/g"), done.good)
-                self.assertEqual(done.read(done.folder + "/b"), done.bad)
+                self.assertEqual(done.get(done.folder + "/g"), done.good)
+                self.assertEqual(done.get(done.folder + "/b"), done.bad)
         self.assertEqual(call(["-", *done.paths[1:]], input=sound(b"A")).returncode, 0)
 
     def test_dev_null_as_an_output(self):
@@ -428,8 +407,8 @@ class SieveTest(unittest.TestCase):
             if bad == null:
                 said = said.replace(b"games set aside", b"games dropped")
             self.assertEqual(ran.stdout, said)
-        self.assertEqual(done.read(done.folder + "/g"), done.good)
-        self.assertEqual(done.read(done.folder + "/b"), done.bad)
+        self.assertEqual(done.get(done.folder + "/g"), done.good)
+        self.assertEqual(done.get(done.folder + "/b"), done.bad)
         after = os.stat(null)
         self.assertEqual((before.st_ino, before.st_rdev), (after.st_ino, after.st_rdev))
 
@@ -474,9 +453,7 @@ class SieveTest(unittest.TestCase):
 
     def test_a_closed_pipe_ends_it_silently(self):
         done = Sieved(self, sound(b"A"))
-        ours, its = os.pipe()
-        os.close(ours)
-        with open(its, "wb") as closed:
+        with programs.closed_pipe() as closed:
             ran = call(done.paths, stdout=closed)
         self.assertEqual((ran.returncode, ran.stderr), (3, b""))
 
@@ -498,49 +475,27 @@ class SieveTest(unittest.TestCase):
         self.assertTrue(os.path.islink(done.folder + "/link.pgn"))
 
 
-class StoppedTest(unittest.TestCase):
+class StoppedTest(programs.Folder, unittest.TestCase):
     """A pipe that is not closed stands for a long file."""
 
-    def start(self, **more):
-        self.folder = programs.new_folder(self)
-        self.paths = [self.folder + it for it in ("/in.pgn", "/good.pgn", "/bad.pgn")]
-        for path in self.paths:
-            with open(path, "wb") as file:
-                file.write(b"old")
-        words = ["env", "--default-signal=INT", "--default-signal=HUP", *SIEVE, "-"]
-        started = subprocess.Popen([*words, *self.paths[1:]], stdin=subprocess.PIPE, **more)
-        self.addCleanup(started.stdin.close)
-        return started
-
-    def check_untouched(self):
-        self.assertEqual(sorted(os.listdir(self.folder)), ["bad.pgn", "good.pgn", "in.pgn"])
-        for path in self.paths:
-            with open(path, "rb") as file:
-                self.assertEqual(file.read(), b"old")
+    OUTPUTS = ["good.pgn", "bad.pgn"]
 
     def test_signals_leave_the_old_files(self):
+        for name in self.OUTPUTS:
+            self.put(name, b"old")
         for number in (signal.SIGTERM, signal.SIGINT, signal.SIGHUP):
-            started = self.start()
-            until = time.time() + 20
-            while len(os.listdir(self.folder)) < 5 and time.time() < until:
-                time.sleep(0.05)
-            started.send_signal(number)
-            self.assertEqual(started.wait(timeout=20), -number)
-            self.check_untouched()
+            ran = programs.signalled([*SIEVE, "-", *self.OUTPUTS], number, self.folder, files=2,
+                                     stdin=subprocess.PIPE)
+            self.assertEqual(ran[0], -number)
+            self.assertEqual({it: self.get(it) for it in os.listdir(self.folder)},
+                             dict.fromkeys(self.OUTPUTS, b"old"))
 
     def test_an_ignored_signal_does_not_end_it(self):
         """As nohup has it."""
-        folder = programs.new_folder(self)
-        words = [*SIEVE, "-", folder + "/good.pgn", folder + "/bad.pgn"]
-        with subprocess.Popen(["sh", "-c", 'trap "" HUP; exec "$@"', "sh", *words],
-                              stdin=subprocess.PIPE, stdout=subprocess.DEVNULL) as started:
-            until = time.time() + 20
-            while len(os.listdir(folder)) < 2 and time.time() < until:
-                time.sleep(0.05)
-            started.send_signal(signal.SIGHUP)
-            started.communicate(sound(b"A"))
-        self.assertEqual((started.returncode, sorted(os.listdir(folder))),
-                         (0, ["bad.pgn", "good.pgn"]))
+        words = ["sh", "-c", 'trap "" HUP; exec "$@"', "sh", *SIEVE, "-", *self.OUTPUTS]
+        ran = programs.signalled(words, signal.SIGHUP, self.folder, files=2, text=sound(b"A"),
+                                 stdin=subprocess.PIPE)
+        self.assertEqual((ran[0], sorted(os.listdir(self.folder))), (0, sorted(self.OUTPUTS)))
 
     def test_a_signal_while_a_temporary_file_is_made_leaves_none(self):
         script = """
@@ -555,11 +510,9 @@ def stopped(**more):
 tempfile.mkstemp = stopped
 _command.run(lambda out: _replacement.Replacement(sys.argv[2]))
 """
-        folder = programs.new_folder(self)
-        words = [sys.executable, "-c", script, PACKAGE, folder + "/good.pgn"]
-        ran = subprocess.run(words)
+        ran = run([sys.executable, "-c", script, PACKAGE, self.folder + "/good.pgn"])
         self.assertEqual(ran.returncode, -signal.SIGTERM)
-        self.assertEqual(os.listdir(folder), [])
+        self.assertEqual(os.listdir(self.folder), [])
 
     def test_a_file_that_is_overwritten_in_place(self):
         """Its size stays the same, and so does its name."""
@@ -577,17 +530,11 @@ def changed(part):
 _sieve.Part.run = changed
 sys.exit(_command.main())
 """
-        folder = programs.new_folder(self)
-        paths = [folder + it for it in ("/in.pgn", "/good.pgn", "/bad.pgn")]
-        for path in paths:
-            with open(path, "wb") as file:
-                file.write(b"old")
+        paths = [self.put(it, b"old") for it in ("in.pgn", *self.OUTPUTS)]
         ran = run([sys.executable, "-c", script, PACKAGE, "sieve", *paths])
         self.assertEqual((ran.returncode, ran.stdout, ran.stderr.decode()), (
             3, b"", "gillspoon: %s: changed while it was read; nothing was written\n" % paths[0]))
-        for path, text in zip(paths, (b"new", b"old", b"old")):
-            with open(path, "rb") as file:
-                self.assertEqual(file.read(), text)
+        self.assertEqual([self.get(it) for it in paths], [b"new", b"old", b"old"])
 
     def test_progress_on_a_terminal_alone(self):
         """It is shown after a second, which a program on the way to standard input takes."""
@@ -595,10 +542,8 @@ sys.exit(_command.main())
             "from gillspoon import _command, _reports\n" \
             "times = iter(range(1000000)); _reports.time.monotonic = lambda: next(times)\n" \
             "sys.exit(_command.main())"
-        folder = programs.new_folder(self)
-        paths = [folder + it for it in ("/in.pgn", "/good.pgn", "/bad.pgn")]
-        with open(paths[0], "wb") as file:
-            file.write(sound(b"A") * 1000)
+        paths = [self.put("in.pgn", sound(b"A") * 1000),
+                 *(os.path.join(self.folder, it) for it in self.OUTPUTS)]
         words = [sys.executable, "-c", script, PACKAGE, "sieve", *paths]
         shown = programs.on_a_terminal(words)
         self.assertRegex(shown, r"gillspoon: file 1 of 1, 1,000 games, 0\.1 of 0\.1 MB, about 0:00 left")

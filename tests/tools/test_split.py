@@ -4,10 +4,9 @@ import subprocess
 import tempfile
 import unittest
 
-from programs import Folder, need_program, not_tried, opens_closed_streams, run, without_rights
+from programs import (HEAD, Folder, files_up_to, full_device, need_program, opens_closed_streams,
+                      run, without_rights)
 
-HEAD = (b'[Event "?"]\n[Site "?"]\n[Date "????.??.??"]\n[Round "?"]\n[White "?"]\n[Black "?"]\n'
-        b'[Result "*"]\n\n')
 UNKNOWN = HEAD + b"*\n\n"
 UNWRITTEN = b"byte %d: output cannot be written\n"
 
@@ -24,7 +23,7 @@ class SplitTest(Folder, unittest.TestCase):
         return {name: self.get(name) for name in os.listdir(self.folder)}
 
     def check(self, ran, status, err, files):
-        self.assertEqual((ran.returncode, ran.stdout, ran.stderr), (status, b"", err))
+        super().check(ran, status, b"", err)
         self.assertEqual(self.files(), files)
 
     def test_two_games(self):
@@ -85,15 +84,14 @@ class SplitTest(Folder, unittest.TestCase):
         self.assertEqual(sorted(os.listdir(self.folder)), ["000001.pgn", "000002.pgn"])
 
     def test_full_device(self):
-        if not os.path.exists("/dev/full"):
-            not_tried("/dev/full is missing")
-        os.symlink("/dev/full", self.folder + "/000002.pgn")
+        with full_device() as full:
+            os.symlink(full.name, self.folder + "/000002.pgn")
         ran = self.split(b"* 1. e4 *")
         self.assertEqual((ran.returncode, ran.stderr), (1, UNWRITTEN % 2))
 
     def test_limit_of_a_file(self):
         # a signal would end the program: it is ignored, and the write fails
-        ran = self.split(b"* 1. e4 {" + b"word " * 300 + b"} *", preexec_fn=limit_files)
+        ran = self.split(b"* 1. e4 {" + b"word " * 300 + b"} *", preexec_fn=files_up_to(512))
         self.assertEqual(ran.returncode, 1)
         self.assertTrue(ran.stderr.endswith(b": output cannot be written\n"), ran.stderr)
         files = self.files()
@@ -111,39 +109,28 @@ class SplitTest(Folder, unittest.TestCase):
         self.assertEqual(self.files(), {"000001.pgn": UNKNOWN})
 
 
-def limit_files():
-    import resource
-    import signal
-    signal.signal(signal.SIGXFSZ, signal.SIG_IGN)
-    resource.setrlimit(resource.RLIMIT_FSIZE, (512, 512))
-
-
 def limit_open_files():
     import resource
     resource.setrlimit(resource.RLIMIT_NOFILE, (64, 64))
 
 
-class InputTest(unittest.TestCase):
+class InputTest(Folder, unittest.TestCase):
     """FILE is what is read; without it, standard input."""
 
     def setUp(self):
+        super().setUp()
         self.program = need_program()
 
     def test_file_and_standard_input(self):
-        with tempfile.NamedTemporaryFile() as games:
-            games.write(b"* * *")
-            games.flush()
-            for words, text in ((["check", games.name], b"games: 3, plies: 0\n"),
-                                (["check"], b"games: 1, plies: 0\n")):
-                ran = run([self.program, *words], input=b"*")
-                self.assertEqual((ran.returncode, ran.stdout, ran.stderr), (0, text, b""))
+        for words, text in (([self.put("games.pgn", b"* * *")], b"games: 3, plies: 0\n"),
+                            ([], b"games: 1, plies: 0\n")):
+            self.check(run([self.program, "check", *words], input=b"*"), 0, text)
 
     def test_file_that_cannot_be_opened(self):
         for command in ("export", "check", "list"):
             for name in ("/missing/file", "/"):
-                ran = run([self.program, command, name], input=b"*")
-                self.assertEqual((ran.returncode, ran.stdout, ran.stderr),
-                                 (1, b"", b"byte 0: input cannot be read\n"))
+                self.check(run([self.program, command, name], input=b"*"), 1, b"",
+                           b"byte 0: input cannot be read\n")
 
     def test_closed_standard_input(self):
         for command in ("export", "check", "list"):
@@ -151,12 +138,10 @@ class InputTest(unittest.TestCase):
             answer = (1, b"", b"byte 0: input cannot be read\n")
             if opens_closed_streams(self.program):
                 answer = (0, b"games: 0, plies: 0\n" if command == "check" else b"", b"")
-            self.assertEqual((ran.returncode, ran.stdout, ran.stderr), answer)
+            self.check(ran, *answer)
 
     def test_full_standard_output(self):
-        if not os.path.exists("/dev/full"):
-            not_tried("/dev/full is missing")
         for command in ("export", "check", "list", "--help"):
-            with open("/dev/full", "wb") as full:
+            with full_device() as full:
                 ran = run([self.program, command], input=b"*", stdout=full)
             self.assertEqual((ran.returncode, ran.stderr), (1, b"output cannot be written\n"))

@@ -5,11 +5,9 @@ import subprocess
 import threading
 import unittest
 
-from programs import (Folder, need, need_program, not_tried, opens_closed_streams, run,
-                      without_rights)
+from programs import (HEAD, Folder, full_device, need, need_program, not_tried,
+                      opens_closed_streams, run, without_rights)
 
-HEAD = (b'[Event "?"]\n[Site "?"]\n[Date "????.??.??"]\n[Round "?"]\n[White "?"]\n[Black "?"]\n'
-        b'[Result "*"]\n\n')
 UNKNOWN = HEAD + b"*\n\n"
 TWO = b"1. e4 e5 2. Nf3 * *\n"
 UNREAD = b"byte 0: input cannot be read\n"
@@ -32,9 +30,6 @@ class StreamTest(Folder, unittest.TestCase):
     def closing(self, stream, *words, **more):
         """Calls the program with a standard stream closed, as a shell closes it."""
         return run(["sh", "-c", 'exec "$@" %s' % stream, "sh", self.program, *words], **more)
-
-    def check(self, ran, status, out, err):
-        self.assertEqual((ran.returncode, ran.stdout, ran.stderr), (status, out, err))
 
     def test_pipe_that_gives_a_byte_at_a_time(self):
         for task, text in WRITTEN.items():
@@ -124,10 +119,8 @@ class StreamTest(Folder, unittest.TestCase):
                 self.assertRegex(err, rb"^byte \d+: output cannot be written\n$")
 
     def test_full_standard_output_before_the_end(self):
-        if not os.path.exists("/dev/full"):
-            not_tried("/dev/full is missing")
         text = b"*\n" * 20000
-        with open("/dev/full", "wb") as full:
+        with full_device() as full:
             ran = run([self.program, "export"], input=text, stdout=full)
         self.assertEqual(ran.returncode, 1)
         place = int(ran.stderr.split(b":")[0].split()[1])
@@ -137,17 +130,15 @@ class StreamTest(Folder, unittest.TestCase):
 
     def test_full_standard_output_at_the_end(self):
         """What fits into the buffer is written by the last flush."""
-        if not os.path.exists("/dev/full"):
-            not_tried("/dev/full is missing")
         path = self.put("two.pgn", TWO)
         for words in (["--help"], ["--version"], ["export", "--checked", path],
                       *[[it] for it in WRITTEN], *[[it, path] for it in WRITTEN]):
-            with open("/dev/full", "wb") as full:
+            with full_device() as full:
                 ran = run([self.program, *words], input=TWO, stdout=full)
             self.assertEqual((ran.returncode, ran.stderr), (1, UNWRITTEN), words)
         # a fault comes first, and the flush behind it tells nothing more
         for task in WRITTEN:
-            with open("/dev/full", "wb") as full:
+            with full_device() as full:
                 ran = run([self.program, task], input=b"* e9", stdout=full)
             self.assertEqual((ran.returncode, ran.stderr), (1, NO_MOVE), task)
 

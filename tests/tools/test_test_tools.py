@@ -5,7 +5,7 @@ import shutil
 import textwrap
 import unittest
 
-from programs import ROOT, new_folder, run
+from programs import ROOT, Folder, run
 
 MIXED = """
     import unittest
@@ -43,21 +43,18 @@ MODULE = """
 """
 
 
-class TestToolsTest(unittest.TestCase):
+class TestToolsTest(Folder, unittest.TestCase):
     def setUp(self):
-        self.root = new_folder(self)
+        super().setUp()
         for path in ("bin/test_tools", "tests/tools/conftest.py", "tests/tools/pytest.ini"):
-            os.makedirs(os.path.dirname(os.path.join(self.root, path)), exist_ok=True)
-            shutil.copy(os.path.join(ROOT, path), os.path.join(self.root, path))
+            shutil.copy(os.path.join(ROOT, path), self.put(path, ""))
 
     def write(self, name, text):
-        path = os.path.join(self.root, "tests/tools", name)
-        with open(path, "w", encoding="ascii") as file:
-            file.write(textwrap.dedent(text))
+        self.put("tests/tools/" + name, textwrap.dedent(text))
 
     def call(self, *words):
         """The status, the output, and its last line without the time."""
-        ran = run([self.root + "/bin/test_tools", *words], cwd="/")
+        ran = run([self.folder + "/bin/test_tools", *words], cwd="/")
         self.assertEqual(ran.stderr, b"")
         shown = ran.stdout.decode()
         return ran.returncode, shown, re.sub("^=+ | in .*", "", shown.splitlines()[-1])
@@ -81,12 +78,12 @@ class TestToolsTest(unittest.TestCase):
         self.assertRegex(shown, r"SKIPPED .*: server is missing")
         for words in (["-n0"], ["-n2", "skipped"]):
             status, shown, counts = self.call("--all", *words)
-            self.assertEqual((status, counts), (1, "1 passed, 1 error"))
-            self.assertIn("server is missing", shown)
+            self.assertEqual((status, counts), (1, "1 passed, 1 skipped"))
+            self.assertRegex(shown, r"\nSKIPPED .*: server is missing\n.*\n$")
         self.write("test_skipped.py", "import unittest\nraise unittest.SkipTest('it is missing')\n")
         status, shown, counts = self.call("--all", "-n0")
         self.assertIn("it is missing", shown)
-        self.assertEqual((status, counts), (2, "1 error"))
+        self.assertEqual((status, counts), (1, "1 skipped"))
 
     def test_names(self):
         self.write("test_one.py", "raise OSError('cannot be loaded')\n")
@@ -97,7 +94,7 @@ class TestToolsTest(unittest.TestCase):
             status, shown, _ = self.call(*words)
             self.assertNotEqual(status, 0)
             self.assertIn("cannot be loaded", shown)
-        ran = run([self.root + "/bin/test_tools", "two", "four"])
+        ran = run([self.folder + "/bin/test_tools", "two", "four"])
         self.assertEqual((ran.returncode, ran.stdout, ran.stderr), (
             2, b"", b"bin/test_tools: there is no tests/tools/test_four.py\n"))
 

@@ -4,7 +4,7 @@ import re
 import sys
 import unittest
 
-from programs import ROOT, need, new_folder, run
+from programs import ROOT, Folder, need, run
 
 # Names the files of the repository, new ones too.
 WORKING = ["git", "ls-files", "--cached", "--others", "--exclude-standard"]
@@ -129,18 +129,12 @@ class RealTree(unittest.TestCase):
         self.assertEqual((ran.returncode, ran.stdout.decode()), (0, ""), ran.stderr)
 
 
-class MadeTree(unittest.TestCase):
+class MadeTree(Folder, unittest.TestCase):
     def setUp(self):
         need("vulture")
-        self.folder = new_folder(self)
+        super().setUp()
         for name, text in FILES.items():
-            self.write(name, text)
-
-    def write(self, name, text):
-        path = os.path.join(self.folder, name)
-        os.makedirs(os.path.dirname(path), exist_ok=True)
-        with open(path, "w", encoding="utf-8") as file:
-            file.write(text)
+            self.put(name, text)
 
     def unused(self, *words):
         ran = run([sys.executable, "bin/unused", "--root", self.folder, *words])
@@ -151,10 +145,10 @@ class MadeTree(unittest.TestCase):
 
     def change(self, name, old, new):
         self.assertEqual(FILES[name].count(old), 1, old)
-        self.write(name, FILES[name].replace(old, new))
+        self.put(name, FILES[name].replace(old, new))
 
     def add(self, name, text):
-        self.write(name, FILES[name] + text)
+        self.put(name, FILES[name] + text)
 
     def test_what_is_used_is_not_listed(self):
         self.assertEqual(self.unused(), [])
@@ -193,7 +187,7 @@ class MadeTree(unittest.TestCase):
         for name, text, expected in planted:
             self.add(name, text)
             self.assertEqual(self.unused(), expected, text)
-            self.write(name, FILES[name])
+            self.put(name, FILES[name])
 
     def test_what_only_itself_or_an_import_names_is_listed(self):
         name = "crates/pgn_lexer/specs/Tokens.antt"
@@ -207,11 +201,11 @@ class MadeTree(unittest.TestCase):
         self.assertEqual(self.unused(), ["lemma nothing", "lemma total_small"])
         path = "Rattle.pgn_lexer.proofs.Sums.total_small"
         text = FILES[answers].replace("use Rattle.pgn_lexer.proofs.Sums.{total_small}\n", "")
-        self.write(answers, text.replace("= total_small", "= " + path))
+        self.put(answers, text.replace("= total_small", "= " + path))
         self.assertEqual(self.unused(), [])
 
     def test_what_a_later_file_passes_on_is_used(self):
-        self.write("crates/pgn_lexer/proofs/Words.antt",
+        self.put("crates/pgn_lexer/proofs/Words.antt",
                    "-- Words.\npub use Rattle.pgn_lexer.specs.Tokens.{Token, total}\n")
         name = "crates/pgn_lexer/proofs/Sums.antt"
         self.change(name, "pgn_lexer.specs.Tokens.", "pgn_lexer.proofs.Words.")
@@ -230,7 +224,7 @@ class MadeTree(unittest.TestCase):
         self.change("crates/pgn_lexer/src/token.rt", "self.len.min(MOST)",
                     'self.len // MOST\n            .min(count("MOST"))')
         self.assertEqual(self.unused(), ["const MOST"])
-        self.write("crates/pgn_lexer/src/token.rt", FILES["crates/pgn_lexer/src/token.rt"])
+        self.put("crates/pgn_lexer/src/token.rt", FILES["crates/pgn_lexer/src/token.rt"])
         self.change("bin/shared.py", "return WORDS", 'return "WORDS"  # WORDS')
         self.assertEqual(self.unused(), ["variable WORDS"])
 

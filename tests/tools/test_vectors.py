@@ -3,9 +3,7 @@ import glob
 import json
 import os
 import re
-import resource
 import shutil
-import signal
 import sys
 import unittest
 
@@ -351,9 +349,7 @@ class Conform(unittest.TestCase):
                              (2, b"", "pgn_conform: there is no vector %s\n" % name))
 
     def test_a_closed_pipe_ends_it_quietly(self):
-        ours, its = os.pipe()
-        os.close(ours)
-        with open(its, "wb") as closed:
+        with programs.closed_pipe() as closed:
             ran = run(["bin/pgn_conform", "--theme", "limits", "cat"], stdout=closed)
         self.assertEqual((ran.returncode, ran.stderr), (3, b""))
 
@@ -383,12 +379,7 @@ class Conform(unittest.TestCase):
         old = folder + "/limits.tag-pairs.in"
         with open(old, "w", encoding="ascii") as file:
             file.write("old")
-
-        def limit():
-            signal.signal(signal.SIGXFSZ, signal.SIG_IGN)
-            resource.setrlimit(resource.RLIMIT_FSIZE, (64, 64))
-
-        ran = run(["bin/pgn_conform", "--files", folder], preexec_fn=limit)
+        ran = run(["bin/pgn_conform", "--files", folder], preexec_fn=programs.files_up_to(64))
         self.assertEqual((ran.returncode, ran.stdout, ran.stderr.count(b"\n")), (3, b"", 1))
         with open(old, encoding="ascii") as file:
             self.assertEqual((os.listdir(folder), file.read()), (["limits.tag-pairs.in"], "old"))

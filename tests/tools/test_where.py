@@ -7,16 +7,12 @@ import sys
 import unittest
 import zipfile
 
-from programs import ROOT, Folder, need, need_program, run
-from test_python import setUpModule as _set_up_package
+from programs import ROOT, Folder, closed_pipe, need, need_package, need_program, run
 
+setUpModule = need_package
 WHERE = [ROOT + "/bin/gillspoon", "where"]
 TAGS = b'[Event "Cup"]\n[White "Ann"]\n[Black "Bob"]\n\n'
 GAME = 'game 1: White "Ann", Black "Bob", Event "Cup"\n'
-
-
-def setUpModule():
-    _set_up_package()
 
 
 class WhereTest(Folder, unittest.TestCase):
@@ -30,8 +26,7 @@ class WhereTest(Folder, unittest.TestCase):
 
     def lines(self, text, offset):
         """The lines that are printed for a byte of a text, without the file's name."""
-        with open(self.file, "wb") as file:
-            file.write(text)
+        self.put("a.pgn", text)
         ran = self.call([self.file, str(offset)])
         self.assertEqual((ran.returncode, ran.stderr), (0, b""), text)
         return ran.stdout.decode("utf-8").replace(self.file + ": ", "", 1).split("\n")
@@ -163,8 +158,7 @@ class WhereTest(Folder, unittest.TestCase):
 
     def test_message(self):
         program = need_program()
-        with open(self.file, "wb") as file:
-            file.write(TAGS + b"1. e4 {byte 3: no} *\n\n" + TAGS + b"1. e4 e5 2. Ke3 *\n")
+        self.put("a.pgn", TAGS + b"1. e4 {byte 3: no} *\n\n" + TAGS + b"1. e4 e5 2. Ke3 *\n")
         for task in ("check", "export", "list"):
             told = subprocess.run([program, task, self.file], stdout=subprocess.PIPE,
                                   stderr=subprocess.STDOUT, check=False).stdout
@@ -179,8 +173,7 @@ class WhereTest(Folder, unittest.TestCase):
 
     def test_other_lines_are_passed_on(self):
         """A sound file has no message, so all lines are passed on, and the status is 0."""
-        with open(self.file, "wb") as file:
-            file.write(TAGS + b"1. e4 *\n")
+        self.put("a.pgn", TAGS + b"1. e4 *\n")
         told = subprocess.run([need_program(), "check", self.file], stdout=subprocess.PIPE,
                               stderr=subprocess.STDOUT, check=False).stdout
         self.assertEqual(told, b"games: 1, plies: 1\n")
@@ -193,8 +186,7 @@ class WhereTest(Folder, unittest.TestCase):
 
     def test_lines_that_say_that_something_failed(self):
         """They are passed on, and the status says so."""
-        with open(self.file, "wb") as file:
-            file.write(TAGS + b"1. e4 *\n")
+        self.put("a.pgn", TAGS + b"1. e4 *\n")
         for told in (b"byte 0: input cannot be read\n", b"byte 3: output cannot be written\n",
                      b"output cannot be written\n", b"out of memory\n",
                      b"arguments cannot be read\n", b"gillspoon: x: No such file or directory\n",
@@ -204,8 +196,7 @@ class WhereTest(Folder, unittest.TestCase):
             self.assertEqual((ran.returncode, ran.stdout, ran.stderr), (1, told + b"more\n", b""))
 
     def test_each_message_is_shown(self):
-        with open(self.file, "wb") as file:
-            file.write(TAGS + b"1. e4 *\n")
+        self.put("a.pgn", TAGS + b"1. e4 *\n")
         ran = self.call([self.file], input=b"byte 1: no\ngames: 1\nbyte 46: not a move\n")
         self.assertEqual((ran.returncode, ran.stderr), (1, b""))
         game = 'game 1: White "Ann", Black "Bob", Event "Cup"'
@@ -239,8 +230,7 @@ class WhereTest(Folder, unittest.TestCase):
         self.assertTrue(records.startswith(wanted + '{"kind": "summary", '), records)
 
     def test_messages_of_lint_without_a_name(self):
-        with open(self.file, "wb") as file:
-            file.write(b"1. e9 *\n")
+        self.put("a.pgn", b"1. e9 *\n")
         for told in (b"<stdin>:1:4: not a move (game 1, ? - ?)\n", b"byte 3: not a move\n",
                      b"gillspoon: <stdin>: byte 3: not a move\n"):
             ran = self.call([self.file], input=told)
@@ -346,8 +336,7 @@ class WhereTest(Folder, unittest.TestCase):
                          b"(game 1, ? - ?)\n1. e9 *\n   ^\n")
 
     def test_errors(self):
-        with open(self.file, "wb") as file:
-            file.write(b"*\n")
+        self.put("a.pgn", b"*\n")
         for words, told, status in (
                 ([self.file, "x"], b"", 2), ([self.file, "-1"], b"", 2),
                 ([self.file, "1", "2"], b"", 2),
@@ -394,8 +383,7 @@ class WhereTest(Folder, unittest.TestCase):
                              'game %d: White "Ann", Black "Bob", Event "Cup"' % number)
 
     def test_without_the_library(self):
-        with open(self.file, "wb") as file:
-            file.write(b"*\n")
+        self.put("a.pgn", b"*\n")
         env = dict(os.environ, GILLSPOON_LIBRARY=self.folder + "/none")
         ran = run([sys.executable, *WHERE, self.file, "0"], env=env)
         self.assertEqual((ran.returncode, ran.stdout, ran.stderr.count(b"\n")), (127, b"", 1))
@@ -409,11 +397,8 @@ class WhereTest(Folder, unittest.TestCase):
                          (3, b"gillspoon: standard output is closed\n"))
 
     def test_a_closed_pipe_ends_it_silently(self):
-        with open(self.file, "wb") as file:
-            file.write(b"1. e9 *\n")
+        self.put("a.pgn", b"1. e9 *\n")
         for words in ([self.file, "0"], [self.file]):
-            ours, its = os.pipe()
-            os.close(ours)
-            with open(its, "wb") as closed:
+            with closed_pipe() as closed:
                 ran = self.call(words, stdout=closed, input=b"byte 3: no\nmore\n")
             self.assertEqual((ran.returncode, ran.stderr), (3, b""))

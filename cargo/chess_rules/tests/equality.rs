@@ -1,7 +1,8 @@
-//! Positions are equal exactly if all six fields of their FENs are, and then have the same hash.
+//! Positions are equal exactly if all six fields of their FENs are, and then have the same hash. So
+//! are moves that were played, if the moves and the positions after them are.
 //! Written for Cargo.
 
-use chess_rules::{try_pair, Move, Parts, Piece, Position, Probes, Square};
+use chess_rules::{try_pair, LegalMoves, Move, Parts, Piece, Played, Position, Probes, Square};
 use std::collections::hash_map::RandomState;
 use std::collections::{HashMap, HashSet};
 use std::hash::BuildHasher;
@@ -109,4 +110,28 @@ fn what_is_equal_is_one_key() {
     }
     assert_eq!(counts.len(), 2);
     assert_eq!(counts[&after("e2e3 e7e6")], 2);
+}
+
+#[test]
+fn a_played_move_is_its_move_and_the_position_after_it() {
+    let initial = Position::initial();
+    let first: Vec<Played> = LegalMoves::new(&initial).into_iter().collect();
+    let again: HashSet<Played> = LegalMoves::new(&initial).into_iter().collect();
+    assert_eq!((first.len(), again.len()), (20, 20));
+    assert!(first.iter().all(|it| again.contains(it)));
+    let hasher = RandomState::new();
+    for one in &first {
+        for other in &first {
+            assert_eq!(one == other, one.mv == other.mv);
+        }
+    }
+    // the same move from another position
+    let knights_out = after("g1f3 g8f6 f3g1 f6g8");
+    let mut repeated = LegalMoves::new(&knights_out).into_iter();
+    let same_move = repeated.find(|it| it.mv == first[0].mv).unwrap();
+    assert!(same_move != first[0] && !again.contains(&same_move));
+    assert_eq!(
+        hasher.hash_one(first[0]),
+        hasher.hash_one(again.get(&first[0]).unwrap())
+    );
 }

@@ -3,7 +3,7 @@
 use chess_rules::{Position, Probes};
 use pgn_game::{
     check, check_slice, convert, convert_checked, convert_slice, find_move, read_move, Converter,
-    Games, Inlet, Mode, Notation, Nowhere, Outlet, Sink,
+    Games, Inlet, Items, Mode, Notation, Nowhere, Outlet, Sink,
 };
 use pgn_layout::{fits_tag_line, write_tag, CurrentLine, Layout};
 use std::cell::RefCell;
@@ -31,6 +31,7 @@ fn a_converter_has_a_level() {
     let sentence = "the number of levels L is at least 1";
     refuses(sentence, || Converter::<64, 0>::new(FULL));
     refuses(sentence, || Games::<64, 0>::new(FULL));
+    refuses(sentence, || Items::<64, 0>::new());
     refuses(sentence, || {
         convert_slice::<64, 0, _>(b"*", &mut Nowhere, FULL)
     });
@@ -136,23 +137,16 @@ fn a_sink_gets_a_byte() {
     refuses(sentence, || Outlet::new(Vec::new()).write_some(b""));
 }
 
+/// Used `Probes` are no error: the pairs are counted on top.
 #[test]
-fn find_move_takes_new_probes() {
-    let mut probes = Probes::new();
-    assert!(find_move(&Position::initial(), b"e4", &mut probes).is_ok());
-    refuses("find_move takes new Probes", move || {
-        find_move(&Position::initial(), b"e4", &mut probes)
-    });
-}
-
-#[test]
-fn read_move_takes_new_probes() {
+fn a_move_is_counted_on_top() {
     let mut probes = Probes::new();
     let start = Position::initial();
+    assert!(find_move(&start, b"Nf3", &mut probes).is_ok());
+    assert!(find_move(&start, b"Nf3", &mut probes).is_ok());
     assert!(read_move(&start, b"e2e4", Notation::Uci, &mut probes).is_ok());
-    refuses("read_move takes new Probes", move || {
-        read_move(&start, b"e2e4", Notation::Uci, &mut probes)
-    });
+    assert!(read_move(&start, b"Nf3", Notation::San, &mut probes).is_ok());
+    assert_eq!(probes.count(), 4);
 }
 
 #[test]

@@ -1,7 +1,9 @@
 //! The errors are those of Rust: `?` takes each into a `Box<dyn Error>`. Written for Cargo.
 
 use chess_text::{read_fen, read_form, resolve};
-use pgn_game::{convert_slice, Converter, Games, Inlet, LexReason, Mode, Nowhere, Outlet, Reason};
+use pgn_game::{
+    convert_slice, Converter, Games, Inlet, Items, LexReason, Mode, Nowhere, Outlet, Reason,
+};
 use pgn_game::{ReadFailed, Sink, Source};
 use std::error::Error;
 use std::io::{self, Read, Write};
@@ -130,6 +132,15 @@ fn what_a_user_prints_can_be_printed() {
         .next(&mut Inlet::new(b"e4 *".as_slice()), &mut Nowhere)
         .unwrap();
     assert_eq!(format!("{games:?}"), "Games { games: 1, .. }");
+    let mut items = Items::<64, 33>::default();
+    let shown = format!("{items:?}");
+    assert_eq!(shown, "Items { place: 0, games: 0, depth: 0, .. }");
+    let mut source = Inlet::new(b"* 1. e4 (d4) *".as_slice());
+    while items.depth() == 0 {
+        items.next(&mut source).unwrap();
+    }
+    let shown = format!("{items:?}");
+    assert_eq!(shown, "Items { place: 9, games: 1, depth: 1, .. }");
     let position = format!("{:?}", games.position().unwrap());
     assert!(position.starts_with(
         "Position { board: rnbqkbnr/pppppppp/......../......../....P.../......../PPPP.PPP/RNBQKBNR, "

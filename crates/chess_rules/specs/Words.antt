@@ -125,10 +125,12 @@ pub record IsFrom (word result : ℕ) : Type 0 where
 unfoldable pub members : ℕ → List Square
 members word = filter (λ s. has word (cell_of s)) squares
 
--- the set has the pieces of one colour that would attack t, were all squares between empty
+-- each piece in the set is of one colour, and would attack t, were all squares between empty
 pub record ArePossible (b : List (Option Piece)) (t : Square) (set : ℕ) : Type 0 where
   pub by : Colour
-  pub places : Places set (may_attack b by t)
+  pub which : Square → Bool
+  pub places : Places set which
+  pub attack : (s : Square) → which s ≡ true → may_attack b by t s ≡ true
 
 -- some square is in the set
 unfoldable pub has_any : ℕ → Bool
@@ -158,6 +160,10 @@ pub record TakesLowest (old new : ℕ) (s : Square) : Type 0 where
   pub rest : Sets old new (cell_of s) false
   pub next : members old ≡ s ∷ members new
 
+pub record TakesNone (old new : ℕ) : Type 0 where
+  pub none : HasNone old
+  pub same : new ≡ old
+
 abbrev pub Takes : Option Square → ℕ → ℕ → Type 0
-Takes None old new = HasNone old
+Takes None old new = TakesNone old new
 Takes (Some s) old new = TakesLowest old new s

@@ -8,7 +8,7 @@ ghost use Rattle.chess_rules.specs.StepKinds.{IsKindOfStep};
 ghost use Rattle.chess_rules.specs.Legal.{legal, is_legal};
 ghost use Rattle.chess_rules.specs.Reach.{king_square as king_square_of};
 
-use crate::attack::{is_attacked, is_attacked_by, possible_attackers, sliders};
+use crate::attack::{attacks_from, is_attacked, is_attacked_by, sliders};
 use crate::board::Board;
 use crate::geometry::is_aligned;
 use crate::piece::{Colour, Kind};
@@ -20,7 +20,8 @@ use crate::step::{StepKind, board_after, crossed, is_double_step};
 impl Position {
     // Whether the step gives check. `board` is the board after it.
     //
-    // A plain step gives check only by the piece that moves, or along a line that this leaves.
+    // A plain step gives check by the piece that moves, or by a rook, a bishop or a queen along a
+    // line that this leaves.
     #[inline(always)]
     fn gives_check(&self, mv: &Move, step_kind: StepKind, board: &Board) -> bool
         requires kind { IsKindOfStep step_kind self.now mv.now }
@@ -28,14 +29,16 @@ impl Position {
         ensures { result ≡ king_attacked board.now (other self.now.side) }
     {
         let king = self.other_king;
-        let possible = possible_attackers(board, self.side, king);
-        if matches!(step_kind, StepKind::Plain)
-            && !is_aligned(mv.from, king)
-            && !possible.has(mv.to)
-        {
+        if !matches!(step_kind, StepKind::Plain) {
+            return is_attacked(board, self.side, king);
+        }
+        if attacks_from(board, self.side, mv.to, king) {
+            return true;
+        }
+        if !is_aligned(mv.from, king) {
             return false;
         }
-        is_attacked_by(board, possible, king)
+        is_attacked_by(board, sliders(board, self.side, king), king)
     }
 
     // Whether the king of the side to move is safe after its step.

@@ -1,15 +1,17 @@
 //! Which squares are attacked on a board.
 
-ghost use Rattle.std.specs.Prelude.{◌≡◌, ◌&&◌};
+ghost use Rattle.std.specs.Prelude.{IsTrue, ◌≡◌, ◌&&◌};
 ghost use Rattle.std.specs.List.{list_any};
-ghost use Rattle.chess_rules.specs.Board.{cell_of};
+ghost use Rattle.chess_rules.specs.Board.{at, cell_of, has_colour};
 ghost use Rattle.chess_rules.specs.Attacks as spec;
 ghost use Rattle.chess_rules.specs.Pairs as pairs;
 ghost use Rattle.chess_rules.specs.Reach as reach;
 ghost use Rattle.chess_rules.specs.Words.{ArePossible, Places, has, members};
 
-use crate::board::Board;
-use crate::geometry::{adjacent, between, diagonals, knights_to, pawns_to, rank_and_file, steep};
+use crate::board::{Board, PAWN_CODE};
+use crate::geometry::{
+    adjacent, between, diagonals, knights_to, origins_by_code, pawns_to, rank_and_file, steep,
+};
 use crate::piece::{Colour, Kind};
 use crate::square::Square;
 use crate::squares::Squares;
@@ -82,6 +84,19 @@ pub(crate) fn possible_attackers(board: &Board, by: Colour, target: Square) -> S
     near & board.of_colour(by) | sliders(board, by, target)
 }
 
+// Whether the piece on a square, which is of this colour, attacks the target.
+#[inline(always)]
+pub(crate) fn attacks_from(board: &Board, by: Colour, from: Square, target: Square) -> bool
+    requires { IsTrue (has_colour by (at board.now from)) }
+    ensures { result ≡ spec.attacks board.now from target }
+{
+    let code = board.code_at(from);
+    if code == PAWN_CODE {
+        return pawns_to(by, target).has(from);
+    }
+    origins_by_code(code, target).has(from) && is_clear(board, from, target)
+}
+
 // Whether a piece of the colour attacks the square.
 //
 // Mostly at most one piece could attack it. Even for several there is no loop: the compiler drops a
@@ -92,7 +107,7 @@ pub(crate) fn is_attacked(board: &Board, by: Colour, target: Square) -> bool
     is_attacked_by(board, possible_attackers(board, by, target), target)
 }
 
-// Whether one of the `possible_attackers` of the target attacks it.
+// Whether one of these `possible_attackers` of the target attacks it.
 #[inline(always)]
 pub(crate) fn is_attacked_by(board: &Board, possible: Squares, target: Square) -> bool
     requires { ArePossible board.now target possible }

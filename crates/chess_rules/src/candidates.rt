@@ -1,6 +1,6 @@
 //! The origins from which a piece may reach a square, seen from that square.
 
-ghost use Rattle.std.specs.Prelude.{◌≡◌, ◌≤◌, ◌≢◌, ◌&&◌, AllPairs, false, length};
+ghost use Rattle.std.specs.Prelude.{◌≡◌, ◌≤◌, ◌≢◌, ◌&&◌, ◌∷◌, [], AllPairs, MatchOption, false, length};
 ghost use Rattle.std.specs.List.Sorted.{IsPermutation};
 ghost use Rattle.arrayvec.specs.ArrayVec.{array_vec_len};
 ghost use Rattle.chess_rules.specs.Candidate.{candidates, lone};
@@ -8,13 +8,14 @@ ghost use Rattle.chess_rules.specs.Reach.{may_see};
 ghost use Rattle.chess_rules.specs.Step.{own};
 ghost use Rattle.chess_rules.specs.Words.{Places, members};
 
-use crate::attack::clear_among;
+use crate::attack::{clear_among, is_clear};
 use crate::geometry::{aligned, knights_to};
 use crate::piece::Kind;
 use crate::position::Position;
 use crate::square::Square;
 use crate::squares::Squares;
 use arrayvec::ArrayVec;
+use std::marker::Model;
 
 /// Returns the squares from which a piece of the kind, of the side to move, sees the target.
 ///
@@ -43,6 +44,73 @@ pub fn origins(position: &Position, kind: Kind, target: Square) -> ArrayVec<Squa
         origins.push(origin);
     }
     origins
+}
+
+/// A search for the squares that [`origins`] lists.
+///
+/// [`OriginSearch::next`] gives one after another, each once. It looks only then for a piece in
+/// between, and stores no list. So it is cheaper than `origins`.
+///
+/// # Examples
+///
+/// ```
+/// use chess_rules::{Kind, OriginSearch, Position, Square};
+///
+/// let f3 = Square::new(5, 2).unwrap();
+/// let position = Position::initial();
+/// let mut origins = OriginSearch::new(&position, Kind::Knight, f3);
+/// assert_eq!(origins.next(), Square::new(6, 0));
+/// assert_eq!(origins.next(), None);
+/// ```
+#[derive(Drop)]
+pub struct OriginSearch<'a> {
+    position: &'a Position,
+    target: Square,
+    // Those still to come, and others from which a piece in between hides the target.
+    left: Squares,
+}
+
+impl<'a> Model for OriginSearch<'a> {
+    ghost use Rattle.std.specs.Prelude.{List, filter};
+    ghost use Rattle.chess_rules.specs.Attacks.{is_clear};
+    ghost use Rattle.chess_rules.specs.Square.{Square};
+    ghost use Rattle.chess_rules.specs.Words.{members};
+
+    ghost Value = { List Square };
+
+    ghost view = { λ o. filter (λ s. is_clear o.position.now.board s o.target) (members o.left) };
+}
+
+impl<'a> OriginSearch<'a> {
+    /// Returns all squares that `origins` lists for the kind and the target.
+    #[inline(always)]
+    pub fn new(position: &'a Position, kind: Kind, target: Square) -> Self
+        ensures all { result ≡ candidates position.now kind target }
+        ensures few { length result ≤ 8 }
+    {
+        target.recall_invariant();
+        OriginSearch {
+            position,
+            target,
+            left: possible_origins(position, kind, target),
+        }
+    }
+
+    /// Returns the next square, or `None` if none is left. The order is a1, b1 to h8.
+    #[inline(always)]
+    pub fn next(&mut self) -> Option<Square>
+        ensures { MatchOption result ((self.old ≡ []) × (self.new ≡ []))
+            (λ origin. self.old ≡ origin ∷ self.new) }
+    {
+        let position = self.position;
+        let target = self.target;
+        while let Some(origin) = self.left.take_lowest() {
+            if is_clear(position.board(), origin, target) {
+                return Some(origin);
+            }
+        }
+        None
+    }
 }
 
 /// Returns the one square that `origins` lists, or `None` if it lists none or several.

@@ -22,7 +22,7 @@ mod step;
 mod tables;
 
 pub use board::Board;
-pub use candidates::{may_have_two_origins, only_origin, origins};
+pub use candidates::{OriginSearch, may_have_two_origins, only_origin, origins};
 pub use legal::{has_legal_move, in_check, position_after, try_pair};
 pub use legal_moves::LegalMoves;
 pub use piece::{Colour, Kind, Piece, Promotion};

@@ -22,7 +22,7 @@ pub use Rattle.std.specs.Prelude.{Err, IfSome, IsTrue, None, Ok, Option, Result,
 pub use Rattle.std.specs.Result.{OnOk}
 pub use Rattle.chess_rules.specs.Attacks.{attacks, cell_attacks, is_ahead}
 pub use Rattle.chess_rules.specs.Board.{Board, at, has_colour, has_piece, is_empty, other, same_kind}
-pub use Rattle.chess_rules.specs.Candidate.{candidates, is_candidate, lone, sees}
+pub use Rattle.chess_rules.specs.Candidate.{candidates, is_candidate, sees}
 pub use Rattle.chess_rules.specs.Laws.{CandidatesComplete, OneKing, StepsFromCandidates}
 pub use Rattle.chess_rules.specs.Legal.{every_promotion, if_safe, is_check, is_legal, is_mate, legal}
 pub use Rattle.chess_rules.specs.Position.{built_unless, initial, is_position, position_fault, target_fits}

@@ -1,5 +1,6 @@
 -- The text of a move as a form, and the moves that a form names.
 pub mod AgreeingAreFound
+pub mod CandidatesInTurn
 pub mod CastlingMoves
 pub mod CommonForms
 pub mod FormOriginKinds

@@ -12,8 +12,8 @@ ghost use Rattle.chess_text.specs.MoveOfForm as spec;
 use crate::form::Form;
 use chess_rules::laws::candidates_are_complete;
 use chess_rules::{
-    Colour, Kind, Move, Played, Position, Probes, Promotion, Square, only_origin, origins,
-    position_after, try_pair,
+    Colour, Kind, Move, OriginSearch, Played, Position, Probes, Promotion, Square, position_after,
+    try_pair,
 };
 
 /// Why a form names no single move.
@@ -90,7 +90,7 @@ pub fn resolve_move(position: &Position, form: &Form, probes: &mut Probes) -> Re
             rank,
             to,
             promotion,
-        } => resolve_piece_move(position, kind, Hints { file, rank }, to, promotion, probes),
+        } => resolve_by_kind(position, kind, Hints { file, rank }, to, promotion, probes),
     }
 }
 
@@ -200,7 +200,34 @@ pub(crate) fn play(position: &Position, mv: Move) -> Played
     Played { mv, next }
 }
 
-// Tries the move from each origin, until a second one agrees. Mostly there is one origin alone.
+// Does what `resolve_piece_move` does: each arm is compiled for its kind.
+fn resolve_by_kind(
+    position: &Position,
+    kind: Kind,
+    hints: Hints,
+    to: Square,
+    promotion: Option<Promotion>,
+    probes: &mut Probes,
+) -> Result<Move, SanFault>
+    requires { probes.old + 8 < 2 ^ 32 }
+    ensures answer { spec.with_next_position position.now result
+        ≡ spec.move_of_form position.now (Man kind hints.file hints.rank to promotion) }
+    ensures legal { IfOk result (λ mv. IsTrue (is_legal position.now mv)) }
+    ensures pairs { spec.CountsPairs (length (candidates position.now kind to)) result probes.old
+        probes.new }
+{
+    match kind {
+        Kind::Pawn => resolve_piece_move(position, Kind::Pawn, hints, to, promotion, probes),
+        Kind::Knight => resolve_piece_move(position, Kind::Knight, hints, to, promotion, probes),
+        Kind::Bishop => resolve_piece_move(position, Kind::Bishop, hints, to, promotion, probes),
+        Kind::Rook => resolve_piece_move(position, Kind::Rook, hints, to, promotion, probes),
+        Kind::Queen => resolve_piece_move(position, Kind::Queen, hints, to, promotion, probes),
+        Kind::King => resolve_piece_move(position, Kind::King, hints, to, promotion, probes),
+    }
+}
+
+// Tries the move from each origin, until a second one agrees.
+#[inline(always)]
 fn resolve_piece_move(
     position: &Position,
     kind: Kind,
@@ -217,23 +244,11 @@ fn resolve_piece_move(
         probes.new }
 {
     candidates_are_complete();
-    if let Some(origin) = only_origin(position, kind, to) {
+    let mut origins = OriginSearch::new(position, kind, to);
+    let mut found = None;
+    while let Some(origin) = origins.next() {
         let mv = Move {
             from: origin,
-            to,
-            promotion,
-        };
-        return if agrees(position, kind, hints, &mv, probes) {
-            Ok(mv)
-        } else {
-            Err(SanFault::NoMove)
-        };
-    }
-    let origins = origins(position, kind, to);
-    let mut found = None;
-    for origin in origins.as_slice() {
-        let mv = Move {
-            from: *origin,
             to,
             promotion,
         };

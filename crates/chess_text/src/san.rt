@@ -15,8 +15,8 @@ use crate::resolution::is_castling;
 use arrayvec::ArrayVec;
 use chess_rules::laws::candidates_are_complete;
 use chess_rules::{
-    Kind, Move, Played, Position, Probes, Promotion, Square, has_legal_move, in_check,
-    may_have_two_origins, origins, try_pair,
+    Kind, Move, OriginSearch, Played, Position, Probes, Promotion, Square, has_legal_move,
+    in_check, may_have_two_origins, try_pair,
 };
 
 /// Writes SAN: returns the text of a legal move, 1 to 7 bytes. (PGN 8.2.3)
@@ -274,10 +274,10 @@ fn rivals_of(position: &Position, kind: Kind, mv: &Move, probes: &mut Probes) ->
         count_own_pair(position, mv, probes);
         return found;
     }
-    let origins = origins(position, kind, mv.to);
-    for origin in origins.as_slice() {
-        let is_rival = is_rival(position, mv, *origin, probes);
-        found = found.with(mv.from, *origin, is_rival);
+    let mut origins = OriginSearch::new(position, kind, mv.to);
+    while let Some(origin) = origins.next() {
+        let is_rival = is_rival(position, mv, origin, probes);
+        found = found.with(mv.from, origin, is_rival);
     }
     found
 }

@@ -10,6 +10,7 @@ mod ReaderPartsFitInMemory
 mod WordByBytes
 mod Words
 mod exporting
+mod giving
 mod pairs
 mod putting
 mod reading

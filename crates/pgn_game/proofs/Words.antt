@@ -49,7 +49,7 @@ pub use Rattle.pgn_game.specs.games.Markers.{marker_text, missing_of}
 pub use Rattle.pgn_game.specs.calls.Written.{bytes_seen, failures_seen, is_nothing, mode_of_written, mode_unless, seen}
 pub use Rattle.pgn_game.specs.state.Movetext.{HoldsLineOf, ClosesLevel, FitsLevelStore, HoldsItems, Movetext, StoredLevel, StoredLevels, before_last, code_levels, ends_in_move, inside, level_at, level_of, movetext_after_fen, movetext_from, nearest_first, places_of, stored_level, stored_levels}
 pub use Rattle.pgn_game.specs.games.Progress.{Next, Progress, Read, at_stage, going, in_text, items_of, move_item, next, next_in, no_progress, output, progress_after, progress_with, read, read_from, refused, totals, verdict, whole, due, verdict_of, written as written_so_far, position_at_fault}
-pub use Rattle.pgn_game.specs.state.PutResult.{BeginsText, Goes, Keeps, PutResult, TakesOutside, TakesToken, at_game_start, gain_to, section_due, section_due_of, CountsMove, EntersMovetext, Finds, FinishesNone, GoesTo, Takes, TakesEntry, TakesUnwritten, counting_probes, unused, MeetsEntry, MeetsMarker, TakesMarker, TakesOther, TakesUnlessMarker, continued}
+pub use Rattle.pgn_game.specs.state.PutResult.{BeginsText, Goes, Keeps, PutResult, TakesOutside, TakesToken, at_game_start, gain_to, section_due, section_due_of, CountsMove, EntersMovetext, EntersPart, Finds, FinishesNone, GoesTo, Takes, TakesEntry, TakesUnwritten, counting_probes, unused, MeetsEntry, MeetsMarker, TakesMarker, TakesOther, TakesUnlessMarker, continued}
 pub use Rattle.pgn_game.specs.state.ReaderState.{KeepsSilence, Writing, mode_written, silenced, sink_of, with_announced, Accepted, More, Finished, Agrees, AreSound, CountsWrites, FinishesAtMarker, HoldsPairs, HoldsText, IsBehind, ReaderState, as_written, is_outside_the_table, known_of, known_text, plies_of_finished_games, Answers, IsAccepted, IsKnown, IsStopped, Leads, plies_added, ReaderCall}
 pub use Rattle.pgn_game.specs.state.SectionLines.{other_line, roster_line, text_by}
 pub use Rattle.pgn_game.specs.games.Spells.{AreDistinct, AreDropped, BeginsBare, IsPair, IsResult, IsSetUp, KeepsTags, Names, Spells, SpellsGame, SpellsGames, SpellsPair, SpellsPairs, SpellsText, StandsFor, by_name, comment_close, comment_open, glyph, level_after_move, move, new_level, next_game, next_pair, no_game, no_more, no_pair, number, pair, period, token, variation, word}
@@ -77,7 +77,7 @@ pub use Rattle.pgn_game.specs.calls.FoundMove.{found_in}
 pub use Rattle.pgn_game.specs.laws.Laws.{IsPrefix, DueGrows}
 unfoldable pub use Rattle.pgn_game.specs.calls.Tried.{Costs}
 pub use Rattle.std.proofs.lemmas.Result.{err_from_is_err_and}
-pub use Rattle.pgn_game.specs.calls.Tried.{CostsAnswer, CostsForm, Costs}
+pub use Rattle.pgn_game.specs.calls.Tried.{AddsPairs, CostsAnswer, CostsForm, Costs}
 pub use Rattle.pgn_game.specs.calls.ConverterCalls.{NoWriteFails, StillStands, writing_nothing, AreNext, within_limit, Converter, CountsFault, CountsMissingAs, CountsReason, FedAll, FedFault, FedGame, FedToFault, FedWhole, FinishedGame, HasRead, IsSound, ReadsUpTo, Stands, StopsIn, at_token, counting_missing_as, finished_game_of, finished_game_plies, game_in_reader_if, play_moves, profile_of, too_long, AfterFinish, Finishes, FinishesToFault, game_in_reader, Stops, unwritten, StopsWriting, games_before, position_at_stop, ProbesAtStop, has_played_move, reported_position, refused as refused_stop, IsLast as IsLastGame, AreShown, Ends, Feeds, IsRefused, ReadsByMarker, reading_by_marker, so_far}
 pub use Rattle.pgn_lexer.specs.Standing.{Standing, coming, waiting}
 pub use Rattle.pgn_lexer.specs.Stands.{AfterScan, FinishGivesToken, Follows, HasLeft, IsDecided, IsNext, StandsAfter, first, still, Scans}
@@ -85,7 +85,7 @@ pub use Rattle.pgn_game.specs.state.Readings.{BothSoFar, HasMarkers, HasMatched,
 pub use Rattle.pgn_game.specs.calls.MostTried.{CostsIf, CostsToAdd, CostsToFind, CostsToWrite, MostFrom, MostTried, Raises, Tries, CostsUnlessRefused, is_sought, TriesUnwritten, added, is_written, none}
 pub use Rattle.pgn_game.specs.calls.GamesCalls.{AfterNext, CountsNext, Games, HasReadAll, HaveRead, NextFault, NextGame, NextStops, NoGame, ReadSoFar, at_end, ReadsNext, ReadsNoGame, games_of, most_left, within}
 pub use Rattle.pgn_game.specs.export.Due.{Gains, gain, text_next}
-pub use Rattle.pgn_game.specs.state.ConverterSteps.{AfterStep, AfterStepAtEnd, AllSoFar, AtEndSoFar, EndsGame, EndsWithin, FaultAtEnd, FeedsAllSoFar, FeedsSoFar, FinishesSoFar, GainsAs, IsGoing, Meets, NotTaken, OneGame, Reaches, ReadsMore, SameGames, SoFar, StaysBetween, due_as, ended_by, fault_of, next_at, outcome_at, part_after, AfterEndToMarker, AfterStepsInPiece, CountsGame, EndsSoFar, EndsToMarker, FailsAtEnd, FailsIn, GoesToMarker, IsBeforePiece, IsBeforeToken, IsReadyAfter, KeepsRest, LeftSoFar, ReadsPiece, ReadsToEnd, ReadsToLeftMarker, ReadsToMarker, StepAdvances, StepAtEndAdvances, StepGoes, StepsInPiece, StepsAtEnd, StepsOn, TakesStepsInPiece, announcing, is_ended, taking_announced_marker}
+pub use Rattle.pgn_game.specs.state.ConverterSteps.{AllSoFar, AtEndSoFar, EndsGame, FaultAtEnd, FeedsAllSoFar, FinishesSoFar, GainsAs, IsGoing, Meets, NotTaken, OneGame, ReadsMore, SameGames, due_as, ended_by, fault_of, outcome_at, part_after, CountsGame, EndsToMarker, FailsIn, GoesToMarker, IsBeforePiece, IsBeforeToken, IsReadyAfter, KeepsRest, ReadsToEnd, StepAdvances, StepAtEndAdvances, StepGoes, StepsInPiece, StepsAtEnd, announcing, is_ended, taking_announced_marker, At, MeetsAt, Reached, ReadsOn, StandsAtStart, StandsInText, Start, Reaches, ReadsPiece, ReadsToMarker, step_marker, Known, first_bytes, all_bytes, AreNextIn, HasGivenSince, IsGivenLast, ReachedAtEnd, ReadsLeft, last_step}
 pub use Rattle.pgn_game.specs.calls.Checked.{Comparison, PlacedMarker, checked_profile, compared, compared_from, earlier_fault, is_changed, is_other, marker_at, markers, markers_after, markers_from, torn_before, with_marker, written_by}
 pub use Rattle.pgn_lexer.specs.Decided.{decided}
 pub use Rattle.pgn_game.specs.calls.Conversion.{AfterConversion, AfterEnd, AfterSlice, CountsDevices, Fails, FailsOn, IsConverted, IsTotalled, MostProbes, CountsResult, CountsSink, CountsWriting, Decides, IsTokenPrefix, ReadsNoMore, verdict_in}
@@ -96,7 +96,7 @@ pub use Rattle.pgn_lexer.specs.declared.token.LexFault.{LexFault}
 pub use Rattle.pgn_game.specs.laws.GameEnds.{EndsByMarker, GamesEndByMarker, LastGame, TextsEndBehindMarker, TextsEndBetweenGames}
 pub use Rattle.pgn_game.specs.declared.event.Event.{Event}
 pub use Rattle.pgn_game.specs.declared.writer.Writer.{Writer}
-pub use Rattle.pgn_game.specs.state.Judged.{EndsAtMarker, IsAnnotation, IsPlayed, IsWritable, JudgesBefore, JudgesInPair, JudgesOutside, Means, MovesText, Refuses, RefusesMarker, TakesMeant, WritesMove, after_move_at, game_at, game_by, is_begun, items_meant, pairs_meant, section_unless, writing_of}
+pub use Rattle.pgn_game.specs.state.Judged.{EndsAtMarker, IsAnnotation, IsPlayed, IsWritable, IsOutside, JudgesBefore, JudgesInPair, JudgesOutside, Means, MovesText, Refuses, RefusesMarker, TakesMeant, WritesMove, after_move_at, game_at, game_by, is_begun, items_meant, pairs_meant, section_unless, writing_of}
 pub use Rattle.pgn_lexer.specs.PartialToken.{tokens_to_come_in}
 pub use Rattle.pgn_lexer.specs.declared.token.LexReason.{LexReason}
 pub use Rattle.pgn_lexer.specs.declared.token.LexReason.TheVariants.{SymbolTooLong, WordTooLong, GlyphRange}

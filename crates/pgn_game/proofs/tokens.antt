@@ -27,5 +27,6 @@ pub mod StepsAtEnd
 pub mod StepsInPiece
 pub mod TextEndsGame
 pub mod WholeInput
+pub mod ReadsInText
 pub mod RunsInPiece
 pub mod StepsOverTokens

@@ -8,6 +8,8 @@ pub mod MostTried
 pub mod ConverterCalls
 pub mod Conversion
 pub mod GamesCalls
+pub mod Given
+pub mod ItemsCalls
 pub mod Checked
 pub mod CheckedConversion
 pub mod Written

@@ -12,3 +12,5 @@ pub mod GamesSteps
 pub mod Readings
 pub mod LineWords
 pub mod SectionLines
+pub mod Accepted
+pub mod ItemsSteps

@@ -10,7 +10,7 @@ ghost use Rattle.pgn_game.specs.declared.converter.Fed.TheVariants as fed;
 ghost use Rattle.pgn_game.specs.declared.reason.Reason.TheVariants.{InputTooLong, Lexical, ReadFault};
 ghost use Rattle.pgn_game.specs.declared.stage.Stage.TheVariants.{InMovetext};
 ghost use Rattle.pgn_game.specs.state.ConverterSteps.{IsBeforePiece, IsBeforeToken, IsGoing, IsReady};
-ghost use Rattle.pgn_game.specs.state.ConverterSteps.{StepsInPiece, StepsAtEnd, FeedsFront, FeedsToMarker};
+ghost use Rattle.pgn_game.specs.state.ConverterSteps.{StepsInPiece, StepsAtEnd, ReadsOn, FeedsToMarker, fed_marker};
 ghost use Rattle.pgn_game.specs.state.ConverterSteps.{GoesToMarker, GoesToEndOfPiece, EndsToMarker};
 ghost use Rattle.pgn_game.specs.state.ConverterSteps.{EndsGame, CountsGame, fault_of, outcome_at};
 ghost use Rattle.pgn_game.specs.state.ConverterSteps.{taking_announced_marker, announcing};
@@ -636,7 +636,7 @@ impl<const T: usize, const L: usize> Converter<T, L> {
     fn feed_front<W: Sink>(&mut self, piece: &[u8], out: &mut W) -> Result<FedUpTo, Fault>
         requires going { IsGoing self.old }
         requires short { self.old.lexer.count + length piece.now ≤ 2 ^ 62 }
-        ensures feeds { FeedsFront self.old piece.now self.new result
+        ensures feeds { ReadsOn self.old piece.now self.new (fed_marker result)
             (sink_of self.old.reading W.taken W.failures out.old out.new) }
         ensures goes { GoesToMarker self.old piece.now self.new result
             (sink_of self.old.reading W.taken W.failures out.old out.new) }
@@ -813,7 +813,7 @@ impl<const T: usize, const L: usize> Converter<T, L> {
 }
 
 // Returns the bytes of the piece that are before place 2^62; `count` bytes came before the piece.
-fn within_limit(count: u64, piece: &[u8]) -> &[u8]
+pub fn within_limit(count: u64, piece: &[u8]) -> &[u8]
     requires { count ≤ 2 ^ 62 }
     ensures { result.now ≡ take (2 ^ 62 - count) piece.now }
 {
@@ -825,7 +825,7 @@ fn within_limit(count: u64, piece: &[u8]) -> &[u8]
 }
 
 // Keeps the fault of an input that goes on past its last place.
-fn too_long(kept: &mut Option<Fault>) -> Fault
+pub fn too_long(kept: &mut Option<Fault>) -> Fault
     ensures fault { result ≡ record { at = 2 ^ 62; reason = InputTooLong } }
     ensures kept { kept.new ≡ Some result }
 {

@@ -1,10 +1,10 @@
 //! The move that a symbol in movetext names.
-ghost use Rattle.std.specs.Prelude.{◌≡◌, ◌<◌, ◌≤◌, Some, IfOk, OnOk};
+ghost use Rattle.std.specs.Prelude.{◌≡◌, ◌<◌, ◌≤◌, ◌+◌, ◌^◌, Some, IfOk, OnOk};
 ghost use Rattle.chess_rules.specs.Legal.{legal};
 ghost use Rattle.pgn_game.specs.games.Chess.{move_of};
 ghost use Rattle.pgn_game.specs.games.FaultTable as spec;
 ghost use Rattle.pgn_game.specs.calls.FoundMove.{found_in};
-ghost use Rattle.pgn_game.specs.calls.Tried.{Costs};
+ghost use Rattle.pgn_game.specs.calls.Tried.{AddsPairs, Costs};
 ghost use Rattle.pgn_game.specs.state.PutResult.{NamesMove};
 
 use crate::reason::Reason;
@@ -13,7 +13,8 @@ use chess_text::{Played, SanFault, read_form, resolve_move};
 
 /// Returns the one legal move that the text names in this position (PGN 8.2.3).
 ///
-/// `probes` is new. Afterwards it is the number of pairs that were tried, at most 8.
+/// This adds the pairs that it tries to the count of `probes`, also on an error. They are at most
+/// 8, and the count must have room for 8.
 ///
 /// # Errors
 ///
@@ -29,17 +30,20 @@ use chess_text::{Played, SanFault, read_form, resolve_move};
 /// use pgn_game::{Reason, find_move};
 ///
 /// let position = Position::initial();
-/// assert!(find_move(&position, b"e4", &mut Probes::new()).is_ok());
-/// let fault = find_move(&position, b"e5", &mut Probes::new()).err();
+/// let mut probes = Probes::new();
+/// assert!(find_move(&position, b"Nf3", &mut probes).is_ok());
+/// assert_eq!(probes.count(), 1);
+/// let fault = find_move(&position, b"Nd2", &mut probes).err();
 /// assert_eq!(fault, Some(Reason::IllegalMove));
+/// assert_eq!(probes.count(), 2);
 /// ```
 pub fn find_move(position: &Position, text: &[u8], probes: &mut Probes) -> Result<Played, Reason>
-    requires { probes.old ≡ 0 }
+    requires { probes.old + 8 < 2 ^ 32 }
     ensures found { result ≡ found_in position.now (move_of position.now text.now) }
     ensures legal { IfOk result (λ played. legal position.now played.mv ≡ Some played.next) }
-    ensures tried { Costs position.now text.now probes.new }
-    ensures bound { probes.new ≤ 8 }
-    ensures some { OnOk result (0 < probes.new) }
+    ensures tried { AddsPairs (Costs position.now text.now) probes.old probes.new }
+    ensures bound { probes.new ≤ probes.old + 8 }
+    ensures some { OnOk result (probes.old < probes.new) }
 {
     match named_move(position, text, probes) {
         Err(reason) => Err(reason),
@@ -61,8 +65,8 @@ pub(crate) fn named_move(
     text: &[u8],
     probes: &mut Probes,
 ) -> Result<Move, Reason>
-    requires { probes.old ≡ 0 }
-    ensures { NamesMove position.now text.now result probes.new }
+    requires { probes.old + 8 < 2 ^ 32 }
+    ensures { NamesMove position.now text.now result probes.old probes.new }
 {
     let Some(form) = read_form(text) else {
         return Err(Reason::NotAMove);

@@ -1,5 +1,5 @@
 //! A line of play: the plies that a text of moves names, one after another.
-ghost use Rattle.std.specs.Prelude.{◌≡◌, ◌≤◌, Some, IfOk, IfSome, length};
+ghost use Rattle.std.specs.Prelude.{◌≡◌, ◌<◌, ◌≤◌, ◌+◌, ◌^◌, Some, IfOk, IfSome, length};
 ghost use Rattle.chess_rules.specs.Legal.{legal};
 ghost use Rattle.pgn_lexer.specs.Bytes.{is_space as is_white_space};
 ghost use Rattle.pgn_game.specs.calls.LineOfPlay as spec;
@@ -122,11 +122,12 @@ impl<'a> LineOfPlay<'a> {
             self.new.position ≡ ply.played.next)) }
     {
         let position = *self.position();
-        match self.next_move() {
+        let mut probes = Probes::new();
+        match self.play(&mut probes) {
             Err(fault) => Err(fault),
             Ok(None) => Ok(None),
             Ok(Some(found)) => {
-                let san = write_san(&position, &found.played, &mut Probes::new());
+                let san = write_san(&position, &found.played, &mut probes);
                 Ok(Some(Ply {
                     at: found.at,
                     played: found.played,
@@ -164,11 +165,24 @@ impl<'a> LineOfPlay<'a> {
         ensures position { IfOk result (λ found. IfSome found (λ x.
             self.new.position ≡ x.played.next)) }
     {
+        self.play(&mut Probes::new())
+    }
+
+    // Plays the next move of the text, as `next_move` does, and counts the pairs that are tried.
+    fn play(&mut self, probes: &mut Probes) -> Result<Option<MoveOfLine>, Fault>
+        requires { probes.old + 8 < 2 ^ 32 }
+        ensures next { NextMove self.old result self.new }
+        ensures legal { IfOk result (λ found. IfSome found (λ x.
+            legal self.old.position x.played.mv ≡ Some x.played.next)) }
+        ensures position { IfOk result (λ found. IfSome found (λ x.
+            self.new.position ≡ x.played.next)) }
+        ensures bound { probes.new ≤ probes.old + 8 }
+    {
         let Some(word) = next_move_text(self.text, self.at) else {
             return Ok(None);
         };
         let text = &self.text[word.begin..word.end];
-        match read_move(&self.position, text, self.notation, &mut Probes::new()) {
+        match read_move(&self.position, text, self.notation, probes) {
             Err(reason) => Err(Fault {
                 at: word.begin as u64,
                 reason,

@@ -1,9 +1,11 @@
 //! The notations of moves, and the move that a text in one of them names.
-ghost use Rattle.std.specs.Prelude.{◌≡◌, ◌≤◌, Some, IfOk};
+ghost use Rattle.std.specs.Prelude.{◌≡◌, ◌<◌, ◌≤◌, ◌+◌, ◌^◌, Some, IfOk};
 ghost use Rattle.chess_rules.specs.Legal.{legal};
 ghost use Rattle.chess_text.specs.Uci.{move_of_uci};
 ghost use Rattle.pgn_game.specs.calls.FoundMove.{found_in};
 ghost use Rattle.pgn_game.specs.calls.Notations as spec;
+ghost use Rattle.pgn_game.specs.calls.Tried.{AddsPairs};
+ghost use Rattle.pgn_game.specs.declared.notation.Notation.TheVariants.{Uci};
 
 use crate::find::{find_move, is_at_limit};
 use crate::reason::Reason;
@@ -22,7 +24,9 @@ pub enum Notation {
 
 /// Returns the one legal move that a text in this notation names, with the position after it.
 ///
-/// `probes` is new. Afterwards it is the number of pairs that were tried, at most 8.
+/// This adds the pairs that it tries to the count of `probes`, also on an error. In SAN they are
+/// those of [`find_move`]. In UCI it is one, or none for a text of no move. They are at most 8, and
+/// the count must have room for 8.
 ///
 /// # Errors
 ///
@@ -38,13 +42,15 @@ pub enum Notation {
 /// use pgn_game::{Notation, Reason, read_move};
 ///
 /// let position = Position::initial();
-/// let read = |text: &[u8], notation| {
-///     read_move(&position, text, notation, &mut Probes::new()).map(|played| played.next.half())
+/// let mut probes = Probes::new();
+/// let mut read = |text: &[u8], notation| {
+///     read_move(&position, text, notation, &mut probes).map(|played| played.next.half())
 /// };
 /// assert_eq!(read(b"Nf3", Notation::San), Ok(1));
 /// assert_eq!(read(b"g1f3", Notation::Uci), Ok(1));
 /// assert_eq!(read(b"g1f3", Notation::San), Err(Reason::IllegalMove));
 /// assert_eq!(read(b"Nf3", Notation::Uci), Err(Reason::NotAMove));
+/// assert_eq!(probes.count(), 5);
 /// ```
 pub fn read_move(
     position: &Position,
@@ -52,10 +58,11 @@ pub fn read_move(
     notation: Notation,
     probes: &mut Probes,
 ) -> Result<Played, Reason>
-    requires { probes.old ≡ 0 }
+    requires { probes.old + 8 < 2 ^ 32 }
     ensures named { result ≡ spec.named_in notation position.now text.now }
     ensures legal { IfOk result (λ played. legal position.now played.mv ≡ Some played.next) }
-    ensures bound { probes.new ≤ 8 }
+    ensures tried { AddsPairs (spec.CostsIn notation position.now text.now) probes.old probes.new }
+    ensures bound { probes.new ≤ probes.old + 8 }
 {
     match notation {
         Notation::San => find_move(position, text, probes),
@@ -65,11 +72,12 @@ pub fn read_move(
 
 // Returns the legal move with this text in UCI, with the position after it.
 fn find_uci(position: &Position, text: &[u8], probes: &mut Probes) -> Result<Played, Reason>
-    requires { probes.old ≡ 0 }
+    requires { probes.old + 8 < 2 ^ 32 }
     ensures found { result
         ≡ found_in position.now (spec.meaning_of (move_of_uci position.now text.now)) }
     ensures legal { IfOk result (λ played. legal position.now played.mv ≡ Some played.next) }
-    ensures bound { probes.new ≤ 8 }
+    ensures count { probes.new ≡ probes.old + spec.uci_pairs (move_of_uci position.now text.now) }
+    ensures bound { probes.new ≤ probes.old + 8 }
 {
     match read_uci(position, text, probes) {
         Err(UciFault::NotAMove) => Err(Reason::NotAMove),

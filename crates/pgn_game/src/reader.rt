@@ -11,6 +11,7 @@ ghost use Rattle.pgn_game.specs.declared.stage.Stage.TheVariants.{AfterValue, Af
 ghost use Rattle.pgn_game.specs.games.Profile.{known_result};
 ghost use Rattle.pgn_game.specs.games.Markers.{marker_text, missing_of};
 ghost use Rattle.pgn_game.specs.declared.writer.Writer.{Writer};
+ghost use Rattle.pgn_game.specs.state.Accepted.{Accepts, AcceptsEntry};
 ghost use Rattle.pgn_game.specs.state.Judged.{game_at, Judges, JudgesBefore, JudgesInPair, JudgesMarker, JudgesOutside};
 ghost use Rattle.pgn_game.specs.state.Movetext.{IsDepth};
 ghost use Rattle.pgn_game.specs.state.ReaderState.{plies_of_finished_games, unread};
@@ -110,6 +111,17 @@ impl<const T: usize, const L: usize> Reader<T, L> {
             name.now }
     {
         exported_value(self.mode, self.shown_result(), &self.tags.pairs(), name)
+    }
+
+    /// Returns the value of a name in the tag section of the current game, defaults included. A
+    /// missing Result that takes the marker is empty.
+    pub fn value_so_far(&self, name: &[u8]) -> Option<&[u8]>
+        requires { IsTrue (has_whole_pairs self.now.stage) }
+        ensures { option_copied result
+            ≡ value_of (exported self.now.profile.mode
+            (known_result self.now.profile.missing_result) self.now.tags.held) name.now }
+    {
+        exported_value(self.mode, self.missing_result, &self.tags.pairs(), name)
     }
 
     /// Returns the tag pairs of the current game, or of the game just read, in the order of their
@@ -402,6 +414,48 @@ impl<const T: usize, const L: usize> Reader<T, L> {
             TokenKind::LeftBracket => Err(Reason::TagInMovetext),
             TokenKind::RightBracket => Err(Reason::NotAMove),
             TokenKind::Str(_) => Err(Reason::NotAMove),
+        }
+    }
+
+    /// Takes one token of a game that is read alone. Returns what it means in movetext, or `None`
+    /// outside movetext. A marker ends the game.
+    ///
+    /// # Errors
+    ///
+    /// The row of the fault table that rejects the token.
+    pub fn accept<'a>(&mut self, kind: TokenKind<'a>) -> Result<Option<Event<'a>>, Reason>
+        requires few { self.old.earlier_plies + self.old.text.plies < 2 ^ 64 - 1 }
+        requires token { HasLength (kind_of kind) }
+        ensures { Accepts self.old (kind_of kind.entry) self.new result }
+    {
+        match self.accept_outside(kind) {
+            Some(Err(reason)) => Err(reason),
+            Some(Ok(())) => Ok(None),
+            None => match self.accept_in_movetext(kind) {
+                Err(reason) => Err(reason),
+                Ok(event) => Ok(Some(event)),
+            },
+        }
+    }
+
+    // Takes a token of movetext, or the first one.
+    fn accept_in_movetext<'a>(&mut self, kind: TokenKind<'a>) -> Result<Event<'a>, Reason>
+        requires may { MayTakeMove self.old }
+        requires token { HasLength (kind_of kind) }
+        ensures { AcceptsEntry self.old (kind_of kind.entry) self.new result }
+    {
+        match self.accept_entry(kind) {
+            Err(reason) => Err(reason),
+            Ok(event) => match event {
+                Event::Marker(marker) => match self.end_game(marker) {
+                    Err(reason) => Err(reason),
+                    Ok(()) => Ok(event),
+                },
+                _ => {
+                    self.begin_movetext();
+                    Ok(event)
+                }
+            },
         }
     }
 

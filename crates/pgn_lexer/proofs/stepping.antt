@@ -3,7 +3,7 @@ pub mod ByteGives
 pub mod ByteInComment
 pub mod ByteInGlyph
 pub mod ByteInString
-pub mod ByteInSymbol
+pub mod ByteInText
 pub mod ByteOutside
 pub mod CopiedBytes
 pub mod EndGives

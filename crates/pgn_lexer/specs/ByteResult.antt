@@ -3,7 +3,7 @@
 -- feed, 33 is `!`, 48 is `0`, 92 is a backslash, and 239 187 191 is the byte order mark EF BB BF.
 use Rattle.std.specs.Prelude.{◌≡◌, Bool, true, false, ℕ, ◌+◌, ◌-◌, ◌*◌, List, [], ◌∷◌, ◌++◌, length, nat_lt, nat_le, ◌==◌, if◌then◌else◌}
 use Rattle.pgn_lexer.specs.declared.token.LexReason.{LexReason}
-use Rattle.pgn_lexer.specs.declared.token.LexReason.TheVariants.{StrayByte, ControlByte, SymbolTooLong, StringTooLong, WordTooLong, LoneDollar, GlyphRange, BadSuffix, BraceInLineComment, UnclosedString, UnclosedComment}
+use Rattle.pgn_lexer.specs.declared.token.LexReason.TheVariants.{StrayByte, ControlByte, StringTooLong, LoneDollar, GlyphRange, BraceInLineComment, UnclosedString, UnclosedComment}
 use Rattle.pgn_lexer.specs.declared.class.Class.{Class}
 use Rattle.pgn_lexer.specs.declared.class.Class.TheVariants as classes
 use Rattle.pgn_lexer.specs.CommentClass.{CommentClass}
@@ -11,17 +11,19 @@ use Rattle.pgn_lexer.specs.CommentClass as comment_classes
 use Rattle.pgn_lexer.specs.StringClass.{StringClass}
 use Rattle.pgn_lexer.specs.StringClass as string_classes
 use Rattle.pgn_lexer.specs.declared.partial_token.LexMode.{LexMode}
-use Rattle.pgn_lexer.specs.declared.partial_token.LexMode.TheVariants.{Start, AfterEf, AfterEfBb, LineStart, Outside, EscapeLine, Symbol, Str, AfterBackslash, Dollar, Glyph, Suffix, Brace, BraceWord, Line, LineWord, Failed}
-use Rattle.pgn_lexer.specs.declared.partial_token.SuffixRun.{SuffixRun}
-use Rattle.pgn_lexer.specs.declared.partial_token.SuffixRun.TheVariants as suffix_runs
+use Rattle.pgn_lexer.specs.declared.partial_token.LexMode.TheVariants.{Start, AfterEf, AfterEfBb, LineStart, Outside, EscapeLine, Text, AfterBackslash, Dollar, Glyph, Comment, Failed}
+use Rattle.pgn_lexer.specs.declared.partial_token.Close.{Close}
+use Rattle.pgn_lexer.specs.declared.partial_token.Close.TheVariants as closes
+use Rattle.pgn_lexer.specs.declared.partial_token.Text.{Text as TextKind}
+use Rattle.pgn_lexer.specs.declared.partial_token.Text.TheVariants as texts
 use Rattle.pgn_lexer.specs.declared.partial_token.TokenForm.TheVariants as token_forms
 use Rattle.pgn_lexer.specs.declared.partial_token.ByteResult.{ByteResult}
 use Rattle.pgn_lexer.specs.declared.partial_token.ByteResult.TheVariants.{Used, Ends, EndsBefore, Fault}
-use Rattle.pgn_lexer.specs.declared.partial_token.PieceResult.{PieceResult}
-use Rattle.pgn_lexer.specs.Bytes.{is_line_end, is_digit, continues_symbol, is_suffix}
+use Rattle.pgn_lexer.specs.Bytes.{is_line_end, is_digit}
 use Rattle.pgn_lexer.specs.Spelling.{class, comment_class, string_class}
 use Rattle.pgn_lexer.specs.PartialToken.{PartialToken}
-use Rattle.pgn_lexer.specs.RunResult.{reached_after}
+use Rattle.pgn_lexer.specs.Sets.{is_in}
+use Rattle.pgn_lexer.specs.Texts.{bytes_of, longest_of, too_long_of, mode_behind}
 
 -- what is held then, and what the byte results in
 pub record AfterByte : Type 0 where
@@ -32,10 +34,6 @@ pub record AfterByte : Type 0 where
 pub record IsAfterByte (t : AfterByte) (new : PartialToken) (answer : ByteResult) : Type 0 where
   pub held : new ≡ t.held
   pub step : answer ≡ t.step
-
-pub record IsAfterEnd (t : AfterByte) (new : PartialToken) (answer : PieceResult) : Type 0 where
-  pub held : new ≡ t.held
-  pub reached : answer ≡ reached_after t.step
 
 -- the mode, the place and the text are set
 abbrev pub set_at : LexMode → ℕ → List ℕ → ByteResult → AfterByte
@@ -62,12 +60,12 @@ abbrev pub begin : ℕ → PartialToken → ℕ → Class → AfterByte
 begin place h b classes.LineEnd = set_at LineStart place h.text Used
 begin place h b classes.Space = set_at Outside place h.text Used
 begin place h b classes.Percent = fails h place StrayByte
-begin place h b classes.SymbolStart = set_at Symbol place (b ∷ []) Used
-begin place h b classes.Quote = set_at Str place [] Used
+begin place h b classes.SymbolStart = set_at (Text texts.Symbol) place (b ∷ []) Used
+begin place h b classes.Quote = set_at (Text texts.Str) place [] Used
 begin place h b classes.Dollar = set_at Dollar place h.text Used
-begin place h b classes.Suffix = set_at (Suffix (if b == 33 then suffix_runs.Good else suffix_runs.Poor)) place h.text Used
-begin place h b classes.OpenBrace = set_at Brace place h.text (Ends token_forms.CommentOpen)
-begin place h b classes.Semicolon = set_at Line place h.text (Ends token_forms.CommentOpen)
+begin place h b classes.Suffix = set_at (Text texts.Suffix) place (b ∷ []) Used
+begin place h b classes.OpenBrace = set_at (Comment closes.Brace) place h.text (Ends token_forms.CommentOpen)
+begin place h b classes.Semicolon = set_at (Comment closes.LineEnd) place h.text (Ends token_forms.CommentOpen)
 begin place h b (classes.Alone s) = set_at Outside place h.text (Ends (token_forms.Single s))
 begin place h b (classes.Refused r) = fails h place r
 
@@ -87,9 +85,6 @@ start place h b = if b == 239 then into h AfterEf Used else begin_line place h b
 abbrev pub mark : ℕ → LexMode → PartialToken → ℕ → AfterByte
 mark wanted mode h b = if b == wanted then into h mode Used else fails h 0 StrayByte
 
-abbrev pub symbol : PartialToken → ℕ → AfterByte
-symbol h b = if continues_symbol b then if_room 255 SymbolTooLong h (grown h Symbol b) else into h Outside (EndsBefore token_forms.Symbol)
-
 -- the first digit of a NAG; a digit is its byte less 48, the byte of `0`
 abbrev pub dollar : PartialToken → ℕ → AfterByte
 dollar h b = if is_digit b then into h (Glyph (b - 48)) Used else fails h h.at LoneDollar
@@ -99,54 +94,34 @@ glyph h n b =
     if is_digit b then (if nat_le (10 * n + (b - 48)) 255 then into h (Glyph (10 * n + (b - 48))) Used else fails h h.at GlyphRange)
     else into h Outside (EndsBefore (token_forms.Glyph n))
 
--- the glyph that a suffix stands for
-abbrev pub glyph_of : SuffixRun → ℕ
-glyph_of suffix_runs.Good = 1
-glyph_of suffix_runs.Poor = 2
-glyph_of suffix_runs.VeryGood = 3
-glyph_of suffix_runs.VeryPoor = 4
-glyph_of suffix_runs.Speculative = 5
-glyph_of suffix_runs.Questionable = 6
-
--- the second byte of a suffix: `!` (33), or else `?`
-abbrev pub second_suffix : PartialToken → SuffixRun → ℕ → AfterByte
-second_suffix h suffix_runs.Good b = into h (Suffix (if b == 33 then suffix_runs.VeryGood else suffix_runs.Speculative)) Used
-second_suffix h suffix_runs.Poor b = into h (Suffix (if b == 33 then suffix_runs.Questionable else suffix_runs.VeryPoor)) Used
-second_suffix h _ b = fails h h.at BadSuffix
-
-abbrev pub suffix : PartialToken → SuffixRun → ℕ → AfterByte
-suffix h run b = if is_suffix b then second_suffix h run b else into h Outside (EndsBefore (token_forms.Glyph (glyph_of run)))
-
 -- In a string; `escaped` says that a backslash (92) is just before. That is a datum itself, unless
 -- it escapes the byte.
 abbrev pub string : Bool → ℕ → PartialToken → ℕ → StringClass → AfterByte
 string escaped place h b string_classes.LineEnd = fails h h.at UnclosedString
 string escaped place h b string_classes.Control = fails h place ControlByte
-string false place h b string_classes.Quote = into h Outside (Ends token_forms.Str)
+string false place h b string_classes.Quote = into h Outside (Ends (token_forms.Text texts.Str))
 string false place h b string_classes.Backslash = if_room 255 StringTooLong h (into h AfterBackslash Used)
-string false place h b string_classes.Plain = if_room 255 StringTooLong h (grown h Str b)
-string true place h b string_classes.Plain = if_room 254 StringTooLong h (grown (grown h Str 92).held Str b)
-string true place h b _ = grown h Str b
+string false place h b string_classes.Plain = if_room 255 StringTooLong h (grown h (Text texts.Str) b)
+string true place h b string_classes.Plain = if_room 254 StringTooLong h (grown (grown h (Text texts.Str) 92).held (Text texts.Str) b)
+string true place h b _ = grown h (Text texts.Str) b
 
--- between the words of a comment, in the mode `between`; the mode in a word is `inside`
-abbrev pub between_words : LexMode → LexMode → ℕ → PartialToken → ℕ → CommentClass → AfterByte
-between_words between inside place h b comment_classes.WordByte = set_at inside place (b ∷ []) Used
-between_words between inside place h b comment_classes.Control = fails h place ControlByte
-between_words between inside place h b _ = set_at between place h.text Used
+-- between the words of a comment
+abbrev pub comment : Close → ℕ → PartialToken → ℕ → CommentClass → AfterByte
+comment closes.Brace place h b comment_classes.CloseBrace = set_at Outside place h.text (Ends token_forms.CommentClose)
+comment closes.LineEnd place h b comment_classes.LineEnd = set_at LineStart place h.text (Ends token_forms.CommentClose)
+comment closes.LineEnd place h b comment_classes.CloseBrace = fails h place BraceInLineComment
+comment close place h b comment_classes.WordByte = set_at (Text (texts.Word close)) place (b ∷ []) Used
+comment close place h b comment_classes.Control = fails h place ControlByte
+comment close place h b _ = set_at (Comment close) place h.text Used
 
-abbrev pub brace : ℕ → PartialToken → ℕ → CommentClass → AfterByte
-brace place h b comment_classes.CloseBrace = set_at Outside place h.text (Ends token_forms.CommentClose)
-brace place h b c = between_words Brace BraceWord place h b c
+-- a byte that is none of a text
+abbrev pub text_end : TextKind → ℕ → PartialToken → ℕ → AfterByte
+text_end texts.Str place h b = string false place h b (string_class b)
+text_end t place h b = into h (mode_behind t) (EndsBefore (token_forms.Text t))
 
-abbrev pub line : ℕ → PartialToken → ℕ → CommentClass → AfterByte
-line place h b comment_classes.LineEnd = set_at LineStart place h.text (Ends token_forms.CommentClose)
-line place h b comment_classes.CloseBrace = fails h place BraceInLineComment
-line place h b c = between_words Line LineWord place h b c
-
--- in a word of either comment
-abbrev pub word : LexMode → PartialToken → ℕ → CommentClass → AfterByte
-word between h b comment_classes.WordByte = if_room 79 WordTooLong h (grown h h.mode b)
-word between h b _ = into h between (EndsBefore token_forms.Word)
+-- in a text
+abbrev pub in_text : TextKind → ℕ → PartialToken → ℕ → AfterByte
+in_text t place h b = if is_in (bytes_of t) b then if_room (longest_of t) (too_long_of t) h (grown h (Text t) b) else text_end t place h b
 
 abbrev pub after_byte_in : LexMode → ℕ → PartialToken → ℕ → AfterByte
 after_byte_in Start place h b = start place h b
@@ -155,16 +130,11 @@ after_byte_in AfterEfBb place h b = mark 191 LineStart h b
 after_byte_in LineStart place h b = begin_line place h b (class b)
 after_byte_in Outside place h b = begin place h b (class b)
 after_byte_in EscapeLine place h b = escape_line h b
-after_byte_in Symbol place h b = symbol h b
-after_byte_in Str place h b = string false place h b (string_class b)
+after_byte_in (Text t) place h b = in_text t place h b
 after_byte_in AfterBackslash place h b = string true place h b (string_class b)
 after_byte_in Dollar place h b = dollar h b
 after_byte_in (Glyph n) place h b = glyph h n b
-after_byte_in (Suffix run) place h b = suffix h run b
-after_byte_in Brace place h b = brace place h b (comment_class b)
-after_byte_in BraceWord place h b = word Brace h b (comment_class b)
-after_byte_in Line place h b = line place h b (comment_class b)
-after_byte_in LineWord place h b = word Line h b (comment_class b)
+after_byte_in (Comment close) place h b = comment close place h b (comment_class b)
 after_byte_in (Failed reason) place h b = record { held = h; step = Fault reason }
 
 -- the byte b at the place
@@ -178,8 +148,9 @@ after_end_in Start place h = record { held = h; step = Used }
 after_end_in LineStart place h = record { held = h; step = Used }
 after_end_in Outside place h = record { held = h; step = Used }
 after_end_in EscapeLine place h = record { held = h; step = Used }
-after_end_in Brace place h = fails h place UnclosedComment
-after_end_in Line place h = set_at Outside place h.text (EndsBefore token_forms.CommentClose)
+after_end_in (Text t) place h = text_end t place h 10
+after_end_in (Comment closes.Brace) place h = fails h place UnclosedComment
+after_end_in (Comment closes.LineEnd) place h = set_at Outside place h.text (EndsBefore token_forms.CommentClose)
 after_end_in mode place h = after_byte_in mode place h 10
 
 unfoldable pub after_end : ℕ → PartialToken → AfterByte

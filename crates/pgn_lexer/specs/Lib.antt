@@ -8,6 +8,7 @@ pub mod Laws
 pub mod Lexes
 pub mod RunResult
 pub mod Runs
+pub mod Sets
 pub mod Scanned
 pub mod Sound
 pub mod Spelling

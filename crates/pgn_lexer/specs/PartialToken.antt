@@ -1,19 +1,22 @@
 -- **Bookkeeping**: what a lexer holds of the current token, and the tokens that it still gives.
 -- Letters: h is what is held, s the bytes that come. `place` is the number of bytes used, `at` the
 -- place of the current token, `text` its bytes so far. 239 187 191 is the byte order mark EF BB BF.
-use Rattle.std.specs.Prelude.{◌≡◌, ℕ, ◌+◌, ◌<◌, ◌≤◌, true, false, List, [], ◌∷◌, ◌++◌, take_while, length, codes}
+use Rattle.std.specs.Prelude.{◌≡◌, ℕ, ◌+◌, ◌<◌, ◌≤◌, true, false, List, [], ◌∷◌, ◌++◌, take_while, length}
 use Rattle.pgn_lexer.specs.declared.token.LexFault.{LexFault}
 use Rattle.pgn_lexer.specs.declared.token.LexReason.{LexReason}
 use Rattle.pgn_lexer.specs.declared.partial_token.LexMode.{LexMode}
-use Rattle.pgn_lexer.specs.declared.partial_token.LexMode.TheVariants.{Start, AfterEf, AfterEfBb, LineStart, Outside, EscapeLine, Symbol, Str, AfterBackslash, Dollar, Glyph, Suffix, Brace, BraceWord, Line, LineWord, Failed}
-use Rattle.pgn_lexer.specs.declared.partial_token.SuffixRun.{SuffixRun}
-use Rattle.pgn_lexer.specs.declared.partial_token.SuffixRun.TheVariants as suffix_runs
+use Rattle.pgn_lexer.specs.declared.partial_token.LexMode.TheVariants.{Start, AfterEf, AfterEfBb, LineStart, Outside, EscapeLine, Text, AfterBackslash, Dollar, Glyph, Comment, Failed}
+use Rattle.pgn_lexer.specs.declared.partial_token.Close.TheVariants as closes
+use Rattle.pgn_lexer.specs.declared.partial_token.Text.TheVariants as texts
 use Rattle.pgn_lexer.specs.declared.partial_token.TokenForm.{TokenForm}
 use Rattle.pgn_lexer.specs.declared.partial_token.TokenForm.TheVariants as token_forms
-use Rattle.pgn_lexer.specs.Bytes.{is_digit, continues_symbol, is_suffix, continues_word}
-use Rattle.pgn_lexer.specs.Tokens.{Kind, Token, symbol, str, glyph, comment_open, word, comment_close, refused}
-use Rattle.pgn_lexer.specs.Spelling.{kind_of_single, Reading, closed, broken, reading, number_from, symbol_at, word_at, glyph_at, numbered_at, suffix_at, string_at}
-use Rattle.pgn_lexer.specs.TokensOf.{column, outside, in_escape_line, in_symbol, in_glyph, in_suffix, quotes, backslash, brace, brace_word, line, line_word, onto, tokens_from, tokens_of}
+use Rattle.pgn_lexer.specs.Bytes.{is_digit}
+use Rattle.pgn_lexer.specs.Tokens.{Kind, Token, glyph, comment_open, comment_close, refused}
+use Rattle.pgn_lexer.specs.Comments.{between}
+use Rattle.pgn_lexer.specs.Sets.{is_in}
+use Rattle.pgn_lexer.specs.Texts.{bytes_of, found_of, kind_of_text, longest_of, within_of}
+use Rattle.pgn_lexer.specs.Spelling.{kind_of_single, Reading, closed, broken, reading, number_from, glyph_at, numbered_at, string_at}
+use Rattle.pgn_lexer.specs.TokensOf.{column, outside, in_escape_line, in_glyph, quotes, backslash, onto, tokens_from, tokens_of}
 
 -- where the partial token began, and what was read of it
 pub record PartialToken : Type 0 where
@@ -28,11 +31,9 @@ refusal f = record { at = f.at; kind = refused f.reason }
 -- the token of a form, at its place with its text
 abbrev pub kind_in : TokenForm → List ℕ → Kind
 kind_in (token_forms.Single s) text = kind_of_single s
-kind_in token_forms.Symbol text = symbol text
-kind_in token_forms.Str text = str text
+kind_in (token_forms.Text t) text = kind_of_text t text
 kind_in (token_forms.Glyph n) text = glyph n
 kind_in token_forms.CommentOpen text = comment_open
-kind_in token_forms.Word text = word text
 kind_in token_forms.CommentClose text = comment_close
 
 abbrev pub token_of : TokenForm → PartialToken → Token
@@ -43,15 +44,6 @@ abbrev pub with_front : List ℕ → Reading → Reading
 with_front text (closed more) = closed (text ++ more)
 with_front text (broken at reason) = broken at reason
 
--- the suffix so far
-abbrev pub spelling : SuffixRun → List ℕ
-spelling suffix_runs.Good = codes "!"
-spelling suffix_runs.Poor = codes "?"
-spelling suffix_runs.VeryGood = codes "!!"
-spelling suffix_runs.VeryPoor = codes "??"
-spelling suffix_runs.Speculative = codes "!?"
-spelling suffix_runs.Questionable = codes "?!"
-
 -- the tokens that come, if the bytes from the place on are s
 abbrev pub tokens_to_come_in : LexMode → ℕ → ℕ → List ℕ → List ℕ → List Token
 tokens_to_come_in Start place at text s = tokens_of s
@@ -60,16 +52,12 @@ tokens_to_come_in AfterEfBb place at text s = tokens_of (239 ∷ 187 ∷ s)
 tokens_to_come_in LineStart place at text s = tokens_from place column s
 tokens_to_come_in Outside place at text s = tokens_from place outside s
 tokens_to_come_in EscapeLine place at text s = tokens_from place in_escape_line s
-tokens_to_come_in Symbol place at text s = onto at (symbol_at at (text ++ take_while continues_symbol s)) (tokens_from place in_symbol s)
-tokens_to_come_in Str place at text s = onto at (string_at (with_front text (reading at place (length text) false s))) (tokens_from place quotes s)
+tokens_to_come_in (Text texts.Str) place at text s = onto at (string_at (with_front text (reading at place (length text) false s))) (tokens_from place quotes s)
+tokens_to_come_in (Text t) place at text s = onto at (found_of t at (text ++ take_while (is_in (bytes_of t)) s)) (tokens_from place (within_of t) s)
 tokens_to_come_in AfterBackslash place at text s = onto at (string_at (with_front text (reading at place (length text) true s))) (tokens_from place backslash s)
 tokens_to_come_in Dollar place at text s = onto at (glyph_at at (take_while is_digit s)) (tokens_from place in_glyph s)
 tokens_to_come_in (Glyph n) place at text s = onto at (numbered_at at (number_from n (take_while is_digit s))) (tokens_from place in_glyph s)
-tokens_to_come_in (Suffix run) place at text s = onto at (suffix_at at (spelling run ++ take_while is_suffix s)) (tokens_from place in_suffix s)
-tokens_to_come_in Brace place at text s = tokens_from place brace s
-tokens_to_come_in BraceWord place at text s = onto at (word_at at (text ++ take_while continues_word s)) (tokens_from place brace_word s)
-tokens_to_come_in Line place at text s = tokens_from place line s
-tokens_to_come_in LineWord place at text s = onto at (word_at at (text ++ take_while continues_word s)) (tokens_from place line_word s)
+tokens_to_come_in (Comment close) place at text s = tokens_from place (between close) s
 tokens_to_come_in (Failed reason) place at text s = refusal (record { at = at; reason = reason }) ∷ []
 
 abbrev pub tokens_to_come : ℕ → PartialToken → List ℕ → List Token
@@ -78,10 +66,9 @@ tokens_to_come place h s = tokens_to_come_in h.mode place h.at h.text s
 -- what the text and the number of a token so far have, and room for what must still go into the
 -- buffer
 abbrev pub HasMore : LexMode → List ℕ → Type 0
-HasMore Symbol text = 0 < length text
+HasMore (Text texts.Str) text = Unit {0}
+HasMore (Text t) text = (0 < length text) × (length text ≤ longest_of t)
 HasMore AfterBackslash text = length text < 255
-HasMore BraceWord text = (0 < length text) × (length text ≤ 79)
-HasMore LineWord text = (0 < length text) × (length text ≤ 79)
 HasMore (Glyph n) text = n ≤ 255
 HasMore _ text = Unit {0}
 
@@ -94,14 +81,11 @@ abbrev pub IsPlaced : LexMode → ℕ → ℕ → List ℕ → Type 0
 IsPlaced Start place at text = place ≡ 0
 IsPlaced AfterEf place at text = place ≡ 1
 IsPlaced AfterEfBb place at text = place ≡ 2
-IsPlaced Symbol place at text = place ≡ at + length text
-IsPlaced Str place at text = at < place
+IsPlaced (Text texts.Str) place at text = at < place
+IsPlaced (Text t) place at text = place ≡ at + length text
 IsPlaced AfterBackslash place at text = at < place
 IsPlaced Dollar place at text = at < place
 IsPlaced (Glyph n) place at text = at < place
-IsPlaced (Suffix run) place at text = at < place
-IsPlaced BraceWord place at text = place ≡ at + length text
-IsPlaced LineWord place at text = place ≡ at + length text
 IsPlaced _ place at text = Unit {0}
 
 -- what holds of each lexer
@@ -120,12 +104,11 @@ fault_met reason h = record { at = h.at; reason = reason }
 
 -- how many tokens come with no byte more, but for the end
 abbrev pub pending_in : LexMode → ℕ
-pending_in Symbol = 1
+pending_in (Text texts.Str) = 0
+pending_in (Text (texts.Word closes.LineEnd)) = 2
+pending_in (Text t) = 1
 pending_in (Glyph n) = 1
-pending_in (Suffix run) = 1
-pending_in BraceWord = 1
-pending_in Line = 1
-pending_in LineWord = 2
+pending_in (Comment closes.LineEnd) = 1
 pending_in _ = 0
 
 abbrev pub pending : PartialToken → ℕ

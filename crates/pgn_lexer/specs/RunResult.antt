@@ -7,8 +7,6 @@ use Rattle.pgn_lexer.specs.declared.partial_token.LexMode.{LexMode}
 use Rattle.pgn_lexer.specs.declared.partial_token.LexMode.TheVariants.{LineStart, Outside}
 use Rattle.pgn_lexer.specs.declared.partial_token.ByteResult.{ByteResult}
 use Rattle.pgn_lexer.specs.declared.partial_token.ByteResult.TheVariants.{Used, Ends, EndsBefore, Fault}
-use Rattle.pgn_lexer.specs.declared.partial_token.PieceResult.{PieceResult}
-use Rattle.pgn_lexer.specs.declared.partial_token.PieceResult.TheVariants as reached
 use Rattle.pgn_lexer.specs.Tokens.{Token, HasLength, EndsAt, is_run}
 use Rattle.pgn_lexer.specs.TokensOf.{Within, tokens_from}
 use Rattle.pgn_lexer.specs.PartialToken.{PartialToken, tokens_to_come, token_of, refusal, IsSound, HasNotFailed, pending, fault_met}
@@ -71,10 +69,11 @@ pub record RunsToFault (place : ℕ) (old : PartialToken) (piece : List ℕ) (f 
   pub some : HasNotFailed old.mode → 0 < length piece
   pub comes : (s : List ℕ) → tokens_to_come place old (take used piece ++ s) ≡ refusal f ∷ []
 
-abbrev pub RunGives : ℕ → PartialToken → List ℕ → PartialToken → ℕ → PieceResult → Type 0
-RunGives place old piece new used reached.End = RunsOut place old piece new used
-RunGives place old piece new used (reached.Token form) = RunsToToken place old piece (token_of form new) new used
-RunGives place old piece new used (reached.Fault reason) = RunsToFault place old piece (fault_met reason new) new used
+abbrev pub RunGives : ℕ → PartialToken → List ℕ → PartialToken → ℕ → ByteResult → Type 0
+RunGives place old piece new used Used = RunsOut place old piece new used
+RunGives place old piece new used (Ends form) = RunsToToken place old piece (token_of form new) new used
+RunGives place old piece new used (EndsBefore form) = RunsToToken place old piece (token_of form new) new used
+RunGives place old piece new used (Fault reason) = RunsToFault place old piece (fault_met reason new) new used
 
 -- no token ended in the first i bytes of the piece, and h is held after them
 pub record Ran (place : ℕ) (old : PartialToken) (piece : List ℕ) (h : PartialToken) (i : ℕ) : Type 0 where
@@ -89,10 +88,3 @@ abbrev pub IsOutside : LexMode → Type 0
 IsOutside LineStart = Unit {0}
 IsOutside Outside = Unit {0}
 IsOutside _ = ⊥
-
--- what a run has reached that a step ended
-abbrev pub reached_after : ByteResult → PieceResult
-reached_after Used = reached.End
-reached_after (Ends form) = reached.Token form
-reached_after (EndsBefore form) = reached.Token form
-reached_after (Fault reason) = reached.Fault reason

@@ -1,39 +1,18 @@
 -- **Bookkeeping**: bytes at the front of a piece that are a whole token. The byte behind a run is
 -- in the piece too, and does not continue it. Letters: n is the length of the run.
-use Rattle.std.specs.Prelude.{◌≡◌, ℕ, ◌<◌, ◌≤◌, Bool, true, false, List, length, get_or}
+use Rattle.std.specs.Prelude.{◌≡◌, ℕ, ◌<◌, ◌≤◌, true, false, List, length, get_or, take}
 use Rattle.pgn_lexer.specs.declared.class.Set.{Set}
 use Rattle.pgn_lexer.specs.declared.class.Set.TheVariants as sets
 use Rattle.pgn_lexer.specs.declared.partial_token.LexMode.{LexMode}
-use Rattle.pgn_lexer.specs.declared.partial_token.LexMode.TheVariants.{LineStart, Outside, Brace, Line}
-use Rattle.pgn_lexer.specs.Bytes.{continues_symbol, continues_word, is_blank, is_digit, is_line_end, is_space, is_suffix, starts_symbol}
-use Rattle.pgn_lexer.specs.Lexes.{is_plain}
+use Rattle.pgn_lexer.specs.declared.partial_token.LexMode.TheVariants.{LineStart, Outside, Comment}
+use Rattle.pgn_lexer.specs.declared.partial_token.Text.{Text}
+use Rattle.pgn_lexer.specs.Bytes.{continues_symbol, is_digit}
+use Rattle.pgn_lexer.specs.Sets.{is_in}
+use Rattle.pgn_lexer.specs.Texts.{bytes_of, longest_of, kind_of_text, mode_behind}
 use Rattle.pgn_lexer.specs.Tokens.{Kind}
 use Rattle.pgn_lexer.specs.PartialToken.{PartialToken, IsSound}
 use Rattle.pgn_lexer.specs.RunResult.{IsOutside, RunsToToken}
 use Rattle.pgn_lexer.specs.Standing.{Standing}
-
--- a bit for each set of bytes, but for white space, which has two
-abbrev pub bits_of : Set → ℕ
-bits_of sets.SymbolStart = 1
-bits_of sets.Symbol = 2
-bits_of sets.Digit = 4
-bits_of sets.Suffix = 8
-bits_of sets.Data = 16
-bits_of sets.Word = 32
-bits_of sets.Blank = 64
-bits_of sets.LineEnd = 128
-bits_of sets.Space = 192
-
-abbrev pub is_in : Set → ℕ → Bool
-is_in sets.SymbolStart b = starts_symbol b
-is_in sets.Symbol b = continues_symbol b
-is_in sets.Digit b = is_digit b
-is_in sets.Suffix b = is_suffix b
-is_in sets.Data b = is_plain b
-is_in sets.Word b = continues_word b
-is_in sets.Blank b = is_blank b
-is_in sets.LineEnd b = is_line_end b
-is_in sets.Space b = is_space b
 
 -- the bytes behind the first are in the set, as far as the byte n, which is not
 pub record IsRunIn (set : Set) (longest : ℕ) (piece : List ℕ) (n : ℕ) : Type 0 where
@@ -42,6 +21,12 @@ pub record IsRunIn (set : Set) (longest : ℕ) (piece : List ℕ) (n : ℕ) : Ty
   pub within : n < length piece
   pub all : (i : ℕ) → 0 < i → i < n → is_in set (get_or piece i 0) ≡ true
   pub ends : is_in set (get_or piece n 0) ≡ false
+
+-- a text of this kind, if its first byte begins one, and what is behind it
+pub record IsText (t : Text) (piece : List ℕ) (n : ℕ) (mode : LexMode) (kind : Kind) : Type 0 where
+  pub run : IsRunIn (bytes_of t) (longest_of t) piece n
+  pub behind : mode ≡ mode_behind t
+  pub is : kind ≡ kind_of_text t (take n piece)
 
 -- a symbol of digits
 pub record IsNumberIn (piece : List ℕ) (n : ℕ) : Type 0 where
@@ -58,8 +43,7 @@ pub record BeginsUnpassed (piece : List ℕ) : Type 0 where
 abbrev pub IsBetween : LexMode → Type 0
 IsBetween LineStart = Unit {0}
 IsBetween Outside = Unit {0}
-IsBetween Brace = Unit {0}
-IsBetween Line = Unit {0}
+IsBetween (Comment close) = Unit {0}
 IsBetween _ = ⊥
 
 -- Wherever a lexer stands between tokens, the first n bytes of the piece are this token. It then is

@@ -1,37 +1,73 @@
 -- **Bookkeeping**: the tokens whose bytes are stored.
-use Rattle.std.specs.Prelude.{◌≡◌, ℕ, ◌<◌, ◌⊎◌, true, List, length, get_or}
+use Rattle.std.specs.Prelude.{◌≡◌, ℕ, ◌<◌, true, List, length, get_or, ◌==◌, if◌then◌else◌}
 use Rattle.pgn_lexer.specs.declared.class.Set.{Set}
 use Rattle.pgn_lexer.specs.declared.class.Set.TheVariants as sets
 use Rattle.pgn_lexer.specs.declared.partial_token.LexMode.{LexMode}
 use Rattle.pgn_lexer.specs.declared.partial_token.LexMode.TheVariants as modes
 use Rattle.pgn_lexer.specs.declared.partial_token.Text.{Text}
-use Rattle.pgn_lexer.specs.declared.partial_token.Text.TheVariants.{Symbol, Str, Word}
+use Rattle.pgn_lexer.specs.declared.partial_token.Text.TheVariants.{Symbol, Str, Suffix, Word}
 use Rattle.pgn_lexer.specs.declared.token.LexReason.{LexReason}
-use Rattle.pgn_lexer.specs.declared.token.LexReason.TheVariants.{SymbolTooLong, StringTooLong, WordTooLong}
+use Rattle.pgn_lexer.specs.declared.token.LexReason.TheVariants.{SymbolTooLong, StringTooLong, WordTooLong, BadSuffix}
+use Rattle.pgn_lexer.specs.Comments.{between, in_word}
 use Rattle.pgn_lexer.specs.Lexes.{is_escaped}
+use Rattle.pgn_lexer.specs.Spelling.{Found, nothing, symbol_at, word_at, suffix_at}
+use Rattle.pgn_lexer.specs.Tokens.{Kind, symbol, str, glyph, word}
+use Rattle.pgn_lexer.specs.TokensOf.{Within, in_symbol, in_suffix, outside, quotes}
 
 -- the bytes that continue it
 abbrev pub bytes_of : Text → Set
 bytes_of Symbol = sets.Symbol
 bytes_of Str = sets.Data
-bytes_of Word = sets.Word
+bytes_of Suffix = sets.Suffix
+bytes_of (Word close) = sets.Word
 
 abbrev pub longest_of : Text → ℕ
 longest_of Symbol = 255
 longest_of Str = 255
-longest_of Word = 79
+longest_of Suffix = 2
+longest_of (Word close) = 79
 
 -- why a longer one is rejected
 abbrev pub too_long_of : Text → LexReason
 too_long_of Symbol = SymbolTooLong
 too_long_of Str = StringTooLong
-too_long_of Word = WordTooLong
+too_long_of Suffix = BadSuffix
+too_long_of (Word close) = WordTooLong
 
--- the mode is that in such a text
-abbrev pub IsInText : Text → LexMode → Type 0
-IsInText Symbol mode = mode ≡ modes.Symbol
-IsInText Str mode = mode ≡ modes.Str
-IsInText Word mode = (mode ≡ modes.BraceWord) ⊎ (mode ≡ modes.LineWord)
+-- the glyph of a suffix of one or two bytes; 33 is `!`
+abbrev pub glyph_of : List ℕ → ℕ
+glyph_of text =
+    if length text == 1 then (if get_or text 0 0 == 33 then 1 else 2)
+    else (if get_or text 0 0 == 33 then (if get_or text 1 0 == 33 then 3 else 5)
+    else (if get_or text 1 0 == 33 then 6 else 4))
+
+abbrev pub kind_of_text : Text → List ℕ → Kind
+kind_of_text Symbol text = symbol text
+kind_of_text Str text = str text
+kind_of_text Suffix text = glyph (glyph_of text)
+kind_of_text (Word close) text = word text
+
+-- what its bytes, if it is no string, come to
+abbrev pub found_of : Text → ℕ → List ℕ → Found
+found_of Symbol at run = symbol_at at run
+found_of Str at run = nothing
+found_of Suffix at run = suffix_at at run
+found_of (Word close) at run = word_at at run
+
+-- what a byte in it is inside of, and one behind it
+abbrev pub within_of : Text → Within
+within_of Symbol = in_symbol
+within_of Str = quotes
+within_of Suffix = in_suffix
+within_of (Word close) = in_word close
+
+abbrev pub within_behind : Text → Within
+within_behind (Word close) = between close
+within_behind _ = outside
+
+abbrev pub mode_behind : Text → LexMode
+mode_behind (Word close) = modes.Comment close
+mode_behind _ = modes.Outside
 
 -- a backslash before a byte that it escapes, in a string
 pub record BeginsWithEscape (text : Text) (bytes : List ℕ) : Type 0 where

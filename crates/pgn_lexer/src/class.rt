@@ -4,6 +4,7 @@
 ghost use Rattle.std.specs.Prelude.{◌≡◌, ℕ, true, false, ◌<◌, ◌≤◌, ◌^◌, length, get_or, MatchOption};
 ghost use Rattle.pgn_lexer.specs.Lexes as lexes;
 ghost use Rattle.pgn_lexer.specs.Runs as runs;
+ghost use Rattle.pgn_lexer.specs.Sets as sets;
 ghost use Rattle.pgn_lexer.specs.Spelling as spelling;
 
 use crate::token::LexReason;
@@ -120,7 +121,7 @@ static SETS: [u8; 256] = [
 /// The bits of a set.
 #[inline(always)]
 pub(crate) fn bits_of(set: Set) -> u8
-    ensures { result ≡ runs.bits_of set }
+    ensures { result ≡ sets.bits_of set }
 {
     match set {
         Set::SymbolStart => SYMBOL_START,
@@ -138,7 +139,7 @@ pub(crate) fn bits_of(set: Set) -> u8
 /// Whether the byte is in the set.
 #[inline(always)]
 pub(crate) fn is_in(byte: u8, set: Set) -> bool
-    ensures { result ≡ runs.is_in set byte }
+    ensures { result ≡ sets.is_in set byte }
 {
     SETS[byte as usize] & bits_of(set) != 0
 }
@@ -150,8 +151,8 @@ pub(crate) fn run_end(bytes: &[u8], from: usize, set: Set) -> usize
     requires { from ≤ length bytes.now }
     ensures from { from ≤ result }
     ensures within { result ≤ length bytes.now }
-    ensures all { (i : ℕ) → from ≤ i → i < result → runs.is_in set (get_or bytes.now i 0) ≡ true }
-    ensures ends { result < length bytes.now → runs.is_in set (get_or bytes.now result 0) ≡ false }
+    ensures all { (i : ℕ) → from ≤ i → i < result → sets.is_in set (get_or bytes.now i 0) ≡ true }
+    ensures ends { result < length bytes.now → sets.is_in set (get_or bytes.now result 0) ≡ false }
 {
     let mut end = from;
     while end < bytes.len() && is_in(bytes[end], set) {

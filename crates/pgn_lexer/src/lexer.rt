@@ -2,7 +2,7 @@
 ghost use Rattle.std.specs.Prelude.{◌≡◌, ◌+◌, ◌≤◌, ◌^◌, [], length, None};
 ghost use Rattle.std.specs.Borrow.{sem};
 
-use crate::partial_token::{PartialToken, PieceResult};
+use crate::partial_token::{ByteResult, PartialToken};
 use crate::token::{Outcome, Scan, Token, TokenKind};
 use std::marker::Model;
 
@@ -110,15 +110,15 @@ impl Lexer {
         let (used, reached) = self.partial.run(piece, self.count);
         self.count += used as u64;
         match reached {
-            PieceResult::End => Scan {
+            ByteResult::Used => Scan {
                 used,
                 outcome: Outcome::NeedMore,
             },
-            PieceResult::Token(form) => Scan {
+            ByteResult::Ends(form) | ByteResult::EndsBefore(form) => Scan {
                 used,
                 outcome: Outcome::Token(self.partial.token(form)),
             },
-            PieceResult::Fault(reason) => Scan {
+            ByteResult::Fault(reason) => Scan {
                 used,
                 outcome: Outcome::Fault(self.partial.fault(reason)),
             },
@@ -181,12 +181,14 @@ impl Lexer {
         ensures* after { sem 𝓛 (Leaves self.entry (λ new. Finishes self.old new (scanned result))) }
     {
         match self.partial.close(self.count) {
-            PieceResult::End => Outcome::Token(Token {
+            ByteResult::Used => Outcome::Token(Token {
                 at: self.count,
                 kind: TokenKind::End,
             }),
-            PieceResult::Token(form) => Outcome::Token(self.partial.token(form)),
-            PieceResult::Fault(reason) => Outcome::Fault(self.partial.fault(reason)),
+            ByteResult::Ends(form) | ByteResult::EndsBefore(form) => Outcome::Token(
+                self.partial.token(form),
+            ),
+            ByteResult::Fault(reason) => Outcome::Fault(self.partial.fault(reason)),
         }
     }
 }

@@ -1,12 +1,9 @@
 //! The current token: its place, its mode, and what was read of it.
 
-ghost use Rattle.std.specs.Prelude.{◌≡◌, ◌==◌, [], if◌then◌else◌, IfSome, IsTrue, MatchOption};
-ghost use Rattle.pgn_lexer.specs.ByteResult as byte_result;
-ghost use Rattle.pgn_lexer.specs.PartialToken.{PartialToken};
+ghost use Rattle.std.specs.Prelude.{◌≡◌, ◌==◌, [], if◌then◌else◌, IsTrue};
 ghost use Rattle.pgn_lexer.specs.Scanned.{kind_of};
 ghost use Rattle.pgn_lexer.specs.Spelling as spelling;
-ghost use Rattle.pgn_lexer.specs.declared.partial_token.SuffixRun.TheVariants as suffix_runs;
-ghost use Rattle.pgn_lexer.specs.declared.token.LexReason.TheVariants.{BadSuffix};
+ghost use Rattle.pgn_lexer.specs.Texts as texts;
 
 mod byte;
 mod end;
@@ -24,18 +21,17 @@ const LONGEST_TEXT: usize = 255;
 /// The most bytes of a word of a comment, so that a line of an export has room for it (PGN 8.2.1).
 const LONGEST_WORD: usize = 79;
 
+/// The most bytes of a suffix (PGN 8.2.3.8).
+const LONGEST_SUFFIX: usize = 2;
+
 /// The largest NAG (PGN 8.2.4).
 const LARGEST_GLYPH: u16 = 255;
 
-/// A run of at most two of `!` and `?`, by what it says of a move.
+/// What ends a comment (PGN 5).
 #[derive(Clone, Copy)]
-pub(crate) enum SuffixRun {
-    Good,
-    Poor,
-    VeryGood,
-    VeryPoor,
-    Speculative,
-    Questionable,
+pub(crate) enum Close {
+    Brace,
+    LineEnd,
 }
 
 /// A kind of token whose bytes are stored.
@@ -43,14 +39,10 @@ pub(crate) enum SuffixRun {
 pub(crate) enum Text {
     Symbol,
     Str,
-    Word,
-}
-
-/// What ends a comment (PGN 5).
-#[derive(Clone, Copy)]
-pub(crate) enum Close {
-    Brace,
-    LineEnd,
+    /// A run of `!` and `?`.
+    Suffix,
+    /// A word of a comment that ends so.
+    Word(Close),
 }
 
 /// What the next byte is inside of.
@@ -67,21 +59,16 @@ pub(crate) enum LexMode {
     Outside,
     /// After a percent sign in the first column.
     EscapeLine,
-    Symbol,
-    Str,
+    /// In a text of this kind.
+    Text(Text),
     /// In a string, after a backslash that is not in the buffer yet.
     AfterBackslash,
     /// After a dollar sign.
     Dollar,
     /// After digits, of this value, after a dollar sign.
     Glyph(u8),
-    Suffix(SuffixRun),
-    /// Between the words of a comment in braces.
-    Brace,
-    BraceWord,
-    /// Between the words of a comment that goes to the end of its line.
-    Line,
-    LineWord,
+    /// Between the words of a comment that ends so.
+    Comment(Close),
     /// The text is rejected for this reason. The place of the fault is that of the partial token.
     Failed(LexReason),
 }
@@ -90,35 +77,22 @@ pub(crate) enum LexMode {
 #[derive(Clone, Copy)]
 pub(crate) enum TokenForm {
     Single(Single),
-    Symbol,
-    Str,
+    Text(Text),
     Glyph(u8),
     CommentOpen,
-    Word,
     CommentClose,
 }
 
-/// The result of one byte.
+/// The result of one byte, of a piece, or of the end of the text.
 #[derive(Clone, Copy)]
 pub(crate) enum ByteResult {
     /// It was used, and no token ends.
     Used,
-    /// It was used, and a token ends with it.
+    /// A token ends with the last byte used.
     Ends(TokenForm),
-    /// It was not used: a token ends before it.
+    /// A token ends before a byte that was not used.
     EndsBefore(TokenForm),
     /// The text is rejected for this reason, which the mode keeps.
-    Fault(LexReason),
-}
-
-/// What is reached in a piece, or after the last one.
-#[derive(Clone, Copy)]
-pub(crate) enum PieceResult {
-    /// The end of the piece, or of the text; no token ends before it.
-    End,
-    /// The end of a token.
-    Token(TokenForm),
-    /// The text is rejected for this reason.
     Fault(LexReason),
 }
 
@@ -141,7 +115,7 @@ impl Model for PartialToken {
 }
 
 impl Text {
-    ghost use Rattle.pgn_lexer.specs.Texts.{bytes_of, longest_of, too_long_of, BeginsWithEscape};
+    ghost use Rattle.pgn_lexer.specs.Texts.{bytes_of, longest_of, too_long_of, kind_of_text, mode_behind, BeginsWithEscape};
 
     /// The bytes that continue it.
     #[inline(always)]
@@ -151,7 +125,8 @@ impl Text {
         match self {
             Text::Symbol => Set::Symbol,
             Text::Str => Set::Data,
-            Text::Word => Set::Word,
+            Text::Suffix => Set::Suffix,
+            Text::Word(_) => Set::Word,
         }
     }
 
@@ -162,7 +137,8 @@ impl Text {
     {
         match self {
             Text::Symbol | Text::Str => LONGEST_TEXT,
-            Text::Word => LONGEST_WORD,
+            Text::Suffix => LONGEST_SUFFIX,
+            Text::Word(_) => LONGEST_WORD,
         }
     }
 
@@ -174,7 +150,32 @@ impl Text {
         match self {
             Text::Symbol => LexReason::SymbolTooLong,
             Text::Str => LexReason::StringTooLong,
-            Text::Word => LexReason::WordTooLong,
+            Text::Suffix => LexReason::BadSuffix,
+            Text::Word(_) => LexReason::WordTooLong,
+        }
+    }
+
+    /// The token of these bytes.
+    #[inline(always)]
+    pub(crate) fn kind<'a>(self, bytes: &'a [u8]) -> TokenKind<'a>
+        ensures { kind_of result ≡ kind_of_text self bytes.now }
+    {
+        match self {
+            Text::Symbol => TokenKind::Symbol(bytes),
+            Text::Str => TokenKind::Str(bytes),
+            Text::Suffix => TokenKind::Glyph(glyph_of(bytes)),
+            Text::Word(_) => TokenKind::Word(bytes),
+        }
+    }
+
+    /// The mode behind it.
+    #[inline(always)]
+    pub(crate) fn mode_behind(self) -> LexMode
+        ensures { result ≡ mode_behind self }
+    {
+        match self {
+            Text::Word(close) => LexMode::Comment(close),
+            _ => LexMode::Outside,
         }
     }
 
@@ -191,7 +192,7 @@ impl Text {
 }
 
 impl Close {
-    ghost use Rattle.pgn_lexer.specs.Comments.{gap_of, Closes};
+    ghost use Rattle.pgn_lexer.specs.Comments.{gap_of, behind};
 
     /// The white space between the words of the comment.
     #[inline(always)]
@@ -207,7 +208,7 @@ impl Close {
     /// The mode behind the comment, if the byte ends it.
     #[inline(always)]
     pub(crate) fn mode_behind(self, byte: u8) -> Option<LexMode>
-        ensures { IfSome result (λ mode. Closes self byte mode) }
+        ensures { result ≡ behind self (spelling.comment_class byte) }
     {
         match self {
             Close::Brace => (byte == b'}').then_some(LexMode::Outside),
@@ -258,14 +259,11 @@ impl PartialToken {
         ensures at { result.at ≡ self.now.at }
         ensures kind { kind_of result.kind ≡ kind_in form self.now.text }
     {
-        let text = self.buffer.as_slice();
         let kind = match form {
             TokenForm::Single(single) => kind_of_single(single),
-            TokenForm::Symbol => TokenKind::Symbol(text),
-            TokenForm::Str => TokenKind::Str(text),
+            TokenForm::Text(text) => text.kind(self.buffer.as_slice()),
             TokenForm::Glyph(number) => TokenKind::Glyph(number),
             TokenForm::CommentOpen => TokenKind::CommentOpen,
-            TokenForm::Word => TokenKind::Word(text),
             TokenForm::CommentClose => TokenKind::CommentClose,
         };
         Token { at: self.at, kind }
@@ -282,44 +280,18 @@ fn clear(buffer: &mut ArrayVec<u8, LONGEST_TEXT>)
 }
 
 /// The NAG of a suffix (PGN 8.2.3.8, 10).
-pub(crate) fn glyph_of(run: SuffixRun) -> u8
-    ensures { result ≡ byte_result.glyph_of run }
+fn glyph_of(suffix: &[u8]) -> u8
+    ensures { result ≡ texts.glyph_of suffix.now }
 {
-    match run {
-        SuffixRun::Good => 1,
-        SuffixRun::Poor => 2,
-        SuffixRun::VeryGood => 3,
-        SuffixRun::VeryPoor => 4,
-        SuffixRun::Speculative => 5,
-        SuffixRun::Questionable => 6,
-    }
-}
-
-/// The suffix that begins with the byte, which is `!` or `?`.
-pub(crate) fn first_suffix(byte: u8) -> SuffixRun
-    ensures { result ≡ (if byte == 33 then suffix_runs.Good else suffix_runs.Poor) }
-{
-    if byte == b'!' {
-        SuffixRun::Good
-    } else {
-        SuffixRun::Poor
-    }
-}
-
-/// The suffix with the byte behind it, which is `!` or `?`. `None` if that is none of the six.
-pub(crate) fn longer_suffix(run: SuffixRun, byte: u8) -> Option<SuffixRun>
-    ensures { MatchOption result
-        ((h : PartialToken) → byte_result.second_suffix h run byte
-        ≡ byte_result.fails h h.at BadSuffix)
-        (λ longer. (h : PartialToken) → byte_result.second_suffix h run byte
-        ≡ byte_result.into h (LexMode.Suffix longer) ByteResult.Used) }
-{
-    match (run, byte) {
-        (SuffixRun::Good, b'!') => Some(SuffixRun::VeryGood),
-        (SuffixRun::Good, _) => Some(SuffixRun::Speculative),
-        (SuffixRun::Poor, b'!') => Some(SuffixRun::Questionable),
-        (SuffixRun::Poor, _) => Some(SuffixRun::VeryPoor),
-        _ => None,
+    match suffix {
+        [first] => if *first == b'!' { 1 } else { 2 },
+        [first, second, ..] => match (*first == b'!', *second == b'!') {
+            (true, true) => 3,
+            (true, false) => 5,
+            (false, true) => 6,
+            (false, false) => 4,
+        },
+        [] => 4,
     }
 }
 

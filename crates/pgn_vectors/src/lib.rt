@@ -7,7 +7,8 @@
 //! D = 32, that is for `convert_slice::<64, 33, _>`.
 //!
 //! The tests convert each vector as a slice, from a reader, byte by byte, ended at each byte and
-//! cut at each byte. They also try what no table says: other limits, and the game just finished.
+//! cut at each byte, and make its export of its items. They also try what no table says: other
+//! limits, and the game just finished.
 //! Devices that fail are tried by the tests of `pgn_device_tests`, for which this crate exports
 //! its tables and its runs. `rt test` proves and runs them; `rt try --test` only runs them.
 #![tactic(auto)]

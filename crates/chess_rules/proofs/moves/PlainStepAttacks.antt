@@ -1,7 +1,7 @@
 -- A plain step gives an attack only by the piece that moves, or along the line that it leaves.
 use Rattle.chess_rules.proofs.Words.{Colour, Piece, Promotion, Move, Parts, Square, same_square, between_on_rank, between_on_file, between_on_diagonal, strictly_between, squares, Board, at, put, is_empty, other, has_colour, attacks, cell_attacks, is_attacked, is_clear, king_attacked, is_position, is_on_board, promoted, carried, board_after, after, legal, if_safe, is_legal, is_check, is_aligned, is_near, king_square, may_attack, reaches_from, slides, Plain, step_kind, ◌≡◌, Bool, true, false, not, ◌&&◌, ◌||◌, ◌⊎◌, inl, inr, refl, sym, ◌∙◌, ap, ap₂, subst, arith, length, Option, None, Some, is_none, is_some, option_map, if◌then◌else◌, list_any, false≢true, and_from, false_from_ne_true, nat_tests, common_steps}
-use Rattle.chess_rules.proofs.sets.AllSquares.{first_true, each_square, all_squares, Passes, some_square, any_square, not_true, implied}
-use Rattle.chess_rules.proofs.lines.AttackToReach.{attacker_is, none_or_all, between_cases, other-other}
+use Rattle.chess_rules.proofs.sets.AllSquares.{first_true, second_true, each_square, all_squares, Passes, some_square, any_square, not_true, implied}
+use Rattle.chess_rules.proofs.lines.AttackToReach.{attacker_is, cell_attack_is, none_or_all, between_cases, other-other}
 use Rattle.chess_rules.proofs.positions.OneKing.{StandsAt}
 use Rattle.chess_rules.proofs.moves.CellsAfterPut.{OnBoard, at_put_here, length-put, moved, at_moved, on_target, on_origin, on_other}
 use Rattle.chess_rules.proofs.positions.RulesOfPosition.{Sound, sound_from_position, king_of, attack_on_king}
@@ -87,6 +87,54 @@ module _ (b : Board) (from to k : Square) (cell : Option Piece) (c : Colour)
                 (ap (λ o. has_colour c o && cell_attacks o (moved b from to cell) w.on k) (sym same) ∙ w.holds)))
           ]
 
+  -- Where the square is attacked all the same, a piece that slides does it.
+  still_slides : (s : Square) → (has_colour c (at b s) && cell_attacks (at b s) (moved b from to cell) s k) ≡ true
+      → (has_colour c (at b s) && attacks b s k) ≡ false
+      → (((has_colour c (at b s) && reaches_from (at b s) s k) && not (is_near (at b s))) && is_clear (moved b from to cell) s k) ≡ true
+  still_slides s hits before = by_test ((has_colour c (at b s) && reaches_from (at b s) s k) && not (is_near (at b s))) refl
+    where
+      clear : is_clear (moved b from to cell) s k ≡ true
+      clear = second_true (reaches_from (at b s) s k) _ (sym (cell_attack_is (at b s) (moved b from to cell) s k)
+          ∙ second_true (has_colour c (at b s)) _ hits)
+
+      by_test : (x : Bool) → ((has_colour c (at b s) && reaches_from (at b s) s k) && not (is_near (at b s))) ≡ x
+          → (((has_colour c (at b s) && reaches_from (at b s) s k) && not (is_near (at b s))) && is_clear (moved b from to cell) s k) ≡ true
+      by_test true e = and_from _ _ e clear
+      by_test false e = absurd (false≢true (sym before ∙ (sym (no_slide c (at b s) (moved b from to cell) b s k e) ∙ hits)))
+
+  pub along_line : is_none cell ≡ false → (has_colour c cell && attacks (moved b from to cell) to k) ≡ false
+      → is_attacked b c k ≡ false
+      → is_attacked (moved b from to cell) c k ≡ list_any (λ s. slides (moved b from to cell) c k s && is_clear (moved b from to cell) s k) squares
+  along_line full quiet before = by_test (is_attacked (moved b from to cell) c k) refl
+    where
+      by_square : Passes (λ s. has_colour c (at (moved b from to cell) s) && attacks (moved b from to cell) s k)
+          → list_any (λ s. slides (moved b from to cell) c k s && is_clear (moved b from to cell) s k) squares ≡ true
+      by_square w =
+          let on : OnBoard w.on = record { file = w.file; rank = w.rank } in
+          elim (at_moved b from to w.on cell long on_from on_to on) [
+            | on_target is _ ↦ absurd (false≢true (sym quiet ∙ (ap (λ o. has_colour c o && attacks (moved b from to cell) to k) (sym arrived)
+                ∙ subst (λ (s : Square). (has_colour c (at (moved b from to cell) s) && attacks (moved b from to cell) s k) ≡ true) is w.holds)))
+            | on_origin _ none ↦ absurd (false≢true (sym (ap (has_colour c) none) ∙ first_true _ _ w.holds))
+            | on_other _ _ same ↦ any_square (λ s. slides (moved b from to cell) c k s && is_clear (moved b from to cell) s k) w.on w.file w.rank
+                (ap (λ o. ((has_colour c o && reaches_from o w.on k) && not (is_near o)) && is_clear (moved b from to cell) w.on k) same
+                ∙ still_slides w.on
+                (ap (λ o. has_colour c o && cell_attacks o (moved b from to cell) w.on k) (sym same) ∙ w.holds)
+                (false_from_ne_true _ (λ e. false≢true (sym before ∙ any_square (λ s. has_colour c (at b s) && attacks b s k) w.on w.file w.rank e))))
+          ]
+
+      seen : (w : Passes (λ s. slides (moved b from to cell) c k s && is_clear (moved b from to cell) s k))
+          → is_attacked (moved b from to cell) c k ≡ true
+      seen w = any_square (λ s. has_colour c (at (moved b from to cell) s) && attacks (moved b from to cell) s k) w.on w.file w.rank
+          (attacker_is (moved b from to cell) c w.on k
+          ∙ and_from _ _ (first_true (may_attack (moved b from to cell) c k w.on) _ (first_true (slides (moved b from to cell) c k w.on) _ w.holds))
+          (second_true (slides (moved b from to cell) c k w.on) _ w.holds))
+
+      by_test : (x : Bool) → is_attacked (moved b from to cell) c k ≡ x
+          → x ≡ list_any (λ s. slides (moved b from to cell) c k s && is_clear (moved b from to cell) s k) squares
+      by_test true e = sym (by_square (some_square (λ s. has_colour c (at (moved b from to cell) s) && attacks (moved b from to cell) s k) e))
+      by_test false e = sym (false_from_ne_true _ (λ h. false≢true (sym e
+          ∙ seen (some_square (λ s. slides (moved b from to cell) c k s && is_clear (moved b from to cell) s k) h))))
+
 -- A plain step.
 
 pub plain_board : (p : Parts) (m : Move) (b : Board) → step_kind p m ≡ Plain → board_after p m ≡ Some b → carried p m ≡ b
@@ -140,46 +188,60 @@ pub check_is_seen : (p : Parts) (m : Move) (b : Board) (k : Square)
     → k ≡ king_square (other p.side) p.board → king_attacked b (other p.side) ≡ is_attacked b p.side k
 check_is_seen p m b k position on h is = grind (arith, common_steps, king_seen, other-other, other_king_stays)
 
--- the other king is not attacked, if the piece that arrives does not attack it, and it sees no
--- square that is left
-pub no_check_when_plain : (p : Parts) (m : Move) (b : Board) (k : Square) → is_position p ≡ true
-    → is_on_board m ≡ true → board_after p m ≡ Some b → step_kind p m ≡ Plain
-    → k ≡ king_square (other p.side) p.board → is_aligned m.from k ≡ false
-    → may_attack b p.side k m.to ≡ false → king_attacked b (other p.side) ≡ false
-no_check_when_plain p m b k position on h plain is unseen harmless =
-    check_is_seen p m b k position on h is ∙ (ap (λ a. is_attacked a p.side k) (sym (plain_board p m b plain h)) ∙ quiet)
-  where
-    sound : Sound p
-    sound = sound_from_position p position
+-- A plain step whose piece does not attack the other king.
+module _ (p : Parts) (m : Move) (b : Board) (k : Square) (position : is_position p ≡ true)
+    (on : is_on_board m ≡ true) (h : board_after p m ≡ Some b) (plain : step_kind p m ≡ Plain)
+    (is : k ≡ king_square (other p.side) p.board) where
+  sound : Sound p
+  sound = sound_from_position p position
 
-    stands : StandsAt (other p.side) p.board (king_square (other p.side) p.board)
-    stands = king_of sound (other p.side)
+  stands_k : StandsAt (other p.side) p.board k
+  stands_k = subst (λ (s : Square). StandsAt (other p.side) p.board s) (sym is) (king_of sound (other p.side))
 
-    stands_k : StandsAt (other p.side) p.board k
-    stands_k = subst (λ (s : Square). StandsAt (other p.side) p.board s) (sym is) stands
+  before : is_attacked p.board p.side k ≡ false
+  before = ap₂ (λ c s. is_attacked p.board c s) (sym (other-other p.side)) is
+      ∙ (sym (attack_on_king sound (other p.side)) ∙ sound.safe)
 
-    before : is_attacked p.board p.side k ≡ false
-    before = ap₂ (λ c s. is_attacked p.board c s) (sym (other-other p.side)) is
-        ∙ (sym (attack_on_king sound (other p.side)) ∙ sound.safe)
+  arrives : has_colour p.side (arriving p m) ≡ true
+  arrives = arriving_own p.side m.promotion (at p.board m.from) (board_stays p m b sound on h).own
 
-    arrives : has_colour p.side (arriving p m) ≡ true
-    arrives = arriving_own p.side m.promotion (at p.board m.from) (board_stays p m b sound on h).own
+  on_k : OnBoard k
+  on_k = record { file = stands_k.file; rank = stands_k.rank }
 
-    on_k : OnBoard k
-    on_k = record { file = stands_k.file; rank = stands_k.rank }
+  there : at b m.to ≡ arriving p m
+  there = ap (λ a. at a m.to) (sym (plain_board p m b plain h))
+      ∙ arrived p.board m.from m.to k (arriving p m) p.side sound.long (from_on m on) (to_on m on) on_k
 
-    -- the piece that arrives
+  -- the piece that moved is of the side
+  pub arrived_own : has_colour p.side (at b m.to) ≡ true
+  arrived_own = ap (has_colour p.side) there ∙ arrives
+
+  -- if it attacks the king, that is in check
+  pub check_by_piece : attacks b m.to k ≡ true → king_attacked b (other p.side) ≡ true
+  check_by_piece hits = check_is_seen p m b k position on h is
+      ∙ any_square (λ s. has_colour p.side (at b s) && attacks b s k) m.to (to_on m on).file (to_on m on).rank
+      (and_from _ _ arrived_own hits)
+
+  module _ (harmless : attacks b m.to k ≡ false) where
     no_attacker : (has_colour p.side (arriving p m) && attacks (carried p m) m.to k) ≡ false
-    no_attacker =
-        ap (λ o. has_colour p.side o && attacks (carried p m) m.to k)
-        (sym (arrived p.board m.from m.to k (arriving p m) p.side sound.long (from_on m on) (to_on m on) on_k))
-        ∙ (ap (λ a. has_colour p.side (at a m.to) && attacks a m.to k) (plain_board p m b plain h)
-        ∙ (attacker_is b p.side m.to k ∙ ap (λ x. x && is_clear b m.to k) harmless))
+    no_attacker = ap₂ (λ x a. x && attacks a m.to k) arrives (plain_board p m b plain h) ∙ harmless
 
-    quiet : is_attacked (carried p m) p.side k ≡ false
-    quiet =
-        calm p.board m.from m.to k (arriving p m) p.side sound.long (from_on m on) (to_on m on) on_k
-        (none_or_all p.side (arriving p m) arrives) (inl unseen) no_attacker before
+    -- the king is not in check, if it sees no square that is left
+    pub no_check_when_plain : is_aligned m.from k ≡ false → king_attacked b (other p.side) ≡ false
+    no_check_when_plain unseen =
+        check_is_seen p m b k position on h is
+        ∙ (ap (λ a. is_attacked a p.side k) (sym (plain_board p m b plain h))
+        ∙ calm p.board m.from m.to k (arriving p m) p.side sound.long (from_on m on) (to_on m on) on_k
+        (none_or_all p.side (arriving p m) arrives) (inl unseen) no_attacker before)
+
+    -- and else it is if a piece that slides attacks it
+    pub check_along_line : king_attacked b (other p.side) ≡ list_any (λ s. slides b p.side k s && is_clear b s k) squares
+    check_along_line =
+        check_is_seen p m b k position on h is
+        ∙ subst (λ (a : Board). is_attacked a p.side k ≡ list_any (λ s. slides a p.side k s && is_clear a s k) squares)
+        (plain_board p m b plain h)
+        (along_line p.board m.from m.to k (arriving p m) p.side sound.long (from_on m on) (to_on m on) on_k
+        (none_or_all p.side (arriving p m) arrives) no_attacker before)
 
 -- a move that is no step is not legal, and a legal one is a step
 by_step : (on : Bool) (p : Parts) (m : Move) (o : Option Board) → is_some o ≡ false

@@ -1,6 +1,6 @@
 -- A code says what piece it is, and what that reaches on an empty board.
-use Rattle.chess_rules.proofs.Words.{Colour, Kind, King, Queen, Rook, Bishop, Knight, Pawn, Piece, Move, Parts, Square, at, has_colour, has_piece, is_clear, attacks, own, is_piece_step, code_of, kind_code, code_reaches, reaches, reaches_from, Option, None, Some, is_none, ◌≡◌, ◌≢◌, ℕ, Bool, true, false, not, ◌&&◌, refl, sym, ◌∙◌, ap, arith}
-use Rattle.chess_rules.proofs.lines.AttackToReach.{cell_attack_is}
+use Rattle.chess_rules.proofs.Words.{Colour, Kind, King, Queen, Rook, Bishop, Knight, Pawn, Piece, Move, Parts, Square, Board, at, has_colour, cell_attacks, has_piece, is_clear, attacks, own, is_piece_step, code_of, kind_code, code_reaches, reaches, reaches_from, Option, None, Some, is_none, ◌≡◌, ◌≢◌, ℕ, Bool, true, false, not, ◌&&◌, refl, sym, ◌∙◌, ap, arith, false≢true}
+use Rattle.chess_rules.proofs.lines.AttackToReach.{attack_is, cell_attack_is, colours_same}
 
 pub pawn_by_code : (c : Colour) (cell : Option Piece) → has_colour c cell ≡ true → code_of cell ≡ 4 → has_piece c Pawn cell ≡ true
 pawn_by_code c cell own is = grind arith
@@ -24,6 +24,30 @@ kind_reaches Pawn c s t h = absurd (h refl)
 pub code_reaches_from : (cell : Option Piece) (s t : Square) → code_of cell ≢ 4 → code_reaches (code_of cell) s t ≡ reaches_from cell s t
 code_reaches_from None s t h = refl
 code_reaches_from (Some x) s t h = kind_reaches x.kind x.colour s t h
+
+-- what the piece attacks: a pawn, and any other
+
+pub pawn_attacks : (c : Colour) (cell : Option Piece) (b : Board) (s t : Square) → has_colour c cell ≡ true → code_of cell ≡ 4
+    → cell_attacks cell b s t ≡ reaches Pawn c s t
+pawn_attacks c None b s t mine is = absurd (false≢true mine)
+pawn_attacks c (Some x) b s t mine is =
+    cell_attack_is (Some x) b s t ∙ (sym (pawn_clear_is b s t x is) ∙ ap (λ d. reaches Pawn d s t) (sym (colours_same c x.colour mine)))
+  where
+    pawn_clear_is : (b : Board) (s t : Square) (x : Piece) → kind_code x.kind ≡ 4
+        → reaches Pawn x.colour s t ≡ (reaches x.kind x.colour s t && is_clear b s t)
+    pawn_clear_is b s t x is = by_kind x.kind is
+      where
+        by_kind : (k : Kind) → kind_code k ≡ 4 → reaches Pawn x.colour s t ≡ (reaches k x.colour s t && is_clear b s t)
+        by_kind Pawn e = attack_is Pawn x.colour b s t
+        by_kind King e = absurd (cc)
+        by_kind Queen e = absurd (cc)
+        by_kind Rook e = absurd (cc)
+        by_kind Bishop e = absurd (cc)
+        by_kind Knight e = absurd (cc)
+
+pub attacks_by_code : (cell : Option Piece) (b : Board) (s t : Square) → code_of cell ≢ 4
+    → cell_attacks cell b s t ≡ (code_reaches (code_of cell) s t && is_clear b s t)
+attacks_by_code cell b s t differs = cell_attack_is cell b s t ∙ ap (λ x. x && is_clear b s t) (sym (code_reaches_from cell s t differs))
 
 -- the rules of a step of such a piece
 pub step_by_code : (p : Parts) (m : Move) (code : ℕ) → has_colour p.side (at p.board m.from) ≡ true → code ≡ code_of (at p.board m.from) → code ≢ 4

@@ -61,6 +61,17 @@ kept_more {X = X} f g (x ∷ xs) h = by_tests (f x) (g x) (h x) (kept_more f g x
         → length (cond v (x ∷ filter f xs) (filter f xs)) ≤ length (cond w (x ∷ filter g xs) (filter g xs))
     by_tests v w more few = grind arith
 
+-- those that pass one test and then another
+pub kept_twice : {X : Type 0} (f g : X → Bool) (both : X → Bool) → ((x : X) → both x ≡ (f x && g x)) → (xs : List X)
+    → filter g (filter f xs) ≡ filter both xs
+kept_twice f g both same [] = refl
+kept_twice {X = X} f g both same (x ∷ xs) = by_tests (f x) (g x) (both x) (same x) refl (kept_twice f g both same xs)
+  where
+    by_tests : (v w b : Bool) → b ≡ (v && w) → g x ≡ w → filter g (filter f xs) ≡ filter both xs
+        → filter g (cond v (x ∷ filter f xs) (filter f xs)) ≡ cond b (x ∷ filter both xs) (filter both xs)
+    by_tests true w b e passes more = rw (e, passes) (ap (λ ys. cond w (x ∷ ys) ys) more)
+    by_tests false w b e passes more = rw e more
+
 pub kept_either : {X : Type 0} (f g : X → Bool) (xs : List X)
     → length (filter (λ x. f x || g x) xs) ≤ length (filter f xs) + length (filter g xs)
 kept_either f g [] = omega arith

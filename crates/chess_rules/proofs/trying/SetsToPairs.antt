@@ -3,7 +3,7 @@ use Rattle.chess_rules.proofs.Words.{Colour, Kind, King, Queen, Rook, Bishop, Kn
 use Rattle.chess_rules.proofs.sets.AllSquares.{cell_of-square_at}
 use Rattle.chess_rules.proofs.trying.CandidatesAreFew.{few_candidates}
 use Rattle.chess_rules.proofs.lines.AttackToReach.{jump_clear, with_second}
-use Rattle.chess_rules.proofs.trying.FoundLists.{kept_more}
+use Rattle.chess_rules.proofs.trying.FoundLists.{kept_more, kept_twice}
 use Rattle.chess_rules.proofs.sets.SetsToSquares.{members_are}
 
 module _ (p : Parts) where
@@ -34,6 +34,17 @@ module _ (p : Parts) where
       ∙ ap (λ x. own p k (square_at i) && x) (sym (sees_is k (square_at i) t)))))
     where
       in_turn : (x y z : Bool) → ((x && y) && z) ≡ (x && (y && z))
+      in_turn x y z = grind arith
+
+  -- one by one, those of the set from which the way is clear
+  pub clear_one_by_one : (k : Kind) (t : Square) (r : ℕ) → Places r (λ s. own p k s && may_see k s t)
+      → filter (λ s. is_clear p.board s t) (members r) ≡ candidates p k t
+  clear_one_by_one k t r h =
+      ap (filter (λ s. is_clear p.board s t)) (members_are r (λ s. own p k s && may_see k s t) h.of)
+      ∙ kept_twice (λ s. own p k s && may_see k s t) (λ s. is_clear p.board s t) (is_candidate p k t)
+      (λ s. ap (λ x. own p k s && x) (sees_is k s t) ∙ in_turn (own p k s) (may_see k s t) (is_clear p.board s t)) squares
+    where
+      in_turn : (x y z : Bool) → (x && (y && z)) ≡ ((x && y) && z)
       in_turn x y z = grind arith
 
   -- Without looking at what stands between.

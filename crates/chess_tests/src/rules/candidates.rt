@@ -2,8 +2,8 @@
 
 use crate::rules::{EVERY_RIGHT, KINDS, PROMOTIONS, count_moves, nth, parts, play, square};
 use chess_rules::{
-    Colour, Kind, Move, Parts, Piece, Position, Probes, Rights, Square, has_legal_move, in_check,
-    may_have_two_origins, only_origin, origins, try_pair,
+    Colour, Kind, Move, OriginSearch, Parts, Piece, Position, Probes, Rights, Square,
+    has_legal_move, in_check, may_have_two_origins, only_origin, origins, try_pair,
 };
 use std::test::Fail;
 
@@ -26,7 +26,14 @@ fn assert_origins(
         assert!(rt; false);
         return;
     };
-    assert_eq!(rt; origins(position, kind, target).len(), names.len());
+    let listed = origins(position, kind, target);
+    assert_eq!(rt; listed.len(), names.len());
+    let mut search = OriginSearch::new(position, kind, target);
+    for origin in listed.as_slice() {
+        assert_eq!(rt; search.next(), Some(*origin));
+    }
+    assert_eq!(rt; search.next(), None);
+    assert_eq!(rt; search.next(), None);
     assert!(rt; names.len() <= 1 || may_have_two_origins(position, kind, target));
     let only = match names {
         [name] => square(*name),

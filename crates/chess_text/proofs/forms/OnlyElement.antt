@@ -124,6 +124,29 @@ pub only_two : {X : Type 0} (h : X → Option Played) (xs : List X) (n : ℕ) (x
     → filter_map h (take n xs) ≡ (x ∷ []) ++ (y ∷ []) → only (filter_map h xs) ≡ Err Ambiguous
 only_two {X} h xs n x y e = cc (take-append-drop n xs, filter_map-append h (take n xs) (drop n xs))
 
+-- What is left of a list: its next element, with the others, or nothing.
+
+pub record NextOf {X : Type 0} (xs : List X) (n : ℕ) (x : X) (others : List X) : Type 0 where
+  pub low : n < length xs
+  pub is : x ≡ get_or xs n x
+  pub left : others ≡ drop (suc n) xs
+
+pub next_of : {X : Type 0} (xs : List X) (n : ℕ) (x : X) (others : List X) → drop n xs ≡ x ∷ others → NextOf xs n x others
+next_of [] n x others e = absurd (nothing n e)
+  where
+    nothing : (n : ℕ) → drop n [] ≡ x ∷ others → ⊥
+    nothing zero e = cc
+    nothing (suc n) e = cc
+next_of (y ∷ ys) zero x others e = record { low = omega arith; is = cc; left = cc }
+next_of (y ∷ ys) (suc n) x others e =
+    let more = next_of ys n x others e in
+    record { low = omega (arith, more.low); is = more.is; left = more.left }
+
+pub none_left : {X : Type 0} (xs : List X) (n : ℕ) → drop n xs ≡ [] → length xs ≤ n
+none_left [] n e = omega arith
+none_left (y ∷ ys) zero e = absurd (cc)
+none_left (y ∷ ys) (suc n) e = omega (arith, none_left ys n e)
+
 -- What a loop has found after the first i elements: nothing, or one.
 module _ {X : Type 0} (h : X → Option Played) (xs : List X) (i : ℕ)
     (found : Option Played) (so_far : filter_map h (take i xs) ≡ option_to_list found) where

@@ -1,5 +1,5 @@
 -- What a reader makes of a token, for the games of all writers beside it.
-use Rattle.pgn_game.proofs.Words.{◌≡◌, ℕ, max, Bool, false, List, [], ◌∷◌, Option, None, Some, Result, Ok, Err, IsFalse, IsTrue, refl, sym, ap, ◌∙◌, arith, Move, Parts, Played, Kind, Reason, Stage, Part, Accepted, symbol, legal, going, in_text, is_number, is_score, marker_of, move_of, found_in, ok_or, with_next, IllegalMove, CostsToFind, Event, Finds, IsOpen, JudgesBefore, JudgesInPair, JudgesOutside, Means, MovesText, Movetext, ReaderState, Refuses, Writer, IsWritable, after_move_at, game_at, game_by, is_begun, is_outside_the_table, items_meant, may_have_movetext, movetext_after_fen, pairs_meant, text_refusal, with_items, Plays}
+use Rattle.pgn_game.proofs.Words.{◌≡◌, ℕ, max, Bool, false, List, [], ◌∷◌, Option, None, Some, Result, Ok, Err, IsFalse, IsTrue, refl, sym, ap, ◌∙◌, arith, Move, Parts, Played, Kind, Reason, Stage, Part, Accepted, symbol, legal, going, in_text, is_number, is_score, marker_of, move_of, found_in, ok_or, with_next, IllegalMove, CostsToFind, Event, Finds, IsOpen, IsOutside, JudgesBefore, JudgesInPair, JudgesOutside, Means, MovesText, Movetext, ReaderState, Refuses, Writer, IsWritable, after_move_at, game_at, game_by, is_begun, is_outside_the_table, items_meant, may_have_movetext, movetext_after_fen, pairs_meant, text_refusal, with_items, Plays}
 use Rattle.pgn_game.specs.declared.event.Event.TheVariants as events
 use Rattle.pgn_game.specs.games.Game.{move}
 use Rattle.pgn_game.proofs.refusals.RefusalsInMovetext.{move_free, move_leads}
@@ -17,10 +17,20 @@ game_before w r before = ap (λ (b : Bool). game_at b w r) (sym (before_movetext
 
 module _ {old new : ReaderState} {k : Kind} where
   pub pair_outside : {r : Result Accepted Reason} → is_begun old.stage ≡ false → JudgesInPair old k new r → JudgesOutside old k new (Some r)
-  pair_outside {r} at judged = λ w. rw (← game_before w old at, ← game_before w new judged.before) (judged.takes w)
+  pair_outside {r} at judged = record {
+    takes = λ w. rw (← game_before w old at, ← game_before w new judged.before) (judged.takes w);
+    outside = (at, judged.before);
+  }
 
   pub before_outside : {r : Option (Result Accepted Reason)} → is_begun old.stage ≡ false → JudgesBefore old k new r → JudgesOutside old k new r
-  before_outside {r} at judged = λ w. rw (← game_before w old at, ← game_before w new judged.before) (judged.takes w)
+  before_outside {r} at judged = record {
+    takes = λ w. rw (← game_before w old at, ← game_before w new judged.before) (judged.takes w);
+    outside = outside r;
+  }
+    where
+      outside : (r : Option (Result Accepted Reason)) → IsOutside old.stage new.stage r
+      outside None = tt
+      outside (Some answer) = (at, judged.before)
 
 -- the movetext of a FEN has no move
 pub fen_alike : (start : Option Parts) (text : Movetext)

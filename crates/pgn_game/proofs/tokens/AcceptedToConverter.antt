@@ -1,7 +1,6 @@
 -- One token that the lexer gave, and what the reader answered to it.
 use Rattle.pgn_lexer.specs.PartialToken.{refusal as refusal_token}
-use Rattle.pgn_lexer.specs.Scanned.{token}
-use Rattle.pgn_game.proofs.Words.{Writing, Reason, Lexical, WriteFault, Profile, Game, Part, ◌≡◌, ℕ, ◌+◌, ◌<◌, ◌≤◌, ◌⊎◌, Bool, List, [], ◌∷◌, ◌++◌, length, take, drop, Option, None, Some, Result, Ok, Err, refl, sym, ap, subst, ◌∙◌, append_assoc, append-nil, length-append, le_refl, arith, IsTrue, map, sum, take-append-drop, map-append, list_any-append, or_cases, Appends-nil, Appends, Token, EndsAt, tokens_of, Standing, coming, StandsAfter, Follows, AfterScan, first, still, More, Finished, refusal, marker_of, position_if_move, position_in, Next, going, whole, next, Progress, progress_with, progress_after, Read, read, gain, text_next, Gains, plies_of, has_move, ReaderState, Agrees, as_written, IsBehind, plies_of_finished_games, plies_added, Leads, Answers, AppendsFront, MostTried, Raises, Tries, TriesUnwritten, sum_by-append, sum_by-cons, LexFault, finished_game_of, Converter, game_in_reader, play_moves, has_played_move, HasRead, IsLastGame, refused_stop as refused, unwritten, AreNext, reported_position, FaultAtEnd, SameGames, OneGame, AfterStep, EndsWithin, GainsAs, Meets, NotTaken, Reaches, ReadsMore, due_as, part_after, outcome_at, fault_of, TakesToken, Device, Marker, rules, inl, inr, position_at_fault, due, torn, text_of_games as text_of, more, fault, MeetsMarker, TakesUnlessMarker, common_steps}
+use Rattle.pgn_game.proofs.Words.{Writing, Reason, Lexical, WriteFault, Profile, Game, Part, ◌≡◌, ℕ, ◌+◌, ◌<◌, ◌≤◌, ◌⊎◌, Bool, List, [], ◌∷◌, ◌++◌, length, take, Option, None, Some, Ok, Err, refl, sym, ap, subst, ◌∙◌, append_assoc, append-nil, length-append, le_refl, arith, IsTrue, map, sum, map-append, list_any-append, or_cases, Appends-nil, Appends, Token, Standing, Follows, first, still, More, Finished, refusal, marker_of, position_if_move, position_in, Next, going, whole, next, Progress, progress_with, progress_after, Read, read, gain, text_next, Gains, plies_of, has_move, ReaderState, Agrees, as_written, IsBehind, plies_of_finished_games, plies_added, Leads, Answers, AppendsFront, MostTried, Raises, Tries, TriesUnwritten, sum_by-append, sum_by-cons, LexFault, finished_game_of, Converter, game_in_reader, play_moves, has_played_move, HasRead, IsLastGame, refused_stop as refused, unwritten, reported_position, FaultAtEnd, SameGames, OneGame, GainsAs, Meets, NotTaken, ReadsMore, due_as, part_after, TakesToken, Device, Marker, rules, inl, inr, position_at_fault, due, torn, text_of_games as text_of, MeetsMarker, common_steps, coming, AreNext, take-append-drop, drop, tokens_of, StandsAfter}
 use Rattle.pgn_game.specs.state.ReaderState as reader_state
 use Rattle.pgn_game.proofs.tokens.PairsTriedForToken.{most_with, most_to_refused, part_probed, raises_none}
 use Rattle.pgn_game.proofs.tokens.OneMoreToken.{read-passes, read-refuses, due-passes}
@@ -245,13 +244,6 @@ next_in_piece l u piece used stands s =
     cc (take-append-drop used piece, append_assoc u (take used piece) rest, append_assoc (u ++ take used piece) rest s) in
     (coming l (rest ++ s), ap tokens_of whole ∙ stands.tokens (rest ++ s) (follows_first rest s))
 
--- the lexer stands behind the token, which ends in the piece
-pub ends_within : {p : Profile} {old : Converter} {u : List ℕ} {given : List Token} {piece : List ℕ} {used : ℕ} {t : Token} {l : Standing}
-    → Reaches p old u (first piece) given → AfterScan u (first piece) given piece l used (token t) → EndsAt t.kind t.at l.count
-    → l.count ≡ old.lexer.count + used → EndsWithin u given piece used t l
-ends_within {t} reaches scan ends count =
-    record { stands = scan.0; decided = scan.1; ends = subst (EndsAt t.kind t.at) (rw reaches.lexer.count at count) ends }
-
 pub still_none : (b : Option ℕ) (piece : List ℕ) → 0 < length piece → still b piece ≡ None
 still_none b [] h = absurd (omega arith)
 still_none b (x ∷ xs) h = refl
@@ -341,33 +333,3 @@ module _ (p : Profile) (old : Converter) where
         writing = refl;
         probes = le_refl old.reading.most_probes;
       })
-
-  -- What the reader answers to a token of the piece.
-  pub took : (u : List ℕ) (given : List Token) (piece : List ℕ) (used : ℕ) (t : Token) (l : Standing) (new : ReaderState) (finished : Bool)
-      (d : Device) (r : Result (Option Marker) Reason) → Reaches p old u (first piece) given
-      → AfterScan u (first piece) given piece l used (token t) → EndsAt t.kind t.at l.count → l.count ≡ old.lexer.count + used
-      → TakesUnlessMarker old.reading t.kind new r d
-      → AfterStep p u given piece (record { lexer = l; reading = new; games = old.games; just_finished = None; is_finished = finished; fault = fault_of (outcome_at t.at r) }) used (outcome_at t.at r) d.before d.after
-  took u given piece used t l new finished d (Ok None) reaches scan ends count h =
-      (t, ends_within reaches scan ends count, reads_token p old given t l new finished d reaches.has_read h)
-  took u given piece used t l new finished d (Ok (Some marker)) reaches scan ends count h =
-      (t, ends_within reaches scan ends count, meets_marker p old given t marker l new finished d reaches.has_read h)
-  took u given piece used t l new finished d (Err why) reaches scan ends count h =
-      (t, next_in_piece l u piece used scan.0, not_taken p old given t new why d reaches.has_read h.0 h.1)
-
-  pub took_none : (u : List ℕ) (given : List Token) (piece : List ℕ) (used : ℕ) (l : Standing) (o : Option (List ℕ)) → 0 < length piece
-      → Reaches p old u (first piece) given → AfterScan u (first piece) given piece l used more
-      → AfterStep p u given piece (now_at l old.reading old.games old.is_finished) used (Ok None) o o
-  took_none u given piece used l o some reaches scan = grind (arith, common_steps, still_none, reads_none)
-
-  pub took_fault : (u : List ℕ) (given : List Token) (piece : List ℕ) (used : ℕ) (f : LexFault) (l : Standing) (new : Converter)
-      (o : Option (List ℕ)) → 0 < length piece → Reaches p old u (first piece) given → AfterScan u (first piece) given piece l used (fault f)
-      → new.reading ≡ old.reading → AfterStep p u given piece new used (Err (record { at = f.at; reason = Lexical f.reason })) o o
-  took_fault u given piece used f l new o some reaches scan same = (
-    refusal_token f,
-    λ s. (
-      [],
-      scan.0 s (subst (λ b. Follows b s) (sym (still_none (first piece) piece some)) tt) ∙ sym (append-nil (given ++ refusal_token f ∷ [])),
-    ),
-    not_taken_lexical given f new.reading o reaches.has_read same,
-  )

@@ -1,6 +1,6 @@
 -- The bytes of a source, read up to a marker.
 use Rattle.std.specs.Io.KnownBytes.{Keeps}
-use Rattle.pgn_game.proofs.Words.{Token, ReadFault, Fault, Profile, ◌≡◌, ℕ, ◌^◌, ◌≤◌, List, [], ◌∷◌, ◌++◌, length, drop, take, Option, None, refl, sym, ap, subst, ◌∙◌, inl, inr, append-nil, append_assoc, take-append-drop, Consumes, Consumes-nil, Consumes-trans, decided, IsDecided, StandsAfter, first, still, Games, games_of, Converter, HasRead, Reaches, ReadsMore, as_written, MoreSoFar, StandsWithin, StopsIn, at_token, too_long, arith, IsAtEnd, FailsIn, ReadsPiece, ReadsToMarker, MeetsNext, ReadsAllOf, StopsBefore, UsesAll, common_steps}
+use Rattle.pgn_game.proofs.Words.{first_bytes, Token, ReadFault, Fault, Profile, ◌≡◌, ℕ, ◌^◌, ◌≤◌, List, [], ◌∷◌, ◌++◌, length, drop, take, Option, None, refl, sym, ap, subst, ◌∙◌, inl, inr, append-nil, append_assoc, take-append-drop, Consumes, Consumes-nil, Consumes-trans, decided, IsDecided, StandsAfter, first, still, Games, games_of, Converter, HasRead, Reaches, ReadsMore, as_written, MoreSoFar, StandsWithin, StopsIn, at_token, too_long, arith, IsAtEnd, FailsIn, ReadsPiece, ReadsToMarker, MeetsNext, ReadsAllOf, StopsBefore, UsesAll, common_steps}
 use Rattle.pgn_game.specs.declared.marker.PlacedMarker.{PlacedMarker}
 use Rattle.pgn_game.specs.state.GamesSteps as games_steps
 use Rattle.pgn_game.proofs.tokens.AcceptedToConverter.{follows_none}
@@ -86,7 +86,7 @@ module _ (p : Profile) (u : List ℕ) (given : List Token) (left_old left : Opti
 
     -- a token was rejected, a write failed, or the input is too long
     pub rest_stops : (f : Fault) → StopsIn so.stands.used now.unused
-        (λ bytes fault. FailsIn p bytes so.tokens fault new.reading c d)
+        (λ bytes fault. FailsIn p (first_bytes bytes) so.tokens fault new.reading c d)
         (λ front. (n : Converter) × ReadsPiece p so.stands.used (first now.unused) so.tokens front n c d × (new.reading ≡ n.reading)) f
         → StopsBefore p u given left_old left new a d f
     rest_stops f (at_token h to) =

@@ -1,10 +1,6 @@
 -- The bytes of a text before place 2^62, and the tokens that they decide.
-use Rattle.pgn_game.proofs.Words.{Consumes, Option, Token, tokens_of, ◌≡◌, ℕ, ◌+◌, ◌^◌, ◌≤◌, List, [], ◌++◌, length, take, drop, refl, sym, ap, ◌∙◌, append_assoc, append-nil, arith, subst, length-take, take_all, take-append-add, take-append-drop, AreNext, within_limit, AreShown, so_far, Decides}
+use Rattle.pgn_game.proofs.Words.{Consumes, Option, Token, tokens_of, ◌≡◌, ℕ, ◌+◌, ◌^◌, List, [], ◌++◌, length, take, drop, refl, sym, ap, ◌∙◌, append_assoc, append-nil, arith, subst, length-take, take-append-add, take-append-drop, AreNext, within_limit, AreShown, so_far, Decides}
 use Rattle.pgn_game.specs.calls.ConverterCalls.{at_end}
-
--- a short text is all within it
-pub all_within : (s : List ℕ) → length s ≤ 2 ^ 62 → within_limit s ≡ s
-all_within s short = take_all (2 ^ 62) s short
 
 -- of a piece behind bytes within it, a front is within it
 pub front_within : (u piece : List ℕ) (n : ℕ) → length u + n ≡ 2 ^ 62 → within_limit (u ++ piece) ≡ u ++ take n piece

@@ -1,75 +1,28 @@
 -- Behind the last piece: up to a marker, to the game that it ends, and to the end.
-use Rattle.pgn_game.proofs.Words.{Token, Kind, Between, Fault, Profile, Part, Game, ◌≡◌, ℕ, ◌+◌, ◌<◌, Bool, true, false, IsTrue, List, [], ◌∷◌, ◌++◌, length, Option, None, Some, Ok, Err, refl, sym, ap, subst, ◌∙◌, arith, append-nil, append_assoc, length-append, Appends-nil, ◌↔◌, Device, tokens_of, Standing, coming, HasLeft, refusal, is_end, next, progress_with, Progress, read, due, written_so_far as written, Gains, ReaderState, as_written, Converter, HasRead, IsLastGame as IsLast, game_in_reader, game_in_reader_if, Finishes, FinishesToFault, SameGames, ReadsMore, EndsGame, StaysBetween, FaultAtEnd, AtEndSoFar, AfterStepAtEnd, part_after, Stands, false≢true, le_refl, CountsGame, LeftSoFar, ReadsToLeftMarker, ReadsToEnd, FailsAtEnd, IsSound, common_steps}
+use Rattle.pgn_game.proofs.Words.{At, MeetsAt, FailsIn, Start, all_bytes, Token, Kind, Between, Fault, Profile, Part, Game, ◌≡◌, ℕ, ◌+◌, ◌<◌, Bool, true, false, IsTrue, List, [], ◌∷◌, ◌++◌, length, Option, None, Some, Ok, Err, refl, sym, ap, subst, ◌∙◌, arith, append-nil, append_assoc, length-append, Appends-nil, ◌↔◌, Device, tokens_of, Standing, coming, HasLeft, refusal, is_end, next, progress_with, Progress, read, due, written_so_far as written, Gains, ReaderState, Converter, HasRead, IsLastGame as IsLast, game_in_reader, game_in_reader_if, Finishes, FinishesToFault, SameGames, EndsGame, FaultAtEnd, AtEndSoFar, part_after, Stands, false≢true, le_refl, CountsGame, ReadsToEnd, IsSound, common_steps}
 use Rattle.pgn_game.specs.declared.marker.PlacedMarker.{PlacedMarker}
-use Rattle.pgn_game.specs.declared.converter.StepEnd.TheVariants.{NoMarker, Marker as AtMarker}
 use Rattle.pgn_game.proofs.tokens.AcceptedToConverter.{read_as}
 use Rattle.pgn_game.proofs.tokens.OneMoreToken.{read-passes, gains_none, gains_more, stops_more, games_still, counts_still, position_still}
 use Rattle.pgn_game.proofs.tokens.NoneBeforeFault.{none_before_fault}
+use Rattle.pgn_game.proofs.tokens.ReadsInText.{same_reads}
 use Rattle.pgn_game.proofs.tokens.StepsAtEnd.{left_of, let_go, end_at, is_the_end}
-use Rattle.pgn_game.proofs.tokens.MarkerToGame.{ShowsDue, ShowsStop, reads_none, reads_more, meets_more, not_taken_more, gains_known, fault_not_taken, has_read_marker, game_by_marker, gains_marker, fault_of_marker}
+use Rattle.pgn_game.proofs.tokens.MarkerToGame.{ShowsDue, ShowsStop, reads_none, gains_known, fault_not_taken, has_read_marker, game_by_marker, gains_marker, fault_of_marker}
 
--- ---- up to a marker
+-- ---- from any tokens on
 
--- before the first step
-pub left_none : (p : Profile) (u : List ℕ) (given : List Token) (old seen : Converter) (o : Option (List ℕ))
-    → seen ≡ old → HasLeft old.lexer u given → HasRead p old given
-    → LeftSoFar p u given old (record seen { just_finished = None }) o o
-left_none p u given old seen o is left has_read =
-    record {
-      tokens = given;
-      left = rw is left;
-      reads = reads_none p given _ o (let_go p seen given (rw is has_read));
-      stays = λ between. ap (λ (s : Converter). s.reading) is;
-    }
+abbrev pub start_at : Profile → Converter → List Token → Option (List ℕ) → Start
+start_at p c given before =
+    record { profile = p; count = c.lexer.count; next = None; given = given; reading = c.reading; before = before }
 
-module _ (p : Profile) (u : List ℕ) (given : List Token) (old now new : Converter) (a c d : Option (List ℕ))
-    (so : LeftSoFar p u given old now a c) (same : as_written new.reading ≡ as_written now.reading) where
-  further : (ts : List Token) → ReadsMore p so.tokens ts new c d → ReadsMore p given ts new a d
-  further ts reads = reads_more p given so.tokens now a c so.reads ts new d reads same
+pub at_left : (p : Profile) (u : List ℕ) (given : List Token) (c : Converter) (o : Option (List ℕ)) → HasLeft c.lexer u given → HasRead p c given
+    → At (start_at p c given o) (all_bytes u) c given o
+at_left p u given c o left has_read = record { lexer = left; reads = reads_none p given c o has_read; stays = λ between. refl }
 
-  still_there : StaysBetween now new → StaysBetween old new
-  still_there stays between = grind (arith, common_steps)
-
-  pub left_more : AfterStepAtEnd p u so.tokens now new (Ok (Some NoMarker)) c d → LeftSoFar p u given old new a d
-  left_more (t, left, reads, stays) =
-      record { tokens = so.tokens ++ t ∷ []; left = left; reads = further _ reads; stays = still_there stays }
-
-  pub left_marker : (m : PlacedMarker) → AfterStepAtEnd p u so.tokens now new (Ok (Some (AtMarker m))) c d → ReadsToLeftMarker p u given m new a d
-  left_marker m (t, left, meets) =
-      record {
-        tokens = so.tokens;
-        token = t;
-        left = left;
-        meets = meets_more p given so.tokens now a c so.reads so.tokens t m new d meets same;
-      }
-
-  pub left_end : AfterStepAtEnd p u so.tokens now new (Ok None) c d → ReadsToEnd p u given new a d × StaysBetween old new
-  left_end (t, ends, stays) = (
-    record {
-      tokens = so.tokens;
-      token = t;
-      ends = record {
-        whole = ends.whole;
-        is_end = ends.is_end;
-        place = ends.place;
-        passes = ends.passes;
-        reads = further so.tokens ends.reads;
-        has_read = ends.has_read;
-        between = ends.between;
-      };
-    },
-    still_there stays,
-  )
-
-  pub left_fault : (f : Fault) → AfterStepAtEnd p u so.tokens now new (Err f) c d → FailsAtEnd p u given f new.reading a d
-  left_fault f (t, rest, cut, fails) =
-      record {
-        tokens = so.tokens;
-        token = t;
-        rest = rest;
-        cut = cut;
-        fails = not_taken_more p given so.tokens now a c so.reads so.tokens t f new.reading d fails same;
-      }
+-- from the call on no game is just finished
+pub left_alone : (start : Start) (u : List ℕ) (given : List Token) (c : Converter) (o : Option (List ℕ)) → At start (all_bytes u) c given o
+    → At start (all_bytes u) (record c { just_finished = None }) given o
+left_alone start u given c o here =
+    record { lexer = here.lexer; reads = same_reads here.reads refl (let_go start.profile c given here.reads.has_read); stays = here.stays }
 
 -- ---- games
 
@@ -100,7 +53,7 @@ module _ (p : Profile) (u : List ℕ) (given : List Token) (now : Converter) (fi
   same_length ts same = subst (λ gs. IsTrue finished_game ↔ (length (read p given).progress.games < length {A = Game} gs)) (sym same) so.game
 
   -- a marker ends a game
-  pub ended_game : ShowsDue p c → (m : PlacedMarker) (mid new : Converter) (sink : Device) → ReadsToLeftMarker p u so.tokens m mid c sink.before
+  pub ended_game : ShowsDue p c → (m : PlacedMarker) (mid new : Converter) (sink : Device) → MeetsAt (start_at p now so.tokens c) (all_bytes u) m mid sink.before
       → EndsGame mid.reading m new.reading (Ok tt) sink → CountsGame mid new (Ok tt) sink → AtEndSoFar p u given new true a sink.after
   ended_game known m mid new sink leaves ends counts =
       let meets = leaves.meets in
@@ -111,7 +64,7 @@ module _ (p : Profile) (u : List ℕ) (given : List Token) (now : Converter) (fi
       ap (length {A = Game}) one.1 ∙ length-append (read p so.tokens).progress.games (one.0 ∷ []) in
       record {
         tokens = ts;
-        left = rw counts.lexer leaves.left;
+        left = rw counts.lexer leaves.lexer;
         has_read = read_as h refl counts.games counts.fault (rw counts.just_finished h.just_finished);
         no_fewer = omega (arith, count, so.no_fewer);
         game = (λ is. omega (arith, count, so.no_fewer), λ more. refl);
@@ -122,7 +75,7 @@ module _ (p : Profile) (u : List ℕ) (given : List Token) (now : Converter) (fi
 
   -- the end is reached
   pub ended_input : ShowsDue p c → (new : Converter) (d : Option (List ℕ)) (flag : Bool) → ReadsToEnd p u so.tokens new c d
-      → StaysBetween now new → (new.reading.stage ≡ Between → flag ≡ finished_game)
+      → (new.reading.stage ≡ Between → new.reading ≡ now.reading) → (new.reading.stage ≡ Between → flag ≡ finished_game)
       → Finishes p u given (record {
         lexer = new.lexer;
         reading = new.reading;
@@ -132,21 +85,20 @@ module _ (p : Profile) (u : List ℕ) (given : List Token) (now : Converter) (fi
         fault = new.fault;
       }) finished_game a d
   ended_input known new d flag to stays flag_is =
-      let ends = to.ends in
       let ts = to.tokens ++ to.token ∷ [] in
-      let h = ends.has_read in
-      let end_is = end_same p to.tokens to.token ends.reads.has_read.passes ends.is_end ends.passes in
-      let same : SameGames p so.tokens ts = ap (λ (b : Progress). b.games) end_is ∙ ends.reads.no_game in
-      let same_flag = flag_is ends.between in
-      let gains : Gains p so.tokens ts c d = gains_more (gains_known p so.tokens to.tokens new c d known ends.reads)
+      let h = to.has_read in
+      let end_is = end_same p to.tokens to.token to.reads.has_read.passes to.is_end to.passes in
+      let same : SameGames p so.tokens ts = ap (λ (b : Progress). b.games) end_is ∙ to.reads.no_game in
+      let same_flag = flag_is to.between in
+      let gains : Gains p so.tokens ts c d = gains_more (gains_known p so.tokens to.tokens new c d known to.reads)
       (record { text = []; due_for = ap (written p) end_is ∙ sym (append-nil (due p to.tokens)); appended = Appends-nil d }) in
       record {
-        has_read = subst (HasRead p _) (sym ends.whole)
-            (read_as h refl refl h.no_fault (hands ts flag (λ is. held_still ts same (subst IsTrue same_flag is) ends.between)));
-        game = rw ends.whole (same_length ts same);
+        has_read = subst (HasRead p _) (sym to.whole)
+            (read_as h refl refl h.no_fault (hands ts flag (λ is. held_still ts same (subst IsTrue same_flag is) to.between)));
+        game = rw to.whole (same_length ts same);
         just_finished = λ is. (game_in_reader new.reading, ap (λ b. game_in_reader_if b new.reading) (same_flag ∙ is));
         none_just_finished = λ is. ap (λ b. game_in_reader_if b new.reading) (same_flag ∙ is);
-        gains = rw ends.whole (gains_more so.gains gains);
+        gains = rw to.whole (gains_more so.gains gains);
       }
     where
       held_still : (ts : List Token) → SameGames p so.tokens ts → IsTrue finished_game → new.reading.stage ≡ Between
@@ -175,23 +127,23 @@ module _ (p : Profile) (u : List ℕ) (given : List Token) (now : Converter) (fi
 
   -- a token was not taken
   pub failed_input : (f : Fault) → ShowsStop p c f.reason → (l : Standing) (new : Converter) (d : Option (List ℕ)) → HasLeft l u given
-      → (read p given).fault ≡ None → FailsAtEnd p u so.tokens f new.reading c d → new.games ≡ now.games
+      → (read p given).fault ≡ None → FailsIn p (all_bytes u) so.tokens f new.reading c d → new.games ≡ now.games
       → FinishesToFault p u given new f a d
   failed_input f shows l new d left passes h same =
       ended_badly f l new d left passes
-      (subst (λ ts. FaultAtEnd p so.tokens ts f new.reading c d) (sym h.cut)
-      (fault_not_taken p so.tokens h.tokens h.token h.rest f new.reading c d shows h.fails)) same
+      (subst (λ ts. FaultAtEnd p so.tokens ts f new.reading c d) (sym (h.next.1 ∙ append_assoc h.tokens (h.token ∷ []) h.next.0))
+      (fault_not_taken p so.tokens h.tokens h.token h.next.0 f new.reading c d shows h.fails)) same
 
   -- a marker was not taken
   pub failed_game : (f : Fault) → ShowsStop p c f.reason → (l : Standing) (m : PlacedMarker) (mid new : Converter) (sink : Device)
       → HasLeft l u given
-      → (read p given).fault ≡ None → ReadsToLeftMarker p u so.tokens m mid c sink.before
+      → (read p given).fault ≡ None → MeetsAt (start_at p now so.tokens c) (all_bytes u) m mid sink.before
       → EndsGame mid.reading m new.reading (Err f) sink → CountsGame mid new (Err f) sink → mid.games ≡ now.games
       → FinishesToFault p u given new f a sink.after
   failed_game f shows l m mid new sink left passes leaves ends counts same_before =
       let rest = coming mid.lexer [] in
       let cut : tokens_of u ≡ leaves.tokens ++ leaves.token ∷ rest =
-      leaves.left ∙ append_assoc leaves.tokens (leaves.token ∷ []) rest in
+      leaves.lexer ∙ append_assoc leaves.tokens (leaves.token ∷ []) rest in
       ended_badly f l new sink.after left passes
       (subst (λ ts. FaultAtEnd p so.tokens ts f new.reading c sink.after) (sym cut)
       (fault_of_marker p so.tokens leaves.tokens leaves.token m mid c sink leaves.meets new.reading rest f shows ends)) (counts.games ∙ same_before)

@@ -1,11 +1,13 @@
 -- The tokens that a lexer has left at the end of the input: they finish at most one game, and if
 -- they pass, they leave none begun.
+use Rattle.pgn_lexer.specs.declared.partial_token.Close.TheVariants as closes
 use Rattle.pgn_lexer.specs.declared.partial_token.LexMode.{LexMode}
 use Rattle.pgn_lexer.specs.declared.partial_token.LexMode.TheVariants as modes
-use Rattle.pgn_lexer.specs.declared.partial_token.SuffixRun.{SuffixRun}
-use Rattle.pgn_lexer.specs.declared.partial_token.SuffixRun.TheVariants as suffix_runs
+use Rattle.pgn_lexer.specs.declared.partial_token.Text.TheVariants as texts
+use Rattle.pgn_lexer.specs.declared.token.LexReason.TheVariants.{BadSuffix}
+use Rattle.pgn_lexer.specs.Spelling.{suffix_at}
 use Rattle.pgn_lexer.specs.Tokens as tokens
-use Rattle.pgn_game.proofs.Words.{Kind, Token, Reason, Profile, Missing, counts_as, takes_the_marker, Stage, Between, Pair, Item, Game, Part, no_part, ◌≡◌, ℕ, ◌<◌, Bool, true, false, List, [], ◌∷◌, ◌++◌, length, length-append, Option, None, Some, refl, ap, subst, ◌∙◌, append-nil, arith, inl, ◌⊎◌, IsLast, Standing, coming, refusal, if◌then◌else◌, LexReason, SymbolTooLong, WordTooLong, GlyphRange, gives, stops, onto, tokens_to_come_in, text_of_games as text_of, torn, Progress, Next, Read, progress_after, progress_with, going, next, next_in, read_from, whole, written_so_far as written, rules, nat_le, sym, common_steps}
+use Rattle.pgn_game.proofs.Words.{Kind, Token, Reason, Profile, Missing, counts_as, takes_the_marker, Stage, Between, Pair, Item, Game, Part, no_part, ◌≡◌, ℕ, ◌<◌, Bool, true, false, List, [], ◌∷◌, ◌++◌, length, length-append, Option, None, Some, refl, ap, subst, ◌∙◌, append-nil, arith, inl, ◌⊎◌, IsLast, Standing, coming, refusal, if◌then◌else◌, LexReason, SymbolTooLong, WordTooLong, GlyphRange, gives, stops, onto, ◌==◌, tokens_to_come_in, text_of_games as text_of, torn, Progress, Next, Read, progress_after, progress_with, going, next, next_in, read_from, whole, written_so_far as written, rules, nat_le, sym, common_steps}
 use Rattle.pgn_game.proofs.tokens.OneMoreToken.{after_test, by_token, first_passes, goes_on, read_from-test}
 
 reads_on : (p : Profile) (b : Progress) (t : Token) (ts : List Token) {o : Option Reason}
@@ -109,9 +111,9 @@ token_at at k = record { at = at; kind = k }
 pub data IsLeft (mode : LexMode) (place at : ℕ) (text : List ℕ) : List Token → Type 0 where
   none : (ts : List Token) → AreQuiet ts → HasLast ts → IsLeft mode place at text ts
   glyph : (n : ℕ) → IsLeft mode place at text (token_at at (tokens.glyph n) ∷ end_at place ∷ [])
-  symbol : mode ≡ modes.Symbol → IsLeft mode place at text (token_at at (tokens.symbol (text ++ [])) ∷ end_at place ∷ [])
+  symbol : mode ≡ modes.Text texts.Symbol → IsLeft mode place at text (token_at at (tokens.symbol (text ++ [])) ∷ end_at place ∷ [])
 
-symbol_left : {place at : ℕ} {text : List ℕ} (fits : Bool) → IsLeft modes.Symbol place at text
+symbol_left : {place at : ℕ} {text : List ℕ} (fits : Bool) → IsLeft (modes.Text texts.Symbol) place at text
     (onto at (if fits then gives (tokens.symbol (text ++ [])) else stops at SymbolTooLong) (end_at place ∷ []))
 symbol_left true = symbol refl
 symbol_left false = none _ (refused SymbolTooLong, tt) tt
@@ -121,14 +123,22 @@ glyph_left : {mode : LexMode} {place at : ℕ} (n : ℕ) {text : List ℕ} (fits
 glyph_left n true = glyph n
 glyph_left n false = none _ (refused GlyphRange, tt) tt
 
-suffix_left : (run : SuffixRun) {place at : ℕ} {text : List ℕ}
-    → IsLeft (modes.Suffix run) place at text (tokens_to_come_in (modes.Suffix run) place at text [])
-suffix_left suffix_runs.Good = glyph _
-suffix_left suffix_runs.Poor = glyph _
-suffix_left suffix_runs.VeryGood = glyph _
-suffix_left suffix_runs.VeryPoor = glyph _
-suffix_left suffix_runs.Speculative = glyph _
-suffix_left suffix_runs.Questionable = glyph _
+one_of : {mode : LexMode} {place at : ℕ} {text : List ℕ} (c : Bool) (m n : ℕ)
+    → IsLeft mode place at text (onto at (if c then gives (tokens.glyph m) else gives (tokens.glyph n)) (end_at place ∷ []))
+one_of true m n = glyph m
+one_of false m n = glyph n
+
+one_of_four : {mode : LexMode} {place at : ℕ} {text : List ℕ} (c d : Bool)
+    → IsLeft mode place at text (onto at (if c then (if d then gives (tokens.glyph 3) else gives (tokens.glyph 5))
+    else (if d then gives (tokens.glyph 6) else gives (tokens.glyph 4))) (end_at place ∷ []))
+one_of_four true d = one_of d 3 5
+one_of_four false d = one_of d 6 4
+
+suffix_left : {mode : LexMode} {place at : ℕ} {text : List ℕ} (run : List ℕ) → IsLeft mode place at text (onto at (suffix_at at run) (end_at place ∷ []))
+suffix_left [] = none _ (refused BadSuffix, tt) tt
+suffix_left (a ∷ []) = one_of (a == 33) 1 2
+suffix_left (a ∷ b ∷ []) = one_of_four (a == 33) (b == 33)
+suffix_left (a ∷ b ∷ c ∷ run) = none _ (refused BadSuffix, tt) tt
 
 word_left : {mode : LexMode} {place at : ℕ} {text : List ℕ} (run : List ℕ) (fits : Bool) (t : Token) (ts : List Token)
     → AreQuiet (t ∷ ts) → HasLast (t ∷ ts)
@@ -143,16 +153,16 @@ left_in modes.AfterEfBb = none _ (refused _, tt) tt
 left_in modes.LineStart = none _ (end, tt) tt
 left_in modes.Outside = none _ (end, tt) tt
 left_in modes.EscapeLine = none _ (end, tt) tt
-left_in modes.Symbol {text} = symbol_left (nat_le (length (text ++ [])) 255)
-left_in modes.Str = none _ (refused _, tt) tt
+left_in (modes.Text texts.Symbol) {text} = symbol_left (nat_le (length (text ++ [])) 255)
+left_in (modes.Text texts.Str) = none _ (refused _, tt) tt
 left_in modes.AfterBackslash = none _ (refused _, tt) tt
 left_in modes.Dollar = none _ (refused _, tt) tt
 left_in (modes.Glyph n) = glyph_left _ _
-left_in (modes.Suffix run) = suffix_left run
-left_in modes.Brace = none _ (refused _, tt) tt
-left_in modes.BraceWord = word_left _ _ _ _ (refused _, tt) tt
-left_in modes.Line = none _ (close, (end, tt)) tt
-left_in modes.LineWord = word_left _ _ _ _ (close, (end, tt)) tt
+left_in (modes.Text texts.Suffix) {text} = suffix_left (text ++ [])
+left_in (modes.Comment closes.Brace) = none _ (refused _, tt) tt
+left_in (modes.Comment closes.LineEnd) = none _ (close, (end, tt)) tt
+left_in (modes.Text (texts.Word closes.Brace)) = word_left _ _ _ _ (refused _, tt) tt
+left_in (modes.Text (texts.Word closes.LineEnd)) = word_left _ _ _ _ (close, (end, tt)) tt
 left_in (modes.Failed f) = none _ (refused _, tt) tt
 
 left_last : {mode : LexMode} {place at : ℕ} {text : List ℕ} {ts : List Token} → IsLeft mode place at text ts → AreLast ts

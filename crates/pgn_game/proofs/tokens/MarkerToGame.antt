@@ -1,8 +1,9 @@
 -- The tokens up to a marker, and the game that it ends; or the token that was not taken.
-use Rattle.pgn_game.proofs.Words.{Token, Fault, Profile, Missing, counts_as, takes_the_marker, Game, ◌≡◌, ℕ, ◌+◌, Bool, false, List, [], ◌∷◌, ◌++◌, Option, None, Some, Result, Ok, Err, refl, sym, ap, subst, ◌∙◌, Device, Appends, append-nil, append_assoc, Standing, Finished, IsAccepted, Reason, WriteFault, IsTrue, true, ◌⊎◌, inl, inr, bytes_seen, due, ReaderState, IsKnown, as_written, known_text, Gains, finished_game_of, Converter, game_in_reader, HasRead, TakesToken, FaultAtEnd, OneGame, SameGames, ReadsMore, Meets, NotTaken, EndsGame, ended_by, part_after, known_result, arith, common_steps}
+use Rattle.pgn_lexer.specs.PartialToken.{refusal as refusal_token}
+use Rattle.pgn_game.proofs.Words.{Between, Lexical, LexFault, Marker, More, MeetsMarker, marker_of, Known, At, MeetsAt, FailsIn, AreNextIn, HasGivenSince, IsGivenLast, Start, Token, Fault, Profile, Missing, counts_as, takes_the_marker, Game, ◌≡◌, ℕ, ◌+◌, Bool, false, List, [], ◌∷◌, ◌++◌, Option, None, Some, Result, Ok, Err, refl, sym, ap, subst, ◌∙◌, Device, Appends, append-nil, append_assoc, Standing, Finished, IsAccepted, Reason, WriteFault, IsTrue, true, ◌⊎◌, inl, inr, bytes_seen, due, ReaderState, IsKnown, as_written, known_text, Gains, finished_game_of, Converter, game_in_reader, HasRead, TakesToken, FaultAtEnd, OneGame, SameGames, ReadsMore, Meets, NotTaken, EndsGame, ended_by, part_after, known_result, arith, common_steps}
 use Rattle.pgn_game.specs.declared.marker.PlacedMarker.{PlacedMarker as CodePlacedMarker}
 use Rattle.pgn_game.proofs.tokens.OneMoreToken.{due_grows, gains_more, stops_more, games_still, counts_still, position_still}
-use Rattle.pgn_game.proofs.tokens.AcceptedToConverter.{at_fault, at_refusal, gains_token, has_read_game, one_game, written_same}
+use Rattle.pgn_game.proofs.tokens.AcceptedToConverter.{at_fault, at_refusal, gains_token, has_read_game, meets_marker, not_taken, not_taken_lexical, now_at, one_game, reads_token, written_same}
 
 -- where a missing Result counts as a text, that is written
 known_is : (missing : Missing) (announced : Option (List ℕ)) → missing ≡ counts_as (known_result missing) → counts_as (known_text missing announced) ≡ missing
@@ -56,6 +57,58 @@ module _ (p : Profile) (given mid : List Token) (now : Converter) (a b : Option 
         writing = h.writing;
         probes = h.probes;
       }
+
+-- What the reader answers to a token, since a start.
+module _ (start : Start) (text : Known) (old : Converter) (given : List Token) (t : Token) (l : Standing) (new : ReaderState) (finished : Bool) (d : Device)
+    (reads : ReadsMore start.profile start.given given old start.before d.before) where
+  pub takes_at : (old.reading.stage ≡ Between → old.reading ≡ start.reading) → TakesToken old.reading t.kind new (Ok More) d
+      → HasGivenSince start text l (given ++ t ∷ []) → At start text (now_at l new old.games finished) (given ++ t ∷ []) d.after
+  takes_at stays takes lexer =
+      record {
+        lexer = lexer;
+        reads = reads_more start.profile start.given given old start.before d.before reads (given ++ t ∷ []) (now_at l new old.games finished) d.after
+            (reads_token start.profile old given t l new finished d reads.has_read takes) (written_same old.reading new takes.keeps.profile takes.keeps.writing);
+        stays = λ between.
+            let same = takes.stays.0 between in
+            same ∙ stays (ap (λ (r : ReaderState). r.stage) (sym same) ∙ between);
+      }
+
+  pub meets_at : (marker : Marker) → MeetsMarker old.reading t.kind marker new d → IsGivenLast text l t (given ++ t ∷ [])
+      → MeetsAt start text (record { marker = marker; at = t.at }) (now_at l new old.games finished) d.after
+  meets_at marker meets lexer =
+      record {
+        tokens = given;
+        token = t;
+        lexer = lexer;
+        meets = meets_more start.profile start.given given old start.before d.before reads given t _ (now_at l new old.games finished) d.after
+            (meets_marker start.profile old given t marker l new finished d reads.has_read meets)
+            (written_same old.reading new meets.enters.profile meets.enters.writing);
+      }
+
+  pub fails_at : (why : Reason) → TakesToken old.reading t.kind new (Err why) d → (why ≡ WriteFault → marker_of t.kind ≡ None)
+      → AreNextIn text (given ++ t ∷ []) → FailsIn start.profile text start.given (record { at = t.at; reason = why }) new start.before d.after
+  fails_at why takes no_marker next =
+      record {
+        tokens = given;
+        token = t;
+        next = next;
+        fails = not_taken_more start.profile start.given given old start.before d.before reads given t _ new d.after
+            (not_taken start.profile old given t new why d reads.has_read takes no_marker)
+            (written_same old.reading new takes.keeps.profile takes.keeps.writing);
+      }
+
+-- the lexer rejects the text
+pub rejects_at : (start : Start) (text : Known) (old : Converter) (given : List Token) (f : LexFault) (new : ReaderState) (o : Option (List ℕ))
+    → ReadsMore start.profile start.given given old start.before o → new ≡ old.reading → AreNextIn text (given ++ refusal_token f ∷ [])
+    → FailsIn start.profile text start.given (record { at = f.at; reason = Lexical f.reason }) new start.before o
+rejects_at start text old given f new o reads same next =
+    record {
+      tokens = given;
+      token = refusal_token f;
+      next = next;
+      fails = not_taken_more start.profile start.given given old start.before o reads given (refusal_token f) _ new o
+          (not_taken_lexical start.profile old given f new o reads.has_read same) (ap as_written same);
+    }
 
 -- ---- what is due is shown where a missing Result is known, and where the sink is not seen
 

@@ -2,14 +2,13 @@
 use Rattle.pgn_lexer.specs.Tokens.{period}
 use Rattle.pgn_lexer.specs.WholeTokens.{none}
 use Rattle.pgn_lexer.specs.declared.token.TokenKind.TheVariants as token_kinds
-use Rattle.pgn_game.proofs.Words.{length-drop, Bool, Marker, Kind, Token, Standing, waiting, InMovetext, ReaderState, Profile, Converter, Device, Reason, ◌≡◌, ℕ, ◌+◌, ◌*◌, ◌<◌, ◌≤◌, List, [], ◌++◌, length, take, drop, Option, None, Ok, IsTrue, refl, sym, ap, subst, ◌∙◌, arith, inl, Appends-nil, More, kind_of, TokenKind, Result, Accepted, may_have_movetext, TakesToken, Reaches, SoFar, first, StandsAfter, next_at, still, decided, symbol, Passes, is_passed, over_space, over_token, StepsOn, MeetsEntry, Part, IsEntry, IsOpen, PutResult, CostsToFind, mode_written, going, in_text, text_refusal, with_items, TakesEntry, TakesUnlessMarker, common_steps}
+use Rattle.pgn_game.proofs.Words.{length-drop, Bool, Marker, Kind, Standing, waiting, InMovetext, ReaderState, Device, Reason, ◌≡◌, ℕ, ◌+◌, ◌*◌, ◌<◌, ◌≤◌, List, [], length, take, drop, Option, None, Ok, IsTrue, refl, sym, ap, subst, ◌∙◌, arith, Appends-nil, More, kind_of, TokenKind, Result, Accepted, may_have_movetext, TakesToken, ReadsOn, false, take-append-drop, symbol, Passes, is_passed, over_space, over_token, MeetsEntry, Part, IsEntry, IsOpen, PutResult, CostsToFind, mode_written, going, in_text, text_refusal, with_items, TakesEntry, TakesUnlessMarker, common_steps}
 use Rattle.pgn_game.proofs.putting.ItemToReader.{begun_before, puts_number, to_items}
 use Rattle.pgn_game.proofs.tokens.PairsTriedForToken.{adds_none}
 use Rattle.pgn_game.proofs.tokens.PutToAnswer.{entry_met, takes_put}
 use Rattle.pgn_game.proofs.ReaderLemmas.{counting_none, enters, entry_in_movetext, number_no_score, number_free, number_leads, number_untried}
-use Rattle.pgn_game.proofs.tokens.AcceptedToConverter.{ends_within, follows_own, now_at, read_at, reads_token, still_none}
-use Rattle.pgn_game.proofs.tokens.MarkerToGame.{reads_none, reads_more}
-use Rattle.pgn_game.proofs.tokens.StepsInPiece.{before_any, follows_front, further, reads_on_none, so_far_on, reads_one, so_far_none, stands_here}
+use Rattle.pgn_game.proofs.tokens.AcceptedToConverter.{now_at}
+use Rattle.pgn_game.proofs.tokens.ReadsInText.{between, reads_met, reads_nothing, reads_space, reads_then}
 
 -- ---- how far the lexer gets
 
@@ -85,50 +84,16 @@ meets_in_movetext r new k met d at meets =
 
 -- ---- what a converter has read then
 
-module _ (p : Profile) (old : Converter) (u : List ℕ) (given : List Token) (piece : List ℕ) (o : Option (List ℕ))
-    (reaches : Reaches p old u (first piece) given) {skips : Bool} (at : IsTrue skips → old.reading.stage ≡ InMovetext) where
-  -- the converter, with another lexer
-  abbrev now : Standing → Converter
-  now l = now_at l old.reading old.games old.is_finished
-
-  here_now : Reaches p (now old.lexer) u (first piece) given
-  here_now = record { lexer = reaches.lexer; has_read = read_at p old given old.lexer old.is_finished reaches.has_read }
-
-  so_far_past : {new : Standing} {n : ℕ} → Passes skips old.lexer piece new n → SoFar p u (first piece) given piece n (now new) o o
-  so_far_past none = so_far_none p (now old.lexer) u (first piece) given piece o here_now (follows_own piece)
-  so_far_past (over_space l new m passes within is_white scans waits) =
-      let rest = drop m piece in
-      let so = so_far_past passes in
-      let here = stands_here p u (first piece) given piece m (now l) o o so within in
-      let scan = scans.carries (u ++ take m piece) (first rest) so.tokens here.lexer (follows_front (first rest) rest 1 (follows_own rest)) in
-      let one : 0 < length (take 1 rest) = omega (arith, scan.0) in
-      let none_known : still (first rest) (take 1 rest) ≡ None = still_none (first rest) (take 1 rest) one in
-      let stands : StandsAfter new ((u ++ take m piece) ++ take 1 rest) None so.tokens =
-      subst (λ b. StandsAfter new ((u ++ take m piece) ++ take 1 rest) b so.tokens) none_known scan.1 in
-      record {
-        tokens = so.tokens;
-        stands = subst (λ v. StandsAfter new v (next_at (first piece) piece (m + 1)) so.tokens) (further u piece m 1) (before_any stands);
-        decided = λ some. inl (scan.2 one ∙ ap decided (further u piece m 1));
-        empty = λ none. absurd (omega (arith, none, within));
-        reads = reads_more p given so.tokens (now l) o o so.reads so.tokens (now new) o
-            (reads_none p so.tokens (now new) o (read_at p (now l) so.tokens new old.is_finished so.reads.has_read)) refl;
-      }
-  so_far_past (over_token l new m n t passes within some scans skipped passed) =
-      let rest = drop m piece in
-      let so = so_far_past passes in
-      let here = stands_here p u (first piece) given piece m (now l) o o so within in
-      let scan = scans.carries (u ++ take m piece) (first rest) so.tokens here.lexer (follows_own rest) in
-      so_far_on p u (first piece) given piece m (now l) o o o so within (now new) refl n (reads_one (omega (arith, length-drop m piece, within)) (
-        t,
-        ends_within here scan scans.ends scans.count,
-        reads_token p (now l) so.tokens t new old.reading old.is_finished (still_at o 0) here.has_read (takes_passed old.reading t.kind o 0 (at skipped) passed),
-      ))
-
-  pub reads_past : {new : Standing} {n : ℕ} → Passes skips old.lexer piece new n → StepsOn p u given piece (now new) n o o
-  reads_past none = reads_on_none p (now old.lexer) u given piece o here_now
-  reads_past (over_space l new m passes within is_white scans waits) =
-      let so = so_far_past (over_space l new m passes within is_white scans waits) in
-      record { so = so; decided = inl (so.decided (omega arith)) }
-  reads_past (over_token l new m n t passes within some scans skipped passed) =
-      let so = so_far_past (over_token l new m n t passes within some scans skipped passed) in
-      record { so = so; decided = inl (so.decided (omega (arith, some))) }
+module _ (lexer : Standing) (reading : ReaderState) (games : ℕ) (piece : List ℕ) (o : Option (List ℕ))
+    {skips : Bool} (at : IsTrue skips → reading.stage ≡ InMovetext) where
+  pub reads_past : {l : Standing} {used : ℕ} → Passes skips lexer piece l used → used ≤ length piece
+      → ReadsOn (now_at lexer reading games false) piece (now_at l reading games false) (Ok None) (between o o 0 0)
+  reads_past none inside = reads_nothing (now_at lexer reading games false) piece o
+  reads_past (over_space l new m passes within is_white scans waits) inside =
+      reads_then _ (now_at l reading games false) _ piece m (Ok None) o o o within (reads_past passes (omega (arith, within))) (passes_count passes)
+      (reads_space (now_at l reading games false) (drop m piece) (take 1 (drop m piece)) (drop 1 (drop m piece)) (take-append-drop 1 (drop m piece))
+      (omega (arith, scans.reads.0)) scans false o)
+  reads_past (over_token l new m count t passes within some scans skipped passed) inside =
+      reads_then _ (now_at l reading games false) _ piece m (Ok None) o o o within (reads_past passes (omega (arith, within))) (passes_count passes)
+      (reads_met (now_at l reading games false) (drop m piece) (omega (arith, inside, length-drop m piece)) (omega (arith, within, length-drop m piece)) t scans reading false (between o o 0 0) (Ok None)
+      (takes_passed reading t.kind o 0 (at skipped) passed))

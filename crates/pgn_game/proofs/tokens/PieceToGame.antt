@@ -1,9 +1,8 @@
 -- A piece that was read up to a marker, and the game that the marker ends, or the fault there.
 use Rattle.pgn_game.specs.declared.marker.PlacedMarker.{PlacedMarker}
-use Rattle.pgn_game.proofs.Words.{Bool, false, IsTrue, bytes_seen, WriteFault, Fault, Profile, Token, Device, still, ReaderState, Converter, Stands, Reaches, IsKnown, EndsGame, FedAll, FedGame, FedToFault, StopsIn, at_token, too_long, AreNext, within_limit, FaultAtEnd, FinishedGame, ◌≡◌, ℕ, List, [], ◌∷◌, ◌++◌, Option, None, Some, Ok, Err, refl, sym, ap, ◌∙◌, CountsGame, ReadsPiece, ReadsToMarker, FailsIn}
+use Rattle.pgn_game.proofs.Words.{first_bytes, Bool, false, IsTrue, bytes_seen, WriteFault, Fault, Profile, Token, Device, ReaderState, Converter, Stands, Reaches, IsKnown, EndsGame, FedAll, FedGame, FedToFault, StopsIn, at_token, too_long, AreNext, within_limit, FaultAtEnd, FinishedGame, ◌≡◌, ℕ, List, [], ◌∷◌, ◌++◌, Option, None, Some, Ok, Err, refl, sym, ap, ◌∙◌, CountsGame, ReadsPiece, ReadsToMarker, FailsIn}
 use Rattle.pgn_game.proofs.tokens.MarkerToGame.{shows_due, shows_stop, gains_known, fault_not_taken, has_read_marker, game_by_marker, gains_marker, fault_of_marker}
 use Rattle.pgn_game.proofs.tokens.AcceptedToConverter.{read_as}
-use Rattle.pgn_game.proofs.tokens.StepsInPiece.{lets_go}
 
 pub reaches : {p : Profile} {old : Converter} {u : List ℕ} {b : Option ℕ} {given : List Token}
     → Stands p old u b given → Reaches p old u b given
@@ -39,7 +38,7 @@ module _ (p : Profile) (silent : Bool) (known : silent ≡ false → IsKnown p) 
 
   pub fed_stops : (piece : List ℕ) {f : Fault} (reading : ReaderState) (c : Option (List ℕ)) → reading.writing.is_silent ≡ silent
       → (IsTrue silent → f.reason ≡ WriteFault → ⊥)
-      → StopsIn u piece (λ bytes f. FailsIn p bytes given f reading a c)
+      → StopsIn u piece (λ bytes f. FailsIn p (first_bytes bytes) given f reading a c)
       (λ front. (now : Converter) × ReadsPiece p u b given front now a c × (reading ≡ now.reading)) f
       → StopsIn u piece (λ bytes f. FedToFault p bytes given f reading a c)
       (λ front. (now : Converter) × FedAll p u b given front now a c × (reading ≡ now.reading)) f
@@ -49,17 +48,14 @@ module _ (p : Profile) (silent : Bool) (known : silent ≡ false → IsKnown p) 
   fed_stops piece reading c same none (too_long front rest cut place more (now, reads, is)) =
       too_long front rest cut place more (record now { just_finished = None }, held, is)
     where
-      gone : Reaches p (record now { just_finished = None }) (u ++ front) (still b front) reads.tokens
-      gone = lets_go p now (u ++ front) (still b front) reads.tokens (record { lexer = reads.stands; has_read = reads.reads.has_read })
-
       held : FedAll p u b given front (record now { just_finished = None }) a c
       held =
           record {
             tokens = reads.tokens;
             stands = record {
               known = known_still now.reading (ap (λ (r : ReaderState). r.writing.is_silent) (sym is) ∙ same);
-              lexer = gone.lexer;
-              has_read = gone.has_read;
+              lexer = reads.stands;
+              has_read = read_as reads.reads.has_read refl refl reads.reads.has_read.no_fault tt;
             };
             decided = reads.decided;
             empty = reads.empty;

@@ -1,6 +1,6 @@
 -- From what putting a token results in, and from its row of the table, to what the reader answers.
 use Rattle.pgn_lexer.specs.declared.token.TokenKind.TheVariants as token_kinds
-use Rattle.pgn_game.proofs.Words.{Parts, Kind, Reason, Stage, Between, AfterTags, InMovetext, Profile, Part, no_part, ◌≡◌, ◌⊎◌, ℕ, max, Bool, true, false, ◌||◌, List, length, drop, Option, None, Some, Bor, Result, Ok, Err, IsFalse, IsTrue, is_some, refl, sym, ap, subst, ◌∙◌, arith, Appends-nil, AppendsFront, Device, kind_of, TokenKind, symbol, Accepted, More, Marker, marker_text, torn, refusal, is_at, is_comment, is_end, is_number, is_outside_tag_pairs, is_score, marker_of, position_if_move, position_in, Next, going, at_stage, next, gain, text_next, CostsToFind, Tries, TriesUnwritten, ReaderState, mode_written, Agrees, Answers, as_written, IsStopped, is_outside_the_table, FinishesAtMarker, IsEntry, IsOpen, may_have_movetext, text_refusal, with_items, Event, Means, Writer, game_by, items_meant, pairs_meant, CountsMove, EntersMovetext, Finds, FinishesNone, GoesTo, PutResult, Takes, TakesEntry, TakesOther, TakesOutside, TakesToken, TakesUnwritten, at_game_start, counting_probes, unused, rules, inl, inr, false≢true, Finished, le-max_left, MeetsEntry, TakesUnlessMarker, common_steps}
+use Rattle.pgn_game.proofs.Words.{Parts, Kind, Reason, Stage, Between, AfterTags, InMovetext, Profile, Part, no_part, ◌≡◌, ◌⊎◌, ℕ, max, Bool, true, false, ◌||◌, List, length, drop, Option, None, Some, Bor, Result, Ok, Err, IsFalse, IsTrue, is_some, refl, sym, ap, subst, ◌∙◌, arith, Appends-nil, AppendsFront, Device, kind_of, TokenKind, symbol, Accepted, More, Marker, marker_text, torn, refusal, is_at, is_comment, is_end, is_number, is_outside_tag_pairs, is_score, marker_of, position_if_move, position_in, Next, going, at_stage, next, gain, text_next, CostsToFind, Tries, TriesUnwritten, ReaderState, mode_written, Agrees, Answers, as_written, IsStopped, is_outside_the_table, FinishesAtMarker, IsEntry, IsOpen, may_have_movetext, text_refusal, with_items, Event, Means, Writer, game_by, items_meant, pairs_meant, CountsMove, EntersMovetext, EntersPart, Finds, HoldsPairs, HoldsText, FinishesNone, GoesTo, PutResult, Takes, TakesEntry, TakesOther, TakesOutside, TakesToken, TakesUnwritten, at_game_start, counting_probes, unused, rules, inl, inr, false≢true, Finished, le-max_left, MeetsEntry, TakesUnlessMarker, common_steps}
 use Rattle.pgn_game.specs.state.ReaderState as reader_state
 use Rattle.pgn_game.proofs.refusals.RefusalsByStage.{begins_alike, comment_passes, drops_comments, passes_between}
 use Rattle.pgn_game.proofs.refusals.RefusalsInMovetext.{marker_whole, move_refused as move_row_refused, position_is, refused_inside}
@@ -125,7 +125,16 @@ comment_in_pair old new k stage at inside same drops is =
 -- A token that belongs to movetext at the stage of the reader.
 pub enters : (old : ReaderState) (k : TokenKind) → IsTrue (may_have_movetext old.stage)
     → ((part : Part) → Agrees old part → IsEntry old (kind_of k) part) → EntersMovetext old (kind_of k) old
-enters old k at entry = search rules
+enters old k at entry = record {
+  stage = at;
+  profile = refl;
+  writing = refl;
+  plies = omega arith;
+  probes = omega arith;
+  enters = λ part agrees.
+      record { opened = part; entry = entry part agrees; next = (entry part agrees).leads; pairs = refl; items = refl };
+  takes = λ new r d taken. search rules;
+}
 
 -- A token that begins a game.
 
@@ -239,6 +248,28 @@ module _ (old : ReaderState) where
   pub plain_counted : (s : List ℕ) → (is_score s || is_number s) ≡ true → CountsMove old (symbol s) old
   plain_counted s plain = record { pairs = 0; counted = counting_none old; tried = λ part agrees. plain_untried part s plain }
 
+  -- a game that begins holds no pair
+  agrees_first : (part : Part) → old.stage ≡ Between → Agrees old part → Agrees (at_game_start old) no_pairs
+  agrees_first part at agrees = record {
+    stage = refl;
+    pairs = refl;
+    text = (refl, refl, subst (λ (s : Stage). HoldsText s old part) at agrees.text);
+  }
+
+  first_enters : (k : TokenKind) → old.stage ≡ Between → is_comment (kind_of k) ≡ false → is_end (kind_of k) ≡ false
+      → {ready : ReaderState} (part : Part) → Agrees old part
+      → ((q : Part) → Agrees (at_game_start old) q → EntersPart ready (kind_of k) q) → EntersPart ready (kind_of k) part
+  first_enters k at comment over part agrees enters =
+      let first = enters no_pairs (agrees_first part at agrees) in
+      let none : part ≡ no_part = subst (λ (s : Stage). HoldsPairs s old.tags part) at agrees.pairs in
+      rw none (record {
+        opened = first.opened;
+        entry = first.entry;
+        next = sym (begins_alike old.profile k comment over).1 ∙ first.next;
+        pairs = first.pairs;
+        items = first.items;
+      })
+
   -- The first token of a game is taken as after pairs, of which there is none.
   pub takes_outside_first : (new : ReaderState) (k : TokenKind) (o : Option (Result Accepted Reason)) → old.stage ≡ Between
       → is_comment (kind_of k) ≡ false → is_end (kind_of k) ≡ false → TakesOutside (at_game_start old) (kind_of k) new o
@@ -251,6 +282,7 @@ module _ (old : ReaderState) where
     writing = t.writing;
     plies = omega (arith, t.plies);
     probes = t.probes;
+    enters = λ part agrees. first_enters k at comment over part agrees t.enters;
     takes = λ newer r d entry. takes_first old newer k r d at comment over (t.takes newer r d entry);
   }
 

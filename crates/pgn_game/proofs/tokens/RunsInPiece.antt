@@ -1,7 +1,7 @@
 -- Runs over a piece in turn, and the step that they are.
 use Rattle.pgn_game.specs.declared.converter.StepEnd.TheVariants.{NoMarker, Marker as AtMarker}
-use Rattle.pgn_game.proofs.Words.{seen, Fault, Converter, CountsFault, Device, Standing, waiting, ◌≡◌, ℕ, ◌+◌, ◌*◌, ◌<◌, ◌≤◌, ◌^◌, ◌⊎◌, inl, inr, zero, suc, Bool, false, List, length, drop, Option, None, Some, Result, Ok, Err, refl, subst, ◌∙◌, arith, length-drop, first, StepEnd, IsBeforePiece, IsBeforeToken, KeepsRest, StepAdvances, StepGoes, StepsInPiece, TakesStepsInPiece, fault_of, common_steps}
-use Rattle.pgn_game.proofs.tokens.StepsInPiece.{after_steps, reads_on_none, stands_here}
+use Rattle.pgn_game.proofs.Words.{seen, Fault, Converter, CountsFault, Device, Standing, waiting, ◌≡◌, ℕ, ◌+◌, ◌*◌, ◌<◌, ◌≤◌, ◌^◌, ◌⊎◌, inl, inr, zero, suc, Bool, false, List, length, drop, Option, None, Some, Result, Ok, Err, refl, subst, ◌∙◌, arith, length-drop, StepEnd, IsBeforePiece, IsBeforeToken, KeepsRest, StepAdvances, StepGoes, StepsInPiece, ReadsOn, step_marker, fault_of, common_steps}
+use Rattle.pgn_game.proofs.tokens.ReadsInText.{between, reads_nothing, reads_then}
 
 -- A run may use no byte, and then nothing waits that did not before. It never asks for more bytes.
 abbrev pub RunAdvances : Standing → Standing → ℕ → Result (Option StepEnd) Fault → Type 0
@@ -13,12 +13,9 @@ RunAdvances old new used (Err f) = Unit {0}
 
 -- what is read while tokens lie whole in the piece
 pub record Runs (old : Converter) (piece : List ℕ) (new : Converter) (used : ℕ) (outcome : Result (Option StepEnd) Fault) (sink : Device) : Type 0 where
-  pub after : TakesStepsInPiece old piece new used outcome sink
+  pub after : ReadsOn old piece new (step_marker outcome) sink
   pub advances : RunAdvances old.lexer new.lexer used outcome
   pub goes : StepGoes old piece new used outcome sink
-
-abbrev pub between : Option (List ℕ) → Option (List ℕ) → ℕ → ℕ → Device
-between a c x y = record { before = a; after = c; failures = x; failures_after = y }
 
 pub keeps_then : {A B : Type 0} {old mid new : Converter} {over is_finished : Bool} {first : Result A Fault} {second : Result B Fault}
     → KeepsRest old mid over first → KeepsRest mid new is_finished second → KeepsRest old new is_finished second
@@ -56,7 +53,7 @@ module _ {old now : Converter} {piece : List ℕ} {at : ℕ} {sink : Device} whe
 pub runs_none : (old : Converter) (piece : List ℕ) (a : Option (List ℕ)) (x : ℕ) → IsBeforeToken old → Runs old piece old 0 (Ok (Some NoMarker)) (between a a x x)
 runs_none old piece a x before =
     record {
-      after = λ p u given reaches. reads_on_none p old u given piece a reaches;
+      after = reads_nothing old piece a;
       advances = (omega arith, λ some. absurd (omega (arith, some)));
       goes = record {
         within = omega arith;
@@ -83,10 +80,7 @@ pub runs_then : (old mid new : Converter) (piece : List ℕ) (end used : ℕ) (o
     → Runs old piece new (end + used) outcome (between a e x z)
 runs_then old mid new piece end used outcome a c e x y z here one two =
     record {
-      after = λ p u given reaches.
-          let on = one.after p u given reaches in
-          after_steps p u given piece end mid a c e on here new two.goes.keeps.written used outcome
-          (two.after p _ _ (stands_here p u (first piece) given piece end mid a c on.so here));
+      after = reads_then old mid new piece end (step_marker outcome) a c e here one.after one.goes.count two.after;
       advances = advances_then old.lexer mid.lexer new.lexer end used outcome one.advances two.advances;
       goes = goes_then piece end used outcome a c e x y z here one.goes two.goes;
     }
@@ -110,10 +104,7 @@ pub steps_behind : (old mid new : Converter) (piece : List ℕ) (end used : ℕ)
     → StepsInPiece old piece new (end + used) outcome (between a e x z)
 steps_behind old mid new piece end used outcome a c e x y z here one two =
     record {
-      after = λ p u given reaches.
-          let on = one.after p u given reaches in
-          after_steps p u given piece end mid a c e on here new two.goes.keeps.written used outcome
-          (two.after p _ _ (stands_here p u (first piece) given piece end mid a c on.so here));
+      after = reads_then old mid new piece end (step_marker outcome) a c e here one.after one.goes.count two.after;
       advances = advances_on old.lexer mid.lexer new.lexer piece end used outcome here one.advances two.advances;
       goes = goes_then piece end used outcome a c e x y z here one.goes two.goes;
     }

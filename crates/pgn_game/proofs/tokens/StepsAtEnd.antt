@@ -1,10 +1,10 @@
 -- Steps behind the last piece, and how small the counts stay.
 use Rattle.pgn_lexer.specs.Tokens as tokens
-use Rattle.pgn_lexer.specs.PartialToken.{refusal as refusal_token}
-use Rattle.pgn_game.proofs.Words.{length, Kind, Token, Stage, Between, Reason, Lexical, Fault, Profile, Pair, Item, Game, Part, no_part, ◌≡◌, ℕ, ◌+◌, ◌<◌, ◌≤◌, Bool, true, false, ◌&&◌, List, [], ◌∷◌, ◌++◌, Option, None, Some, Result, Ok, Err, is_ok, refl, sym, subst, append-nil, append_assoc, Appends, arith, ◌*◌, ◌^◌, IsTrue, is_some, Device, tokens_of, Standing, waiting, HasLeft, IsNext, FinishGivesToken, More, refusal, is_end, marker_of, Marker, next, gain, progress_with, Progress, read, ReaderState, Agrees, HoldsPairs, as_written, CountsWrites, Keeps, TakesToken, AfterStepAtEnd, ReadsMore, due_as, part_after, outcome_at, fault_of, LexFault, Converter, IsSound, game_in_reader_if, HasRead, Stands, CountsFault, CountsReason, IsStill, rules, ap, ◌∙◌, coming, none-some, false≢true, TakesUnlessMarker, IsBeforePiece, IsBeforeToken, IsReadyAfter, KeepsRest, StepAdvances, StepAtEndAdvances, is_ended, common_steps}
+use Rattle.pgn_game.proofs.Words.{length, Kind, Token, Stage, Between, Reason, Fault, Profile, Pair, Item, Game, Part, no_part, ◌≡◌, ℕ, ◌+◌, ◌<◌, ◌≤◌, Bool, true, false, ◌&&◌, List, [], ◌∷◌, ◌++◌, Option, None, Some, Result, Ok, Err, is_ok, refl, sym, subst, append-nil, append_assoc, Appends, arith, ◌*◌, ◌^◌, IsTrue, is_some, Device, tokens_of, Standing, waiting, HasLeft, IsNext, FinishGivesToken, More, refusal, is_end, marker_of, Marker, next, gain, progress_with, Progress, read, ReaderState, Agrees, HoldsPairs, as_written, CountsWrites, Keeps, TakesToken, ReachedAtEnd, At, Start, all_bytes, ReadsMore, due_as, part_after, outcome_at, fault_of, Converter, IsSound, game_in_reader_if, HasRead, Stands, CountsFault, CountsReason, IsStill, rules, ap, ◌∙◌, coming, none-some, false≢true, TakesUnlessMarker, IsBeforePiece, IsBeforeToken, IsReadyAfter, KeepsRest, StepAdvances, StepAtEndAdvances, is_ended, common_steps}
 use Rattle.pgn_game.proofs.tokens.OneMoreToken.{read-passes}
 use Rattle.pgn_game.proofs.tokens.EndOfText.{end_place}
-use Rattle.pgn_game.proofs.tokens.AcceptedToConverter.{follows_none, has_read_more, meets_marker, not_taken, not_taken_lexical, now_at, read_as, read_at, written_same, reads_token}
+use Rattle.pgn_game.proofs.tokens.AcceptedToConverter.{follows_none, has_read_more, now_at, read_as, read_at, written_same}
+use Rattle.pgn_game.proofs.tokens.MarkerToGame.{fails_at, meets_at, reads_more, takes_at}
 
 -- what is left behind a token: nothing behind the end
 abbrev pub Left : List ℕ → List Token → Bool → Standing → Token → Type 0
@@ -93,53 +93,54 @@ abbrev pub after_at_end : Standing → ReaderState → ℕ → Bool → ℕ → 
 after_at_end l r games finished at answer =
     record { lexer = l; reading = r; games = games; just_finished = None; is_finished = finished; fault = fault_of (outcome_at at answer) }
 
--- The end was reached.
-module _ (p : Profile) (old : Converter) (u : List ℕ) (given : List Token) (t : Token) (l : Standing) (new : ReaderState) where
-  pub closes_end : (d : Device) (r : Result (Option Marker) Reason) → is_end t.kind ≡ true → IsTrue (is_ok (outcome_at t.at r))
-      → HasRead p old given → tokens_of u ≡ given ++ t ∷ [] → TakesUnlessMarker old.reading t.kind new r d
-      → AfterStepAtEnd p u given old (after_at_end l new old.games true t.at r) (Ok None) d.before d.after
-  closes_end d (Ok None) is_e ok has_read left takes =
+-- From wherever it stands behind the last piece of the text u.
+module _ (start : Start) (u : List ℕ) (old : Converter) (given : List Token) (t : Token) (l : Standing) (new : ReaderState) (d : Device)
+    (here : At start (all_bytes u) old given d.before) where
+  -- the end was reached
+  pub closes_end : (r : Result (Option Marker) Reason) → is_end t.kind ≡ true → IsTrue (is_ok (outcome_at t.at r))
+      → tokens_of u ≡ given ++ t ∷ [] → TakesUnlessMarker old.reading t.kind new r d
+      → ReachedAtEnd start u (after_at_end l new old.games true t.at r) (Ok None) d.after
+  closes_end (Ok None) is_e ok left takes =
+      let p = start.profile in
+      let has_read = here.reads.has_read in
       let h = takes.accepts (part_after p given) has_read.agrees in
       let keeps = takes.keeps in
       let more = has_read_more p old given t l new true has_read keeps.profile keeps.probes keeps.writing h.free h.leads h.plies h.tried in
       let passes = rw has_read.profile at h.free in
       let no_game = end_passes p (read p given).progress t.kind is_e passes in
-      let between : new.stage ≡ Between = cc (more.agrees.stage, read-passes p given t has_read.passes passes, no_game) in (
-        t,
+      let between : new.stage ≡ Between = cc (more.agrees.stage, read-passes p given t has_read.passes passes, no_game) in
+      let same = takes.stays.0 between in (
         record {
+          tokens = given;
+          token = t;
           whole = left;
           is_end = is_e;
           place = end_place u given t left is_e;
           passes = passes;
-          reads = reads_end p old given t l new d has_read is_e takes between;
+          reads = reads_more p start.given given old start.before d.before here.reads given (now_at l new old.games true) d.after
+              (reads_end p old given t l new d has_read is_e takes between) (written_same old.reading new keeps.profile keeps.writing);
           has_read = more;
           between = between;
         },
-        takes.stays.0,
+        λ ended. same ∙ here.stays (ap (λ (r : ReaderState). r.stage) (sym same) ∙ between),
       )
-  closes_end d (Ok (Some marker)) is_e ok has_read left meets =
+  closes_end (Ok (Some marker)) is_e ok left meets =
       absurd (no_marker_at_end t.kind is_e (rw meets.is refl))
-  closes_end d (Err why) is_e ok has_read left takes = absurd (false≢true ok)
+  closes_end (Err why) is_e ok left takes = absurd (false≢true ok)
 
-  -- A token was taken that is not the end, or a marker was met, or a token was not taken.
-  pub closes_token : (finished : Bool) (d : Device) (e : Bool) (r : Result (Option Marker) Reason) → (e && is_ok (outcome_at t.at r)) ≡ false
-      → HasRead p old given → Left u given e l t → TakesUnlessMarker old.reading t.kind new r d
-      → AfterStepAtEnd p u given old (after_at_end l new old.games finished t.at r) (outcome_at t.at r) d.before d.after
-  closes_token finished d true (Ok None) not_ok has_read left takes = absurd (false≢true (sym not_ok))
-  closes_token finished d true (Ok (Some marker)) not_ok has_read left takes = absurd (false≢true (sym not_ok))
-  closes_token finished d false (Ok None) not_ok has_read left takes =
-      (t, left, reads_token p old given t l new finished d has_read takes, takes.stays.0)
-  closes_token finished d false (Ok (Some marker)) not_ok has_read left meets =
-      (t, left, meets_marker p old given t marker l new finished d has_read meets)
-  closes_token finished d e (Err why) not_ok has_read left takes =
+  -- a token was taken that is not the end, or a marker was met, or a token was not taken
+  pub closes_token : (finished : Bool) (e : Bool) (r : Result (Option Marker) Reason) → (e && is_ok (outcome_at t.at r)) ≡ false
+      → Left u given e l t → TakesUnlessMarker old.reading t.kind new r d
+      → ReachedAtEnd start u (after_at_end l new old.games finished t.at r) (outcome_at t.at r) d.after
+  closes_token finished true (Ok None) not_ok left takes = absurd (false≢true (sym not_ok))
+  closes_token finished true (Ok (Some marker)) not_ok left takes = absurd (false≢true (sym not_ok))
+  closes_token finished false (Ok None) not_ok left takes =
+      (given ++ t ∷ [], takes_at start (all_bytes u) old given t l new finished d here.reads here.stays takes left)
+  closes_token finished false (Ok (Some marker)) not_ok left meets =
+      meets_at start (all_bytes u) old given t l new finished d here.reads marker meets left
+  closes_token finished e (Err why) not_ok left takes =
       let rest = tokens_left u given e l t left in
-      (t, rest.0, rest.1, not_taken p old given t new why d has_read takes.0 takes.1)
-
-pub closes_fault : (p : Profile) (old new : Converter) (u : List ℕ) (given : List Token) (f : LexFault) (o : Option (List ℕ))
-    → HasRead p old given → tokens_of u ≡ given ++ refusal_token f ∷ [] → new.reading ≡ old.reading
-    → AfterStepAtEnd p u given old new (Err (record { at = f.at; reason = Lexical f.reason })) o o
-closes_fault p old new u given f o has_read whole same =
-    (refusal_token f, [], whole, not_taken_lexical p old given f new.reading o has_read same)
+      fails_at start (all_bytes u) old given t l new finished d here.reads why takes.0 takes.1 (rest.0, rest.1 ∙ sym (append_assoc given (t ∷ []) rest.0))
 
 -- What the reader keeps with any answer.
 pub kept : (old new : ReaderState) (k : Kind) (d : Device) (r : Result (Option Marker) Reason)

@@ -1,12 +1,12 @@
 -- What a step does over one call of the lexer, and over what is passed before a token.
 use Rattle.pgn_lexer.specs.Scanned.{token}
 use Rattle.pgn_game.specs.declared.converter.StepEnd.TheVariants.{NoMarker}
-use Rattle.pgn_game.proofs.Words.{LexFault, Lexical, Fault, Bool, IsTrue, false, ◌≡◌, ℕ, ◌+◌, ◌-◌, ◌<◌, ◌≤◌, ◌^◌, List, length, drop, length-drop, first, Option, None, Some, Result, Ok, Err, refl, subst, arith, Marker, Token, InMovetext, Reason, ReaderState, Converter, Device, IsSound, Standing, Keeps, fault, more, Scans, Passes, ReadsBehind, StepsInPiece, fault_of, outcome_at, TakesUnlessMarker, common_steps}
-use Rattle.pgn_game.proofs.tokens.AcceptedToConverter.{follows_own, now_at, took, took_fault, took_none}
+use Rattle.pgn_game.proofs.Words.{LexFault, Lexical, Fault, Bool, IsTrue, false, ◌≡◌, ℕ, ◌+◌, ◌-◌, ◌<◌, ◌≤◌, ◌^◌, List, length, drop, length-drop, [], append-nil, Option, None, Some, Result, Ok, Err, refl, arith, Marker, Token, InMovetext, Reason, ReaderState, Converter, Device, IsSound, Standing, Keeps, fault, more, Scans, Passes, ReadsBehind, StepsInPiece, fault_of, outcome_at, TakesUnlessMarker, common_steps}
+use Rattle.pgn_game.proofs.tokens.AcceptedToConverter.{now_at}
 use Rattle.pgn_game.proofs.tokens.PastNumbers.{passes_count, passes_few, passes_sooner, reads_past}
-use Rattle.pgn_game.proofs.tokens.RunsInPiece.{Runs, between, steps_behind}
+use Rattle.pgn_game.proofs.tokens.ReadsInText.{between, reads_fault, reads_met, reads_space}
+use Rattle.pgn_game.proofs.tokens.RunsInPiece.{Runs, steps_behind}
 use Rattle.pgn_game.proofs.tokens.StepsAtEnd.{advances_token, counts_token, keeps_met, kept, ready_in_piece, sound_in_piece}
-use Rattle.pgn_game.proofs.tokens.StepsInPiece.{after_token}
 
 -- A reader in a converter without a fault, before a piece that ends before place 2^62.
 module _ (lexer : Standing) (reading : ReaderState) (games : ℕ) (piece : List ℕ)
@@ -22,10 +22,7 @@ module _ (lexer : Standing) (reading : ReaderState) (games : ℕ) (piece : List 
         → StepsInPiece here piece (now_at l reading games false) used (Ok None) (between o o failures failures)
     steps_more scans o failures =
         record {
-          after = λ p u given reaches.
-              after_token p u given piece some (now_at l reading games false) used (Ok None) o o
-              (subst (λ n. n + length piece ≤ 2 ^ 62) reaches.lexer.count short)
-              (took_none p here u given piece used l o some reaches (scans.carries u (first piece) given reaches.lexer (follows_own piece)));
+          after = reads_space here piece piece [] (append-nil piece) some scans false o;
           advances = scans.reads.0;
           goes = record {
             within = within;
@@ -47,11 +44,7 @@ module _ (lexer : Standing) (reading : ReaderState) (games : ℕ) (piece : List 
         let why : Fault = record { at = f.at; reason = Lexical f.reason } in
         let new : Converter = record (now_at l reading games false) { fault = Some why } in
         record {
-          after = λ p u given reaches.
-              after_token p u given piece some new used (Err why) o o
-              (subst (λ n. n + length piece ≤ 2 ^ 62) reaches.lexer.count short)
-              (took_fault p here u given piece used f l new o some reaches
-              (scans.carries u (first piece) given reaches.lexer (follows_own piece)) refl);
+          after = reads_fault here piece within some f scans new refl o;
           advances = tt;
           goes = record {
             within = within;
@@ -78,11 +71,7 @@ module _ (lexer : Standing) (reading : ReaderState) (games : ℕ) (piece : List 
       }) used (outcome_at t.at met) sink
       steps_met =
           record {
-            after = λ p u given reaches.
-                after_token p u given piece some _ used (outcome_at t.at met) sink.before sink.after
-                (subst (λ n. n + length piece ≤ 2 ^ 62) reaches.lexer.count short)
-                (took p here u given piece used t l new false sink met reaches
-                (scans.carries u (first piece) given reaches.lexer (follows_own piece)) scans.ends scans.count takes);
+            after = reads_met here piece within some t scans new false sink met takes;
             advances = advances_token lexer piece l used t.at met scans.advances;
             goes = record {
               within = within;
@@ -104,7 +93,7 @@ module _ (lexer : Standing) (reading : ReaderState) (games : ℕ) (piece : List 
         → Runs here piece (now_at l reading games false) used (Ok (Some NoMarker)) (between o o failures failures)
     runs_past passes within o failures =
         record {
-          after = λ p u given reaches. reads_past p here u given piece o reaches at passes;
+          after = reads_past lexer reading games piece o at passes within;
           advances = (passes_few passes, λ some. passes_sooner passes some);
           goes = record {
             within = within;

@@ -1,5 +1,6 @@
 -- A game that the end of a text finishes: its marker is a symbol that ends with the text.
 use Rattle.pgn_lexer.specs.declared.partial_token.LexMode.TheVariants as modes
+use Rattle.pgn_lexer.specs.declared.partial_token.Text.TheVariants as texts
 use Rattle.pgn_lexer.specs.Tokens as tokens
 use Rattle.pgn_game.proofs.MarkerTexts.{score_marker, marker_short}
 use Rattle.pgn_game.proofs.Words.{Token, Profile, Game, ◌≡◌, ℕ, ◌+◌, ◌<◌, ◌≤◌, Bool, true, false, List, [], ◌∷◌, ◌++◌, length, nat_le, None, refl, sym, ap, subst, ◌∙◌, inl, inr, drop, append-nil, append_assoc, length-append, arith, le-leb, EndsAt, Standing, coming, is_score, no_progress, Read, read, read_from, Converter, Stands, games_read, FinishesGame, if◌then◌else◌, drop_at, drop-append-le, drop-drop, length-drop, SymbolTooLong, gives, stops, onto, tokens_of, tokens_to_come_in, BeginsWithToken, RisesTo, SymbolsStandInText, TokensRise, GamesEndByMarker, LastGame, TextsEndBehindMarker, TextsEndBetweenGames, text_of_games as text_of, common_steps}
@@ -36,7 +37,7 @@ fits_digit text digit short = le-leb _ _ (omega (arith, short, length-append tex
 abbrev GoesOn : ℕ → ℕ → List ℕ → ℕ → Type 0
 GoesOn place at text digit =
     (rest : List Token)
-    × (tokens_to_come_in modes.Symbol place at text (digit ∷ []) ≡ token_at at (tokens.symbol (text ++ digit ∷ [])) ∷ rest)
+    × (tokens_to_come_in (modes.Text texts.Symbol) place at text (digit ∷ []) ≡ token_at at (tokens.symbol (text ++ digit ∷ [])) ∷ rest)
 
 -- so it ends with the text: no byte behind it could be both digits
 abbrev HasDigit : List ℕ → ℕ → List ℕ → ℕ → Type 0
@@ -116,7 +117,7 @@ module _ (stand : SymbolsStandInText) (ends : GamesEndByMarker) (p : Profile)
         ends = ends_there;
       }
 
-  of_symbol : l.held.mode ≡ modes.Symbol
+  of_symbol : l.held.mode ≡ (modes.Text texts.Symbol)
       → coming l [] ≡ token_at l.held.at (tokens.symbol (l.held.text ++ [])) ∷ end_at l.count ∷ [] → LastGame p u given
   of_symbol mode is =
       let text = l.held.text in

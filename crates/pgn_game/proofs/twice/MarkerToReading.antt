@@ -2,7 +2,8 @@
 -- ended.
 use Rattle.pgn_lexer.specs.declared.partial_token.LexMode.{LexMode}
 use Rattle.pgn_game.specs.declared.marker.PlacedMarker.{PlacedMarker as CodePlacedMarker}
-use Rattle.pgn_game.proofs.Words.{Token, InputTooLong, Fault, Profile, ◌≡◌, ℕ, ◌^◌, ◌≤◌, arith, false, true, List, [], ◌∷◌, ◌++◌, length, Option, None, Some, Result, Ok, Err, IfSome, IsStill, CountsFault, refl, sym, ap, subst, ◌∙◌, append_assoc, append-nil, Consumes-trans, Consumes, Stands, takes_the_marker, with_missing, Device, tokens_of, decided, Standing, coming, HasLeft, first, Converter, ReadsMore, as_written, StandsWithin, Reading, games_of, AreShown, AfterEndToMarker, EndsToMarker, taking_announced_marker, AfterToMarker, CountsReading, StopsBefore, UsesAll, AfterMarker, HasGiven, ReadingStops, ReadFails, at_read, StandsIn, common_steps}
+use Rattle.pgn_game.specs.state.ConverterSteps.{IsReady}
+use Rattle.pgn_game.proofs.Words.{Start, ReachedAtEnd, ReadsMore, last_step, Token, InputTooLong, Fault, Profile, ◌≡◌, ℕ, ◌^◌, ◌≤◌, arith, false, true, List, [], ◌∷◌, ◌++◌, length, Option, None, Some, Result, Ok, Err, IfSome, IsStill, CountsFault, refl, sym, ap, subst, ◌∙◌, append_assoc, append-nil, Consumes-trans, Consumes, Stands, takes_the_marker, with_missing, Device, tokens_of, decided, Standing, coming, HasLeft, first, Converter, ReadsMore, StandsWithin, Reading, games_of, AreShown, EndsToMarker, taking_announced_marker, AfterToMarker, CountsReading, StopsBefore, UsesAll, AfterMarker, HasGiven, ReadingStops, ReadFails, at_read, StandsIn, common_steps, IsReadyAfter, IfOk}
 use Rattle.pgn_game.specs.calls.ConverterCalls.{at_end}
 use Rattle.pgn_game.specs.state.GamesSteps as games_steps
 use Rattle.pgn_game.specs.state.Readings.{at_token}
@@ -10,7 +11,6 @@ use Rattle.pgn_game.proofs.tokens.AcceptedToConverter.{follows_none}
 use Rattle.pgn_game.proofs.tokens.BytesWithinLimit.{all_shown, none_next, shown_begins, shown_by, shown_none}
 use Rattle.pgn_game.proofs.tokens.LastTokens.{IsLeft, glyph, left_in, none, symbol}
 use Rattle.pgn_game.proofs.tokens.MissingCountsAs.{reads_taking}
-use Rattle.pgn_game.proofs.tokens.MarkerToGame.{meets_more, not_taken_more, reads_more}
 use Rattle.pgn_game.proofs.tokens.WholeInput.{known_left, known_whole}
 use Rattle.pgn_game.proofs.twice.FailuresOfSteps.{behind_still, reader_reason}
 
@@ -114,53 +114,51 @@ module _ (q : Profile) (left_old left left_new : Option (List ℕ)) (given : Lis
   stops_in_source f new before after h = stops f new before after h
 
 -- Where the source has ended: u is the whole text.
-module _ (q : Profile) (left_old left_new : Option (List ℕ)) (given mid : List Token) (u : List ℕ) (now new : Converter) (a b c : Option (List ℕ))
-    (consumed : Consumes left_old left_new u) (whole : IfSome left_old (λ s. s ≡ u)) (reads : ReadsMore q given mid now a b)
-    (left : HasLeft now.lexer u mid) (count : now.lexer.count ≡ length u) (short : length u ≤ 2 ^ 62)
-    (written : as_written new.reading ≡ as_written now.reading) (unused : List ℕ) where
+module _ (left_old left_new : Option (List ℕ)) (start : Start) (u : List ℕ) (new : Converter) (c : Option (List ℕ))
+    (consumed : Consumes left_old left_new u) (whole : IfSome left_old (λ s. s ≡ u)) (count : new.lexer.count ≡ length u) (short : length u ≤ 2 ^ 62)
+    (unused : List ℕ) where
   abbrev reading : Reading
   reading = record { converter = new; unused = unused; has_ended = true }
 
   of_whole : (P : List ℕ → Type 0) → P u → IfSome left_old P
   of_whole P h = grind (arith, common_steps)
 
-  pub met_at_end : (r : Result (Option CodePlacedMarker) Fault) → new.lexer.count ≡ now.lexer.count → AfterEndToMarker q u mid now new r b c
-      → AfterMarker q left_old left_new given reading r a c
-  met_at_end (Ok (Some m)) stays h =
+  pub met_at_end : (r : Result (Option CodePlacedMarker) Fault) → ReachedAtEnd start u new (last_step r) c
+      → AfterMarker start.profile left_old left_new start.given reading r start.before c
+  met_at_end (Ok (Some m)) h =
       record {
         tokens = h.tokens;
         token = h.token;
         come = record {
           bytes = u;
           consumed = consumed;
-          stands = (h.left, stays ∙ count, short, whole);
-          shown = of_whole (λ s. AreShown s (h.tokens ++ h.token ∷ [])) (at_end short (coming new.lexer []) h.left);
+          stands = (h.lexer, count, short, whole);
+          shown = of_whole (λ s. AreShown s (h.tokens ++ h.token ∷ [])) (at_end short (coming new.lexer []) h.lexer);
         };
-        meets = meets_more q given mid now a b reads h.tokens h.token m new c h.meets written;
+        meets = h.meets;
       }
-  met_at_end (Ok None) stays (h, between) =
+  met_at_end (Ok None) (h, between) =
       record {
         tokens = h.tokens;
         token = h.token;
-        whole = of_whole (λ s. (length s ≤ 2 ^ 62) × (tokens_of s ≡ h.tokens ++ h.token ∷ [])) (short, h.ends.whole);
-        is_end = h.ends.is_end;
-        place = h.ends.place ∙ sym count ∙ sym stays;
-        passes = h.ends.passes;
-        reads = reads_more q given mid now a b reads h.tokens new c h.ends.reads written;
-        has_read = h.ends.has_read;
+        whole = of_whole (λ s. (length s ≤ 2 ^ 62) × (tokens_of s ≡ h.tokens ++ h.token ∷ [])) (short, h.whole);
+        is_end = h.is_end;
+        place = h.place ∙ sym count;
+        passes = h.passes;
+        reads = h.reads;
+        has_read = h.has_read;
         text = u;
-        cut = h.ends.whole;
+        cut = h.whole;
       }
-  met_at_end (Err f) stays h =
+  met_at_end (Err f) h =
       at_token (record {
         tokens = h.tokens;
         token = h.token;
-        comes = of_whole (λ s. AreShown s (h.tokens ++ h.token ∷ []))
-            (at_end short h.rest (h.cut ∙ sym (append_assoc h.tokens (h.token ∷ []) h.rest)));
-        fails = not_taken_more q given mid now a b reads h.tokens h.token f new.reading c h.fails written;
+        comes = of_whole (λ s. AreShown s (h.tokens ++ h.token ∷ [])) (at_end short h.next.0 h.next.1);
+        fails = h.fails;
         text = u;
-        rest = h.rest;
-        cut = h.cut;
+        rest = h.next.0;
+        cut = h.next.1 ∙ append_assoc h.tokens (h.token ∷ []) h.next.0;
       })
 
 -- The source has just ended.
@@ -178,14 +176,25 @@ module _ (q : Profile) (left_old left left_new : Option (List ℕ)) (given : Lis
       sym (append-nil so.stands.used) ∙ ap (λ (l : List ℕ). so.stands.used ++ l) (sym uses.none_left) ∙ sym so.stands.bytes in
       let left_over : HasLeft now.lexer text so.tokens =
       ap tokens_of (sym used_up ∙ sym (append-nil so.stands.used)) ∙ so.stands.lexer.tokens [] (follows_none (first unused)) in
-      met_at_end q left_old left_new given so.tokens text now new a b c taken
-      (known_whole left_old left_new text (λ s. s ≡ text) taken uses.at_end refl) so.reads left_over
-      (so.stands.lexer.count ∙ ap (length {A = ℕ}) used_up)
-      (omega (arith, few, so.stands.lexer.count, ap (length {A = ℕ}) used_up)) ends.keeps.written unused r ends.count
-      (subst (λ o. AfterEndToMarker q text so.tokens now new r o c) from
-      (subst (λ o. AfterEndToMarker q text so.tokens now new r sink.before o) to (ends.ends q text so.tokens left_over so.reads.has_read)))
+      let start : Start = record { profile = q; count = 0; next = None; given = given; reading = now.reading; before = a } in
+      let size : now.lexer.count ≡ length text = so.stands.lexer.count ∙ ap (length {A = ℕ}) used_up in
+      met_at_end left_old left_new start text new c taken (known_whole left_old left_new text (λ s. s ≡ text) taken uses.at_end refl) (ends.count ∙ size)
+      (omega (arith, few, size)) unused r
+      (subst (λ o. ReachedAtEnd start text new (last_step r) o) to
+      (ends.after start text so.tokens (record { lexer = left_over; reads = subst (λ o. ReadsMore q given so.tokens now a o) (sym from) so.reads; stays = λ between. refl })))
 
 -- ---- what every call keeps
+
+-- a marker that was met can be taken, and a fault is counted
+pub ready_met : (r : Result (Option CodePlacedMarker) Fault) (new : Converter) → IsReadyAfter new (last_step r) → IfOk r (λ marker. IfSome marker (λ m. IsReady new))
+ready_met (Ok None) new ready = tt
+ready_met (Ok (Some m)) new ready = ready
+ready_met (Err f) new ready = tt
+
+pub counts_met : (r : Result (Option CodePlacedMarker) Fault) (sink : Device) → CountsFault (last_step r) sink → CountsFault r sink
+counts_met (Ok None) sink counted = counted
+counts_met (Ok (Some m)) sink counted = counted
+counts_met (Err f) sink counted = counted
 
 -- nothing is read there
 pub counts_behind : {A : Type 0} (r : Result A Fault) (source sink : Device) → IsStill source → CountsFault r sink → CountsReading r source sink

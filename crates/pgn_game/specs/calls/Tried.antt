@@ -2,7 +2,7 @@
 --
 -- No order of search is stated, only what each outcome costs: each pair of the form's candidates,
 -- or at least two of them where more than one move agrees.
-use Rattle.std.specs.Prelude.{◌≡◌, ℕ, ◌≤◌, List, Option, None, Some, Result, Ok, Err}
+use Rattle.std.specs.Prelude.{◌≡◌, ℕ, ◌+◌, ◌≤◌, List, Option, None, Some, Result, Ok, Err}
 use Rattle.chess_rules.specs.declared.position.Parts.{Parts}
 use Rattle.chess_text.specs.declared.form.Form.{Form}
 use Rattle.chess_rules.specs.declared.position.Played.{Played}
@@ -26,3 +26,9 @@ CostsForm p (Some f) n = CostsAnswer p f (move_of_form p f) n
 -- name.
 unfoldable pub Costs : Parts → List ℕ → ℕ → Type 0
 Costs p s n = CostsForm p (form_of s) n
+
+-- The count of tried pairs goes from old to new, by a number that the search may cost.
+pub record AddsPairs (IsCost : ℕ → Type 0) (old new : ℕ) : Type 0 where
+  pub pairs : ℕ
+  pub added : new ≡ old + pairs
+  pub costs : IsCost pairs

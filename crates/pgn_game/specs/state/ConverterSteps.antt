@@ -4,7 +4,7 @@
 -- `given` are the tokens given before a call, `tokens` those read when it ends. t is the token that
 -- comes then, m a placed marker, f a fault, g a game. `sink` is the sink before the call and
 -- after it, `before` and `after` are the bytes that it has taken, if it reports them.
-use Rattle.std.specs.Prelude.{◌≡◌, ℕ, ◌+◌, ◌*◌, ◌<◌, ◌≤◌, ◌^◌, ◌↔◌, ◌⊎◌, Bool, true, false, IsTrue, List, [], ◌∷◌, ◌++◌, length, take, drop, Option, None, Some, Result, Ok, Err, MatchResult, IfOk, IfSome, OnOk}
+use Rattle.std.specs.Prelude.{◌≡◌, ℕ, ◌+◌, ◌*◌, ◌<◌, ◌≤◌, ◌^◌, ◌↔◌, ◌⊎◌, Bool, true, false, IsTrue, List, [], ◌∷◌, ◌++◌, length, take, drop, Option, None, Some, Result, Ok, Err, MatchResult, IfOk, OnOk}
 use Rattle.std.specs.Io.KnownBytes.{Appends}
 use Rattle.pgn_layout.specs.Device.{Device}
 use Rattle.pgn_lexer.specs.Tokens.{Kind, Token, EndsAt}
@@ -142,46 +142,6 @@ abbrev pub IsReadyAfter : Converter → Result (Option StepEnd) Fault → Type 0
 IsReadyAfter new (Ok (Some (AtMarker m))) = IsReady new
 IsReadyAfter new _ = Unit {0}
 
--- The lexer stands behind a token that ends in the piece.
-pub record EndsWithin (u : List ℕ) (given : List Token) (piece : List ℕ) (used : ℕ) (t : Token) (l : Standing) : Type 0 where
-  pub stands : StandsAfter l (u ++ take used piece) (first (drop used piece)) (given ++ t ∷ [])
-  pub decided : IsDecided (u ++ take used piece) (drop used piece) (given ++ t ∷ [])
-  pub ends : EndsAt t.kind t.at (length u + used)
-
--- What a step in a piece results in.
-abbrev pub AfterStep : Profile → List ℕ → List Token → List ℕ → Converter → ℕ
-    → Result (Option StepEnd) Fault → Option (List ℕ) → Option (List ℕ) → Type 0
-AfterStep p u given piece new used (Ok None) before after =
-    (used ≡ length piece) × StandsAfter new.lexer (u ++ piece) None given × (given ≡ decided (u ++ piece)) × ReadsMore p given given new before after
-AfterStep p u given piece new used (Ok (Some NoMarker)) before after =
-    (t : Token) × EndsWithin u given piece used t new.lexer × ReadsMore p given (given ++ t ∷ []) new before after
-AfterStep p u given piece new used (Ok (Some (AtMarker m))) before after =
-    (t : Token) × EndsWithin u given piece used t new.lexer × Meets p given given t m new before after
-AfterStep p u given piece new used (Err f) before after =
-    (t : Token) × AreNext (u ++ piece) (given ++ t ∷ []) × NotTaken p given given t f new.reading before after
-
--- Where no game is begun after a token, nothing has changed with it.
-abbrev pub StaysBetween : Converter → Converter → Type 0
-StaysBetween old new = new.reading.stage ≡ Between → new.reading ≡ old.reading
-
--- The end was reached: it is the last token of the text u, and no game is begun.
-pub record ReadsEnd (p : Profile) (u : List ℕ) (given tokens : List Token) (t : Token) (new : Converter) (before after : Option (List ℕ)) : Type 0 where
-  pub whole : tokens_of u ≡ tokens ++ t ∷ []
-  pub is_end : is_end t.kind ≡ true
-  pub place : t.at ≡ length u
-  pub passes : refusal p (part_after p tokens) t.kind ≡ None
-  pub reads : ReadsMore p given tokens new before after
-  pub has_read : HasRead p new (tokens ++ t ∷ [])
-  pub between : new.reading.stage ≡ Between
-
--- A token of the text u was not taken.
-pub record FailsAtEnd (p : Profile) (u : List ℕ) (given : List Token) (f : Fault) (new : ReaderState) (before after : Option (List ℕ)) : Type 0 where
-  pub tokens : List Token
-  pub token : Token
-  pub rest : List Token
-  pub cut : tokens_of u ≡ tokens ++ token ∷ rest
-  pub fails : NotTaken p given tokens token f new before after
-
 -- What a call that finishes no game keeps of a converter, and the fault that it keeps. No game is
 -- just finished then, and `is_finished` says whether the end of the input was read.
 pub record KeepsRest {A : Type 0} (old new : Converter) (is_finished : Bool) (result : Result A Fault) : Type 0 where
@@ -192,23 +152,92 @@ pub record KeepsRest {A : Type 0} (old new : Converter) (is_finished : Bool) (re
   pub probes : old.reading.most_probes ≤ new.reading.most_probes
   pub fault : new.fault ≡ fault_of result
 
--- What a step after the last piece results in.
-abbrev pub AfterStepAtEnd : Profile → List ℕ → List Token → Converter → Converter
-    → Result (Option StepEnd) Fault → Option (List ℕ) → Option (List ℕ) → Type 0
-AfterStepAtEnd p u given old new (Ok (Some NoMarker)) before after =
-    (t : Token) × HasLeft new.lexer u (given ++ t ∷ []) × ReadsMore p given (given ++ t ∷ []) new before after × StaysBetween old new
-AfterStepAtEnd p u given old new (Ok (Some (AtMarker m))) before after =
-    (t : Token) × HasLeft new.lexer u (given ++ t ∷ []) × Meets p given given t m new before after
-AfterStepAtEnd p u given old new (Ok None) before after =
-    (t : Token) × ReadsEnd p u given given t new before after × StaysBetween old new
-AfterStepAtEnd p u given old new (Err f) before after =
-    (t : Token) × (rest : List Token) × (tokens_of u ≡ given ++ t ∷ rest) × NotTaken p given given t f new.reading before after
+-- ---- where a converter stands in a text
 
--- what it does to a converter that has read the tokens given
-abbrev pub TakesStepAtEnd : Converter → Converter → Result (Option StepEnd) Fault → Device → Type 0
-TakesStepAtEnd old new result sink =
-    (p : Profile) (u : List ℕ) (given : List Token) → HasLeft old.lexer u given → HasRead p old given
-    → AfterStepAtEnd p u given old new result sink.before sink.after
+-- What is known of a text: these bytes, from the first on, or that these are all of it.
+pub data Known : Type 0 where
+  first_bytes : List ℕ → Known
+  all_bytes : List ℕ → Known
+
+-- the tokens of the text begin with these
+abbrev pub AreNextIn : Known → List Token → Type 0
+AreNextIn (first_bytes s) tokens = AreNext s tokens
+AreNextIn (all_bytes s) tokens = (rest : List Token) × (tokens_of s ≡ tokens ++ rest)
+
+-- Where a call began: the profile, how many bytes were used then, the byte known to be next, the
+-- tokens read then, the reader, and what the sink had taken.
+pub record Start : Type 0 where
+  pub profile : Profile
+  pub count : ℕ
+  pub next : Option ℕ
+  pub given : List Token
+  pub reading : ReaderState
+  pub before : Option (List ℕ)
+
+-- The lexer has given these tokens of a text that begins with the bytes s. The bytes used decide
+-- them.
+pub record StandsInText (s : List ℕ) (l : Standing) (tokens : List Token) : Type 0 where
+  pub inside : l.count ≤ length s
+  pub stands : StandsAfter l (take l.count s) (first (drop l.count s)) tokens
+  pub decided : IsDecided (take l.count s) (drop l.count s) tokens
+
+-- It has read nothing since the start.
+pub record StandsAtStart (start : Start) (s : List ℕ) (l : Standing) (tokens : List Token) : Type 0 where
+  pub inside : l.count ≤ length s
+  pub count : l.count ≡ start.count
+  pub same : tokens ≡ start.given
+  pub stands : StandsAfter l (take l.count s) start.next tokens
+  pub follows : Follows start.next (drop l.count s)
+
+abbrev pub HasGivenSince : Start → Known → Standing → List Token → Type 0
+HasGivenSince start (first_bytes s) l tokens = StandsInText s l tokens ⊎ StandsAtStart start s l tokens
+HasGivenSince start (all_bytes s) l tokens = HasLeft l s tokens
+
+-- The last of them was given now. In a piece it ends at the last byte used.
+abbrev pub IsGivenLast : Known → Standing → Token → List Token → Type 0
+IsGivenLast (first_bytes s) l t tokens = StandsInText s l tokens × EndsAt t.kind t.at l.count
+IsGivenLast (all_bytes s) l t tokens = HasLeft l s tokens
+
+-- Since the start a converter has read on in that text, up to no marker. Where no game is begun,
+-- nothing has changed.
+pub record At (start : Start) (text : Known) (c : Converter) (tokens : List Token) (after : Option (List ℕ)) : Type 0 where
+  pub lexer : HasGivenSince start text c.lexer tokens
+  pub reads : ReadsMore start.profile start.given tokens c start.before after
+  pub stays : c.reading.stage ≡ Between → c.reading ≡ start.reading
+
+-- A marker was met.
+pub record MeetsAt (start : Start) (text : Known) (m : PlacedMarker) (c : Converter) (after : Option (List ℕ)) : Type 0 where
+  pub tokens : List Token
+  pub token : Token
+  pub lexer : IsGivenLast text c.lexer token (tokens ++ token ∷ [])
+  pub meets : Meets start.profile start.given tokens token m c start.before after
+
+-- A token of the text was not taken.
+pub record FailsIn (p : Profile) (text : Known) (given : List Token) (f : Fault) (new : ReaderState) (before after : Option (List ℕ)) : Type 0 where
+  pub tokens : List Token
+  pub token : Token
+  pub next : AreNextIn text (tokens ++ token ∷ [])
+  pub fails : NotTaken p given tokens token f new before after
+
+-- How a call leaves it that was given the piece behind the tokens: no marker was met, or one, or a
+-- token was not taken. Without a byte nothing is read.
+abbrev pub Reached : Start → List ℕ → List ℕ → List Token → Converter → Result (Option PlacedMarker) Fault → Option (List ℕ) → Type 0
+Reached start s piece given new (Ok None) after = (tokens : List Token) × At start (first_bytes s) new tokens after × (length piece ≡ 0 → tokens ≡ given)
+Reached start s piece given new (Ok (Some m)) after = MeetsAt start (first_bytes s) m new after
+Reached start s piece given new (Err f) after = FailsIn start.profile (first_bytes s) start.given f new.reading start.before after
+
+-- What each call does that reads on in a piece: from wherever it stands since any start.
+abbrev pub ReadsOn : Converter → List ℕ → Converter → Result (Option PlacedMarker) Fault → Device → Type 0
+ReadsOn old piece new result sink =
+    (start : Start) (s : List ℕ) (tokens : List Token) → drop old.lexer.count s ≡ piece → At start (first_bytes s) old tokens sink.before
+    → Reached start s piece tokens new result sink.after
+
+-- the marker that a step has met
+abbrev pub step_marker : Result (Option StepEnd) Fault → Result (Option PlacedMarker) Fault
+step_marker (Ok None) = Ok None
+step_marker (Ok (Some NoMarker)) = Ok None
+step_marker (Ok (Some (AtMarker m))) = Ok (Some m)
+step_marker (Err f) = Err f
 
 -- A step that asks for more bytes uses the whole piece; any other uses a byte, or a token was
 -- waiting.
@@ -225,6 +254,38 @@ pub record StepGoes (old : Converter) (piece : List ℕ) (new : Converter) (used
   pub keeps : KeepsRest old new false outcome
   pub counted : CountsFault outcome sink
 
+-- What a step in a piece does to a converter.
+pub record StepsInPiece (old : Converter) (piece : List ℕ) (new : Converter) (used : ℕ) (outcome : Result (Option StepEnd) Fault) (sink : Device) : Type 0 where
+  pub after : ReadsOn old piece new (step_marker outcome) sink
+  pub advances : StepAdvances old.lexer piece new.lexer used outcome
+  pub goes : StepGoes old piece new used outcome sink
+
+-- The end was reached: it is `token`, the last token of the text u, and no game is begun.
+pub record ReadsToEnd (p : Profile) (u : List ℕ) (given : List Token) (new : Converter) (before after : Option (List ℕ)) : Type 0 where
+  pub tokens : List Token
+  pub token : Token
+  pub whole : tokens_of u ≡ tokens ++ token ∷ []
+  pub is_end : is_end token.kind ≡ true
+  pub place : token.at ≡ length u
+  pub passes : refusal p (part_after p tokens) token.kind ≡ None
+  pub reads : ReadsMore p given tokens new before after
+  pub has_read : HasRead p new (tokens ++ token ∷ [])
+  pub between : new.reading.stage ≡ Between
+
+-- How a call leaves it behind the last piece, where s is the whole text.
+abbrev pub ReachedAtEnd : Start → List ℕ → Converter → Result (Option StepEnd) Fault → Option (List ℕ) → Type 0
+ReachedAtEnd start s new (Ok None) after =
+    ReadsToEnd start.profile s start.given new start.before after × (new.reading.stage ≡ Between → new.reading ≡ start.reading)
+ReachedAtEnd start s new (Ok (Some NoMarker)) after = (tokens : List Token) × At start (all_bytes s) new tokens after
+ReachedAtEnd start s new (Ok (Some (AtMarker m))) after = MeetsAt start (all_bytes s) m new after
+ReachedAtEnd start s new (Err f) after = FailsIn start.profile (all_bytes s) start.given f new.reading start.before after
+
+-- What each call does that reads what is left.
+abbrev pub ReadsLeft : Converter → Converter → Result (Option StepEnd) Fault → Device → Type 0
+ReadsLeft old new outcome sink =
+    (start : Start) (s : List ℕ) (tokens : List Token) → At start (all_bytes s) old tokens sink.before
+    → ReachedAtEnd start s new outcome sink.after
+
 -- behind the last piece a token was waiting
 abbrev pub StepAtEndAdvances : Standing → Standing → Result (Option StepEnd) Fault → Type 0
 StepAtEndAdvances old new (Ok None) = Unit {0}
@@ -233,7 +294,7 @@ StepAtEndAdvances old new (Err f) = Unit {0}
 
 -- What `step_at_end` does to a converter.
 pub record StepsAtEnd (old new : Converter) (outcome : Result (Option StepEnd) Fault) (sink : Device) : Type 0 where
-  pub after : TakesStepAtEnd old new outcome sink
+  pub after : ReadsLeft old new outcome sink
   pub count : new.lexer.count ≡ old.lexer.count
   pub advances : StepAtEndAdvances old.lexer new.lexer outcome
   pub ready : IsReadyAfter new outcome
@@ -269,6 +330,18 @@ pub record GoesToMarker (old : Converter) (piece : List ℕ) (new : Converter) (
   pub keeps : KeepsRest old new false result
   pub counted : old.fault ≡ None → CountsFault result sink
 
+-- the marker that a call has met
+abbrev pub fed_marker : Result FedUpTo Fault → Result (Option PlacedMarker) Fault
+fed_marker (Ok All) = Ok None
+fed_marker (Ok (ToMarker used m)) = Ok (Some m)
+fed_marker (Err f) = Err f
+
+-- The lexer stands behind a token that ends in the piece.
+pub record EndsWithin (u : List ℕ) (given : List Token) (piece : List ℕ) (used : ℕ) (t : Token) (l : Standing) : Type 0 where
+  pub stands : StandsAfter l (u ++ take used piece) (first (drop used piece)) (given ++ t ∷ [])
+  pub decided : IsDecided (u ++ take used piece) (drop used piece) (given ++ t ∷ [])
+  pub ends : EndsAt t.kind t.at (length u + used)
+
 -- The whole piece was used: all tokens that are decided then were read, and none is a marker that
 -- ends a game.
 pub record ReadsPiece (p : Profile) (u : List ℕ) (b : Option ℕ) (given : List Token) (piece : List ℕ) (new : Converter) (before after : Option (List ℕ)) : Type 0 where
@@ -289,29 +362,7 @@ pub record ReadsToMarker (p : Profile) (u : List ℕ) (given : List Token) (piec
   pub next : AreNext (within_limit (u ++ piece)) (tokens ++ token ∷ [])
   pub meets : Meets p given tokens token m new before after
 
--- A token that these bytes decide was not taken.
-pub record FailsIn (p : Profile) (bytes : List ℕ) (given : List Token) (f : Fault) (new : ReaderState) (before after : Option (List ℕ)) : Type 0 where
-  pub tokens : List Token
-  pub token : Token
-  pub next : AreNext bytes (tokens ++ token ∷ [])
-  pub fails : NotTaken p given tokens token f new before after
-
--- the result of a piece that ends before place 2^62
-abbrev pub AfterFront : Profile → List ℕ → Option ℕ → List Token → List ℕ → Converter
-    → Result FedUpTo Fault → Option (List ℕ) → Option (List ℕ) → Type 0
-AfterFront p u b given piece new (Ok All) before after = ReadsPiece p u b given piece new before after
-AfterFront p u b given piece new (Ok (ToMarker used m)) before after =
-    ReadsToMarker p u given piece used m new before after
-AfterFront p u b given piece new (Err f) before after =
-    FailsIn p (u ++ piece) given f new.reading before after
-
-abbrev pub FeedsFront : Converter → List ℕ → Converter → Result FedUpTo Fault → Device → Type 0
-FeedsFront old piece new result sink =
-    (p : Profile) (u : List ℕ) (b : Option ℕ) (given : List Token)
-    → Reaches p old u b given → Follows b piece
-    → AfterFront p u b given piece new result sink.before sink.after
-
--- and of any piece
+-- the result of a piece
 abbrev pub AfterFeedToMarker : Profile → List ℕ → Option ℕ → List Token → List ℕ → Converter
     → Result FedUpTo Fault → Option (List ℕ) → Option (List ℕ) → Type 0
 AfterFeedToMarker p u b given piece new (Ok All) before after = ReadsPiece p u b given piece new before after
@@ -319,7 +370,7 @@ AfterFeedToMarker p u b given piece new (Ok (ToMarker used m)) before after =
     ReadsToMarker p u given piece used m new before after
 AfterFeedToMarker p u b given piece new (Err f) before after =
     StopsIn u piece
-    (λ bytes fault. FailsIn p bytes given fault new.reading before after)
+    (λ bytes fault. FailsIn p (first_bytes bytes) given fault new.reading before after)
     (λ front. (now : Converter) × ReadsPiece p u b given front now before after
     × (new.reading ≡ now.reading)) f
 
@@ -329,55 +380,6 @@ FeedsToMarker old piece new result sink =
     (p : Profile) (u : List ℕ) (b : Option ℕ) (given : List Token)
     → Reaches p old u b given → Follows b piece
     → AfterFeedToMarker p u b given piece new result sink.before sink.after
-
--- the byte known to be next at a place of a piece that b was known to begin with
-abbrev pub next_at : Option ℕ → List ℕ → ℕ → Option ℕ
-next_at b [] at = b
-next_at b (c ∷ piece) at = first (drop at (c ∷ piece))
-
--- what was read of a piece up to a place
-pub record SoFar (p : Profile) (u : List ℕ) (b : Option ℕ) (given : List Token) (piece : List ℕ) (at : ℕ) (now : Converter) (before after : Option (List ℕ)) : Type 0 where
-  pub tokens : List Token
-  pub stands : StandsAfter now.lexer (u ++ take at piece) (next_at b piece at) tokens
-  pub decided : 0 < at → IsDecided (u ++ take at piece) (drop at piece) tokens
-  pub empty : length piece ≡ 0 → tokens ≡ given
-  pub reads : ReadsMore p given tokens now before after
-
-abbrev pub FeedsSoFar : Converter → List ℕ → ℕ → Converter → Device → Type 0
-FeedsSoFar old piece at now sink =
-    (p : Profile) (u : List ℕ) (b : Option ℕ) (given : List Token)
-    → Reaches p old u b given → Follows b piece
-    → SoFar p u b given piece at now sink.before sink.after
-
--- ---- more tokens than one in a piece
-
--- What was read of the piece, of which so many bytes were used. The tokens are decided, or nothing
--- was read.
-pub record StepsOn (p : Profile) (u : List ℕ) (given : List Token) (piece : List ℕ) (new : Converter) (used : ℕ) (before after : Option (List ℕ)) : Type 0 where
-  pub so : SoFar p u (first piece) given piece used new before after
-  pub decided : IsDecided (u ++ take used piece) (drop used piece) so.tokens ⊎ ((used ≡ 0) × (so.tokens ≡ given))
-
--- What a step in a piece results in that may take more tokens than one.
-abbrev pub AfterStepsInPiece : Profile → List ℕ → List Token → List ℕ → Converter → ℕ
-    → Result (Option StepEnd) Fault → Option (List ℕ) → Option (List ℕ) → Type 0
-AfterStepsInPiece p u given piece new used (Ok None) before after =
-    (used ≡ length piece) × ReadsPiece p u (first piece) given piece new before after
-AfterStepsInPiece p u given piece new used (Ok (Some NoMarker)) before after = StepsOn p u given piece new used before after
-AfterStepsInPiece p u given piece new used (Ok (Some (AtMarker m))) before after =
-    ReadsToMarker p u given piece used m new before after
-AfterStepsInPiece p u given piece new used (Err f) before after =
-    FailsIn p (u ++ piece) given f new.reading before after
-
-abbrev pub TakesStepsInPiece : Converter → List ℕ → Converter → ℕ → Result (Option StepEnd) Fault → Device → Type 0
-TakesStepsInPiece old piece new used outcome sink =
-    (p : Profile) (u : List ℕ) (given : List Token) → Reaches p old u (first piece) given
-    → AfterStepsInPiece p u given piece new used outcome sink.before sink.after
-
--- What a step in a piece does to a converter.
-pub record StepsInPiece (old : Converter) (piece : List ℕ) (new : Converter) (used : ℕ) (outcome : Result (Option StepEnd) Fault) (sink : Device) : Type 0 where
-  pub after : TakesStepsInPiece old piece new used outcome sink
-  pub advances : StepAdvances old.lexer piece new.lexer used outcome
-  pub goes : StepGoes old piece new used outcome sink
 
 -- ---- the marker
 
@@ -414,61 +416,15 @@ pub record CountsGame (old new : Converter) (result : Result Unit Fault) (sink :
 
 -- ---- up to a marker, behind the last piece
 
--- whether the call has read the end of the input
-abbrev pub is_end_of_input : Result (Option PlacedMarker) Fault → Bool
-is_end_of_input (Ok None) = true
-is_end_of_input _ = false
-
--- a marker was waiting
-abbrev pub AdvancesAtEnd : Standing → Standing → Option PlacedMarker → Type 0
-AdvancesAtEnd old new None = Unit {0}
-AdvancesAtEnd old new (Some m) = waiting new < waiting old
-
--- The end was reached behind these tokens.
-pub record ReadsToEnd (p : Profile) (u : List ℕ) (given : List Token) (new : Converter) (before after : Option (List ℕ)) : Type 0 where
-  pub tokens : List Token
-  pub token : Token
-  pub ends : ReadsEnd p u given tokens token new before after
-
--- A marker is left, and more tokens may be behind it.
-pub record ReadsToLeftMarker (p : Profile) (u : List ℕ) (given : List Token) (m : PlacedMarker) (new : Converter) (before after : Option (List ℕ)) : Type 0 where
-  pub tokens : List Token
-  pub token : Token
-  pub left : HasLeft new.lexer u (tokens ++ token ∷ [])
-  pub meets : Meets p given tokens token m new before after
-
-abbrev pub AfterEndToMarker : Profile → List ℕ → List Token → Converter → Converter
-    → Result (Option PlacedMarker) Fault → Option (List ℕ) → Option (List ℕ) → Type 0
-AfterEndToMarker p u given old new (Ok None) before after = ReadsToEnd p u given new before after × StaysBetween old new
-AfterEndToMarker p u given old new (Ok (Some m)) before after = ReadsToLeftMarker p u given m new before after
-AfterEndToMarker p u given old new (Err f) before after = FailsAtEnd p u given f new.reading before after
-
--- What `finish_to_marker` reads, where u is the whole text.
-abbrev pub ReadsLeft : Converter → Converter → Result (Option PlacedMarker) Fault → Device → Type 0
-ReadsLeft old new result sink =
-    (p : Profile) (u : List ℕ) (given : List Token) → HasLeft old.lexer u given → HasRead p old given
-    → AfterEndToMarker p u given old new result sink.before sink.after
+-- as the last step of `finish_to_marker`
+abbrev pub last_step : Result (Option PlacedMarker) Fault → Result (Option StepEnd) Fault
+last_step (Ok None) = Ok None
+last_step (Ok (Some m)) = Ok (Some (AtMarker m))
+last_step (Err f) = Err f
 
 -- What `finish_to_marker` does to a converter.
-pub record EndsToMarker (old new : Converter) (result : Result (Option PlacedMarker) Fault) (sink : Device) : Type 0 where
-  pub ends : ReadsLeft old new result sink
-  pub count : new.lexer.count ≡ old.lexer.count
-  pub advances : IfOk result (λ marker. AdvancesAtEnd old.lexer new.lexer marker)
-  pub ready : IfOk result (λ marker. IfSome marker (λ m. IsReady new))
-  pub keeps : KeepsRest old new (is_end_of_input result) result
-  pub counted : CountsFault result sink
-
--- what was read behind the last piece so far, up to no marker
-pub record LeftSoFar (p : Profile) (u : List ℕ) (given : List Token) (old now : Converter) (before after : Option (List ℕ)) : Type 0 where
-  pub tokens : List Token
-  pub left : HasLeft now.lexer u tokens
-  pub reads : ReadsMore p given tokens now before after
-  pub stays : StaysBetween old now
-
-abbrev pub EndsSoFar : Converter → Converter → Device → Type 0
-EndsSoFar old now sink =
-    (p : Profile) (u : List ℕ) (given : List Token) → HasLeft old.lexer u given → HasRead p old given
-    → LeftSoFar p u given old now sink.before sink.after
+abbrev pub EndsToMarker : Converter → Converter → Result (Option PlacedMarker) Fault → Device → Type 0
+EndsToMarker old new result sink = StepsAtEnd old new (last_step result) sink
 
 -- What was read behind the last piece so far, and whether a game was finished there. It is still
 -- held while none is begun.

@@ -73,9 +73,16 @@ pub record JudgesBefore (old : ReaderState) (k : Kind) (new : ReaderState)
   pub takes : (w : Writer) → TakesOutside (game_at false w old) k (game_at false w new) r
   pub before : is_begun new.stage ≡ false
 
+-- movetext has begun neither before the token nor with it, unless it belongs to movetext
+abbrev pub IsOutside : Stage → Stage → Option (Result Accepted Reason) → Type 0
+IsOutside old new None = Unit {0}
+IsOutside old new (Some r) = (is_begun old ≡ false) × (is_begun new ≡ false)
+
 -- a token is taken outside movetext, or it belongs to movetext
-abbrev pub JudgesOutside : ReaderState → Kind → ReaderState → Option (Result Accepted Reason) → Type 0
-JudgesOutside old k new r = (w : Writer) → TakesOutside (game_by w old) k (game_by w new) r
+pub record JudgesOutside (old : ReaderState) (k : Kind) (new : ReaderState)
+    (r : Option (Result Accepted Reason)) : Type 0 where
+  pub takes : (w : Writer) → TakesOutside (game_by w old) k (game_by w new) r
+  pub outside : IsOutside old.stage new.stage r
 
 -- In movetext.
 

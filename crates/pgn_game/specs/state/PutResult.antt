@@ -25,9 +25,9 @@ use Rattle.pgn_game.specs.games.Chess.{first_position, move_of}
 use Rattle.pgn_game.specs.games.Game.{Part}
 use Rattle.pgn_game.specs.export.TagSection.{tag_section}
 use Rattle.pgn_game.specs.export.Text.{torn}
-use Rattle.pgn_game.specs.calls.Tried.{Costs}
+use Rattle.pgn_game.specs.calls.Tried.{AddsPairs, Costs}
 use Rattle.pgn_game.specs.calls.MostTried.{CostsToFind}
-use Rattle.pgn_game.specs.games.Progress.{Next}
+use Rattle.pgn_game.specs.games.Progress.{Next, next, in_text}
 use Rattle.pgn_game.specs.export.Due.{text_next}
 use Rattle.pgn_game.specs.calls.FoundMove.{found_in}
 use Rattle.pgn_game.specs.state.Movetext.{movetext_from}
@@ -149,6 +149,15 @@ abbrev pub TakesUnwritten : ReaderState → Kind → ReaderState → Result Acce
 TakesUnwritten old k new r =
     (taken : Option (List ℕ)) (failures : ℕ) → TakesToken old k new r (unused taken failures)
 
+-- A token that comes after this part is taken as the first of movetext, or as the next one, after a
+-- part with the same pairs and items.
+pub record EntersPart (ready : ReaderState) (k : Kind) (part : Part) : Type 0 where
+  pub opened : Part
+  pub entry : IsEntry ready k opened
+  pub next : next part k ≡ in_text opened k
+  pub pairs : opened.pairs ≡ part.pairs
+  pub items : opened.items ≡ part.items
+
 -- A token belongs to movetext, and `ready` is a reader that can take it as such. That is the same
 -- as to take it by `old`.
 pub record EntersMovetext (old : ReaderState) (k : Kind) (ready : ReaderState) : Type 0 where
@@ -157,6 +166,7 @@ pub record EntersMovetext (old : ReaderState) (k : Kind) (ready : ReaderState) :
   pub writing : ready.writing ≡ old.writing
   pub plies : ready.earlier_plies + ready.text.plies ≤ old.earlier_plies + old.text.plies
   pub probes : old.most_probes ≤ ready.most_probes
+  pub enters : (part : Part) → Agrees old part → EntersPart ready k part
   pub takes : (new : ReaderState) (r : Result Accepted Reason) (d : Device) → TakesEntry ready k new r d
       → TakesToken old k new r d
 
@@ -186,14 +196,14 @@ abbrev pub with_position : Parts → Result Move Reason → Result Played Reason
 with_position p (Ok m) = ok_or (with_next m (legal p m)) IllegalMove
 with_position p (Err reason) = Err reason
 
--- r is the move that a text names in the position p, or why it names none. n pairs were tried to
--- find it.
-pub record NamesMove (p : Parts) (text : List ℕ) (r : Result Move Reason) (n : ℕ) : Type 0 where
+-- r is the move that a text names in the position p, or why it names none. The count of tried pairs
+-- goes from before to after.
+pub record NamesMove (p : Parts) (text : List ℕ) (r : Result Move Reason) (before after : ℕ) : Type 0 where
   pub found : with_position p r ≡ found_in p (move_of p text)
   pub legal : IfOk r (λ m. IsTrue (is_legal p m))
-  pub tried : Costs p text n
-  pub few : n ≤ 8
-  pub some : OnOk r (0 < n)
+  pub tried : AddsPairs (Costs p text) before after
+  pub few : after ≤ before + 8
+  pub some : OnOk r (before < after)
 
 -- the reader with so many as the most pairs tried, unless there were more before
 abbrev pub counting_probes : ReaderState → ℕ → ReaderState

@@ -1,12 +1,12 @@
 -- Each byte, and the end of the text, gives the tokens that come.
-use Rattle.pgn_lexer.proofs.Words.{◌≡◌, ℕ, ◌<◌, ◌≤◌, List, [], ◌∷◌, length, refl, arith, Some, LexFault, LexMode, LexReason, TokenForm, HasLength, end, PartialToken, IsSound, HasNotFailed, tokens_to_come, kind_in, token_of, refusal, pending, fault_met, fault_in_mode, after_byte, after_byte_in, after_end, after_end_in, AfterByte, IsAfterEnd, reached_after, common_steps, PieceResult}
+use Rattle.pgn_lexer.proofs.Words.{◌≡◌, ◌⊎◌, inl, inr, ℕ, ◌<◌, ◌≤◌, List, [], ◌∷◌, length, refl, arith, Some, LexFault, LexMode, LexReason, TokenForm, HasLength, end, PartialToken, IsSound, HasNotFailed, tokens_to_come, kind_in, token_of, refusal, pending, fault_met, fault_in_mode, after_byte, after_byte_in, after_end, after_end_in, AfterByte, IsAfterByte, text_end, Text, ByteResult, Used, Ends, EndsBefore, Fault, common_steps}
 use Rattle.pgn_lexer.proofs.stepping.StepGives.{Gives, GivesIn, front_of, holds}
 use Rattle.pgn_lexer.proofs.stepping.RunOfBytes.{run_closes}
 use Rattle.pgn_lexer.proofs.stepping.ByteOutside.{begin_gives, begin_line_gives, start_gives, escape_line_gives}
-use Rattle.pgn_lexer.proofs.stepping.ByteInSymbol.{symbol_gives}
-use Rattle.pgn_lexer.proofs.stepping.ByteInString.{string_gives, escaped_gives}
-use Rattle.pgn_lexer.proofs.stepping.ByteInGlyph.{dollar_gives, glyph_gives, suffix_gives, spelled}
-use Rattle.pgn_lexer.proofs.stepping.ByteInComment.{brace_gives, brace_word_gives, line_gives, line_word_gives, word_fits}
+use Rattle.pgn_lexer.proofs.stepping.ByteInText.{IsNoString, TextSoFar, behind_sound, behind_stands, ends_text, less, so_far, text_closes, text_gives, text_length}
+use Rattle.pgn_lexer.proofs.stepping.ByteInString.{in_string_gives, escaped_gives}
+use Rattle.pgn_lexer.proofs.stepping.ByteInGlyph.{dollar_gives, glyph_gives}
+use Rattle.pgn_lexer.proofs.stepping.ByteInComment.{comment_gives}
 
 step_in : (m : LexMode) (place at b : ℕ) (text : List ℕ) → length text ≤ 255 → IsSound place (holds m at text)
     → GivesIn m place at b text (λ h. after_byte_in m place h b)
@@ -14,10 +14,12 @@ step_in LexMode.Start place at b text fits sound = rw sound.placed (start_gives 
 step_in LexMode.LineStart place at b text fits sound = begin_line_gives _ place b (holds LexMode.LineStart at text) _ _ fits
 step_in LexMode.Outside place at b text fits sound = begin_gives _ place b (holds LexMode.Outside at text) _ _ fits
 step_in LexMode.EscapeLine place at b text fits sound = escape_line_gives place at b text fits _ refl
-step_in LexMode.Brace place at b text fits sound = brace_gives _ place b (holds LexMode.Brace at text) _ _ fits
-step_in LexMode.Line place at b text fits sound = line_gives _ place b (holds LexMode.Line at text) _ _ fits
-step_in m place at b text fits sound =
-    grind (arith, front_of, symbol_gives, string_gives, escaped_gives, dollar_gives, glyph_gives, suffix_gives, brace_word_gives, line_word_gives)
+step_in (LexMode.Comment close) place at b text fits sound = comment_gives close place b (holds (LexMode.Comment close) at text) _ _ fits
+step_in (LexMode.Text Text.Str) place at b text fits sound = in_string_gives place at b text fits sound.placed _ refl
+step_in (LexMode.Text Text.Symbol) place at b text fits sound = text_gives Text.Symbol tt place at b text sound
+step_in (LexMode.Text Text.Suffix) place at b text fits sound = text_gives Text.Suffix tt place at b text sound
+step_in (LexMode.Text (Text.Word close)) place at b text fits sound = text_gives (Text.Word close) tt place at b text sound
+step_in m place at b text fits sound = grind (arith, front_of, escaped_gives, dollar_gives, glyph_gives)
 
 pub step_gives : (place : ℕ) (h : PartialToken) (b : ℕ) → IsSound place h → Gives (front_of place h b) (after_byte place h b)
 unfolding after_byte
@@ -43,22 +45,44 @@ pub record ClosesEnd (place : ℕ) (h new : PartialToken) : Type 0 where
   pub same : new ≡ h
   pub comes : tokens_to_come place h [] ≡ record { at = place; kind = end } ∷ []
 
-abbrev CloseGives : ℕ → PartialToken → PartialToken → PieceResult → Type 0
-CloseGives place h new PieceResult.End = ClosesEnd place h new
-CloseGives place h new (PieceResult.Token form) = ClosesToken place h form new
-CloseGives place h new (PieceResult.Fault reason) = ClosesFault place h reason new
+abbrev CloseGives : ℕ → PartialToken → PartialToken → ByteResult → Type 0
+CloseGives place h new Used = ClosesEnd place h new
+CloseGives place h new (Ends form) = ClosesToken place h form new
+CloseGives place h new (EndsBefore form) = ClosesToken place h form new
+CloseGives place h new (Fault reason) = ClosesFault place h reason new
 
 abbrev ClosedGives : ℕ → PartialToken → AfterByte → Type 0
-ClosedGives place h t = CloseGives place h t.held (reached_after t.step)
+ClosedGives place h t = CloseGives place h t.held t.step
+
+close_text : (t : Text) → IsNoString t → (place at : ℕ) (text : List ℕ) → IsSound place (holds (LexMode.Text t) at text)
+    → ClosedGives place (holds (LexMode.Text t) at text) (text_end t place (holds (LexMode.Text t) at text) 10)
+close_text t runs place at text sound =
+    let so : TextSoFar t place at text = so_far t runs place at text sound in
+    rw (ends_text t runs place 10 (holds (LexMode.Text t) at text)) (record {
+      sound = behind_sound t place at text so.fits;
+      fresh = tt;
+      not_failed = behind_stands t;
+      lengths = text_length t runs text so.some so.fits;
+      less = less t runs;
+      comes = text_closes t runs place at text so.some so.fits;
+    })
 
 close_in : (m : LexMode) (place at : ℕ) (text : List ℕ) → length text ≤ 255 → IsSound place (holds m at text)
     → ClosedGives place (holds m at text) (after_end_in m place (holds m at text))
-close_in m place at text h1 h2 = grind (arith, common_steps, run_closes, spelled, word_fits)
+close_in (LexMode.Text Text.Symbol) place at text h1 h2 = close_text Text.Symbol tt place at text h2
+close_in (LexMode.Text Text.Suffix) place at text h1 h2 = close_text Text.Suffix tt place at text h2
+close_in (LexMode.Text (Text.Word close)) place at text h1 h2 = close_text (Text.Word close) tt place at text h2
+close_in m place at text h1 h2 = grind (arith, common_steps, run_closes)
 
 close_gives : (place : ℕ) (h : PartialToken) → IsSound place h → ClosedGives place h (after_end place h)
 unfolding after_end
 close_gives place h sound = close_in _ _ _ _ sound.room.0 sound
 
-pub closes_gives : (place : ℕ) (h new : PartialToken) (answer : PieceResult) → IsSound place h → IsAfterEnd (after_end place h) new answer
+pub closes_gives : (place : ℕ) (h new : PartialToken) (answer : ByteResult) → IsSound place h → IsAfterByte (after_end place h) new answer
     → CloseGives place h new answer
 closes_gives place h new answer sound t = grind (arith, close_gives)
+
+pub closes_token : (place : ℕ) (h new : PartialToken) (answer : ByteResult) (form : TokenForm) → IsSound place h → IsAfterByte (after_end place h) new answer
+    → (answer ≡ Ends form) ⊎ (answer ≡ EndsBefore form) → ClosesToken place h form new
+closes_token place h new answer form sound t (inl e) = rw e at (closes_gives place h new answer sound t)
+closes_token place h new answer form sound t (inr e) = rw e at (closes_gives place h new answer sound t)

@@ -1,8 +1,7 @@
 -- A byte in a comment.
-use Rattle.pgn_lexer.proofs.Words.{◌≡◌, ℕ, ◌+◌, ◌<◌, ◌≤◌, Bool, true, false, List, [], ◌∷◌, length, refl, ap, ◌∙◌, arith, length-append, nat_lt, if◌then◌else◌, ltb-true, ltb-false, WordTooLong, CommentClass, continues_word, Token, word, comment_class, gives, stops, word_at, brace, line, begins_brace, begins_line, after_brace, after_line, onto, tokens_from, PartialToken, LexMode, TokenForm, ByteResult, common_steps}
+use Rattle.pgn_lexer.proofs.Words.{◌≡◌, ℕ, ◌+◌, ◌<◌, ◌≤◌, Bool, true, false, List, [], ◌∷◌, length, sym, ◌∙◌, arith, WordTooLong, CommentClass, continues_word, Token, word, comment_class, gives, stops, word_at, between, in_word, begins_brace, begins_line, after_brace, after_line, onto, tokens_from, PartialToken, Close}
 use Rattle.pgn_lexer.specs.ByteResult as byte_result
-use Rattle.pgn_lexer.proofs.stepping.RunOfBytes.{run_grows, run_breaks, run_ends, run_closes}
-use Rattle.pgn_lexer.proofs.stepping.StepGives.{Gives, GivesIn, front_by}
+use Rattle.pgn_lexer.proofs.stepping.StepGives.{Gives, front_by}
 
 abbrev is_word_class : CommentClass → Bool
 is_word_class CommentClass.WordByte = true
@@ -18,94 +17,40 @@ pub word_long : (at : ℕ) (run : List ℕ) → 79 < length run → word_at at r
 word_long at run long = grind arith
 
 -- the tokens from a byte of a class, where a word goes on, or not
-abbrev brace_tokens : ℕ → Bool → ℕ → List ℕ → CommentClass → List Token
-brace_tokens place goes b s c = onto place (begins_brace place goes c b s) (tokens_from (place + 1) (after_brace c) s)
+abbrev comment_tokens : Close → ℕ → Bool → ℕ → List ℕ → CommentClass → List Token
+comment_tokens Close.Brace place goes b s c = onto place (begins_brace place goes c b s) (tokens_from (place + 1) (after_brace c) s)
+comment_tokens Close.LineEnd place goes b s c = onto place (begins_line place goes c b s) (tokens_from (place + 1) (after_line c) s)
 
-abbrev line_tokens : ℕ → Bool → ℕ → List ℕ → CommentClass → List Token
-line_tokens place goes b s c = onto place (begins_line place goes c b s) (tokens_from (place + 1) (after_line c) s)
+-- the text may end in a word as between words
+pub closes_alike : (close : Close) (place : ℕ) → tokens_from place (in_word close) [] ≡ tokens_from place (between close) []
+closes_alike close place = grind arith
 
--- between the words of a comment in braces, and of one that goes to the end of its line
-module _ (c : CommentClass) (place b : ℕ) where
-  pub brace_gives : (h : PartialToken) (ended : List Token) (waits : ℕ) → length h.text ≤ 255
-      → Gives (front_by place b ended waits (λ s. brace_tokens place false b s c)) (byte_result.brace place h b c)
-  brace_gives h ended waits h1 = grind arith
+-- they come in a word, and between the words
+module _ (close : Close) (place b : ℕ) (s : List ℕ) where
+  word_tokens : tokens_from place (in_word close) (b ∷ s) ≡ comment_tokens close place true b s (comment_class b)
+  word_tokens = grind arith
 
-  pub line_gives : (h : PartialToken) (ended : List Token) (waits : ℕ) → length h.text ≤ 255
-      → Gives (front_by place b ended waits (λ s. line_tokens place false b s c)) (byte_result.line place h b c)
-  line_gives h ended waits h1 = grind arith
+  between_tokens : tokens_from place (between close) (b ∷ s) ≡ comment_tokens close place false b s (comment_class b)
+  between_tokens = grind arith
+
+module _ (close : Close) (c : CommentClass) (place b : ℕ) where
+  comment_class_gives : (h : PartialToken) (ended : List Token) (waits : ℕ) → length h.text ≤ 255
+      → Gives (front_by place b ended waits (λ s. comment_tokens close place false b s c)) (byte_result.comment close place h b c)
+  comment_class_gives h ended waits h1 = grind arith
 
   -- where no word goes on, it is the same as where none was
-  pub brace_ends : (s : List ℕ) → is_word_class c ≡ false → brace_tokens place true b s c ≡ brace_tokens place false b s c
-  brace_ends s h1 = grind arith
+  same_tokens : (s : List ℕ) → is_word_class c ≡ false → comment_tokens close place true b s c ≡ comment_tokens close place false b s c
+  same_tokens s h1 = grind arith
 
-  pub line_ends : (s : List ℕ) → is_word_class c ≡ false → line_tokens place true b s c ≡ line_tokens place false b s c
-  line_ends s h1 = grind arith
+pub word_ends : (close : Close) (place b : ℕ) (s : List ℕ) → is_word_class (comment_class b) ≡ false
+    → tokens_from place (in_word close) (b ∷ s) ≡ tokens_from place (between close) (b ∷ s)
+word_ends close place b s e = word_tokens close place b s ∙ same_tokens close _ place b s e ∙ sym (between_tokens close place b s)
 
-module _ (place at b : ℕ) (text : List ℕ) (some : 0 < length text) (fits : length text ≤ 79) (began : place ≡ at + length text) where
-  brace_letter : comment_class b ≡ CommentClass.WordByte → continues_word b ≡ true → (d : Bool) → nat_lt (length text) 79 ≡ d
-      → GivesIn LexMode.BraceWord place at b text (λ h. if d then byte_result.grown h LexMode.BraceWord b else byte_result.fails h h.at WordTooLong)
-  brace_letter e w true room =
-      let short = ltb-true _ _ room in
-      record {
-        sound = omega (arith, length-append text (b ∷ []));
-        not_failed = tt;
-        comes = λ s. run_grows (word_at at) continues_word at b text s _ _ w (ap (brace_tokens place true b s) e);
-      }
-  brace_letter e w false full = grind (arith, common_steps, ltb-false, run_breaks, word_long, length-append)
+pub comment_gives : (close : Close) (place b : ℕ) (h : PartialToken) (ended : List Token) (waits : ℕ) → length h.text ≤ 255
+    → Gives (front_by place b ended waits (λ s. tokens_from place (between close) (b ∷ s))) (byte_result.comment close place h b (comment_class b))
+comment_gives Close.Brace place b h ended waits fits = comment_class_gives Close.Brace _ place b h ended waits fits
+comment_gives Close.LineEnd place b h ended waits fits = comment_class_gives Close.LineEnd _ place b h ended waits fits
 
-  line_letter : comment_class b ≡ CommentClass.WordByte → continues_word b ≡ true → (d : Bool) → nat_lt (length text) 79 ≡ d
-      → GivesIn LexMode.LineWord place at b text (λ h. if d then byte_result.grown h LexMode.LineWord b else byte_result.fails h h.at WordTooLong)
-  line_letter e w true room =
-      let short = ltb-true _ _ room in
-      record {
-        sound = omega (arith, length-append text (b ∷ []));
-        not_failed = tt;
-        comes = λ s. run_grows (word_at at) continues_word at b text s _ _ w (ap (line_tokens place true b s) e);
-      }
-  line_letter e w false full = grind (arith, common_steps, ltb-false, run_breaks, word_long, length-append)
-
-  brace_word_ends : is_word_class (comment_class b) ≡ false
-      → GivesIn LexMode.BraceWord place at b text (λ h. byte_result.into h LexMode.Brace (ByteResult.EndsBefore TokenForm.Word))
-  brace_word_ends other =
-      record {
-        sound = omega arith;
-        not_failed = tt;
-        before = omega arith;
-        lengths = (some, fits);
-        ends_at = began;
-        runs = refl;
-        few = omega arith;
-        less = omega arith;
-        within = brace;
-        settled = λ s. refl;
-        comes = λ s. run_ends (word_at at) continues_word at b text s _ _ _
-            (word_class b ∙ other) (word_fits at text fits) (brace_ends _ place b s other);
-        at_end = run_closes (word_at at) at text _ _ (word_fits at text fits);
-      }
-
-  line_word_ends : is_word_class (comment_class b) ≡ false
-      → GivesIn LexMode.LineWord place at b text (λ h. byte_result.into h LexMode.Line (ByteResult.EndsBefore TokenForm.Word))
-  line_word_ends other =
-      record {
-        sound = omega arith;
-        not_failed = tt;
-        before = omega arith;
-        lengths = (some, fits);
-        ends_at = began;
-        runs = refl;
-        few = omega arith;
-        less = omega arith;
-        within = line;
-        settled = λ s. refl;
-        comes = λ s. run_ends (word_at at) continues_word at b text s _ _ _
-            (word_class b ∙ other) (word_fits at text fits) (line_ends _ place b s other);
-        at_end = run_closes (word_at at) at text _ _ (word_fits at text fits);
-      }
-
-  pub brace_word_gives : (c : CommentClass) → comment_class b ≡ c
-      → GivesIn LexMode.BraceWord place at b text (λ h. byte_result.word LexMode.Brace h b c)
-  brace_word_gives c h1 = grind (arith, brace_letter, brace_word_ends)
-
-  pub line_word_gives : (c : CommentClass) → comment_class b ≡ c
-      → GivesIn LexMode.LineWord place at b text (λ h. byte_result.word LexMode.Line h b c)
-  line_word_gives c h1 = grind (arith, line_letter, line_word_ends)
+pub word_goes : (close : Close) (place b : ℕ) (s : List ℕ) → comment_class b ≡ CommentClass.WordByte
+    → tokens_from place (in_word close) (b ∷ s) ≡ tokens_from (place + 1) (in_word close) s
+word_goes close place b s e = grind arith

@@ -1,7 +1,6 @@
--- A byte in a glyph or a suffix.
-use Rattle.pgn_lexer.proofs.Words.{◌≡◌, ℕ, ◌+◌, ◌-◌, ◌*◌, ◌<◌, ◌≤◌, Bool, true, false, List, [], ◌∷◌, ◌++◌, length, refl, ap, ◌∙◌, arith, take_while, nat_le, ◌==◌, if◌then◌else◌, leb-true, leb-false, LoneDollar, GlyphRange, BadSuffix, Used, EndsBefore, is_digit, is_suffix, glyph, gives, stops, number_from, numbered_at, glyph_at, suffix_at, in_glyph, in_suffix, outside, onto, tokens_from, spelling, into, fails, LexMode, TokenForm, rules, SuffixRun}
-use Rattle.pgn_lexer.specs.ByteResult as byte_result
-use Rattle.pgn_lexer.proofs.stepping.RunOfBytes.{take_while-true, glyph_goes, glyph_ends, suffix_goes, suffix_ends, run_grows, run_breaks, run_ends, run_closes}
+-- A byte in a glyph.
+use Rattle.pgn_lexer.proofs.Words.{◌≡◌, ℕ, ◌+◌, ◌-◌, ◌*◌, ◌<◌, ◌≤◌, Bool, true, false, List, [], ◌∷◌, length, refl, ap, ◌∙◌, arith, take_while, nat_le, if◌then◌else◌, leb-true, leb-false, LoneDollar, GlyphRange, Used, EndsBefore, is_digit, glyph, gives, stops, number_from, numbered_at, glyph_at, in_glyph, outside, onto, tokens_from, into, fails, LexMode, TokenForm}
+use Rattle.pgn_lexer.proofs.stepping.RunOfBytes.{take_while-true, glyph_goes, glyph_ends, run_grows, run_breaks, run_ends}
 use Rattle.pgn_lexer.proofs.stepping.StepGives.{GivesIn}
 
 number_grows : (n : ℕ) (ds : List ℕ) → n ≤ number_from n ds
@@ -64,59 +63,3 @@ dollar_gives place at b text fits began true e =
           ∙ ap (onto at (numbered_at at _)) (glyph_goes place b s e);
     }
 dollar_gives place at b text fits began false e = grind arith
-
-module _ (at b : ℕ) (run : List ℕ) (c : Bool) where
-  second_good : (b == 33) ≡ c → suffix_at at (33 ∷ b ∷ run) ≡ suffix_at at (spelling (if c then SuffixRun.VeryGood else SuffixRun.Speculative) ++ run)
-  second_good h1 = grind arith
-
-  second_poor : (b == 33) ≡ c
-      → suffix_at at (63 ∷ b ∷ run) ≡ suffix_at at (spelling (if c then SuffixRun.Questionable else SuffixRun.VeryPoor) ++ run)
-  second_poor h1 = grind arith
-
-module _ (place at b : ℕ) (text : List ℕ) (fits : length text ≤ 255) (began : at < place) where
-  more : (run next : SuffixRun) → is_suffix b ≡ true
-      → ((rest : List ℕ) → suffix_at at (spelling run ++ b ∷ rest) ≡ suffix_at at (spelling next ++ rest))
-      → GivesIn (LexMode.Suffix run) place at b text (λ h. into h (LexMode.Suffix next) Used)
-  more run next e second =
-      record {
-        sound = omega arith;
-        not_failed = tt;
-        comes =
-            λ s. ap (λ rest. onto at (suffix_at at (spelling run ++ rest)) (tokens_from place in_suffix (b ∷ s)))
-            (take_while-true is_suffix b s e) ∙ ap (λ f. onto at f (tokens_from place in_suffix (b ∷ s))) (second (take_while _ s))
-            ∙ ap (onto at (suffix_at at (spelling next ++ take_while _ s))) (suffix_goes place b s e);
-      }
-
-  too_many : (run : SuffixRun) → is_suffix b ≡ true → ((rest : List ℕ) → suffix_at at (spelling run ++ b ∷ rest) ≡ stops at BadSuffix)
-      → GivesIn (LexMode.Suffix run) place at b text (λ h. fails h h.at BadSuffix)
-  too_many run e bad = search (rules, fails, run_breaks, suffix_at, is_suffix, spelling, tokens_from, in_suffix)
-
-  goes_on : (run : SuffixRun) → is_suffix b ≡ true → GivesIn (LexMode.Suffix run) place at b text (λ h. byte_result.second_suffix h run b)
-  goes_on SuffixRun.Good e = more SuffixRun.Good _ e (λ rest. second_good at b rest _ refl)
-  goes_on SuffixRun.Poor e = more SuffixRun.Poor _ e (λ rest. second_poor at b rest _ refl)
-  goes_on run e = too_many run e (λ rest. refl)
-
-  pub spelled : (run : SuffixRun) → suffix_at at (spelling run) ≡ gives (glyph (byte_result.glyph_of run))
-  spelled run = grind arith
-
-  pub small_suffix : (run : SuffixRun) → byte_result.glyph_of run ≤ 255
-  small_suffix run = grind arith
-
-  pub suffix_gives : (run : SuffixRun) (c : Bool) → is_suffix b ≡ c → GivesIn (LexMode.Suffix run) place at b text
-      (λ h. if c then byte_result.second_suffix h run b else into h LexMode.Outside (EndsBefore (TokenForm.Glyph (byte_result.glyph_of run))))
-  suffix_gives run true e = goes_on run e
-  suffix_gives run false e =
-      record {
-        sound = omega arith;
-        not_failed = tt;
-        before = began;
-        lengths = small_suffix run;
-        ends_at = began;
-        runs = refl;
-        few = omega arith;
-        less = omega arith;
-        within = outside;
-        settled = λ s. refl;
-        comes = λ s. run_ends (suffix_at at) is_suffix at b (spelling run) s _ _ _ e (spelled run) (suffix_ends place b s e);
-        at_end = run_closes (suffix_at at) at (spelling run) _ _ (spelled run);
-      }

@@ -1,5 +1,5 @@
 -- A byte in a string.
-use Rattle.pgn_lexer.proofs.Words.{◌≡◌, ℕ, ◌+◌, ◌<◌, ◌≤◌, Bool, true, false, List, [], ◌∷◌, ◌++◌, length, append-nil, append_assoc, arith, length-append, nat_lt, if◌then◌else◌, ControlByte, StringTooLong, UnclosedString, StringClass, Used, Token, string_class, Reading, closed, broken, datum, reading, string_at, quotes, onto, tokens_from, with_front, grown, fails, LexMode}
+use Rattle.pgn_lexer.proofs.Words.{◌≡◌, ℕ, ◌+◌, ◌<◌, ◌≤◌, Bool, true, false, List, [], ◌∷◌, ◌++◌, length, append-nil, append_assoc, arith, length-append, nat_lt, if◌then◌else◌, ControlByte, StringTooLong, UnclosedString, StringClass, Used, Token, string_class, Reading, closed, broken, datum, reading, string_at, quotes, onto, tokens_from, with_front, grown, fails, LexMode, Text, is_plain, refl}
 use Rattle.pgn_lexer.specs.ByteResult as byte_result
 use Rattle.pgn_lexer.proofs.stepping.StepGives.{GivesIn}
 
@@ -33,28 +33,37 @@ read_escaped start at n b bs c =
 abbrev escaped_tokens : ℕ → ℕ → List ℕ → List ℕ → Reading → List Token
 escaped_tokens place at text s r = onto at (string_at (with_front text r)) (tokens_from (place + 1) quotes s)
 
+pub plain_class : (b : ℕ) → is_plain b ≡ true → string_class b ≡ StringClass.Plain
+plain_class b e = grind arith
+
 module _ (place at b : ℕ) (text : List ℕ) (fits : length text ≤ 255) (began : at < place) where
   datum_comes : (s : List ℕ) → escaped_tokens place at text s (datum b (reading at (place + 1) (length text + 1) false s))
       ≡ escaped_tokens place at (text ++ b ∷ []) s (reading at (place + 1) (length (text ++ b ∷ [])) false s)
   datum_comes s = grind (arith, with_front-datum, length-append)
 
   plain_plain : (d : Bool) → nat_lt (length text) 255 ≡ d → string_class b ≡ StringClass.Plain
-      → GivesIn LexMode.Str place at b text (λ h. if d then grown h LexMode.Str b else fails h h.at StringTooLong)
+      → GivesIn (LexMode.Text Text.Str) place at b text (λ h. if d then grown h (LexMode.Text Text.Str) b else fails h h.at StringTooLong)
   plain_plain d h1 h2 = grind (arith, length-append, datum_comes)
 
-  pub string_gives : (c : StringClass) → string_class b ≡ c → GivesIn LexMode.Str place at b text (λ h. byte_result.string false place h b c)
+  pub string_gives : (c : StringClass) → string_class b ≡ c → GivesIn (LexMode.Text Text.Str) place at b text (λ h. byte_result.string false place h b c)
   string_gives c h1 = grind (arith, append-nil, plain_plain)
+
+  pub in_string_gives : (c : Bool) → is_plain b ≡ c → GivesIn (LexMode.Text Text.Str) place at b text
+      (λ h. if c then (if nat_lt (length h.text) 255 then grown h (LexMode.Text Text.Str) b else fails h h.at StringTooLong)
+      else byte_result.string false place h b (string_class b))
+  in_string_gives true e = plain_plain _ refl (plain_class b e)
+  in_string_gives false e = string_gives _ refl
 
 module _ (place at b : ℕ) (text : List ℕ) (short : length text < 255) (began : at < place) where
   -- a quote or a backslash is a datum
   taken_back : (c : StringClass) → ((s : List ℕ) → escaped_tokens place at text s (reading at place (length text) true (b ∷ s))
       ≡ escaped_tokens place at text s (datum b (reading at (place + 1) (length text + 1) false s)))
-      → GivesIn LexMode.AfterBackslash place at b text (λ h. grown h LexMode.Str b)
+      → GivesIn LexMode.AfterBackslash place at b text (λ h. grown h (LexMode.Text Text.Str) b)
   taken_back c same = grind (arith, length-append, datum_comes)
 
   escaped_plain : (d : Bool) → nat_lt (length text) 254 ≡ d → string_class b ≡ StringClass.Plain
       → GivesIn LexMode.AfterBackslash place at b text (λ h. if d
-      then record { held = record { mode = LexMode.Str; at = at; text = (text ++ 92 ∷ []) ++ b ∷ [] }; step = Used } else fails h h.at StringTooLong)
+      then record { held = record { mode = (LexMode.Text Text.Str); at = at; text = (text ++ 92 ∷ []) ++ b ∷ [] }; step = Used } else fails h h.at StringTooLong)
   escaped_plain d h1 h2 = grind (arith, length-append, with_front-datum)
 
   pub escaped_gives : (c : StringClass) → string_class b ≡ c

@@ -1,19 +1,14 @@
 -- Runs of bytes of a set that are a symbol, a number, a string or a word.
 use Rattle.std.specs.Bool.{then_some}
 use Rattle.std.specs.Prelude.{MatchOption}
-use Rattle.pgn_lexer.specs.CommentClass.{WordByte}
-use Rattle.pgn_lexer.proofs.Words.{◌≡◌, Bool, ℕ, zero, suc, ◌<◌, true, false, List, get_or, refl, sym, ap, ◌∙◌, arith, nat_lt, ltb-true, ltb-false, true≢false, comment_class, is_digit, continues_symbol, continues_word, starts_symbol, Set, IsRunIn, IsNumberIn, not}
+use Rattle.pgn_lexer.proofs.Words.{◌≡◌, Bool, ℕ, zero, suc, ◌<◌, true, false, List, get_or, refl, sym, ap, ◌∙◌, arith, nat_lt, ltb-true, ltb-false, true≢false, is_digit, continues_symbol, starts_symbol, Set, IsRunIn, IsNumberIn, not}
 use Rattle.pgn_lexer.proofs.cutting.TokensAreSound.{start_continues}
-use Rattle.pgn_lexer.proofs.stepping.ByteInComment.{word_class}
 
 not_digit : (b : ℕ) → continues_symbol b ≡ false → is_digit b ≡ false
 not_digit b e = grind arith
 
 pub digit_starts : (b : ℕ) → is_digit b ≡ true → starts_symbol b ≡ true
 digit_starts b e = grind arith
-
-pub no_word : (b : ℕ) → continues_word b ≡ false → comment_class b ≡ WordByte → ⊥
-no_word b e is = true≢false (sym (word_class b ∙ rw is refl) ∙ e)
 
 -- a run has one length
 module _ (set : Set) (longest : ℕ) (piece : List ℕ) (n m : ℕ) (first : IsRunIn set longest piece n) (second : IsRunIn set longest piece m) where

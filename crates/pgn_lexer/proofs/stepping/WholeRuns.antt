@@ -1,14 +1,19 @@
 -- Tokens and white space that lie in a piece as a whole: byte after byte gives the same.
 use Rattle.pgn_lexer.specs.declared.class.Class.TheVariants as classes
 use Rattle.pgn_lexer.specs.declared.class.Single.TheVariants.{Period}
-use Rattle.pgn_lexer.specs.declared.partial_token.SuffixRun.TheVariants as suffix_runs
 use Rattle.pgn_lexer.specs.declared.partial_token.LexMode.TheVariants as modes
 use Rattle.pgn_lexer.specs.Scanned.{token as token_scanned}
-use Rattle.pgn_lexer.proofs.Words.{Close, Closes, gap_of, is_in, ◌≡◌, Bool, ℕ, zero, suc, ◌+◌, ◌-◌, ◌*◌, ◌<◌, ◌≤◌, inl, inr, List, [], ◌∷◌, ◌++◌, length, get_or, take, drop, refl, sym, ap, subst, ◌∙◌, add-one, arith, true, false, take_all, length-take-le, LexMode, Class, LineEnd, Space, SymbolStart, Alone, LineStart, Outside, Symbol, is_digit, is_suffix, is_space, class, symbol, str, glyph, comment_close, word, Token, TokenForm, ByteResult, Ends, Kind, PartialToken, tokens_to_come, token_of, IsSound, HasNotFailed, begin, begin_line, IsOutside, IsAfterByte, after_byte, Ran, RunsOut, RunsToToken, Standing, standing_at, Scans, IsRunIn, IsNumberIn, Set, Text, continues_word, string_class, rules, common_steps, take-suc, get_or-take, get_or-drop, length-drop, IsTrue, IsFalse, if◌then◌else◌, ◌==◌, list_all, glyph_of, into, second_suffix, SuffixRun, tokens_to_come_in, pending_in, IsBetween, IsWhole, comment_mode, Passes, ReadsBehind, is_passed, BeginsUnpassed, Single, kind_of_single, and_parts, eqb-true, none, over_space, over_token}
+use Rattle.pgn_lexer.proofs.Words.{Close, CommentClass, IfSome, IsText, None, Option, Some, behind, comment_class, gap_of, is_in, ◌≡◌, Bool, ℕ, zero, suc, ◌+◌, ◌-◌, ◌*◌, ◌<◌, ◌≤◌, inl, inr, List, [], ◌∷◌, ◌++◌, length, get_or, take, drop, refl, sym, ap, subst, ◌∙◌, add-one, arith, true, false, take_all, length-take-le, LexMode, Class, LineEnd, Space, SymbolStart, Alone, LineStart, Outside, is_digit, is_space, class, str, glyph, comment_close, word, Token, TokenForm, ByteResult, Ends, Kind, PartialToken, tokens_to_come, token_of, IsSound, HasNotFailed, begin, begin_line, IsOutside, IsAfterByte, after_byte, Ran, RunsOut, RunsToToken, Standing, standing_at, Scans, IsRunIn, IsNumberIn, Set, Text, continues_word, string_class, rules, common_steps, take-suc, get_or-take, get_or-drop, length-drop, IsTrue, IsFalse, list_all, bytes_of, kind_of_text, longest_of, mode_behind, tokens_to_come_in, pending_in, IsBetween, IsWhole, Passes, ReadsBehind, is_passed, BeginsUnpassed, Single, kind_of_single, and_parts, eqb-true, none, over_space, over_token}
 use Rattle.pgn_lexer.proofs.bytes.ClassToTest.{ClassSays, class_says}
-use Rattle.pgn_lexer.proofs.stepping.PieceByByte.{ran_none, ran_uses, ran_ends, ran_ends_before, takes_outside, takes_symbol_end, takes_more, in_word, word_byte, takes_quote, takes_dollar, takes_digit, takes_glyph_end, takes_second, takes_suffix_end, takes_gap, takes_word_start, takes_close, takes_word_end, inside}
-use Rattle.pgn_lexer.proofs.stepping.RunsInPiece.{digit_starts, digits_in, no_word, number_in, symbol_in}
+use Rattle.pgn_lexer.proofs.stepping.PieceByByte.{ran_none, ran_uses, ran_ends, ran_ends_before, takes_outside, takes_more, takes_text_end, takes_quote, takes_dollar, takes_digit, takes_glyph_end, takes_gap, takes_word_start, takes_close}
+use Rattle.pgn_lexer.proofs.stepping.ByteInText.{IsNoString, word_byte}
+use Rattle.pgn_lexer.proofs.stepping.RunsInPiece.{digit_starts, digits_in, number_in, symbol_in}
 use Rattle.pgn_lexer.proofs.stepping.StandsAfterCalls.{scans_nothing, scans_token}
+
+-- what is true of a value, if there is one
+pub where_some : {T : Type 0} {P Q : T → Type 0} (o : Option T) → ((x : T) → P x → Q x) → IfSome o P → IfSome o Q
+where_some None more h = h
+where_some (Some x) more h = more x h
 
 -- ---- between tokens, and between the words of a comment
 
@@ -25,7 +30,10 @@ not_failed_between m h = grind arith
 outside_between : (m : LexMode) → IsOutside m → IsBetween m
 outside_between m h = grind arith
 
-comment_between : (l : Close) → IsBetween (comment_mode l)
+between_behind : (t : Text) → IsBetween (mode_behind t)
+between_behind t = grind arith
+
+comment_between : (l : Close) → IsBetween (LexMode.Comment l)
 comment_between l = grind arith
 
 module _ (place : ℕ) (old : PartialToken) (piece : List ℕ) (used : ℕ) (m : LexMode) (between : IsBetween m) (a b : ℕ) (x y : List ℕ)
@@ -74,6 +82,17 @@ module _ (place : ℕ) (old : PartialToken) (piece : List ℕ) where
       (ran_on mode text (suc k) (omega arith) (omega arith) first (λ j later less. more j later (omega arith))) _
       (more (suc k) (omega arith) (omega arith)))
 
+  -- a text, from its first byte on
+  ran_text : (t : Text) → IsNoString t → (n : ℕ) → Ran place old piece (holding (LexMode.Text t) (take 1 piece)) 1
+      → IsRunIn (bytes_of t) (longest_of t) piece n → RunsTo (kind_of_text t (take n piece)) (mode_behind t) (take n piece) n
+  ran_text t runs n first is =
+      let within = is.within in
+      let few = is.few in
+      let ran = ran_on (LexMode.Text t) (λ k. take k piece) n is.some (omega arith) first (λ k some less.
+      let long : length (take k piece) ≡ k = length-take-le k piece (omega arith) in
+      takes_more t _ _ _ _ refl (is.all k some less) (omega (arith, long)) (rw (take-suc piece k 0 (omega arith)) refl)) in
+      ran_ends_before place old piece _ n (get_or piece n 0) within refl ran (TokenForm.Text t) _ (takes_text_end t runs _ _ _ _ refl is.ends refl)
+
   module _ (sound : IsSound place old) (outside : IsOutside old.mode) where
     at_start : Ran place old piece old 0
     at_start = grind (arith, not_failed_between, outside, outside_between, place, ran_none, sound)
@@ -86,16 +105,15 @@ module _ (place : ℕ) (old : PartialToken) (piece : List ℕ) where
         ran_uses place old piece old 0 (get_or piece 0 0) some refl at_start new
         (takes_outside _ _ _ _ _ c outside is same (rw begins (record { held = refl; step = refl })))
 
-    symbol_runs : (n : ℕ) → class (get_or piece 0 0) ≡ SymbolStart → IsRunIn Set.Symbol 255 piece n → RunsTo (symbol (take n piece)) Outside (take n piece) n
-    symbol_runs n starts is =
+    -- a text that the first byte begins
+    text_runs : (t : Text) → IsNoString t → (c : Class) (n : ℕ) → class (get_or piece 0 0) ≡ c
+        → begin_line (place + 0) old (get_or piece 0 0) c ≡ begin (place + 0) old (get_or piece 0 0) c
+        → begin (place + 0) old (get_or piece 0 0) c ≡ record { held = holding (LexMode.Text t) (get_or piece 0 0 ∷ []); step = ByteResult.Used }
+        → IsRunIn (bytes_of t) (longest_of t) piece n → RunsTo (kind_of_text t (take n piece)) (mode_behind t) (take n piece) n
+    text_runs t runs c n starts same begins is =
         let within = is.within in
-        let few = is.few in
         let one : take 1 piece ≡ get_or piece 0 0 ∷ [] = take-suc piece 0 0 (omega arith) in
-        let first = first_byte SymbolStart (holding Symbol (take 1 piece)) (omega arith) starts refl (rw one refl) in
-        let ran = ran_on Symbol (λ k. take k piece) n is.some (omega arith) first (λ k some less.
-        let long : length (take k piece) ≡ k = length-take-le k piece (omega arith) in
-        takes_more Text.Symbol _ _ _ _ refl (is.all k some less) (omega (arith, long)) (rw (take-suc piece k 0 (omega arith)) refl)) in
-        ran_ends_before place old piece _ n (get_or piece n 0) within refl ran TokenForm.Symbol _ (takes_symbol_end _ _ _ _ refl is.ends refl)
+        ran_text t runs n (rw one (first_byte c (holding (LexMode.Text t) (get_or piece 0 0 ∷ [])) (omega arith) starts same begins)) is
 
     -- a token of one byte
     single_runs : (c : Class) (m : LexMode) (form : TokenForm) → 0 < length piece → class (get_or piece 0 0) ≡ c
@@ -110,15 +128,15 @@ module _ (place : ℕ) (old : PartialToken) (piece : List ℕ) where
     string_runs n is ends quote =
         let within = is.within in
         let few = is.few in
-        let first = first_byte classes.Quote (holding modes.Str []) (omega arith) quote refl refl in
-        let ran = ran_on modes.Str (λ k. take (k - 1) (drop 1 piece)) n is.some (omega arith) first (λ k some less.
+        let first = first_byte classes.Quote (holding (LexMode.Text Text.Str) []) (omega arith) quote refl refl in
+        let ran = ran_on (LexMode.Text Text.Str) (λ k. take (k - 1) (drop 1 piece)) n is.some (omega arith) first (λ k some less.
         let long : length (take (k - 1) (drop 1 piece)) ≡ k - 1 = length-take-le (k - 1) (drop 1 piece) (omega (arith, length-drop 1 piece)) in
         let next : get_or (drop 1 piece) (k - 1) 0 ≡ get_or piece k 0 = get_or-drop 1 piece (k - 1) 0 ∙ ap (λ i. get_or piece i 0) (omega arith) in
         let same : suc (k - 1) ≡ suc k - 1 = omega arith in
         let more : take (suc k - 1) (drop 1 piece) ≡ take (k - 1) (drop 1 piece) ++ get_or (drop 1 piece) (k - 1) 0 ∷ [] =
         rw same at (take-suc (drop 1 piece) (k - 1) 0 (omega (arith, length-drop 1 piece))) in
         takes_more Text.Str _ _ _ _ refl (is.all k some less) (omega (arith, long)) (rw (more, next) refl)) in
-        ran_ends place old piece _ n (get_or piece n 0) within refl ran TokenForm.Str _ (takes_quote _ _ _ _ refl (ap string_class ends) refl)
+        ran_ends place old piece _ n (get_or piece n 0) within refl ran (TokenForm.Text Text.Str) _ (takes_quote _ _ _ _ refl (ap string_class ends) refl)
 
     -- a NAG
     ran_dollar : 1 < length piece → class (get_or piece 0 0) ≡ classes.Dollar → is_digit (get_or piece 1 0) ≡ true
@@ -132,42 +150,28 @@ module _ (place : ℕ) (old : PartialToken) (piece : List ℕ) where
     glyph_runs n number within ends ran =
         ran_ends_before place old piece _ n (get_or piece n 0) within refl ran (TokenForm.Glyph number) _ (takes_glyph_end _ _ _ _ number refl ends refl)
 
-    -- a suffix
-    ran_suffix : 0 < length piece → class (get_or piece 0 0) ≡ classes.Suffix
-        → Ran place old piece (holding (modes.Suffix (if get_or piece 0 0 == 33 then suffix_runs.Good else suffix_runs.Poor)) old.text) 1
-    ran_suffix some is = first_byte classes.Suffix _ some is refl refl
-
-    suffix_runs_to : (n : ℕ) (run : SuffixRun) → n < length piece → is_suffix (get_or piece n 0) ≡ false
-        → Ran place old piece (holding (modes.Suffix run) old.text) n → RunsTo (glyph (glyph_of run)) Outside old.text n
-    suffix_runs_to n run within ends ran =
-        ran_ends_before place old piece _ n (get_or piece n 0) within refl ran (TokenForm.Glyph (glyph_of run)) _
-        (takes_suffix_end _ _ _ _ run refl ends refl)
-
-  module _ (sound : IsSound place old) (l : Close) (in_comment : old.mode ≡ comment_mode l) where
+  module _ (sound : IsSound place old) (l : Close) (in_comment : old.mode ≡ LexMode.Comment l) where
     at_start_comment : Ran place old piece old 0
     at_start_comment = grind (arith, comment_between, not_failed_between, place, ran_none, sound)
 
     ran_gap : 0 < length piece → is_in (gap_of l) (get_or piece 0 0) ≡ true
-        → Ran place old piece (holding (comment_mode l) old.text) 1
+        → Ran place old piece (holding (LexMode.Comment l) old.text) 1
     ran_gap some is =
         ran_uses place old piece old 0 (get_or piece 0 0) some refl at_start_comment _ (takes_gap l (place + 0) (get_or piece 0 0) old _ in_comment is refl)
 
-    word_runs : (n : ℕ) → continues_word (get_or piece 0 0) ≡ true → IsRunIn Set.Word 79 piece n → RunsTo (word (take n piece)) (comment_mode l) (take n piece) n
+    word_runs : (n : ℕ) → continues_word (get_or piece 0 0) ≡ true → IsRunIn Set.Word 79 piece n → RunsTo (word (take n piece)) (LexMode.Comment l) (take n piece) n
     word_runs n begins is =
         let within = is.within in
-        let few = is.few in
         let one : take 1 piece ≡ get_or piece 0 0 ∷ [] = take-suc piece 0 0 (omega arith) in
-        let first = ran_uses place old piece old 0 (get_or piece 0 0) (omega arith) refl at_start_comment (holding (inside l) (take 1 piece))
+        let first = ran_uses place old piece old 0 (get_or piece 0 0) (omega arith) refl at_start_comment (holding (LexMode.Text (Text.Word l)) (take 1 piece))
         (takes_word_start l _ _ _ _ in_comment (word_byte (get_or piece 0 0) begins) (rw one refl)) in
-        let ran = ran_on (inside l) (λ k. take k piece) n is.some (omega arith) first (λ k some less.
-        let long : length (take k piece) ≡ k = length-take-le k piece (omega arith) in
-        takes_more Text.Word _ _ _ _ (in_word l) (is.all k some less) (omega (arith, long)) (rw (take-suc piece k 0 (omega arith)) refl)) in
-        ran_ends_before place old piece _ n (get_or piece n 0) within refl ran TokenForm.Word _ (takes_word_end l _ _ _ _ refl (no_word (get_or piece n 0) is.ends) refl)
+        ran_text (Text.Word l) tt n first is
 
     close_runs : (m : LexMode) → 0 < length piece
-        → Closes l (get_or piece 0 0) m
+        → behind l (comment_class (get_or piece 0 0)) ≡ Some m
         → RunsTo comment_close m old.text 1
-    close_runs m some is = grind (arith, at_start_comment, place, ran_ends, some, takes_close)
+    close_runs m some is =
+        ran_ends place old piece old 0 (get_or piece 0 0) some refl at_start_comment TokenForm.CommentClose _ (takes_close l _ _ _ _ m in_comment is refl)
 
 -- ---- the tokens that a piece begins with, outside comments
 
@@ -183,11 +187,21 @@ module _ (piece : List ℕ) where
         runs = λ place old sound outside at y room. held_as place old piece k mode (text old) n between (runs place old sound outside) at y room;
       }
 
-  pub whole_symbol : (n : ℕ) → class (get_or piece 0 0) ≡ SymbolStart → IsRunIn Set.Symbol 255 piece n → IsWhole piece n Outside (symbol (take n piece))
-  whole_symbol n starts is =
+  whole_text : (t : Text) → IsNoString t → (c : Class) (n : ℕ) → class (get_or piece 0 0) ≡ c
+      → ((place : ℕ) (old : PartialToken) → begin_line place old (get_or piece 0 0) c ≡ begin place old (get_or piece 0 0) c)
+      → ((place : ℕ) (old : PartialToken) → begin place old (get_or piece 0 0) c
+      ≡ record { held = record { mode = LexMode.Text t; at = place; text = get_or piece 0 0 ∷ [] }; step = ByteResult.Used })
+      → IsRunIn (bytes_of t) (longest_of t) piece n → IsWhole piece n (mode_behind t) (kind_of_text t (take n piece))
+  whole_text t runs c n starts same begins is =
       let within = is.within in
-      whole_of n _ _ (λ old. take n piece) is.some (omega arith) tt
-      (λ place old sound outside. symbol_runs place old piece sound outside n starts is)
+      whole_of n _ _ (λ old. take n piece) is.some (omega arith) (between_behind t)
+      (λ place old sound outside. text_runs place old piece sound outside t runs c n starts (same (place + 0) old) (begins (place + 0) old) is)
+
+  pub whole_symbol : (n : ℕ) (mode : LexMode) (k : Kind) → class (get_or piece 0 0) ≡ SymbolStart → IsText Text.Symbol piece n mode k → IsWhole piece n mode k
+  whole_symbol n mode k starts is = rw (is.behind, is.is) (whole_text Text.Symbol tt SymbolStart n starts (λ _ _. refl) (λ _ _. refl) is.run)
+
+  pub whole_suffix : (n : ℕ) (mode : LexMode) (k : Kind) → class (get_or piece 0 0) ≡ classes.Suffix → IsText Text.Suffix piece n mode k → IsWhole piece n mode k
+  whole_suffix n mode k starts is = rw (is.behind, is.is) (whole_text Text.Suffix tt classes.Suffix n starts (λ _ _. refl) (λ _ _. refl) is.run)
 
   pub whole_string : (n : ℕ) → IsRunIn Set.Data 256 piece n → get_or piece n 0 ≡ 34 → class (get_or piece 0 0) ≡ classes.Quote
       → IsWhole piece (n + 1) Outside (str (take (n - 1) (drop 1 piece)))
@@ -228,26 +242,6 @@ module _ (piece : List ℕ) where
       whole_of n _ _ (λ old. old.text) some (omega arith) tt
       (λ place old sound outside. glyph_runs place old piece sound outside n number within ends (so.ran place old sound outside))
 
-  abbrev pub first_run : SuffixRun
-  first_run = if get_or piece 0 0 == 33 then suffix_runs.Good else suffix_runs.Poor
-
-  pub whole_suffix : 1 < length piece → class (get_or piece 0 0) ≡ classes.Suffix → is_suffix (get_or piece 1 0) ≡ false
-      → (run : SuffixRun) → first_run ≡ run → IsWhole piece 1 Outside (glyph (glyph_of run))
-  whole_suffix long is ends run same =
-      whole_of 1 _ _ (λ old. old.text) (omega arith) (omega arith) tt
-      (λ place old sound outside. suffix_runs_to place old piece sound outside 1 run long ends
-      (rw same at (ran_suffix place old piece sound outside (omega arith) is)))
-
-  pub whole_suffix_of_two : 2 < length piece → class (get_or piece 0 0) ≡ classes.Suffix → is_suffix (get_or piece 1 0) ≡ true → is_suffix (get_or piece 2 0) ≡ false
-      → (run : SuffixRun)
-      → ((h : PartialToken) → second_suffix h first_run (get_or piece 1 0) ≡ into h (modes.Suffix run) ByteResult.Used)
-      → IsWhole piece 2 Outside (glyph (glyph_of run))
-  whole_suffix_of_two long is more ends run second =
-      whole_of 2 _ _ (λ old. old.text) (omega arith) (omega arith) tt
-      (λ place old sound outside. suffix_runs_to place old piece sound outside 2 run long ends
-      (ran_uses place old piece _ 1 (get_or piece 1 0) (omega arith) refl (ran_suffix place old piece sound outside (omega arith) is) _
-      (takes_second _ _ _ _ first_run run refl more second refl)))
-
 -- ---- what the bytes of a number say of its text
 
 all_digits : (n : ℕ) (xs : List ℕ) → ((i : ℕ) → i < n → is_digit (get_or xs i 0) ≡ true) → list_all is_digit (take n xs) ≡ true
@@ -262,11 +256,17 @@ digits_all (suc n) (x ∷ xs) within h zero less = (and_parts (is_digit x) _ h).
 digits_all (suc n) (x ∷ xs) within h (suc i) less = digits_all n xs (omega arith) (and_parts (is_digit x) _ h).1 i (omega arith)
 
 -- a symbol that is no number
-pub symbol_unpassed : (n : ℕ) (xs : List ℕ) → IsRunIn Set.Symbol 255 xs n → BeginsUnpassed xs → (b : Bool) → list_all is_digit (take n xs) ≡ b → IsFalse b
+symbol_unpassed : (n : ℕ) (xs : List ℕ) → IsRunIn Set.Symbol 255 xs n → BeginsUnpassed xs → (b : Bool) → list_all is_digit (take n xs) ≡ b → IsFalse b
 symbol_unpassed n xs is unpassed false e = refl
 symbol_unpassed n xs is unpassed true e =
     let within = is.within in
     absurd (unpassed.no_number n (number_in xs n (digits_all n xs (omega arith) e) is))
+
+pub text_unpassed : (n : ℕ) (xs : List ℕ) (mode : LexMode) (k : Kind) → IsText Text.Symbol xs n mode k → BeginsUnpassed xs → IsFalse (is_passed k)
+text_unpassed n xs mode k is unpassed = rw is.is (symbol_unpassed n xs is.run unpassed _ refl)
+
+pub suffix_unpassed : (n : ℕ) (xs : List ℕ) (mode : LexMode) (k : Kind) → IsText Text.Suffix xs n mode k → IsFalse (is_passed k)
+suffix_unpassed n xs mode k is = rw is.is refl
 
 -- a token of one byte that is no period
 pub single_unpassed : (s : Single) (b : ℕ) → class b ≡ Alone s → (b ≡ 46 → ⊥) → IsFalse (is_passed (kind_of_single s))
@@ -278,7 +278,7 @@ single_unpassed _ b is no_period = refl
 pub sound_outside : (place : ℕ) (h : PartialToken) → IsOutside h.mode → length h.text ≤ 255 → IsSound place h
 sound_outside place h outside room = sound_between h.mode (outside_between h.mode outside) place h.at h.text room
 
-pub sound_in_comment : (l : Close) (place : ℕ) (h : PartialToken) → h.mode ≡ comment_mode l → length h.text ≤ 255 → IsSound place h
+pub sound_in_comment : (l : Close) (place : ℕ) (h : PartialToken) → h.mode ≡ LexMode.Comment l → length h.text ≤ 255 → IsSound place h
 sound_in_comment l place h in_comment room = sound_between h.mode (rw in_comment (comment_between l)) place h.at h.text room
 
 white_line_end : (b : ℕ) → class b ≡ LineEnd → is_space b ≡ true
@@ -290,9 +290,8 @@ white_blank b is = let e = subst (ClassSays b) is (class_says b) in rw (e.0, e.1
 gap_is_white : (l : Close) (b : ℕ) → is_in (gap_of l) b ≡ true → is_space b ≡ true
 gap_is_white l b is = grind arith
 
-closes_between : (l : Close) (b : ℕ) (m : LexMode) → Closes l b m → IsBetween m
-closes_between Close.Brace b m h = rw h.1 tt
-closes_between Close.LineEnd b m h = rw h.1 tt
+closes_between : (l : Close) (c : CommentClass) (m : LexMode) → behind l c ≡ Some m → IsBetween m
+closes_between l c m h = grind arith
 
 -- no token waits outside comments
 none_waits : (m : LexMode) → IsOutside m → pending_in m ≡ 0
@@ -313,9 +312,9 @@ module _ (skips : Bool) (before : Standing) (place : ℕ) (h : PartialToken) (pi
   further : (n : ℕ) → (place + m) + n ≡ place + (m + n)
   further n = omega arith
 
-  behind : m < length piece → (n : ℕ) (t : Token) (mode : LexMode) → 0 < n → RunsToToken (place + m) h rest t (into_mode h mode) n
+  reads_behind : m < length piece → (n : ℕ) (t : Token) (mode : LexMode) → 0 < n → RunsToToken (place + m) h rest t (into_mode h mode) n
       → (IsTrue skips → IsFalse (is_passed t.kind)) → ReadsBehind skips before piece (standing_at (place + (m + n)) (into_mode h mode)) (m + n) t
-  behind within n t mode more runs not_passed =
+  reads_behind within n t mode more runs not_passed =
       record {
         mid = standing_at (place + m) h;
         passed = m;
@@ -335,7 +334,7 @@ module _ (skips : Bool) (before : Standing) (place : ℕ) (h : PartialToken) (pi
   reads_whole outside room n mode k is not_passed =
       let some = is.some in
       let within = is.within in
-      behind (omega (arith, length-drop m piece)) n _ mode is.some
+      reads_behind (omega (arith, length-drop m piece)) n _ mode is.some
       (is.runs (place + m) h (sound_outside (place + m) h outside room) outside h.at h.text room) not_passed
 
   module _ (within : m < length piece) (room : length h.text ≤ 255) where
@@ -390,27 +389,27 @@ module _ (skips : Bool) (before : Standing) (place : ℕ) (h : PartialToken) (pi
 
       pub passes_number : IsTrue skips → (n : ℕ) → IsNumberIn rest n → Passes skips before piece (standing_at (place + (m + n)) (into_mode h Outside)) (m + n)
       passes_number skipped n is =
-          over n _ Outside is.run.some (held_as (place + m) h rest _ Outside _ n tt (symbol_runs (place + m) h rest sound outside n (rw (digit_starts (get_or rest 0 0) is.first) refl) (symbol_in rest n is)) h.at h.text room)
+          over n _ Outside is.run.some (held_as (place + m) h rest _ Outside _ n tt (text_runs (place + m) h rest sound outside Text.Symbol tt SymbolStart n (rw (digit_starts (get_or rest 0 0) is.first) refl) refl refl (symbol_in rest n is)) h.at h.text room)
           skipped (all_digits n rest (digits_in rest n is))
 
-    module _ (l : Close) (in_comment : h.mode ≡ comment_mode l) where
+    module _ (l : Close) (in_comment : h.mode ≡ LexMode.Comment l) where
       sound_there : IsSound (place + m) h
       sound_there = sound_in_comment l (place + m) h in_comment room
 
       pub passes_gap : is_in (gap_of l) (get_or piece m 0) ≡ true
-          → Passes skips before piece (standing_at (place + (m + 1)) (into_mode h (comment_mode l))) (m + 1)
+          → Passes skips before piece (standing_at (place + (m + 1)) (into_mode h (LexMode.Comment l))) (m + 1)
       passes_gap is = grind (arith, common_steps, space, gap_is_white, get_or, out_alike, comment_between, one_long, ran_gap, sound_there, one_here)
 
-      pub reads_word : (n : ℕ) → continues_word (get_or piece m 0) ≡ true → IsRunIn Set.Word 79 rest n
-          → ReadsBehind skips before piece (standing_at (place + (m + n)) (into_mode h (comment_mode l))) (m + n) (record { at = place + m; kind = word (take n rest) })
-      reads_word n begins is =
-          behind within n _ (comment_mode l) is.some
-          (held_as (place + m) h rest _ (comment_mode l) _ n (comment_between l) (word_runs (place + m) h rest sound_there l in_comment n (ap continues_word here ∙ begins) is) h.at h.text room) (λ skipped. refl)
+      pub reads_word : (n : ℕ) (mode : LexMode) (k : Kind) → continues_word (get_or piece m 0) ≡ true → IsText (Text.Word l) rest n mode k
+          → ReadsBehind skips before piece (standing_at (place + (m + n)) (into_mode h (LexMode.Comment l))) (m + n) (record { at = place + m; kind = k })
+      reads_word n mode k begins is =
+          rw is.is (reads_behind within n _ (LexMode.Comment l) is.run.some
+          (held_as (place + m) h rest _ (LexMode.Comment l) _ n (comment_between l) (word_runs (place + m) h rest sound_there l in_comment n (ap continues_word here ∙ begins) is.run) h.at h.text room) (λ skipped. refl))
 
       pub reads_close : (mode : LexMode)
-          → Closes l (get_or piece m 0) mode
+          → behind l (comment_class (get_or piece m 0)) ≡ Some mode
           → ReadsBehind skips before piece (standing_at (place + (m + 1)) (into_mode h mode)) (m + 1) (record { at = place + m; kind = comment_close })
       reads_close mode is =
-          let between = closes_between l (get_or piece m 0) mode is in
-          behind within 1 _ mode (omega arith)
+          let between = closes_between l _ mode is in
+          reads_behind within 1 _ mode (omega arith)
           (held_as (place + m) h rest _ mode _ 1 between (close_runs (place + m) h rest sound_there l in_comment mode some (rw (sym here) at is)) h.at h.text room) (λ skipped. refl)

@@ -2,11 +2,11 @@
 
 ghost use Rattle.std.specs.Prelude.{◌≡◌, true, false, [], ◌∷◌};
 ghost use Rattle.pgn_lexer.specs.ByteResult as byte_result;
+ghost use Rattle.pgn_lexer.specs.StringClass as string_classes;
 
 use crate::class::{Class, Set, class_of, is_escaped, is_in};
 use crate::partial_token::{
-    ByteResult, LARGEST_GLYPH, LexMode, PartialToken, SuffixRun, Text, TokenForm, clear,
-    first_suffix, glyph_of, longer_suffix,
+    ByteResult, Close, LARGEST_GLYPH, LexMode, PartialToken, Text, TokenForm, clear,
 };
 use crate::token::LexReason;
 
@@ -14,7 +14,7 @@ impl PartialToken {
     ghost use Rattle.pgn_lexer.specs.Spelling as spelling;
     ghost use Rattle.pgn_lexer.specs.ByteResult.{IsAfterByte};
     ghost use Rattle.pgn_lexer.specs.PartialToken.{HasMore};
-    ghost use Rattle.pgn_lexer.specs.Texts.{IsInText, longest_of, too_long_of};
+    ghost use Rattle.pgn_lexer.specs.Texts.{longest_of, too_long_of};
 
     /// Takes the byte at the place: gives it to the handler of the mode.
     #[inline(always)]
@@ -32,22 +32,21 @@ impl PartialToken {
                 byte,
                 place,
             ),
-            LexMode::EscapeLine => self.escape_line(byte),
-            LexMode::Symbol => self.symbol(byte),
-            LexMode::Str => self.string(byte, place),
+            LexMode::EscapeLine if is_in(byte, Set::LineEnd) => self.go(LexMode::LineStart),
+            LexMode::EscapeLine => ByteResult::Used,
+            // These two are the most common: each knows its set of bytes.
+            LexMode::Text(Text::Symbol) => self.text(Text::Symbol, byte, place),
+            LexMode::Text(Text::Str) => self.text(Text::Str, byte, place),
+            LexMode::Text(text) => self.text(text, byte, place),
             LexMode::AfterBackslash => self.after_backslash(byte, place),
             LexMode::Dollar => self.dollar(byte),
             LexMode::Glyph(number) => self.glyph(number, byte),
-            LexMode::Suffix(run) => self.suffix(run, byte),
-            LexMode::Brace => self.brace(byte, place),
-            LexMode::BraceWord => self.word(LexMode::Brace, byte),
-            LexMode::Line => self.line(byte, place),
-            LexMode::LineWord => self.word(LexMode::Line, byte),
+            LexMode::Comment(close) => self.comment(close, byte, place),
             LexMode::Failed(reason) => ByteResult::Fault(reason),
         }
     }
 
-    fn fail(&mut self, at: u64, reason: LexReason) -> ByteResult
+    pub(crate) fn fail(&mut self, at: u64, reason: LexReason) -> ByteResult
         ensures { IsAfterByte (byte_result.fails self.old at reason) self.new result }
     {
         self.at = at;
@@ -74,42 +73,40 @@ impl PartialToken {
             Class::LineEnd => self.go(LexMode::LineStart),
             Class::Space => self.go(LexMode::Outside),
             Class::Percent => self.fail(place, LexReason::StrayByte),
-            Class::SymbolStart => self.begin_text(LexMode::Symbol, byte),
-            Class::Quote => self.begin_string(),
+            Class::SymbolStart => self.begin_text(Text::Symbol, byte),
+            Class::Quote => {
+                clear(&mut self.buffer);
+                self.mode = LexMode::Text(Text::Str);
+                ByteResult::Used
+            }
             Class::Dollar => self.go(LexMode::Dollar),
-            Class::Suffix => self.go(LexMode::Suffix(first_suffix(byte))),
-            Class::OpenBrace => self.end(LexMode::Brace, TokenForm::CommentOpen),
-            Class::Semicolon => self.end(LexMode::Line, TokenForm::CommentOpen),
+            Class::Suffix => self.begin_text(Text::Suffix, byte),
+            Class::OpenBrace => self.end(LexMode::Comment(Close::Brace), TokenForm::CommentOpen),
+            Class::Semicolon => self.end(LexMode::Comment(Close::LineEnd), TokenForm::CommentOpen),
             Class::Alone(single) => self.end(LexMode::Outside, TokenForm::Single(single)),
             Class::Refused(reason) => self.fail(place, reason),
         }
     }
 
-    fn escape_line(&mut self, byte: u8) -> ByteResult
-        requires { self.old.mode ≡ LexMode.EscapeLine }
-        ensures { IsAfterByte (byte_result.escape_line self.old byte) self.new result }
+    /// The byte is one more of the text, or ends it.
+    #[inline(always)]
+    fn text(&mut self, text: Text, byte: u8, place: u64) -> ByteResult
+        requires { self.old.mode ≡ LexMode.Text text }
+        ensures { IsAfterByte (byte_result.in_text text place self.old byte) self.new result }
     {
-        if is_in(byte, Set::LineEnd) {
-            self.mode = LexMode::LineStart;
+        if is_in(byte, text.bytes()) {
+            return self.push(text, byte);
         }
-        ByteResult::Used
-    }
-
-    fn symbol(&mut self, byte: u8) -> ByteResult
-        requires { self.old.mode ≡ LexMode.Symbol }
-        ensures { IsAfterByte (byte_result.symbol self.old byte) self.new result }
-    {
-        if !is_in(byte, Set::Symbol) {
-            self.mode = LexMode::Outside;
-            return ByteResult::EndsBefore(TokenForm::Symbol);
+        if let Text::Str = text {
+            return self.end_string(byte, place);
         }
-        self.push(Text::Symbol, byte)
+        self.end_before(text.mode_behind(), TokenForm::Text(text))
     }
 
     /// Stores one byte more of the text.
     #[inline(always)]
     fn push(&mut self, text: Text, byte: u8) -> ByteResult
-        requires { IsInText text self.old.mode }
+        requires { self.old.mode ≡ LexMode.Text text }
         ensures { IsAfterByte (byte_result.if_room (longest_of text) (too_long_of text) self.old
             (byte_result.grown self.old self.old.mode byte)) self.new result }
     {
@@ -135,8 +132,7 @@ impl PartialToken {
         ensures { IsAfterByte (byte_result.glyph self.old number byte) self.new result }
     {
         if !is_in(byte, Set::Digit) {
-            self.mode = LexMode::Outside;
-            return ByteResult::EndsBefore(TokenForm::Glyph(number));
+            return self.end_before(LexMode::Outside, TokenForm::Glyph(number));
         }
         let longer = 10 * u16::from(number) + u16::from(byte - b'0');
         if longer > LARGEST_GLYPH {
@@ -146,33 +142,16 @@ impl PartialToken {
         ByteResult::Used
     }
 
-    fn suffix(&mut self, run: SuffixRun, byte: u8) -> ByteResult
-        ensures { IsAfterByte (byte_result.suffix self.old run byte) self.new result }
-    {
-        if !is_in(byte, Set::Suffix) {
-            self.mode = LexMode::Outside;
-            return ByteResult::EndsBefore(TokenForm::Glyph(glyph_of(run)));
-        }
-        match longer_suffix(run, byte) {
-            Some(longer) => {
-                self.mode = LexMode::Suffix(longer);
-                ByteResult::Used
-            }
-            None => self.fail(self.at, LexReason::BadSuffix),
-        }
-    }
-
-    fn string(&mut self, byte: u8, place: u64) -> ByteResult
-        requires { self.old.mode ≡ LexMode.Str }
+    /// A byte that is no data of the string.
+    fn end_string(&mut self, byte: u8, place: u64) -> ByteResult
+        requires text { self.old.mode ≡ LexMode.Text Text.Str }
+        requires other { spelling.string_class byte ≡ string_classes.Plain → ⊥ }
         ensures { IsAfterByte
             (byte_result.string false place self.old byte (spelling.string_class byte)) self.new
             result }
     {
-        if is_in(byte, Set::Data) {
-            return self.push(Text::Str, byte);
-        }
         match byte {
-            b'"' => self.end(LexMode::Outside, TokenForm::Str),
+            b'"' => self.end(LexMode::Outside, TokenForm::Text(Text::Str)),
             b'\\' => {
                 if self.buffer.is_full() {
                     return self.fail(self.at, LexReason::StringTooLong);
@@ -191,7 +170,7 @@ impl PartialToken {
     {
         if is_escaped(byte) {
             self.buffer.push(byte);
-            self.mode = LexMode::Str;
+            self.mode = LexMode::Text(Text::Str);
             return ByteResult::Used;
         }
         if is_in(byte, Set::LineEnd) {
@@ -205,59 +184,28 @@ impl PartialToken {
         }
         self.buffer.push(b'\\');
         self.buffer.push(byte);
-        self.mode = LexMode::Str;
+        self.mode = LexMode::Text(Text::Str);
         ByteResult::Used
     }
 
-    fn brace(&mut self, byte: u8, place: u64) -> ByteResult
-        ensures { IsAfterByte (byte_result.brace place self.old byte (spelling.comment_class byte))
-            self.new result }
+    /// Between the words of a comment.
+    fn comment(&mut self, close: Close, byte: u8, place: u64) -> ByteResult
+        ensures { IsAfterByte
+            (byte_result.comment close place self.old byte (spelling.comment_class byte)) self.new
+            result }
     {
         self.at = place;
         if is_in(byte, Set::Word) {
-            return self.begin_text(LexMode::BraceWord, byte);
+            return self.begin_text(Text::Word(close), byte);
         }
-        if is_in(byte, Set::Space) {
-            return self.go(LexMode::Brace);
+        if is_in(byte, close.gap()) {
+            return self.go(LexMode::Comment(close));
         }
-        if byte == b'}' {
-            return self.end(LexMode::Outside, TokenForm::CommentClose);
+        match close.mode_behind(byte) {
+            Some(mode) => self.end(mode, TokenForm::CommentClose),
+            None if byte == b'}' => self.fail(place, LexReason::BraceInLineComment),
+            None => self.fail(place, LexReason::ControlByte),
         }
-        self.fail(place, LexReason::ControlByte)
-    }
-
-    fn line(&mut self, byte: u8, place: u64) -> ByteResult
-        ensures { IsAfterByte (byte_result.line place self.old byte (spelling.comment_class byte))
-            self.new result }
-    {
-        self.at = place;
-        if is_in(byte, Set::Word) {
-            return self.begin_text(LexMode::LineWord, byte);
-        }
-        if is_in(byte, Set::Blank) {
-            return self.go(LexMode::Line);
-        }
-        if is_in(byte, Set::LineEnd) {
-            return self.end(LexMode::LineStart, TokenForm::CommentClose);
-        }
-        if byte == b'}' {
-            return self.fail(place, LexReason::BraceInLineComment);
-        }
-        self.fail(place, LexReason::ControlByte)
-    }
-
-    /// One byte more of a word, or its end. `between` is the mode between the words.
-    fn word(&mut self, between: LexMode, byte: u8) -> ByteResult
-        requires between { HasMore between self.old.text }
-        requires word { IsInText Text.Word self.old.mode }
-        ensures { IsAfterByte (byte_result.word between self.old byte (spelling.comment_class byte))
-            self.new result }
-    {
-        if !is_in(byte, Set::Word) {
-            self.mode = between;
-            return ByteResult::EndsBefore(TokenForm::Word);
-        }
-        self.push(Text::Word, byte)
     }
 
     fn go(&mut self, mode: LexMode) -> ByteResult
@@ -277,23 +225,24 @@ impl PartialToken {
         ByteResult::Ends(form)
     }
 
-    fn begin_text(&mut self, mode: LexMode, byte: u8) -> ByteResult
-        requires { HasMore mode (byte ∷ []) }
-        ensures { IsAfterByte (byte_result.set_at mode self.old.at (byte ∷ []) ByteResult.Used)
+    /// A token ends before the byte.
+    pub(crate) fn end_before(&mut self, mode: LexMode, form: TokenForm) -> ByteResult
+        requires { HasMore mode self.old.text }
+        ensures { IsAfterByte (byte_result.into self.old mode (ByteResult.EndsBefore form)) self.new
+            result }
+    {
+        self.mode = mode;
+        ByteResult::EndsBefore(form)
+    }
+
+    fn begin_text(&mut self, text: Text, byte: u8) -> ByteResult
+        requires { HasMore (LexMode.Text text) (byte ∷ []) }
+        ensures { IsAfterByte
+            (byte_result.set_at (LexMode.Text text) self.old.at (byte ∷ []) ByteResult.Used)
             self.new result }
     {
         clear(&mut self.buffer);
         self.buffer.push(byte);
-        self.mode = mode;
-        ByteResult::Used
-    }
-
-    fn begin_string(&mut self) -> ByteResult
-        ensures { IsAfterByte (byte_result.set_at LexMode.Str self.old.at [] ByteResult.Used)
-            self.new result }
-    {
-        clear(&mut self.buffer);
-        self.mode = LexMode::Str;
-        ByteResult::Used
+        self.go(LexMode::Text(text))
     }
 }

@@ -3,36 +3,35 @@
 ghost use Rattle.std.specs.Prelude.{◌+◌, ◌<◌, ◌≤◌, ◌^◌, length};
 
 use crate::class::is_in;
-use crate::partial_token::{ByteResult, LexMode, PartialToken, PieceResult, Text};
+use crate::partial_token::{ByteResult, LexMode, PartialToken};
 
 impl PartialToken {
     ghost use Rattle.pgn_lexer.specs.PartialToken.{IsSound, PartialToken};
     ghost use Rattle.pgn_lexer.specs.RunResult.{Ran, RunGives};
-    ghost use Rattle.pgn_lexer.specs.Texts.{IsInText};
 
     /// Uses the piece, which begins at the place, up to the end of the first token. A rejected byte
     /// is used too.
     ///
     /// A text that goes on in all of the piece needs no call.
     #[inline(always)]
-    pub(crate) fn run(&mut self, piece: &[u8], place: u64) -> (usize, PieceResult)
+    pub(crate) fn run(&mut self, piece: &[u8], place: u64) -> (usize, ByteResult)
         requires room { place + length piece.now ≤ 2 ^ 62 }
         requires sound { IsSound place self.old }
         ensures { RunGives place self.old piece.now self.new result.0 result.1 }
     {
         if let LexMode::Failed(reason) = self.mode {
-            return (0, PieceResult::Fault(reason));
+            return (0, ByteResult::Fault(reason));
         }
         let used = self.copy_text(piece, 0, place);
         if used == piece.len() {
-            return (used, PieceResult::End);
+            return (used, ByteResult::Used);
         }
         self.run_on(piece, used, place)
     }
 
     /// Reads on after so many bytes of the piece.
     #[inline(never)]
-    fn run_on(&mut self, piece: &[u8], from: usize, place: u64) -> (usize, PieceResult)
+    fn run_on(&mut self, piece: &[u8], from: usize, place: u64) -> (usize, ByteResult)
         requires room { place + length piece.now ≤ 2 ^ 62 }
         requires within { from < length piece.now }
         ensures { (old : PartialToken) → Ran place old piece.now self.old from
@@ -42,19 +41,20 @@ impl PartialToken {
         while used < piece.len() {
             match self.take(piece[used], place + used as u64) {
                 ByteResult::Used => used = self.copy_text(piece, used + 1, place),
-                ByteResult::Ends(form) => return (used + 1, PieceResult::Token(form)),
-                ByteResult::EndsBefore(form) => return (used, PieceResult::Token(form)),
-                ByteResult::Fault(reason) => return (used + 1, PieceResult::Fault(reason)),
+                ByteResult::Ends(form) => return (used + 1, ByteResult::Ends(form)),
+                ByteResult::EndsBefore(form) => return (used, ByteResult::EndsBefore(form)),
+                ByteResult::Fault(reason) => return (used + 1, ByteResult::Fault(reason)),
             }
         }
-        (used, PieceResult::End)
+        (used, ByteResult::Used)
     }
 
-    /// Copies the bytes with which the piece goes on after so many bytes, if they continue the text
-    /// of a symbol, a string or a word. Returns how many bytes of the piece are used then.
+    /// In a text, copies the bytes with which the piece goes on after so many bytes, and in a
+    /// string also escapes of which both bytes are in the piece. Returns how many bytes of the
+    /// piece are used then.
     ///
-    /// It may stop before the end of the text. `take` does the same with each of these bytes, and
-    /// takes three times as long.
+    /// It stops at the end of the text, at what is rejected, and where the buffer may be full.
+    /// `take` does the same with each of these bytes, and takes three times as long.
     #[inline(always)]
     fn copy_text(&mut self, piece: &[u8], from: usize, place: u64) -> usize
         requires { from ≤ length piece.now }
@@ -63,28 +63,9 @@ impl PartialToken {
         ensures ran { (old : PartialToken) → Ran place old piece.now self.old from
             → Ran place old piece.now self.new result }
     {
-        match self.mode {
-            LexMode::Symbol => self.copy(Text::Symbol, piece, from, place),
-            LexMode::Str => self.copy(Text::Str, piece, from, place),
-            LexMode::BraceWord | LexMode::LineWord => self.copy(Text::Word, piece, from, place),
-            _ => from,
-        }
-    }
-
-    /// In a text of this kind, copies the bytes with which the piece goes on after so many bytes,
-    /// and in a string also escapes of which both bytes are in the piece. Returns how many bytes of
-    /// the piece are used then.
-    ///
-    /// It stops at the end of the text, at what is rejected, and where the buffer may be full.
-    #[inline(always)]
-    fn copy(&mut self, text: Text, piece: &[u8], from: usize, place: u64) -> usize
-        requires within { from ≤ length piece.now }
-        requires text { IsInText text self.old.mode }
-        ensures from { from ≤ result }
-        ensures within { result ≤ length piece.now }
-        ensures ran { (old : PartialToken) → Ran place old piece.now self.old from
-            → Ran place old piece.now self.new result }
-    {
+        let LexMode::Text(text) = self.mode else {
+            return from;
+        };
         // As many bytes as have room for sure, even if none is a backslash.
         let room = text.longest().saturating_sub(self.buffer.len());
         let end = from + (piece.len() - from).min(room);

@@ -2,9 +2,7 @@
 
 ghost use Rattle.std.specs.Prelude.{◌≡◌, Bool, ℕ, ◌+◌, ◌<◌, ◌≤◌, ◌^◌, drop, length, get_or, IsTrue, IsFalse, IfSome, MatchOption};
 ghost use Rattle.pgn_lexer.specs.Bytes as bytes;
-ghost use Rattle.pgn_lexer.specs.Runs.{BeginsUnpassed, IsNumberIn, IsWhole};
-ghost use Rattle.pgn_lexer.specs.Comments.{comment_mode};
-ghost use Rattle.pgn_lexer.specs.Runs.{standing_at};
+ghost use Rattle.pgn_lexer.specs.Runs.{BeginsUnpassed, IsNumberIn, IsText, IsWhole, standing_at};
 ghost use Rattle.pgn_lexer.specs.Scanned.{kind_of};
 ghost use Rattle.pgn_lexer.specs.Spelling as spelling;
 ghost use Rattle.pgn_lexer.specs.Tokens.{glyph};
@@ -13,8 +11,7 @@ ghost use Rattle.pgn_lexer.specs.declared.class.Class.TheVariants as classes;
 
 use crate::class::{Class, Set, class_of, is_in, run_length};
 use crate::partial_token::{
-    Close, LARGEST_GLYPH, LONGEST_TEXT, LONGEST_WORD, LexMode, PartialToken, first_suffix,
-    glyph_of, kind_of_single, longer_suffix,
+    Close, LARGEST_GLYPH, LONGEST_TEXT, LexMode, PartialToken, Text, kind_of_single,
 };
 use crate::token::{Token, TokenKind};
 
@@ -52,8 +49,9 @@ impl PartialToken {
                 place,
                 skips_numbers,
             ),
-            LexMode::Brace => self.whole_in_comment(piece, place, Close::Brace),
-            LexMode::Line => self.whole_in_comment(piece, place, Close::LineEnd),
+            // Each of the two loops knows its closing byte.
+            LexMode::Comment(Close::Brace) => self.whole_in_comment(piece, place, Close::Brace),
+            LexMode::Comment(Close::LineEnd) => self.whole_in_comment(piece, place, Close::LineEnd),
             _ => (0, None),
         }
     }
@@ -136,7 +134,7 @@ impl PartialToken {
     ) -> (usize, Option<Token<'a>>)
         requires room { place + length piece.now ≤ 2 ^ 62 }
         requires sound { IsSound place self.old }
-        requires comment { self.old.mode ≡ comment_mode close }
+        requires comment { self.old.mode ≡ LexMode.Comment close }
         ensures used { result.0 ≤ length piece.now }
         ensures sound { IsSound (place + result.0) self.new }
         ensures reads { (skips : Bool) → ReadsWhole skips (standing_at place self.old) piece.now
@@ -148,10 +146,9 @@ impl PartialToken {
             let at = place + used as u64;
             let byte = piece[used];
             if is_in(byte, Set::Word) {
-                let Some(length) = run_length(&piece[used..], Set::Word, LONGEST_WORD) else {
+                let Some((length, _, kind)) = whole_text(&piece[used..], Text::Word(close)) else {
                     break;
                 };
-                let kind = TokenKind::Word(&piece[used..used + length]);
                 return (used + length, Some(Token { at, kind }));
             }
             if !is_in(byte, gap) {
@@ -180,11 +177,8 @@ fn whole_at(piece: &[u8]) -> Option<(usize, LexMode, TokenKind<'_>)>
         return None;
     }
     match class_of(piece[0]) {
-        Class::SymbolStart => {
-            let length = run_length(piece, Set::Symbol, LONGEST_TEXT)?;
-            let kind = TokenKind::Symbol(&piece[..length]);
-            Some((length, LexMode::Outside, kind))
-        }
+        Class::SymbolStart => whole_text(piece, Text::Symbol),
+        Class::Suffix => whole_text(piece, Text::Suffix),
         Class::Quote => {
             let end = run_length(piece, Set::Data, LONGEST_TEXT + 1)?;
             if piece[end] != b'"' {
@@ -197,15 +191,21 @@ fn whole_at(piece: &[u8]) -> Option<(usize, LexMode, TokenKind<'_>)>
             let (length, number) = glyph_in(piece)?;
             Some((length, LexMode::Outside, TokenKind::Glyph(number)))
         }
-        Class::Suffix => {
-            let (length, number) = suffix_in(piece)?;
-            Some((length, LexMode::Outside, TokenKind::Glyph(number)))
-        }
-        Class::OpenBrace => Some((1, LexMode::Brace, TokenKind::CommentOpen)),
-        Class::Semicolon => Some((1, LexMode::Line, TokenKind::CommentOpen)),
+        Class::OpenBrace => Some((1, LexMode::Comment(Close::Brace), TokenKind::CommentOpen)),
+        Class::Semicolon => Some((1, LexMode::Comment(Close::LineEnd), TokenKind::CommentOpen)),
         Class::Alone(single) => Some((1, LexMode::Outside, kind_of_single(single))),
         Class::LineEnd | Class::Space | Class::Percent | Class::Refused(_) => None,
     }
+}
+
+// The same of a text that is no string and begins with the first byte.
+#[inline(always)]
+fn whole_text(piece: &[u8], text: Text) -> Option<(usize, LexMode, TokenKind<'_>)>
+    requires some { 0 < length piece.now }
+    ensures { IfSome result (λ r. IsText text piece.now r.0 r.1 (kind_of r.2)) }
+{
+    let length = run_length(piece, text.bytes(), text.longest())?;
+    Some((length, text.mode_behind(), text.kind(&piece[..length])))
 }
 
 // The length of the number with which the bytes begin. `None` if it may go on behind them, is no
@@ -246,25 +246,4 @@ fn glyph_in(piece: &[u8]) -> Option<(usize, u8)>
         length += 1;
     }
     None
-}
-
-// The length and the NAG of the suffix with which the bytes begin. `None` if it may go on behind
-// them, or is none of the six.
-fn suffix_in(piece: &[u8]) -> Option<(usize, u8)>
-    requires some { 0 < length piece.now }
-    requires first { spelling.class (get_or piece.now 0 0) ≡ classes.Suffix }
-    ensures { IfSome result (λ r. IsWhole piece.now r.0 LexMode.Outside (glyph r.1)) }
-{
-    if piece.len() < 2 {
-        return None;
-    }
-    let first = first_suffix(piece[0]);
-    if !is_in(piece[1], Set::Suffix) {
-        return Some((1, glyph_of(first)));
-    }
-    let longer = longer_suffix(first, piece[1])?;
-    if piece.len() < 3 || is_in(piece[2], Set::Suffix) {
-        return None;
-    }
-    Some((2, glyph_of(longer)))
 }

@@ -19,4 +19,4 @@ loop-square-preserved c = grind arith
 
 pub returns : goal.returns
 returns c = none_left (λ s. is_clear c.args.board.now s c.args.target) c.args.set
-    c.loop-square.left c.loop-square.clear c.in_default.ensures c.loop-square.invariant
+    c.loop-square.left c.loop-square.clear c.in_default.ensures.none c.loop-square.invariant

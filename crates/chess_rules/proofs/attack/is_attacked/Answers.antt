@@ -4,7 +4,12 @@ use Rattle.chess_rules.proofs.sets.SetsToSquares.{any_member}
 use Rattle.chess_rules.proofs.attack.is_attacked.Goals as goal
 
 pub is_attacked_by-requires : goal.is_attacked_by-requires
-is_attacked_by-requires c = record { by = c.args.by; places = c.possible_attackers.ensures }
+is_attacked_by-requires c = record {
+  by = c.args.by;
+  which = may_attack c.args.board.now c.args.by c.args.target;
+  places = c.possible_attackers.ensures;
+  attack = λ s h. h;
+}
 
 pub returns : goal.returns
 returns c =

@@ -1,5 +1,5 @@
 use Rattle.std.proofs.lemmas.Grind.{common_steps}
-use Rattle.chess_rules.proofs.Words.{Square, is_clear, may_attack, has_any, members, Places, ◌≡◌, ℕ, true, not, ◌&&◌, Bool, List, [], ◌∷◌, sym, ◌∙◌, ap, arith, list_any}
+use Rattle.chess_rules.proofs.Words.{Square, is_clear, has_any, members, Places, ◌≡◌, ℕ, true, not, ◌&&◌, Bool, List, [], ◌∷◌, sym, ◌∙◌, ap, arith, list_any}
 use Rattle.chess_rules.proofs.sets.SetsToSquares.{any_member, full_when, lone_means, none_of_set}
 use Rattle.chess_rules.proofs.attack.is_attacked_by.Goals as goal
 
@@ -14,11 +14,11 @@ pub returns-then-is_empty : goal.returns-then-is_empty
 returns-then-is_empty c =
     let b = c.args.board.now in
     let t = c.args.target in
-    let by = c.requires.by in
+    let which = c.requires.which in
     let w = c.args.possible in
-    sym (sym (any_member w (may_attack b by t) (λ s. is_clear b s t) c.requires.places)
-    ∙ (sym (full_when w (λ s. may_attack b by t s && is_clear b s t) c.is_empty.result
-    (none_passes w (may_attack b by t) (λ s. is_clear b s t) c.requires.places (sym c.is_empty.ensures ∙ c.if-is_empty.true)) c.is_empty.ensures)
+    sym (sym (any_member w which (λ s. is_clear b s t) c.requires.places)
+    ∙ (sym (full_when w (λ s. which s && is_clear b s t) c.is_empty.result
+    (none_passes w which (λ s. is_clear b s t) c.requires.places (sym c.is_empty.ensures ∙ c.if-is_empty.true)) c.is_empty.ensures)
     ∙ ap not c.if-is_empty.true))
 
 pub returns-in-Some : goal.returns-in-Some

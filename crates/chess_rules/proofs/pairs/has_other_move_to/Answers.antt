@@ -41,7 +41,7 @@ loop-target-preserved c =
     (counted c.args.position.now c.in-Some.target c.untried.ensures c.has_move_from.ensures.count)
 
 pub returns-clause-found : goal.returns-clause-found
-returns-clause-found c = (no_target c.loop-target.invariant c.in_default.ensures).0
+returns-clause-found c = (no_target c.loop-target.invariant c.in_default.ensures.none).0
 
 pub returns-clause-count : goal.returns-clause-count
-returns-clause-count c = (no_target c.loop-target.invariant c.in_default.ensures).1
+returns-clause-count c = (no_target c.loop-target.invariant c.in_default.ensures.none).1

@@ -1,5 +1,5 @@
 use Rattle.std.specs.Result.{is_ok}
-use Rattle.pgn_game.proofs.Words.{◌≡◌, is_some, Bool, true, false, List, ℕ, ◌+◌, None, Some, sym, ap, subst, ◌∙◌, arith, Option, Result, Ok, Err, option_map, Form, move_of_form, with_next, NoMove, Move, legal, ok_or, Parts, Played, SanFault, Reason, IllegalMove, MoveLimit, move_of, is_at_limit, found_in, Costs, form_pairs, CostsForm, CostsAnswer, false≢true, form_of}
+use Rattle.pgn_game.proofs.Words.{◌≡◌, is_some, Bool, true, false, List, ℕ, ◌+◌, ◌-◌, ◌≤◌, None, Some, sym, ap, subst, ◌∙◌, arith, Option, Result, Ok, Err, option_map, refl, Form, move_of_form, with_next, NoMove, Ambiguous, Move, legal, ok_or, Parts, Played, SanFault, Reason, IllegalMove, MoveLimit, move_of, is_at_limit, found_in, AddsPairs, Costs, form_pairs, CostsForm, CostsAnswer, false≢true, form_of}
 use Rattle.pgn_game.proofs.find.named_move.Goals as goal
 
 no_form : (p : Parts) (s : List ℕ) → None ≡ form_of s → move_of p s ≡ None
@@ -40,10 +40,6 @@ of_no_form : (p : Parts) (s : List ℕ) (n : ℕ) → None ≡ form_of s → n �
 unfolding Costs
 of_no_form p s n e h = subst (λ (x : Option Form). CostsForm p x n) e h
 
--- all pairs counted are those of this form
-from_none : (before after pairs : ℕ) → before ≡ 0 → after ≡ before + pairs → after ≡ pairs
-from_none before after pairs none e = omega (arith, none, e)
-
 -- what a legal move costs
 of_legal : (p : Parts) (f : Form) (m : Move) (next : Option Parts) (n : ℕ) → is_some next ≡ true
     → n ≡ form_pairs p f → CostsAnswer p f (ok_or (with_next m next) NoMove) n
@@ -51,17 +47,34 @@ of_legal p f m (Some q) n legal e = e
 of_legal p f m None n legal e = absurd (cc)
 
 of_move : (p : Parts) (s : List ℕ) (f : Form) (m : Move) (before after : ℕ) → Some f ≡ form_of s
-    → ok_or (with_next m (legal p m)) NoMove ≡ move_of_form p f → is_some (legal p m) ≡ true → before ≡ 0 → after ≡ before + form_pairs p f
-    → Costs p s after
-of_move p s f m before after e answer legal_move none each =
-    of_answer p s f _ after e answer (of_legal p f m (legal p m) after legal_move (from_none before after _ none each))
+    → ok_or (with_next m (legal p m)) NoMove ≡ move_of_form p f → is_some (legal p m) ≡ true → after ≡ before + form_pairs p f
+    → AddsPairs (Costs p s) before after
+of_move p s f m before after e answer legal_move each = record {
+  pairs = form_pairs p f;
+  added = each;
+  costs = of_answer p s f _ _ e answer (of_legal p f m (legal p m) _ legal_move refl);
+}
+
+-- and a text with two moves: so many more as the count rose by
+of_ambiguous : (p : Parts) (s : List ℕ) (f : Form) (before after : ℕ) → Some f ≡ form_of s
+    → Err Ambiguous ≡ move_of_form p f → before + 2 ≤ after → after ≤ before + form_pairs p f
+    → AddsPairs (Costs p s) before after
+of_ambiguous p s f before after e answer two most = record {
+  pairs = after - before;
+  added = omega (arith, two);
+  costs = of_answer p s f _ _ e answer (omega (arith, two), omega (arith, two, most));
+}
 
 pub returns-in_default : goal.returns-in_default
 returns-in_default c = record {
   found = ap (found_in c.args.position.now) (sym (no_form c.args.position.now c.args.text.now c.in_default.ensures));
   legal = tt;
-  tried = of_no_form c.args.position.now c.args.text.now _ c.in_default.ensures c.requires;
-  few = omega (arith, c.requires);
+  tried = record {
+    pairs = 0;
+    added = omega arith;
+    costs = of_no_form c.args.position.now c.args.text.now 0 c.in_default.ensures refl;
+  };
+  few = omega arith;
   some = tt;
 }
 
@@ -71,9 +84,12 @@ returns-in-Err-NoMove c =
     record {
       found = ap (found_in c.args.position.now) (sym (of_form c.args.position.now c.args.text.now c.in-Some.form _ c.in-Some.ensures answer));
       legal = tt;
-      tried = of_answer c.args.position.now c.args.text.now c.in-Some.form _ _ c.in-Some.ensures answer
-          (from_none _ _ _ c.requires (c.in-Err-NoMove.ensures.pairs.each (λ e. cc)));
-      few = omega (arith, c.requires, c.in-Err-NoMove.ensures.pairs.bound);
+      tried = record {
+        pairs = form_pairs c.args.position.now c.in-Some.form;
+        added = c.in-Err-NoMove.ensures.pairs.each (λ e. cc);
+        costs = of_answer c.args.position.now c.args.text.now c.in-Some.form _ _ c.in-Some.ensures answer refl;
+      };
+      few = c.in-Err-NoMove.ensures.pairs.bound;
       some = tt;
     }
 
@@ -83,11 +99,9 @@ returns-in-Err-Ambiguous c =
     record {
       found = ap (found_in c.args.position.now) (sym (of_form c.args.position.now c.args.text.now c.in-Some.form _ c.in-Some.ensures answer));
       legal = tt;
-      tried = of_answer c.args.position.now c.args.text.now c.in-Some.form _ _ c.in-Some.ensures answer (
-        omega (arith, c.in-Err-Ambiguous.ensures.pairs.two (ap Err c.in-Err-Ambiguous.field-0-is), c.requires),
-        omega (arith, c.in-Err-Ambiguous.ensures.pairs.most, c.requires),
-      );
-      few = omega (arith, c.requires, c.in-Err-Ambiguous.ensures.pairs.bound);
+      tried = of_ambiguous c.args.position.now c.args.text.now c.in-Some.form _ _ c.in-Some.ensures answer
+          (c.in-Err-Ambiguous.ensures.pairs.two (ap Err c.in-Err-Ambiguous.field-0-is)) c.in-Err-Ambiguous.ensures.pairs.most;
+      few = c.in-Err-Ambiguous.ensures.pairs.bound;
       some = tt;
     }
 
@@ -100,8 +114,8 @@ returns-then-is_at_limit c =
       found = stopped p c.in-Ok.mv (legal p c.in-Ok.mv) found.legal (sym c.is_at_limit.ensures ∙ c.if-is_at_limit.true)
           ∙ ap (found_in p) (sym (of_form p c.args.text.now f _ c.in-Some.ensures found.answer));
       legal = tt;
-      tried = of_move p c.args.text.now f c.in-Ok.mv _ _ c.in-Some.ensures found.answer found.legal c.requires (found.pairs.each (λ e. false≢true (sym (ap is_ok e))));
-      few = omega (arith, c.requires, found.pairs.bound);
+      tried = of_move p c.args.text.now f c.in-Ok.mv _ _ c.in-Some.ensures found.answer found.legal (found.pairs.each (λ e. false≢true (sym (ap is_ok e))));
+      few = found.pairs.bound;
       some = tt;
     }
 
@@ -114,7 +128,7 @@ returns-else-is_at_limit c =
       found = free p c.in-Ok.mv (legal p c.in-Ok.mv) found.legal (sym c.is_at_limit.ensures ∙ c.if-is_at_limit.false)
           ∙ ap (found_in p) (sym (of_form p c.args.text.now f _ c.in-Some.ensures found.answer));
       legal = found.legal;
-      tried = of_move p c.args.text.now f c.in-Ok.mv _ _ c.in-Some.ensures found.answer found.legal c.requires (found.pairs.each (λ e. false≢true (sym (ap is_ok e))));
-      few = omega (arith, c.requires, found.pairs.bound);
-      some = omega (arith, c.requires, found.pairs.some);
+      tried = of_move p c.args.text.now f c.in-Ok.mv _ _ c.in-Some.ensures found.answer found.legal (found.pairs.each (λ e. false≢true (sym (ap is_ok e))));
+      few = found.pairs.bound;
+      some = found.pairs.some;
     }

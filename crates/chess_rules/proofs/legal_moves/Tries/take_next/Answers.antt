@@ -14,15 +14,15 @@ returns-in-Some-take_lowest c =
 
 pub returns-in_default-take_lowest-2 : goal.returns-in_default-take_lowest-2
 returns-in_default-take_lowest-2 c =
-    let none = none_left c.args.position.now c.loop-target.self c.loop-target.invariant.0 c.in_default-take_lowest.ensures
-    c.in_default-take_lowest-2.ensures in
+    let none = none_left c.args.position.now c.loop-target.self c.loop-target.invariant.0 c.in_default-take_lowest.ensures.none
+    c.in_default-take_lowest-2.ensures.none in
     (sym c.loop-target.invariant.1 ∙ none, none)
 
 pub loop-target-preserved : goal.loop-target-preserved
 loop-target-preserved c = (
   c.loop-target.invariant.0,
   origin_first c.args.position.now c.loop-target.self c.in-Some-take_lowest-2.origin c.targets_of-self.result
-      c.take_lowest-in-loop-target.new.self c.loop-target.invariant.0 c.in_default-take_lowest.ensures c.in-Some-take_lowest-2.ensures
+      c.take_lowest-in-loop-target.new.self c.loop-target.invariant.0 c.in_default-take_lowest.ensures.none c.in-Some-take_lowest-2.ensures
       c.targets_of-self.ensures
       ∙ c.loop-target.invariant.1,
 )

@@ -1,8 +1,8 @@
-use Rattle.pgn_game.proofs.Words.{bytes_seen, device, le_trans, refl, sink_of, ◌∙◌, EndsToMarker}
+use Rattle.pgn_game.proofs.Words.{device, le_trans, refl, sink_of, ◌∙◌, StepsAtEnd}
 use Rattle.pgn_game.proofs.ReaderFitsInMemory.{reading_fits_converter}
 use Rattle.pgn_game.proofs.putting.SilentReader.{seen_alike, silence_then}
-use Rattle.pgn_game.proofs.tokens.MarkerToGame.{reads_none}
-use Rattle.pgn_game.proofs.twice.MarkerToReading.{all_used, behind_source, counts_behind, counts_then, met_at_end, met_in_source, stops_in_source, within_source}
+use Rattle.pgn_game.proofs.tokens.FinishesGames.{at_left}
+use Rattle.pgn_game.proofs.twice.MarkerToReading.{all_used, behind_source, counts_behind, counts_then, met_at_end, met_in_source, stops_in_source, within_source, counts_met, ready_met}
 use Rattle.pgn_game.proofs.reader.ErrorReturned.{error_returned}
 use Rattle.pgn_game.proofs.checked.Reading.read_to_marker.Goals as goal
 
@@ -25,16 +25,14 @@ returns-then-self g c =
         reads = λ q left_old given h.
             let behind = behind_source q left_old _ _ given h c.if-self.true in
             rw c.if-self.true
-            (met_at_end q left_old _ given given h.come.bytes _ c.finish_to_marker.new.self _ _ _ h.come.consumed behind.3
-            (reads_none q given _ (bytes_seen c.self.inside.converter.reading.writing.is_silent (g.W.Sink.taken c.args.out.now)) h.has_read)
-            behind.0 behind.1 behind.2 ends.keeps.written _ c.finish_to_marker.result ends.count
-            (ends.ends q h.come.bytes given behind.0 h.has_read));
-        ready = ends.ready;
+            (met_at_end left_old _ _ h.come.bytes c.finish_to_marker.new.self _ h.come.consumed behind.3 (ends.count ∙ behind.1) behind.2 _ c.finish_to_marker.result
+            (ends.after _ h.come.bytes given (at_left q h.come.bytes given _ _ behind.0 h.has_read)));
+        ready = ready_met _ _ ends.ready;
         games = ends.keeps.games;
         written = ends.keeps.written;
         probes = ends.keeps.probes;
         counted = counts_behind c.finish_to_marker.result (device g.R.Source.left g.R.Source.failures c.args.source.now c.args.source.now)
-            (sink_of c.self.inside.converter.reading g.W.Sink.taken g.W.Sink.failures c.args.out.now c.finish_to_marker.new.out) refl ends.counted;
+            (sink_of c.self.inside.converter.reading g.W.Sink.taken g.W.Sink.failures c.args.out.now c.finish_to_marker.new.out) refl (counts_met _ _ ends.counted);
       };
       silent = c.finish_to_marker.ensures.silent;
     })
@@ -81,7 +79,7 @@ pub returns : goal.returns
 returns g c =
     let read = c.next_marker.ensures in
     let r = c.self.inside.converter.reading in
-    let ends = seen_alike (EndsToMarker _ _ _) _ _ (device g.W.Sink.taken g.W.Sink.failures c.next_marker.new.out c.finish_to_marker-2.new.out)
+    let ends = seen_alike (StepsAtEnd _ _ _) _ _ (device g.W.Sink.taken g.W.Sink.failures c.next_marker.new.out c.finish_to_marker-2.new.out)
     read.silent.silent c.finish_to_marker-2.ensures.ends in
     rw (← c.self.view_is)
     (record {
@@ -93,7 +91,7 @@ returns g c =
             c.finish_to_marker-2.new.self _ (sink_of r g.W.Sink.taken g.W.Sink.failures c.next_marker.new.out c.finish_to_marker-2.new.out)
             c.finish_to_marker-2.result refl refl
             ends c.in_ok-marker.ensures.goes.short;
-        ready = ends.ready;
+        ready = ready_met _ _ ends.ready;
         games = ends.keeps.games ∙ read.goes.keeps.games;
         written = ends.keeps.written ∙ read.goes.keeps.written;
         probes = le_trans read.goes.keeps.probes ends.keeps.probes;
@@ -102,7 +100,7 @@ returns g c =
             (sink_of r g.W.Sink.taken g.W.Sink.failures c.next_marker.new.out c.finish_to_marker-2.new.out)
             (sink_of r g.W.Sink.taken g.W.Sink.failures c.args.out.now c.finish_to_marker-2.new.out)
             c.in_ok-marker.ensures.goes.counted.0 c.in_ok-marker.ensures.goes.counted.1 refl refl refl
-            ends.counted;
+            (counts_met _ _ ends.counted);
       };
       silent = silence_then _ _ _ _ _ _ read.silent c.finish_to_marker-2.ensures.silent;
     })

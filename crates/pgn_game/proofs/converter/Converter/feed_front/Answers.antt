@@ -1,11 +1,11 @@
 use Rattle.pgn_game.specs.declared.converter.StepEnd.TheVariants.{NoMarker, Marker as AtMarker}
-use Rattle.pgn_game.proofs.Words.{KeepsSilence, ◌+◌, drop, sink_of, ◌≡◌, Ok, None, Some, arith, refl, ap, ◌∙◌, length, length-drop, take_rest, StepGoes, StepsInPiece}
+use Rattle.pgn_game.proofs.Words.{KeepsSilence, ◌+◌, drop, sink_of, ◌≡◌, Ok, None, Some, arith, refl, ap, ◌∙◌, length, length-drop, take_rest, StepGoes, StepsInPiece, ReadsOn, step_marker}
 use Rattle.pgn_game.proofs.ReaderFitsInMemory.{fits_alike}
 use Rattle.pgn_game.proofs.putting.SilentReader.{seen_alike, silence_kept, silence_then}
 use Rattle.pgn_game.proofs.tokens.GoesToMarker.{goes_all, goes_fault, goes_marker, keeps_at_start}
 use Rattle.pgn_game.proofs.tokens.RunsInPiece.{before_rest, goes_then}
 use Rattle.pgn_game.proofs.tokens.StepsAtEnd.{sound_at_none}
-use Rattle.pgn_game.proofs.tokens.StepsInPiece.{lets_go, so_far_none, reads_behind, stands_here, so_far_on, all_on, marker_on, fails_on}
+use Rattle.pgn_game.proofs.tokens.ReadsInText.{lets_go, reads_then}
 use Rattle.pgn_game.proofs.converter.Converter.feed_front.Goals as goal
 use Rattle.pgn_game.proofs.converter.Converter.feed_front.Goals.{After-step-step, In-Ok-Some-NoMarker}
 
@@ -21,7 +21,7 @@ loop-at-init g c =
       };
       sooner = omega arith;
       silent = silence_kept _ _ _ refl;
-      feeds = λ p u b given reaches follows. so_far_none p _ u b given c.args.piece.now _ (lets_go p _ u b given reaches) follows;
+      feeds = lets_go _ _ _;
     })
 
 -- The step over the rest of the piece, as the call sees the sink, and how far the call gets.
@@ -33,6 +33,10 @@ module _ (g : _) (c : After-step-step g) where
   goes : StepGoes c.args.self.now c.args.piece.now c.step-step.new.self (c.loop-at.at + c.step-step.result.used) c.step-step.result.outcome
       (sink_of c.args.self.now.reading g.W.Sink.taken g.W.Sink.failures c.args.out.now c.step-step.new.out)
   goes = goes_then _ _ _ _ _ _ _ _ _ _ c.loop-at-test.true c.loop-at.invariant.goes step.goes
+
+  reads : ReadsOn c.args.self.now c.args.piece.now c.step-step.new.self (step_marker c.step-step.result.outcome)
+      (sink_of c.args.self.now.reading g.W.Sink.taken g.W.Sink.failures c.args.out.now c.step-step.new.out)
+  reads = reads_then _ _ _ _ _ _ _ _ _ c.loop-at-test.true c.loop-at.invariant.feeds c.loop-at.invariant.goes.count step.after
 
   silent : KeepsSilence c.args.self.now.reading c.step-step.new.self.reading c.args.out.now c.step-step.new.out
   silent = silence_then _ _ _ _ _ _ c.loop-at.invariant.silent c.step-step.ensures.silent
@@ -54,10 +58,7 @@ returns-in-Ok-None g c =
     let after = (goal.at.returns-in-Ok-None g c).After-step-step in
     let step = rw is at (step g after) in
     record {
-      feeds = λ p u b given reaches follows.
-          let here = c.loop-at.invariant.feeds p u b given reaches follows in
-          all_on p u b given c.args.piece.now c.loop-at.at _ _ _ _ here c.loop-at-test.true _ step.goes.keeps.written
-          (step.after p _ _ (stands_here p u b given c.args.piece.now c.loop-at.at _ _ _ here c.loop-at-test.true)).1;
+      feeds = rw is at (reads g after);
       goes = goes_all (rw is at (goes g after)) (omega (arith, step.advances, length-drop c.loop-at.at c.args.piece.now, c.loop-at-test.true));
       silent = silent g after;
     }
@@ -76,10 +77,7 @@ loop-at-preserved g c =
       goes = rw is at (goes g after);
       sooner = omega (arith, step.advances, c.loop-at.invariant.sooner);
       silent = silent g after;
-      feeds = λ p u b given reaches follows.
-          let here = c.loop-at.invariant.feeds p u b given reaches follows in
-          so_far_on p u b given c.args.piece.now c.loop-at.at _ _ _ _ here c.loop-at-test.true _ step.goes.keeps.written _
-          (step.after p _ _ (stands_here p u b given c.args.piece.now c.loop-at.at _ _ _ here c.loop-at-test.true));
+      feeds = rw is at (reads g after);
     }
 
 pub returns-in-Ok-Some-Marker : goal.returns-in-Ok-Some-Marker
@@ -91,10 +89,7 @@ returns-in-Ok-Some-Marker g c =
     let after = (goal.at.returns-in-Ok-Some-Marker g c).After-step-step in
     let step = rw is at (step g after) in
     record {
-      feeds = λ p u b given reaches follows.
-          let here = c.loop-at.invariant.feeds p u b given reaches follows in
-          marker_on p u b given c.args.piece.now c.loop-at.at _ _ _ _ here c.loop-at-test.true _ step.goes.keeps.written _ _
-          (step.after p _ _ (stands_here p u b given c.args.piece.now c.loop-at.at _ _ _ here c.loop-at-test.true));
+      feeds = rw is at (reads g after);
       goes = goes_marker (rw is at (goes g after)) (omega (arith, step.advances, c.loop-at.invariant.sooner)) (omega (arith, c.loop-at-test.true));
       silent = silent g after;
     }
@@ -104,11 +99,7 @@ returns-in-Err g c =
     let after = (goal.at.returns-in-Err g c).After-step-step in
     let step = rw c.in-Err.is at (step g after) in
     record {
-      feeds = λ p u b given reaches follows.
-          let here = c.loop-at.invariant.feeds p u b given reaches follows in
-          fails_on p u b given c.args.piece.now c.loop-at.at _ _ _ _ here c.loop-at-test.true
-          c.step-step.new.self step.goes.keeps.written c.in-Err.fault
-          (step.after p _ _ (stands_here p u b given c.args.piece.now c.loop-at.at _ _ _ here c.loop-at-test.true));
+      feeds = rw c.in-Err.is at (reads g after);
       goes = goes_fault (rw c.in-Err.is at (goes g after)) (omega (arith, c.loop-at-test.true));
       silent = silent g after;
     }
@@ -118,8 +109,7 @@ returns g c =
     let so = c.loop-at.invariant in
     let end : c.loop-at.at ≡ length c.args.piece.now = omega (arith, so.goes.within, c.loop-at-test.false) in
     record {
-      feeds = λ p u b given reaches follows.
-          reads_behind p u b given c.args.piece.now c.loop-at.at _ _ _ (so.feeds p u b given reaches follows) end;
+      feeds = so.feeds;
       goes = goes_all so.goes end;
       silent = so.silent;
     }

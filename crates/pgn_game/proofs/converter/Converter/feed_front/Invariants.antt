@@ -1,5 +1,5 @@
 use Rattle.pgn_game.specs.declared.converter.StepEnd.TheVariants.{NoMarker}
-use Rattle.pgn_game.proofs.Words.{◌≤◌, ◌+◌, ◌-◌, ◌*◌, Ok, Some, length, waiting, sink_of, KeepsSilence, FeedsSoFar, StepGoes}
+use Rattle.pgn_game.proofs.Words.{◌≤◌, ◌+◌, ◌-◌, ◌*◌, Ok, Some, length, waiting, sink_of, KeepsSilence, ReadsOn, None, StepGoes}
 use Rattle.pgn_game.proofs.converter.Converter.feed_front.Given as goal
 
 abbrev pub invariant-loop-at : goal.invariant-loop-at
@@ -8,7 +8,7 @@ invariant-loop-at g l =
       goes : StepGoes l.fn.self l.piece l.self l.at (Ok (Some NoMarker)) (sink_of l.fn.self.reading g.W.Sink.taken g.W.Sink.failures l.fn.out l.out);
       sooner : waiting l.self.lexer ≤ 2 * l.at + waiting l.fn.self.lexer;
       silent : KeepsSilence l.fn.self.reading l.self.reading l.fn.out l.out;
-      feeds : FeedsSoFar l.fn.self l.piece l.at l.self (sink_of l.fn.self.reading g.W.Sink.taken g.W.Sink.failures l.fn.out l.out);
+      feeds : ReadsOn l.fn.self l.piece l.self (Ok None) (sink_of l.fn.self.reading g.W.Sink.taken g.W.Sink.failures l.fn.out l.out);
     }
 
 abbrev pub decreases-loop-at : goal.decreases-loop-at

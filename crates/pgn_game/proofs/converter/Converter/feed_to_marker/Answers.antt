@@ -3,23 +3,22 @@ use Rattle.pgn_game.proofs.putting.SilentReader.{silence_kept}
 use Rattle.pgn_game.proofs.ReaderFitsInMemory.{fits_alike}
 use Rattle.pgn_game.proofs.tokens.GoesToMarker.{front_goes, too_long_goes}
 use Rattle.pgn_game.proofs.tokens.StepsAtEnd.{not_just_finished, sound_behind_fault}
-use Rattle.pgn_game.proofs.tokens.StepsInPiece.{follows_front, front_all, front_marker, front_fault, front_too_long, limit_left, front_used}
+use Rattle.pgn_game.proofs.tokens.ReadsInText.{fault_read, marker_read, past_limit, whole_read}
+use Rattle.pgn_game.proofs.tokens.StepsInPiece.{limit_left, front_used}
 use Rattle.pgn_game.proofs.converter.Converter.feed_to_marker.Goals as goal
 use Rattle.pgn_game.proofs.converter.Converter.feed_to_marker.Goals.{After-feed_front}
 
--- the bytes before the piece are those before its front
-limit_at : (g : _) (c : After-feed_front g) {place : ℕ} → c.args.self.now.lexer.count ≡ place → place + (2 ^ 62 - c.place.result) ≡ 2 ^ 62
-limit_at g c at = omega (arith, rw (← c.self.view_is) at at, c.place.ensures, c.self.invariant.count)
+-- so many bytes more are before the limit
+limit : (g : _) (c : After-feed_front g) → c.args.self.now.lexer.count + (2 ^ 62 - c.place.result) ≡ 2 ^ 62
+limit g c = rw (← c.self.view_is, c.place.ensures) (omega (arith, c.self.invariant.count))
 
 pub returns-in_err-used-clause-feeds : goal.returns-in_err-used-clause-feeds
 returns-in_err-used-clause-feeds g c =
     let e = err_from_is_err_and c.from_residual.result c.from_residual.ensures.1 in
-    let after = (goal.at.returns-in_err-used-clause-feeds g c).After-feed_front in
-    let piece = c.args.piece.now in
+    let is = limit g (goal.at.returns-in_err-used-clause-feeds g c).After-feed_front in
     let fed = rw c.within_limit-front.ensures at c.in_err-used.ensures in
     rw (e.1, e.2) (λ p u b given reaches follows.
-    at_token _ (front_fault p u b given piece _ _ _ _ _ (limit_at g after reaches.lexer.count)
-    (fed.feeds p u b given reaches (follows_front b piece _ follows))))
+    at_token _ (fault_read p u b given _ c.args.piece.now _ reaches follows _ is c.feed_front.new.self _ _ fed.feeds))
 
 pub returns-in_err-used-clause-goes : goal.returns-in_err-used-clause-goes
 returns-in_err-used-clause-goes g c =
@@ -28,12 +27,10 @@ returns-in_err-used-clause-goes g c =
 
 pub returns-in-Marker-clause-feeds : goal.returns-in-Marker-clause-feeds
 returns-in-Marker-clause-feeds g c =
-    let after = (goal.at.returns-in-Marker-clause-feeds g c).After-feed_front in
-    let piece = c.args.piece.now in
+    let is = limit g (goal.at.returns-in-Marker-clause-feeds g c).After-feed_front in
     let fed = rw (c.in-Marker.is, c.within_limit-front.ensures) at c.in_ok-used.ensures in
     λ p u b given reaches follows.
-    front_marker p u b given piece _ _ _ c.feed_front.new.self _ _ (front_used piece (2 ^ 62 - c.place.result) c.in-Marker.used fed.goes.used)
-    (limit_at g after reaches.lexer.count) (fed.feeds p u b given reaches (follows_front b piece _ follows))
+    marker_read p u b given _ c.args.piece.now _ reaches follows _ is c.feed_front.new.self c.in-Marker.used fed.goes.count fed.goes.used _ _ fed.feeds
 
 pub returns-in-Marker-clause-goes : goal.returns-in-Marker-clause-goes
 returns-in-Marker-clause-goes g c =
@@ -41,13 +38,12 @@ returns-in-Marker-clause-goes g c =
 
 pub returns-then-front-piece-clause-feeds : goal.returns-then-front-piece-clause-feeds
 returns-then-front-piece-clause-feeds g c =
-    let after = (goal.at.returns-then-front-piece-clause-feeds g c).After-feed_front in
-    let piece = c.args.piece.now in
+    let is = limit g (goal.at.returns-then-front-piece-clause-feeds g c).After-feed_front in
     let fed = rw (c.in-All.is, c.within_limit-front.ensures) at c.in_ok-used.ensures in
-    let more = limit_left piece _ (rw c.within_limit-front.ensures at c.if-front-piece.true) in
+    let more = limit_left c.args.piece.now _ (rw c.within_limit-front.ensures at c.if-front-piece.true) in
     λ p u b given reaches follows.
-    rw c.too_long.ensures.fault (front_too_long p u b given piece _ _ _ c.feed_front.new.self _ _ (limit_at g after reaches.lexer.count) more
-    (ap (λ (s : Converter). s.reading) c.self-2.view_is) (fed.feeds p u b given reaches (follows_front b piece _ follows)))
+    rw c.too_long.ensures.fault (past_limit p u b given _ c.args.piece.now _ reaches follows _ is c.feed_front.new.self _ fed.feeds fed.goes.count more
+    (ap (λ (s : Converter). s.reading) c.self-2.view_is))
 
 pub returns-then-front-piece-clause-goes : goal.returns-then-front-piece-clause-goes
 returns-then-front-piece-clause-goes g c =
@@ -59,11 +55,11 @@ returns-then-front-piece-clause-goes g c =
 
 pub returns-else-front-piece-clause-feeds : goal.returns-else-front-piece-clause-feeds
 returns-else-front-piece-clause-feeds g c =
-    let piece = c.args.piece.now in
+    let is = limit g (goal.at.returns-else-front-piece-clause-feeds g c).After-feed_front in
     let fed = rw (c.in-All.is, c.within_limit-front.ensures) at c.in_ok-used.ensures in
-    let whole = front_used piece (2 ^ 62 - c.place.result) (length piece) (rw c.within_limit-front.ensures at c.if-front-piece.false) in
+    let whole = front_used c.args.piece.now (2 ^ 62 - c.place.result) (length c.args.piece.now) (rw c.within_limit-front.ensures at c.if-front-piece.false) in
     λ p u b given reaches follows.
-    front_all p u b given piece _ _ _ c.feed_front.new.self whole (fed.feeds p u b given reaches (follows_front b piece _ follows))
+    whole_read p u b given _ c.args.piece.now _ reaches follows _ is c.feed_front.new.self _ fed.feeds fed.goes.count whole
 
 pub returns-else-front-piece-clause-goes : goal.returns-else-front-piece-clause-goes
 returns-else-front-piece-clause-goes g c =

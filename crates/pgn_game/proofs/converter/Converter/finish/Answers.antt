@@ -1,8 +1,8 @@
 use Rattle.pgn_game.proofs.putting.SilentReader.{none_fails, seen_alike, silence_kept, silence_then}
-use Rattle.pgn_game.proofs.Words.{ap, le_refl, le_trans, refl, sym, ◌∙◌, device, Err, Standing, err_from_is_err_and, false≢true, CountsGame, EndsGame, EndsToMarker}
+use Rattle.pgn_game.proofs.Words.{ap, le_refl, le_trans, refl, sym, ◌∙◌, device, Err, Standing, err_from_is_err_and, false≢true, CountsGame, EndsGame, StepsAtEnd}
 use Rattle.pgn_game.proofs.ReaderFitsInMemory.{fits_alike, fits_game}
 use Rattle.pgn_game.proofs.tokens.StepsAtEnd.{left_of}
-use Rattle.pgn_game.proofs.tokens.FinishesGames.{ended_none, ended_game, ended_input, failed_input, failed_game, sound_finished}
+use Rattle.pgn_game.proofs.tokens.FinishesGames.{at_left, ended_none, ended_game, ended_input, failed_input, failed_game, sound_finished}
 use Rattle.pgn_game.proofs.tokens.MarkerToGame.{shows_due, shows_stop}
 use Rattle.pgn_game.proofs.converter.Converter.finish.Goals as goal
 use Rattle.pgn_game.proofs.converter.Converter.finish.Goals.{then-finished_game, else-finished_game}
@@ -29,19 +29,19 @@ pub returns-in_err-marker-clause-ends : goal.returns-in_err-marker-clause-ends
 returns-in_err-marker-clause-ends g c =
     let e = err_from_is_err_and c.from_residual.result c.from_residual.ensures.1 in
     let old = c.loop-marker.invariant in
-    let met = seen_alike (EndsToMarker _ _ _) _ _ _ old.silent.silent c.in_err-marker.ensures.ends in
+    let met = seen_alike (StepsAtEnd _ _ _) _ _ _ old.silent.silent c.in_err-marker.ensures.ends in
     rw (e.1, e.2) (λ p u b given stands.
     let so = old.finishes p u b given stands in
     failed_input p u given _ _ _ _ so _ (shows_stop p _ _ c.in_err-marker.field-0.0 stands.known (λ silent. none_fails {A = Unit} _ (Err c.in_err-marker.field-0.0)
     (device g.W.Sink.taken g.W.Sink.failures c.loop-marker.out c.finish_to_marker.new.out) silent met.counted))
     c.args.self.now.lexer c.finish_to_marker.new.self _
-    (left_of p c.args.self.now u b given stands) stands.has_read.passes (met.ends p u _ so.left so.has_read) met.keeps.games)
+    (left_of p c.args.self.now u b given stands) stands.has_read.passes (met.after _ u _ (at_left p u _ _ _ so.left so.has_read)) met.keeps.games)
 
 pub returns-in_err-end_game-in-Some-2-clause-ends : goal.returns-in_err-end_game-in-Some-2-clause-ends
 returns-in_err-end_game-in-Some-2-clause-ends g c =
     let e = err_from_is_err_and c.from_residual-in_err-end_game-in-Some-2.result c.from_residual-in_err-end_game-in-Some-2.ensures.1 in
     let old = c.loop-marker.invariant in
-    let met = rw c.in-Some-2.is at (seen_alike (EndsToMarker _ _ _) _ _ _ old.silent.silent c.in_ok-marker.ensures.ends) in
+    let met = rw c.in-Some-2.is at (seen_alike (StepsAtEnd _ _ _) _ _ _ old.silent.silent c.in_ok-marker.ensures.ends) in
     let quiet = silence_then _ _ _ _ _ _ old.silent c.finish_to_marker.ensures.silent in
     let ended = seen_alike (EndsGame _ _ _ _) _ _ _ quiet.silent c.in_err-end_game-in-Some-2.ensures.ends in
     let counts = seen_alike (CountsGame _ _ _) _ _ _ quiet.silent c.in_err-end_game-in-Some-2.ensures.counts in
@@ -50,12 +50,12 @@ returns-in_err-end_game-in-Some-2-clause-ends g c =
     failed_game p u given _ _ _ _ so _ (shows_stop p _ _ c.in_err-end_game-in-Some-2.field-0.0 stands.known (λ silent. none_fails {A = Unit} _ (Err c.in_err-end_game-in-Some-2.field-0.0)
     (device g.W.Sink.taken g.W.Sink.failures c.finish_to_marker.new.out c.end_game.new.out) silent counts.counted))
     c.args.self.now.lexer c.in-Some-2.marker c.finish_to_marker.new.self c.end_game.new.self _
-    (left_of p c.args.self.now u b given stands) stands.has_read.passes (met.ends p u _ so.left so.has_read) ended counts met.keeps.games)
+    (left_of p c.args.self.now u b given stands) stands.has_read.passes (met.after _ u _ (at_left p u _ _ _ so.left so.has_read)) ended counts met.keeps.games)
 
 pub loop-marker-preserved : goal.loop-marker-preserved
 loop-marker-preserved g c =
     let old = c.loop-marker.invariant in
-    let met = rw c.in-Some-2.is at (seen_alike (EndsToMarker _ _ _) _ _ _ old.silent.silent c.in_ok-marker.ensures.ends) in
+    let met = rw c.in-Some-2.is at (seen_alike (StepsAtEnd _ _ _) _ _ _ old.silent.silent c.in_ok-marker.ensures.ends) in
     let quiet = silence_then _ _ _ _ _ _ old.silent c.finish_to_marker.ensures.silent in
     let ended = seen_alike (EndsGame _ _ _ _) _ _ _ quiet.silent c.in_ok-end_game-in-Some-2.ensures.ends in
     let counts = seen_alike (CountsGame _ _ _) _ _ _ quiet.silent c.in_ok-end_game-in-Some-2.ensures.counts in
@@ -68,7 +68,7 @@ loop-marker-preserved g c =
       finishes = λ p u b given stands.
           let so = old.finishes p u b given stands in
           ended_game p u given _ _ _ _ so (shows_due p _ _ stands.known) c.in-Some-2.marker c.finish_to_marker.new.self c.end_game.new.self _
-          (met.ends p u _ so.left so.has_read) ended counts;
+          (met.after _ u _ (at_left p u _ _ _ so.left so.has_read)) ended counts;
     }
 
 pub is_between-self-inside-requires : goal.is_between-self-inside-requires
@@ -78,10 +78,10 @@ pub returns-in-None-clause-ends : goal.returns-in-None-clause-ends
 returns-in-None-clause-ends g c =
     let old = c.loop-marker.invariant in
     let self = c.self-in-None in
-    let met = rw (c.in-None.is, ← self.view_is) at (seen_alike (EndsToMarker _ _ _) _ _ _ old.silent.silent c.in_ok-marker.ensures.ends) in
+    let met = rw (c.in-None.is, ← self.view_is) at (seen_alike (StepsAtEnd _ _ _) _ _ _ old.silent.silent c.in_ok-marker.ensures.ends) in
     λ p u b given stands.
     let so = old.finishes p u b given stands in
-    let to = met.ends p u _ so.left so.has_read in
+    let to = met.after _ u _ (at_left p u _ _ _ so.left so.has_read) in
     ended_input p u given _ _ _ _ so (shows_due p _ _ stands.known) _ _ c.if-finished_game.self to.0 to.1
     (λ between. elim c.if-finished_game.branch [
       | then-finished_game w ↦ w.self-is ∙ w.is_between-self-inside.ensures.1 between ∙ sym w.if-finished_game.true
@@ -96,7 +96,7 @@ invariant_of-self g c =
       | then-finished_game w ↦ w.is_between-self-inside.ensures.0 (sym w.self-is ∙ is)
       | else-finished_game w ↦ absurd (false≢true (sym w.if-finished_game.false ∙ sym w.self-is ∙ is))
     ])
-    (rw (← self.view_is) at c.in_ok-marker.ensures.ends.keeps.fault)
+    (rw (c.in-None.is, ← self.view_is) at c.in_ok-marker.ensures.ends.keeps.fault)
 
 pub returns-in-Some-clause-silent : goal.returns-in-Some-clause-silent
 returns-in-Some-clause-silent g c = silence_kept _ _ _ refl

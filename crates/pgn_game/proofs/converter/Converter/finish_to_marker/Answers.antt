@@ -4,7 +4,7 @@ use Rattle.pgn_game.proofs.putting.SilentReader.{seen_alike, silence_kept, silen
 use Rattle.pgn_game.proofs.tokens.GoesToMarker.{keeps_as, keeps_at_start}
 use Rattle.pgn_game.proofs.tokens.RunsInPiece.{keeps_then}
 use Rattle.pgn_game.proofs.tokens.StepsAtEnd.{sound_at_none}
-use Rattle.pgn_game.proofs.tokens.FinishesGames.{left_none, left_more, left_marker, left_end, left_fault}
+use Rattle.pgn_game.proofs.tokens.FinishesGames.{left_alone}
 use Rattle.pgn_game.proofs.converter.Converter.finish_to_marker.Goals as goal
 
 pub loop-marker-init : goal.loop-marker-init
@@ -15,7 +15,7 @@ loop-marker-init g c =
       nearer = le_refl _;
       counted = refl;
       silent = silence_kept _ _ _ refl;
-      ends = λ p u given left has_read. left_none p u given _ _ _ refl left has_read;
+      ends = λ start u given here. (given, left_alone start u given _ _ here);
     })
 
 pub returns-in_err-step_at_end-clause-ends : goal.returns-in_err-step_at_end-clause-ends
@@ -24,13 +24,13 @@ returns-in_err-step_at_end-clause-ends g c =
     let old = c.loop-marker.invariant in
     let step = seen_alike (StepsAtEnd _ _ _) _ _ _ old.silent.silent c.in_err-step_at_end.ensures.steps in
     rw (e.1, e.2) (record {
-      ends = λ p u given left has_read.
-          let so = old.ends p u given left has_read in
-          left_fault p u given _ _ c.step_at_end.new.self _ _ _ so step.keeps.written _ (step.after p u _ so.left so.reads.has_read);
+      after = λ start u given here.
+          let so = old.ends start u given here in
+          step.after start u so.0 so.1;
       count = step.count ∙ old.count;
       advances = tt;
       ready = tt;
-      keeps = keeps_then old.keeps (keeps_as step.keeps refl);
+      keeps = keeps_then old.keeps step.keeps;
       counted = rw (← old.counted) step.counted;
     })
 
@@ -56,9 +56,9 @@ loop-marker-preserved g c =
       nearer = omega (arith, step.advances, old.nearer);
       counted = step.counted ∙ old.counted;
       silent = silence_then _ _ _ _ _ _ old.silent c.step_at_end.ensures.silent;
-      ends = λ p u given left has_read.
-          let so = old.ends p u given left has_read in
-          left_more p u given _ _ c.step_at_end.new.self _ _ _ so step.keeps.written (step.after p u _ so.left so.reads.has_read);
+      ends = λ start u given here.
+          let so = old.ends start u given here in
+          step.after start u so.0 so.1;
     }
 
 pub returns-in-Some-Marker-clause-ends : goal.returns-in-Some-Marker-clause-ends
@@ -67,13 +67,13 @@ returns-in-Some-Marker-clause-ends g c =
     let step = rw (c.in-Some-Marker.is ∙ ap Some c.in-Some-Marker.field-0-is) at
     (seen_alike (StepsAtEnd _ _ _) _ _ _ old.silent.silent c.in_ok-step_at_end.ensures.steps) in
     record {
-      ends = λ p u given left has_read.
-          let so = old.ends p u given left has_read in
-          left_marker p u given _ _ c.step_at_end.new.self _ _ _ so step.keeps.written _ (step.after p u _ so.left so.reads.has_read);
+      after = λ start u given here.
+          let so = old.ends start u given here in
+          step.after start u so.0 so.1;
       count = step.count ∙ old.count;
       advances = omega (arith, step.advances, old.nearer);
       ready = step.ready;
-      keeps = keeps_then old.keeps (keeps_as step.keeps refl);
+      keeps = keeps_then old.keeps step.keeps;
       counted = step.counted ∙ old.counted;
     }
 
@@ -82,12 +82,12 @@ returns-in-None-clause-ends g c =
     let old = c.loop-marker.invariant in
     let step = rw c.in-None.is at (seen_alike (StepsAtEnd _ _ _) _ _ _ old.silent.silent c.in_ok-step_at_end.ensures.steps) in
     record {
-      ends = λ p u given left has_read.
-          let so = old.ends p u given left has_read in
-          left_end p u given _ _ c.step_at_end.new.self _ _ _ so step.keeps.written (step.after p u _ so.left so.reads.has_read);
+      after = λ start u given here.
+          let so = old.ends start u given here in
+          step.after start u so.0 so.1;
       count = step.count ∙ old.count;
       advances = tt;
       ready = tt;
-      keeps = keeps_then old.keeps (keeps_as step.keeps refl);
+      keeps = keeps_then old.keeps step.keeps;
       counted = step.counted ∙ old.counted;
     }

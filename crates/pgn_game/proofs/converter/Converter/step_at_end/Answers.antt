@@ -1,9 +1,11 @@
 use Rattle.pgn_lexer.specs.Scanned.{token}
+use Rattle.pgn_lexer.specs.PartialToken.{refusal as refusal_token}
 use Rattle.pgn_lexer.specs.Stands.{Finishes}
-use Rattle.pgn_game.proofs.Words.{IsSound, IsTrue, Keeps, LexFault, Lexical, List, Marker, None, Ok, Err, Option, Reason, ReaderState, Result, Device, Some, Standing, Token, ℕ, arith, le_refl, sym, ap, refl, ◌∙◌, ◌≡◌, ◌&&◌, true, false, is_ok, is_end, kind_of, outcome_at, game_in_reader_if, fault, StepsAtEnd, TakesUnlessMarker}
+use Rattle.pgn_game.proofs.Words.{[], ◌∷◌, ◌++◌, append-nil, all_bytes, IsSound, IsTrue, Keeps, LexFault, Lexical, List, Marker, None, Ok, Err, Option, Reason, ReaderState, Result, Device, Some, Standing, Token, ℕ, arith, le_refl, sym, ap, refl, ◌∙◌, ◌≡◌, ◌&&◌, true, false, is_ok, is_end, kind_of, outcome_at, game_in_reader_if, fault, StepsAtEnd, TakesUnlessMarker}
 use Rattle.pgn_game.proofs.tokens.AcceptedToConverter.{now_at}
-use Rattle.pgn_game.proofs.tokens.RunsInPiece.{between}
-use Rattle.pgn_game.proofs.tokens.StepsAtEnd.{Nearer, after_at_end, keeps_met, closes_end, closes_token, closes_fault, fields_before, kept, left_by, nearer_by, counts_token, advances_at_end, counts_ok, goes_on_at, no_fault_if_ok, ready_at_end, sound_at_end, sound_behind, sound_behind_fault, sound_if_not_ok}
+use Rattle.pgn_game.proofs.tokens.ReadsInText.{between}
+use Rattle.pgn_game.proofs.tokens.MarkerToGame.{rejects_at}
+use Rattle.pgn_game.proofs.tokens.StepsAtEnd.{Nearer, after_at_end, keeps_met, closes_end, closes_token, fields_before, kept, left_by, nearer_by, counts_token, advances_at_end, counts_ok, goes_on_at, no_fault_if_ok, ready_at_end, sound_at_end, sound_behind, sound_behind_fault, sound_if_not_ok}
 use Rattle.pgn_game.proofs.ReaderFitsInMemory.{fits_game}
 use Rattle.pgn_game.proofs.converter.Converter.step_at_end.Goals as goal
 use Rattle.pgn_game.proofs.converter.Converter.step_at_end.Goals.{else-is_end-via-then-is_end+else-is_ok, else-is_end-via-else-is_end}
@@ -16,8 +18,9 @@ module _ (lexer : Standing) (reading : ReaderState) (games : ℕ) (l : Standing)
       (Err (record { at = f.at; reason = Lexical f.reason })) (between o o failures failures)
   steps_fault f gives o failures =
       record {
-        after = λ p u given left has_read.
-            closes_fault p (now_at lexer reading games false) (now_at l reading games false) u given f o has_read (gives.left u given left) refl;
+        after = λ start u given here.
+            rejects_at start (all_bytes u) (now_at lexer reading games false) given f reading o here.reads refl
+            ([], gives.left u given here.lexer ∙ sym (append-nil (given ++ refusal_token f ∷ [])));
         count = gives.count;
         advances = tt;
         ready = tt;
@@ -38,8 +41,8 @@ module _ (lexer : Standing) (reading : ReaderState) (games : ℕ) (l : Standing)
         → StepsAtEnd (now_at lexer reading games false) (after_at_end l new games true t.at met) (Ok None) sink
     steps_end is_e ok =
         record {
-          after = λ p u given left has_read.
-              closes_end p _ u given t l new sink met is_e ok has_read (rw is_e at (left_by u given t.kind l t (gives.left u given left))) takes;
+          after = λ start u given here.
+              closes_end start u _ given t l new sink here met is_e ok (rw is_e at (left_by u given t.kind l t (gives.left u given here.lexer))) takes;
           count = gives.count;
           advances = tt;
           ready = tt;
@@ -51,8 +54,8 @@ module _ (lexer : Standing) (reading : ReaderState) (games : ℕ) (l : Standing)
         → StepsAtEnd (now_at lexer reading games false) (after_at_end l new games false t.at met) (outcome_at t.at met) sink
     steps_token not_ended =
         record {
-          after = λ p u given left has_read.
-              closes_token p _ u given t l new false sink (is_end t.kind) met not_ended has_read (left_by u given t.kind l t (gives.left u given left)) takes;
+          after = λ start u given here.
+              closes_token start u _ given t l new sink here false (is_end t.kind) met not_ended (left_by u given t.kind l t (gives.left u given here.lexer)) takes;
           count = gives.count;
           advances = advances_at_end lexer l t.at (is_end t.kind) met not_ended near;
           ready = ready_at_end lexer l reading new games t.at t.kind sink (is_end t.kind) met not_ended near takes (sound.few refl) (sound.fewer_plies refl refl);

@@ -2,7 +2,8 @@ use Rattle.pgn_game.specs.declared.converter.StepEnd.TheVariants.{NoMarker}
 use Rattle.pgn_game.proofs.Words.{IsSound, List, Option, ℕ, refl, None, false, ◌<◌, take_rest, IsTrue, Ok, Some, false≢true, length, arith}
 use Rattle.pgn_game.proofs.ReaderFitsInMemory.{fits_alike, fits_game}
 use Rattle.pgn_game.proofs.tokens.AcceptedToConverter.{now_at}
-use Rattle.pgn_game.proofs.tokens.RunsInPiece.{Runs, between, before_rest, steps_at_once, steps_behind, steps_of, steps_run}
+use Rattle.pgn_game.proofs.tokens.ReadsInText.{between}
+use Rattle.pgn_game.proofs.tokens.RunsInPiece.{Runs, before_rest, steps_at_once, steps_behind, steps_of, steps_run}
 use Rattle.pgn_game.proofs.putting.SilentReader.{silence_kept}
 use Rattle.pgn_game.proofs.tokens.StepsAtEnd.{fields_before, short_before}
 use Rattle.pgn_game.proofs.tokens.StepsOverTokens.{runs_past, sound_met_behind, sound_past, steps_met_behind}

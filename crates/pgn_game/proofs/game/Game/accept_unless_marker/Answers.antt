@@ -19,15 +19,15 @@ pub accept_outside-requires : goal.accept_outside-requires
 accept_outside-requires g c = (search reader_fits, rw (← c.self.view_is) at c.requires.few)
 
 pub invariant_of-self : goal.invariant_of-self
-invariant_of-self g c = still_sound c.self.invariant refl (c.in-Some.ensures c.self.inside.writer None 0).keeps.profile
+invariant_of-self g c = still_sound c.self.invariant refl (c.in-Some.ensures.takes c.self.inside.writer None 0).keeps.profile
 
 pub invariant_of-self-in-Some : goal.invariant_of-self-in-Some
-invariant_of-self-in-Some g c = still_sound c.self.invariant refl (c.in-Some.ensures c.self.inside.writer None 0).keeps.profile
+invariant_of-self-in-Some g c = still_sound c.self.invariant refl (c.in-Some.ensures.takes c.self.inside.writer None 0).keeps.profile
 
 pub returns-in_err-result-in-Some : goal.returns-in_err-result-in-Some
 returns-in_err-result-in-Some g c =
     let w = c.self.inside.writer in
-    let takes = rw c.in_err-result-in-Some.was at (c.in-Some.ensures w) in
+    let takes = rw c.in_err-result-in-Some.was at (c.in-Some.ensures.takes w) in
     rw (error_returned _ c.from_residual.ensures.1, ← c.self.view_is)
     (record {
       takes = (takes _ _, no_write (game_by w c.self.inside.reader) _ _ _ takes);
@@ -36,12 +36,12 @@ returns-in_err-result-in-Some g c =
 
 pub returns-in_ok-result-in-Some : goal.returns-in_ok-result-in-Some
 returns-in_ok-result-in-Some g c =
-    let takes = rw c.in_ok-result-in-Some.was at (c.in-Some.ensures c.self.inside.writer) in
+    let takes = rw c.in_ok-result-in-Some.was at (c.in-Some.ensures.takes c.self.inside.writer) in
     rw (← c.self.view_is) (record { takes = takes _ _; silent = record { silent = refl; untouched = λ silent. refl } })
 
 pub take-requires : goal.take-requires
 take-requires g c =
-    let enters = c.in-None.ensures c.self.inside.writer in
+    let enters = c.in-None.ensures.takes c.self.inside.writer in
     let few = rw (← c.self.view_is) at c.requires.few in (
       search game_alike,
       (record { few = omega (arith, few, enters.plies); stage = enters.stage }, (λ is. absurd (false≢true is), c.requires.token)),
@@ -52,6 +52,6 @@ returns-in-None g c =
     let entry = c.take.ensures in
     rw (← c.self.view_is)
     (record {
-      takes = entry_met (game_by c.self.inside.writer c.self.inside.reader) _ _ (kind_of c.args.kind) _ _ (c.in-None.ensures c.self.inside.writer) entry.takes;
+      takes = entry_met (game_by c.self.inside.writer c.self.inside.reader) _ _ (kind_of c.args.kind) _ _ (c.in-None.ensures.takes c.self.inside.writer) entry.takes;
       silent = record { silent = entry.silent.silent; untouched = entry.silent.untouched };
     })

@@ -8,10 +8,13 @@ stage_is : (old held : ReaderState) (stage : Stage) → held ≡ old → held.st
 stage_is old held stage same at = ap (λ (r : ReaderState). r.stage) (sym same) ∙ at
 
 pub returns-in-InMovetext : goal.returns-in-InMovetext
-returns-in-InMovetext g c = λ w.
-    let old = game_by w c.args.self.now in
-    let at = stage_is _ _ _ c.self.view_is c.in-InMovetext.is in
-    enters old c.args.kind (ap may_have_movetext at) (λ part agrees. entry_in_movetext old c.args.kind part at agrees)
+returns-in-InMovetext g c = record {
+  takes = λ w.
+      let old = game_by w c.args.self.now in
+      let at = stage_is _ _ _ c.self.view_is c.in-InMovetext.is in
+      enters old c.args.kind (ap may_have_movetext at) (λ part agrees. entry_in_movetext old c.args.kind part at agrees);
+  outside = tt;
+}
 
 pub returns-in-AfterLeftBracket : goal.returns-in-AfterLeftBracket
 returns-in-AfterLeftBracket g c = pair_outside (ap is_begun (stage_is _ _ _ c.self.view_is c.in-AfterLeftBracket.is)) c.accept_name.ensures

@@ -1,4 +1,4 @@
-use Rattle.pgn_lexer.proofs.Words.{◌+◌, ◌-◌, ◌≡◌, sym, ap, ◌∙◌, arith, PartialToken, take_rest}
+use Rattle.pgn_lexer.proofs.Words.{sym, ap, ◌∙◌, arith, PartialToken, take_rest}
 use Rattle.pgn_lexer.proofs.stepping.WholeRuns.{passes_none, passes_gap, reads_word, reads_close}
 use Rattle.pgn_lexer.proofs.partial_token.PartialToken.whole_in_comment.Goals as goal
 
@@ -24,12 +24,11 @@ loop-used-preserved c =
 pub returns-then-is_in-clause-reads : goal.returns-then-is_in-clause-reads
 returns-then-is_in-clause-reads c = λ skips.
     let here = c.loop-used.invariant in
-    let same : (c.loop-used.used + c.in-Some.length) - c.loop-used.used ≡ c.in-Some.length = omega arith in
-    rw (same, here.comment) (reads_word skips _ _ _ _ _ (here.passes skips) c.loop-used-test.true here.room c.args.close here.comment _
+    rw here.comment (reads_word skips _ _ _ _ _ (here.passes skips) c.loop-used-test.true here.room c.args.close here.comment _ _ _
     (sym c.is_in.ensures ∙ c.if-is_in.true) (rw take_rest at c.in-Some.ensures))
 
 pub returns-then-not-is_in-clause-reads : goal.returns-then-not-is_in-clause-reads
 returns-then-not-is_in-clause-reads c = λ skips.
     let here = c.loop-used.invariant in
     reads_close skips _ _ _ _ _ (here.passes skips) c.loop-used-test.true here.room c.args.close here.comment _
-    c.in-Some-mode_behind.ensures
+    (sym c.mode_behind.ensures ∙ c.in-Some-mode_behind.is)

@@ -1,15 +1,26 @@
-use Rattle.pgn_lexer.proofs.Words.{◌≡◌, ◌<◌, ◌==◌, ℕ, List, [], ◌∷◌, false, false≢true, arith, length, refl, sym, ◌∙◌, Alone, OpenBrace, Semicolon, TokenForm, LexMode}
-use Rattle.pgn_lexer.proofs.stepping.WholeRuns.{whole_symbol, whole_string, whole_single, symbol_unpassed, single_unpassed}
+use Rattle.pgn_lexer.proofs.Words.{◌≡◌, ◌<◌, ◌==◌, ℕ, List, [], ◌∷◌, false, false≢true, arith, length, refl, sym, ◌∙◌, Alone, OpenBrace, Semicolon, TokenForm, Close, LexMode}
+use Rattle.pgn_lexer.proofs.stepping.WholeRuns.{where_some, whole_symbol, whole_suffix, whole_string, whole_single, text_unpassed, suffix_unpassed, single_unpassed}
 use Rattle.pgn_lexer.proofs.partial_token.whole.whole_at.Goals as goal
 
 some : (xs : List ℕ) → false ≡ (length xs == 0) → 0 < length xs
 some [] e = absurd (false≢true e)
 some (x ∷ xs) e = omega arith
 
-pub returns-in_ok-length-in-SymbolStart : goal.returns-in_ok-length-in-SymbolStart
-returns-in_ok-length-in-SymbolStart c =
-    let is = c.in_ok-length-in-SymbolStart.ensures in
-    record { whole = whole_symbol _ _ (sym c.class_of.ensures ∙ c.in-SymbolStart.is) is; not_passed = λ unpassed. symbol_unpassed _ _ is unpassed _ refl }
+pub returns-in-SymbolStart : goal.returns-in-SymbolStart
+returns-in-SymbolStart c =
+    let starts = sym c.class_of.ensures ∙ c.in-SymbolStart.is in
+    record {
+      whole = where_some _ (λ r is. whole_symbol _ _ _ _ starts is) c.whole_text.ensures;
+      not_passed = λ unpassed. where_some _ (λ r is. text_unpassed _ _ _ _ is unpassed) c.whole_text.ensures;
+    }
+
+pub returns-in-Suffix : goal.returns-in-Suffix
+returns-in-Suffix c =
+    let starts = sym c.class_of.ensures ∙ c.in-Suffix.is in
+    record {
+      whole = where_some _ (λ r is. whole_suffix _ _ _ _ starts is) c.whole_text-in-Suffix.ensures;
+      not_passed = λ unpassed. where_some _ (λ r is. suffix_unpassed _ _ _ _ is) c.whole_text-in-Suffix.ensures;
+    }
 
 pub returns-else-piece-end-ne34 : goal.returns-else-piece-end-ne34
 returns-else-piece-end-ne34 c = record {
@@ -19,14 +30,14 @@ returns-else-piece-end-ne34 c = record {
 
 pub returns-in-OpenBrace : goal.returns-in-OpenBrace
 returns-in-OpenBrace c = record {
-  whole = whole_single _ OpenBrace LexMode.Brace TokenForm.CommentOpen (some _ c.if-is_empty.ensures) (sym c.class_of.ensures ∙ c.in-OpenBrace.is) tt
+  whole = whole_single _ OpenBrace (LexMode.Comment Close.Brace) TokenForm.CommentOpen (some _ c.if-is_empty.ensures) (sym c.class_of.ensures ∙ c.in-OpenBrace.is) tt
       (λ _ _. refl) (λ _ _. refl) _ (λ _ _. refl);
   not_passed = λ unpassed. refl;
 }
 
 pub returns-in-Semicolon : goal.returns-in-Semicolon
 returns-in-Semicolon c = record {
-  whole = whole_single _ Semicolon LexMode.Line TokenForm.CommentOpen (some _ c.if-is_empty.ensures) (sym c.class_of.ensures ∙ c.in-Semicolon.is) tt
+  whole = whole_single _ Semicolon (LexMode.Comment Close.LineEnd) TokenForm.CommentOpen (some _ c.if-is_empty.ensures) (sym c.class_of.ensures ∙ c.in-Semicolon.is) tt
       (λ _ _. refl) (λ _ _. refl) _ (λ _ _. refl);
   not_passed = λ unpassed. refl;
 }

@@ -1,12 +1,12 @@
-use Rattle.pgn_lexer.proofs.Words.{◌<◌, length, refl, sym, ap, ◌∙◌, arith, AfterBackslash, longest_of, string_class}
+use Rattle.pgn_lexer.proofs.Words.{◌<◌, length, refl, sym, ap, ◌∙◌, arith, AfterBackslash, LexMode, longest_of, string_class}
 use Rattle.pgn_lexer.proofs.stepping.CopiedBytes.{copied_on, escape_at}
 use Rattle.pgn_lexer.proofs.stepping.PieceByByte.{ran_uses, takes_more, grown_fits, takes_backslash, takes_escaped, longest_fits}
-use Rattle.pgn_lexer.proofs.partial_token.PartialToken.copy.Goals as goal
+use Rattle.pgn_lexer.proofs.partial_token.PartialToken.copy_text.Goals as goal
 
 pub loop-used-preserved-then-is_in : goal.loop-used-preserved-then-is_in
 loop-used-preserved-then-is_in c =
     let here = c.loop-used.invariant in
-    let short : length c.loop-used.self-inside.buffer.items < longest_of c.args.text = omega (arith, here.copied.room) in
+    let short : length c.loop-used.self-inside.buffer.items < longest_of c.in-Text.text = omega (arith, here.copied.room) in
     record {
       copied = copied_on _ _ here.copied (omega arith) (omega arith) (omega arith);
       room = rw c.push.ensures.items (grown_fits _ _ here.inside _ _ here.room short);
@@ -18,11 +18,11 @@ loop-used-preserved-then-is_in c =
 pub loop-used-preserved : goal.loop-used-preserved
 loop-used-preserved c =
     let here = c.loop-used.invariant in
-    let short : length c.loop-used.self-inside.buffer.items < longest_of c.args.text = omega (arith, here.copied.room) in
+    let short : length c.loop-used.self-inside.buffer.items < longest_of c.in-Text.text = omega (arith, here.copied.room) in
     let begins = c.has_escape.ensures c.if-not-has_escape.false in
     let escape = escape_at _ _ _ _ (omega arith) here.copied.whole begins in
-    let fits = longest_fits c.args.text in
-    let string = rw begins.string at here.inside in
+    let fits = longest_fits c.in-Text.text in
+    let string = here.inside ∙ ap LexMode.Text begins.string in
     record {
       copied = copied_on _ _ here.copied (omega arith) (omega (arith, escape.within)) (omega arith);
       room = rw c.push-in-loop-used.ensures.items (grown_fits _ _ here.inside _ _ here.room short);

@@ -1,6 +1,6 @@
 use Rattle.pgn_game.proofs.Words.{refl}
 use Rattle.pgn_game.proofs.PlyAhead.{move_next}
-use Rattle.pgn_game.proofs.line_of_play.LineOfPlay.next_move.Goals as goal
+use Rattle.pgn_game.proofs.line_of_play.LineOfPlay.play.Goals as goal
 
 pub returns-in-Ok-clause-next : goal.returns-in-Ok-clause-next
 returns-in-Ok-clause-next c =

@@ -1,0 +1,8 @@
+-- The items of games one by one.
+pub mod BufferToItems
+pub mod CurrentFitsInMemory
+pub mod EventToItem
+pub mod LastTokenToItems
+pub mod SilentEvents
+pub mod SourceToItems
+pub mod TokenToItems

@@ -1,0 +1,144 @@
+-- From a token of the bytes that were read to what is read of the source.
+use Rattle.pgn_game.proofs.Words.{◌≡◌, ℕ, ◌+◌, ◌-◌, ◌^◌, ◌<◌, ◌≤◌, ◌==◌, true, false, List, [], ◌∷◌, ◌++◌, length, take, drop, Option, None, Some, Ok, Err, refl, sym, ap, subst, ◌∙◌, arith, append_assoc, length-append, length-take, take-append-drop, take_all, take-take, drop-take, drop_of_length-le, eqb-true, Token, Fault, InputTooLong, Profile, IsDecided, StandsAfter, Standing, first, within_limit, AreNext, HasRead}
+use Rattle.pgn_game.specs.declared.item.Item.{Item as CodeItem}
+use Rattle.pgn_game.specs.calls.GamesCalls.{ReadsOn}
+use Rattle.pgn_game.specs.calls.ItemsCalls.{Current, Items, games_of_items}
+use Rattle.pgn_game.specs.state.ItemsSteps.{AfterBuffered, AfterToken, AreGoing, GoesOn, LastIs, ReadsToken, TakesBuffered, at_token, reads_as, too_long}
+use Rattle.pgn_game.specs.state.ReaderState.{Writing}
+use Rattle.pgn_game.proofs.tokens.AcceptedToConverter.{read_as}
+use Rattle.pgn_game.proofs.tokens.BytesWithinLimit.{front_within}
+use Rattle.pgn_game.proofs.tokens.StepsInPiece.{before_more, decided_at_end, decided_before}
+
+first_front : (n : ℕ) (xs : List ℕ) → 0 < n → first (take n xs) ≡ first xs
+first_front n [] h = ap first (take_all n [] (omega arith))
+first_front (Prim.Native.Nat.zero) (x ∷ xs) h = absurd (omega (arith, h))
+first_front (Prim.Native.Nat.suc n) (x ∷ xs) h = refl
+
+pub empty_if : (n : ℕ) → true ≡ (n == 0) → n ≡ 0
+empty_if n h = eqb-true n 0 (sym h)
+
+pub some_if : (n : ℕ) → false ≡ (n == 0) → 0 < n
+some_if (Prim.Native.Nat.zero) h = absurd (cc)
+some_if (Prim.Native.Nat.suc n) h = omega arith
+
+module _ (old : Items) (going : AreGoing old) (count : old.lexer.count ≤ 2 ^ 62) where
+  abbrev room : ℕ
+  room = 2 ^ 62 - old.lexer.count
+
+  abbrev piece : List ℕ
+  piece = take room old.unused
+
+  module _ (p : Profile) (u : List ℕ) (given : List Token) (reads : ReadsOn p u (games_of_items old) given) where
+    place : length reads.used + room ≡ 2 ^ 62
+    place = omega (arith, count, reads.stands.lexer.count)
+
+    has_read : HasRead p (reads_as old.lexer old.current) given
+    has_read = read_as reads.stands.has_read refl refl refl tt
+
+    within_is : within_limit u ≡ reads.used ++ piece
+    within_is = ap within_limit reads.bytes ∙ front_within reads.used old.unused room place
+
+  -- the byte at place 2^62 was read
+  pub stops_too_long : 0 < length old.unused → length piece ≡ 0 → TakesBuffered old (record old { fault = Some (record { at = 2 ^ 62; reason = InputTooLong }) })
+      (Err (record { at = 2 ^ 62; reason = InputTooLong }))
+  stops_too_long some none =
+      let full : room ≡ 0 = omega (arith, some, none, length-take room old.unused) in
+      record {
+        after = λ p u given reads.
+            let end : length reads.used ≡ 2 ^ 62 = omega (arith, full, place p u given reads) in
+            too_long reads.used old.unused reads.bytes end some (reads.at_limit end);
+        goes = (refl, going.last, going.pending);
+        read_all = refl;
+        short = count;
+        nearer = tt;
+      }
+
+  module _ (lexer : Standing) (current : Current) (used : ℕ) where
+    abbrev new : Option Fault → Items
+    new fault = record {
+      lexer = lexer;
+      current = current;
+      unused = drop used old.unused;
+      has_read_all = old.has_read_all;
+      is_finished = old.is_finished;
+      fault = fault;
+    }
+
+    short_after : used ≤ length piece → lexer.count ≡ old.lexer.count + used → lexer.count ≤ 2 ^ 62
+    short_after within is = omega (arith, within, is, count, length-take room old.unused)
+
+    goes_on : (item : Option CodeItem) (p : Profile) (given tokens : List Token) → AfterToken p given tokens lexer current item
+        → HasRead p (reads_as lexer current) tokens
+    goes_on None p given tokens after = after.has_read
+    goes_on (Some i) p given tokens after = after.0.has_read
+
+    module _ (some : 0 < length piece) where
+      some_room : 0 < room
+      some_room = omega (arith, some, length-take room old.unused)
+
+      stands_before : (p : Profile) (u : List ℕ) (given : List Token) (reads : ReadsOn p u (games_of_items old) given)
+          → StandsAfter old.lexer reads.used (first piece) given
+      stands_before p u given reads =
+          subst (λ (b : Option ℕ). StandsAfter old.lexer reads.used b given) (sym (first_front room old.unused some_room)) reads.stands.lexer
+
+      module _ (item : Option CodeItem) (reads_token : ReadsToken old.lexer old.current piece lexer current used (Ok item)) where
+        within : used ≤ room
+        within = omega (arith, reads_token.within, length-take room old.unused)
+
+        front : take used piece ≡ take used old.unused
+        front = take-take used room old.unused within
+
+        rest : drop used piece ≡ take (room - used) (drop used old.unused)
+        rest =
+            let sum : room ≡ used + (room - used) = omega (arith, within) in
+            ap (λ (k : ℕ). drop used (take k old.unused)) sum ∙ drop-take used (room - used) old.unused
+
+        reads_to : (p : Profile) (u : List ℕ) (given : List Token) → ReadsOn p u (games_of_items old) given → AfterBuffered p u given (new None) (Ok item)
+        reads_to p u given reads =
+            let after = reads_token.after p reads.used given (stands_before p u given reads) (has_read p u given reads) in
+            let tokens = after.0 in
+            let is_decided = rw front at after.2 in (
+              tokens,
+              record {
+                used = reads.used ++ take used old.unused;
+                bytes = reads.bytes ∙ ap (λ (xs : List ℕ). reads.used ++ xs) (sym (take-append-drop used old.unused))
+                    ∙ sym (append_assoc reads.used (take used old.unused) (drop used old.unused));
+                stands = record {
+                  known = λ silent. reads.stands.known (ap (λ (w : Writing). w.is_silent) (sym reads_token.writing) ∙ silent);
+                  lexer = before_more (drop used old.unused) (room - used) (rw rest at (rw front at after.1));
+                  has_read = read_as (goes_on item p given tokens after.3) refl refl refl tt;
+                };
+                at_limit = λ full.
+                    let all : room ≤ used = omega (arith, full, place p u given reads, length-append reads.used (take used old.unused), length-take used old.unused) in
+                    decided_at_end (reads.used ++ take used old.unused) tokens
+                    (subst (λ (xs : List ℕ). IsDecided (reads.used ++ take used old.unused) xs tokens)
+                    (drop_of_length-le piece (omega (arith, all, length-take room old.unused))) is_decided);
+                decided = decided_before (reads.used ++ take used old.unused) (drop used old.unused) (room - used) (rw rest at is_decided);
+                not_finished = going.not_finished;
+              },
+              after.3,
+            )
+
+        goes_to : (o : Option CodeItem) → LastIs {E = Fault} current (Ok o) → GoesOn (new None) (Ok o)
+        goes_to None last = record { no_fault = refl; not_finished = going.not_finished; last = last.0; pending = last.1 }
+        goes_to (Some i) last = (refl, going.not_finished, last.0, last.1)
+
+        pub takes_on : TakesBuffered old (new old.fault) (Ok item)
+        takes_on = subst (λ (fault : Option Fault). TakesBuffered old (new fault) (Ok item)) (sym going.no_fault) (record {
+          after = reads_to;
+          goes = goes_to item reads_token.last;
+          read_all = refl;
+          short = short_after reads_token.within reads_token.count;
+          nearer = omega (arith, reads_token.nearer, reads_token.count);
+        })
+
+      pub takes_fault : (f : Fault) → ReadsToken old.lexer old.current piece lexer current used (Err f) → TakesBuffered old (new (Some f)) (Err f)
+      takes_fault f reads_token = record {
+        after = λ p u given reads.
+            let after = reads_token.after p reads.used given (stands_before p u given reads) (has_read p u given reads) in
+            at_token f after.0 after.1 (subst (λ (s : List ℕ). AreNext s (given ++ after.0 ∷ [])) (sym (within_is p u given reads)) after.2);
+        goes = (refl, reads_token.last.0, reads_token.last.1);
+        read_all = refl;
+        short = short_after reads_token.within reads_token.count;
+        nearer = tt;
+      }

@@ -1,0 +1,12 @@
+-- Where the game whose items are given fits in memory, its reader does.
+use Rattle.pgn_game.proofs.Words.{FitsInMemory, RattleType}
+use Rattle.pgn_game.specs.contracts.items.CurrentGame.{the_row}
+use Rattle.pgn_game.specs.contracts.items.Items.{the_row as items_row}
+use Rattle.pgn_game.specs.contracts.reader.Reader.{the_row as reader_row}
+use Rattle.pgn_game.proofs.ReaderFitsInMemory.{first, second}
+
+pub current_fits_reader : (T L : RattleType) → FitsInMemory (the_row T L) → FitsInMemory (reader_row T L)
+current_fits_reader T L fits = second _ _ _ _ (first _ _ _ _ (first _ _ _ _ (first _ _ _ _ (first _ _ _ _ fits))))
+
+pub items_fit_current : (T L : RattleType) → FitsInMemory (items_row T L) → FitsInMemory (the_row T L)
+items_fit_current T L fits = second _ _ _ _ (first _ _ _ _ (first _ _ _ _ (first _ _ _ _ (first _ _ _ _ (first _ _ _ _ fits)))))

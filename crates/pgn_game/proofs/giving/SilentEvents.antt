@@ -1,0 +1,270 @@
+-- From what a token means to what its game answers, if nothing is written.
+use Rattle.std.proofs.lemmas.List.{map-append}
+use Rattle.pgn_game.proofs.Words.{◌≡◌, ◌↔◌, ◌&&◌, ℕ, Bool, true, false, IsTrue, List, [], ◌++◌, map, codes, decimal, Option, None, Some, Result, Ok, Err, refl, sym, ap, subst, ◌∙◌, arith, append-nil, Kind, Reason, Stage, Between, AfterLeftBracket, AfterName, AfterValue, AfterTags, InMovetext, Move, Part, Pair, Item, Marker, marker_text, marker_of, Event, Means, ReaderState, IsAnnotation, BeginsText, ReaderCall, Refuses, RefusesMarker, TakesOther, TakesMarker, IsEntry, EndsAtMarker, going, whole, next, with_items, game_of, game_by, is_begun, items_meant, pairs_meant, after_move_at, may_have_movetext, has_whole_pairs, More, EntersMovetext, TakesOutside, IsOutside, Agrees, Leads, unused}
+use Rattle.pgn_layout.specs.declared.sink.WriteFault.{WriteFault as Fault}
+use Rattle.pgn_game.specs.calls.Given.{Given, item, given_of_next, given_at, given_with}
+use Rattle.pgn_game.specs.declared.event.Event.TheVariants as events
+use Rattle.pgn_game.specs.games.Game as games
+use Rattle.pgn_game.specs.state.Accepted.{Accepts, AcceptsEntry, IsSoundEvent, MeansItems, answer_of, given_for, no_writer, some_event, unwritten}
+use Rattle.pgn_game.proofs.putting.EndToGame.{marker_refused, marker_taken}
+use Rattle.pgn_game.proofs.putting.EventToGame.{annotation_taken, move_taken, number_taken, number_means_same}
+use Rattle.pgn_game.proofs.refusals.RefusalsInMovetext.{marker_whole}
+
+-- a sink that is not looked at
+abbrev taken : Unit {0} → Option (List ℕ)
+taken x = None
+
+abbrev failures : Unit {0} → ℕ
+failures x = 0
+
+pub after_none : (stage : Stage) → after_move_at stage false ≡ false
+after_none InMovetext = refl
+after_none _ = refl
+
+-- nothing was written before
+pub no_flag : (judge : ReaderState) → no_writer ≡ record no_writer { is_after_move = after_move_at judge.stage no_writer.is_after_move }
+no_flag judge = ap (λ (b : Bool). record no_writer { is_after_move = b }) (sym (after_none judge.stage))
+
+module _ (old judge : ReaderState) (k : Kind) (e : Event) (means : Means old k judge e) (at : IsTrue (may_have_movetext old.stage)) where
+  abbrev begun : ReaderState
+  begun = record judge { stage = InMovetext }
+
+  begins : BeginsText {A = Unit {0}} {E = Fault} (unwritten judge) (unwritten begun) (Ok tt) (unused None 0)
+  begins = record {
+    text = tt;
+    begun = ap (λ (b : Bool). record (game_by no_writer begun) { text = record judge.text { is_after_move = b } }) (sym (after_none judge.stage));
+    profile = refl;
+    writing = refl;
+    earlier = refl;
+    plies = refl;
+    probes = refl;
+    counted = refl;
+  }
+
+  call : ReaderCall taken failures (unwritten judge) (unwritten begun) tt tt
+      (BeginsText {A = Unit {0}} {E = Fault} (unwritten judge) (unwritten begun) (Ok tt))
+  call = record { takes = begins; silent = record { silent = refl; untouched = λ silent. refl } }
+
+  pub number_more : e ≡ events.Number → TakesOther (unwritten old) k (unwritten begun) (Ok More) (unused None 0)
+  number_more is =
+      (number_taken taken failures no_writer no_writer old judge begun k e means at tt tt call (ap items_meant is) (ap pairs_meant is)
+      (number_means_same e old.text judge.text is means.text)).takes
+
+  pub annotation_more : (token : List ℕ) → IsAnnotation token e → TakesOther (unwritten old) k (unwritten begun) (Ok More) (unused None 0)
+  annotation_more token is =
+      (annotation_taken taken failures no_writer no_writer old judge begun k e means at tt tt call refl refl (no_flag judge) no_writer tt token is
+      (record {
+        writes = record { puts = record { text = tt; held = refl; each = λ i d h. absurd (omega (arith, h)); counted = refl }; writer = refl };
+        silent = λ silent. refl;
+      })).takes
+
+  pub move_more : (m : Move) (n : ℕ) → e ≡ events.Move m n → TakesOther (unwritten old) k (unwritten begun) (Ok More) (unused None 0)
+  move_more m n is =
+      (move_taken taken failures no_writer no_writer old judge begun k e means at tt tt call refl refl (no_flag judge) no_writer tt begun m n is
+      (record {
+        tried = n;
+        writes = λ here before.
+            record { puts = record { text = tt; held = refl; each = λ i d h. absurd (omega (arith, h)); counted = refl }; writer = refl; after = refl; tried = refl; rises = (omega arith, omega arith) };
+        counts = λ few. ap (λ (most : ℕ). record begun { most_probes = most }) (omega (arith, few));
+        written = refl;
+        silent = λ silent. refl;
+      })).takes
+
+  module _ (plain : (m : Marker) → e ≡ events.Marker m → ⊥) where
+    -- whatever it means
+    pub event_more : TakesOther (unwritten old) k (unwritten begun) (Ok More) (unused None 0)
+    event_more = by e refl
+      where
+        annotation : (token : List ℕ) (x : Event) → e ≡ x → IsAnnotation token x → TakesOther (unwritten old) k (unwritten begun) (Ok More) (unused None 0)
+        annotation token x is means_it = annotation_more token (subst (IsAnnotation token) (sym is) means_it)
+
+        by : (x : Event) → e ≡ x → TakesOther (unwritten old) k (unwritten begun) (Ok More) (unused None 0)
+        by events.Number is = number_more is
+        by (events.Move m n) is = move_more m n is
+        by (events.Glyph n) is = annotation (codes "$" ++ decimal n) (events.Glyph n) is
+            (record { item = games.glyph n; adds = refl; plain = refl; written = λ b p. refl; untried = refl; moves = λ o n m. m })
+        by events.CommentOpen is = annotation (codes "{") events.CommentOpen is
+            (record { item = games.comment_open; adds = refl; plain = refl; written = λ b p. refl; untried = refl; moves = λ o n m. m })
+        by (events.Word text) is = annotation text.now (events.Word text) is
+            (record { item = games.word text.now; adds = refl; plain = refl; written = λ b p. refl; untried = refl; moves = λ o n m. m })
+        by events.CommentClose is = annotation (codes "}") events.CommentClose is
+            (record { item = games.comment_close; adds = refl; plain = refl; written = λ b p. refl; untried = refl; moves = λ o n m. m })
+        by events.Open is = annotation (codes "(") events.Open is
+            (record { item = games.open_variation; adds = refl; plain = refl; written = λ b p. refl; untried = refl; moves = λ o n m. m })
+        by events.Close is = annotation (codes ")") events.Close is
+            (record { item = games.close_variation; adds = refl; plain = refl; written = λ b p. refl; untried = refl; moves = λ o n m. m })
+        by (events.Marker m) is = absurd (plain m is)
+
+    given_plain : given_for e ≡ map item (items_meant e)
+    given_plain = by e refl
+      where
+        by : (x : Event) → e ≡ x → given_for x ≡ map item (items_meant x)
+        by (events.Marker m) is = absurd (plain m is)
+        by events.Number is = refl
+        by (events.Move m n) is = refl
+        by (events.Glyph n) is = refl
+        by events.CommentOpen is = refl
+        by (events.Word text) is = refl
+        by events.CommentClose is = refl
+        by events.Open is = refl
+        by events.Close is = refl
+
+    more_answer : answer_of (Ok (Some e)) ≡ Ok More
+    more_answer = by e refl
+      where
+        by : (x : Event) → e ≡ x → answer_of (Ok (Some x)) ≡ Ok More
+        by (events.Marker m) is = absurd (plain m is)
+        by events.Number is = refl
+        by (events.Move m n) is = refl
+        by (events.Glyph n) is = refl
+        by events.CommentOpen is = refl
+        by (events.Word text) is = refl
+        by events.CommentClose is = refl
+        by events.Open is = refl
+        by events.Close is = refl
+
+    -- what is given for it
+    means_items : (part : Part) → IsEntry (unwritten old) k part → MeansItems part k begun e
+    means_items part entry =
+        let to : next part k ≡ going (with_items part (items_meant e)) = entry.leads ∙ (means.says no_writer part entry.is_open).1 in
+        let leads = (event_more.takes.accepts part entry).leads in
+        let agrees : Agrees (unwritten begun) (with_items part (items_meant e)) = subst (λ x. Leads x More (unwritten begun)) to leads in
+        let held = agrees.text.0 in
+        record {
+          given = ap given_of_next to ∙ ap (λ (gs : List Given). given_with part.pairs [] ++ gs) (map-append item part.items (items_meant e))
+              ∙ ap (λ (gs : List Given). given_with part.pairs part.items ++ gs) (sym given_plain);
+          pairs = ap (λ (r : ReaderState). r.tags.held) means.after ∙ ap (λ t. t.held) entry.is_open.pairs;
+          text = record { levels = held.levels; plies = held.plies; held = refl };
+        }
+
+    sound_event : IsSoundEvent begun e
+    sound_event = by e refl
+      where
+        by : (x : Event) → e ≡ x → IsSoundEvent begun x
+        by (events.Move m n) is =
+            let played = subst (λ (x : Event). Means old k judge x) is means in
+            rw played.text.levels played.text.leads
+        by (events.Word text) is = (subst (λ (x : Event). Means old k judge x) is means).fits
+        by events.Number is = tt
+        by (events.Glyph n) is = tt
+        by events.CommentOpen is = tt
+        by events.CommentClose is = tt
+        by events.Open is = tt
+        by events.Close is = tt
+        by (events.Marker m) is = tt
+
+    pub event_accepted : AcceptsEntry old k begun (Ok e)
+    event_accepted = record {
+      takes = rw more_answer event_more.takes;
+      gives = means_items;
+      sound = sound_event;
+      whole = refl;
+    }
+
+-- A row of the table rejects the token.
+pub event_refused : {old new : ReaderState} {k : Kind} {reason : Reason} → Refuses old k new reason → AcceptsEntry old k new (Err reason)
+event_refused h = record { takes = h.takes no_writer None 0; gives = λ part entry. tt; sound = tt; whole = tt }
+
+-- whether movetext has begun
+begun_is : (stage : Stage) → IsTrue (is_begun stage) ↔ (stage ≡ InMovetext)
+begun_is InMovetext = (λ b. refl, λ b. refl)
+begun_is Between = (λ b. absurd (cc), λ b. absurd (cc))
+begun_is AfterLeftBracket = (λ b. absurd (cc), λ b. absurd (cc))
+begun_is AfterName = (λ b. absurd (cc), λ b. absurd (cc))
+begun_is AfterValue = (λ b. absurd (cc), λ b. absurd (cc))
+begun_is AfterTags = (λ b. absurd (cc), λ b. absurd (cc))
+
+and_false : (b : Bool) → false ≡ (b && false)
+and_false true = refl
+and_false false = refl
+
+-- A marker.
+module _ (old new : ReaderState) (k : Kind) (marker : Marker) (is : marker_of k ≡ Some (marker_text marker)) where
+  pub end_refused : {reason : Reason} → RefusesMarker old marker new reason → AcceptsEntry old k new (Err reason)
+  end_refused {reason} h = record {
+    takes = (marker_refused {taken = taken} {failures = failures} {a = tt} no_writer old new marker reason h).takes.takes k is;
+    gives = λ part entry. tt;
+    sound = tt;
+    whole = tt;
+  }
+
+  module _ (at : IsTrue (may_have_movetext old.stage)) (h : EndsAtMarker old marker new) where
+    ends : TakesMarker (unwritten old) marker (unwritten new) (Ok tt) (unused None 0)
+    ends =
+        (marker_taken taken failures no_writer no_writer old new marker h at (is_begun old.stage) (begun_is old.stage) tt tt
+        (ap (λ (b : Bool). record no_writer { is_after_move = b }) (and_false (is_begun old.stage)))
+        (record { writes = record { written = tt; counted = refl }; silent = λ silent. refl }) no_writer tt
+        (record { writes = record { text = tt; line = refl; writer = refl; counted = refl }; silent = λ silent. refl })).takes
+
+    pub end_accepted : AcceptsEntry old k new (Ok (events.Marker marker))
+    end_accepted = record {
+      takes = ends.takes k is;
+      gives = λ part entry.
+          let to : next part k ≡ whole (game_of part (marker_text marker)) = entry.leads ∙ marker_whole part k (marker_text marker) is in
+          let held = entry.is_open.held in
+          record {
+            given = ap given_of_next to;
+            pairs = ap (λ (r : ReaderState). r.tags.held) h.after ∙ ap (λ t. t.held) entry.is_open.pairs;
+            text = rw (append-nil part.items) (record {
+              levels = ap (λ (r : ReaderState). r.text.levels) h.after ∙ held.levels;
+              plies = ap (λ (r : ReaderState). r.text.plies) h.after ∙ held.plies;
+              held = refl;
+            });
+          };
+      sound = tt;
+      whole = ap (λ (r : ReaderState). has_whole_pairs r.stage) h.after;
+    }
+
+-- A token that is taken outside movetext, or that belongs to it.
+not_begun : (stage : Stage) (part : Part) → is_begun stage ≡ false → given_at stage part ≡ []
+not_begun InMovetext part h = absurd (cc)
+not_begun Between part h = refl
+not_begun AfterLeftBracket part h = refl
+not_begun AfterName part h = refl
+not_begun AfterValue part h = refl
+not_begun AfterTags part h = refl
+
+module _ {old new : ReaderState} {k : Kind} where
+  pub outside_accepted : TakesOutside (unwritten old) k (unwritten new) (Some (Ok More)) → IsOutside old.stage new.stage (Some (Ok More))
+      → Accepts old k new (Ok None)
+  outside_accepted takes outside = record {
+    takes = takes None 0;
+    gives = λ part agrees. (
+      gone (next part k) ((takes None 0).accepts part agrees).leads,
+      subst (λ (s : Stage). given_at s part ≡ []) agrees.stage (not_begun old.stage part outside.0),
+    );
+    sound = tt;
+    whole = tt;
+  }
+    where
+      gone : (to : _) → Leads to More (unwritten new) → given_of_next to ≡ []
+      gone (going after) leads = subst (λ (s : Stage). given_at s after ≡ []) leads.stage (not_begun new.stage after outside.1)
+      gone (whole g) leads = absurd leads
+
+  pub outside_refused : {reason : Reason} → TakesOutside (unwritten old) k (unwritten new) (Some (Err reason)) → Accepts old k new (Err reason)
+  outside_refused takes = record { takes = takes None 0; gives = λ part agrees. tt; sound = tt; whole = tt }
+
+-- It is taken by the reader that is ready for it.
+module _ (old ready : ReaderState) (k : Kind) (enters : EntersMovetext (unwritten old) k (unwritten ready)) where
+  pub entry_accepted : {new : ReaderState} (r : Result Event Reason) → AcceptsEntry ready k new r → Accepts old k new (some_event r)
+  entry_accepted {new} (Err reason) entry = record {
+    takes = enters.takes (unwritten new) (Err reason) (unused None 0) entry.takes;
+    gives = λ part agrees. tt;
+    sound = entry.sound;
+    whole = entry.whole;
+  }
+  entry_accepted {new} (Ok event) entry = record {
+    takes = enters.takes (unwritten new) (answer_of (Ok (Some event))) (unused None 0) entry.takes;
+    gives = λ part agrees.
+        let e = enters.enters part agrees in
+        let gives = entry.gives e.opened e.entry in
+        record {
+          given = ap given_of_next (e.next ∙ sym e.entry.leads) ∙ gives.given
+              ∙ ap (λ (ps : List Pair). given_with ps e.opened.items ++ given_for event) e.pairs
+              ∙ ap (λ (is : List Item). given_with part.pairs is ++ given_for event) e.items;
+          pairs = gives.pairs ∙ e.pairs;
+          text = rw (e.pairs, e.items) at gives.text;
+        };
+    sound = entry.sound;
+    whole = entry.whole;
+  }

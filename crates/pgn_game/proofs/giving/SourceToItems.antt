@@ -1,0 +1,582 @@
+-- What is given of a source, call by call.
+use Rattle.pgn_game.proofs.Words.{◌≡◌, ℕ, ◌^◌, ◌≤◌, ◌⊎◌, Bool, true, false, IsTrue, is_some, List, [], ◌∷◌, ◌++◌, length, fold-append, Option, None, Some, IsSomeAnd, Result, Ok, Err, refl, sym, ap, subst, ◌∙◌, arith, inl, inr, append-nil, append_assoc, false≢true, none-some, Consumes, Consumes-kept, Consumes-nil, Consumes-trans, one_more, IsAtEnd, Token, Fault, Profile, no_progress, Pair, HasLeft, IsDecided, Stands, first, HasRead, HasReadAll, Standing, decided, read, here, levels_of, start_of, StoredLevels, tokens_of}
+use Rattle.std.specs.Io.KnownBytes.{Keeps}
+use Rattle.pgn_game.specs.declared.item.Item.{Item as CodeItem}
+use Rattle.pgn_game.specs.declared.item.Item.TheVariants as items
+use Rattle.pgn_game.specs.declared.reason.Reason.TheVariants.{ReadFault}
+use Rattle.pgn_game.specs.calls.GamesCalls.{ReadsOn}
+use Rattle.pgn_game.specs.calls.Given.{Given, Shown, given_of, shown, shown_with, tags}
+use Rattle.pgn_game.specs.calls.ItemsCalls.{AfterItem, Current, GivesFault, GivesItem, GivesNoItem, HasRest, HaveGiven, IsBehindTags, IsHeld, IsShown, Items, ItemsRead, ItemsStop, ReadsNoSooner, at_end, at_token, behind, converter_of, games_of_items, given_as, given_if, given_next, position_without, too_long, unread, within}
+use Rattle.pgn_game.specs.state.ItemsSteps as steps
+use Rattle.pgn_game.specs.state.ItemsSteps.{AfterLastToken, AfterToken, AreGoing, FillsItems, GivesAtEnd, ItemsSoFar, ReadsLastToken, Rejects, RestSoFar, StopsInBuffer, TakesAtEnd, TakesBuffered, still_at, giving_next, reads_as}
+use Rattle.pgn_game.proofs.tokens.AcceptedToConverter.{read_as}
+use Rattle.pgn_game.proofs.tokens.OneMoreToken.{stops_from}
+use Rattle.pgn_game.proofs.tokens.StepsInPiece.{decided_at_end, stands_before_any}
+
+-- ---- what is shown
+
+shown-snoc : (given : List Given) (g : Given) → shown (given ++ g ∷ []) ≡ shown_with (shown given) g
+shown-snoc given g = fold-append shown_with None given (g ∷ [])
+
+-- the position that is held after the items
+held_here : (c : Current) (s : Shown) → IsHeld c s → c.reading.text.levels.current.position ≡ here (start_of s.pairs) (levels_of s.items)
+held_here c s held = ap (λ (ls : StoredLevels). ls.current.position) held.text.levels
+
+-- Behind the tags an item is given next: the game is still at its first position.
+first_here : (c : Current) (i : CodeItem) (ps : List Pair) → IsSomeAnd (shown_with (Some (record { pairs = ps; items = []; marker = None })) (given_as c i)) (IsHeld c)
+    → c.reading.tags.held ≡ ps → position_without (Some i) c.reading ≡ start_of ps
+first_here c items.Tags ps held is = held_here c _ held ∙ ap start_of is
+first_here c (items.Move m) ps held is =
+    ap (λ (ls : StoredLevels). Rattle.std.specs.Prelude.unwrap_or ls.current.before ls.current.position) held.text.levels
+first_here c (items.Glyph n) ps held is = held_here c _ held
+first_here c items.CommentOpen ps held is = held_here c _ held
+first_here c items.Word ps held is = held_here c _ held
+first_here c items.CommentClose ps held is = held_here c _ held
+first_here c items.Open ps held is = held_here c _ held
+first_here c items.Close ps held is = held_here c _ held
+first_here c (items.Marker m) ps held is = held_here c _ held
+
+-- What is held with the item that is given next shows what was given.
+module _ (c : Current) (i : CodeItem) (given : List Given) (last : c.last ≡ Some i) (held : IsSomeAnd (shown ((given ++ given_as c i ∷ []) ++ given_next c)) (IsHeld c)) where
+  shows_by : (next : Option CodeItem) → c.pending ≡ next → IsBehindTags next c.last → IsSomeAnd (shown (given ++ given_as c i ∷ [])) (IsShown c)
+  shows_by None is at =
+      let all : (given ++ given_as c i ∷ []) ++ given_next c ≡ given ++ given_as c i ∷ [] =
+      ap (λ (o : Option CodeItem). (given ++ given_as c i ∷ []) ++ given_if c o) is ∙ append-nil (given ++ given_as c i ∷ []) in
+      plain (shown (given ++ given_as c i ∷ [])) (subst (λ (gs : List Given). IsSomeAnd (shown gs) (IsHeld c)) all held)
+    where
+      plain : (o : Option Shown) → IsSomeAnd o (IsHeld c) → IsSomeAnd o (IsShown c)
+      plain None h = h
+      plain (Some s) h = record { pairs = h.pairs; position = ap (λ (next : Option CodeItem). position_without next c.reading) is ∙ held_here c s h }
+  shows_by (Some next) is at =
+      let tags_last : i ≡ items.Tags = same_Some i items.Tags (sym last ∙ at) in
+      let first : given_as c i ≡ tags c.reading.tags.held = ap (given_as c) tags_last in
+      let before : shown (given ++ given_as c i ∷ []) ≡ Some (record { pairs = c.reading.tags.held; items = []; marker = None }) =
+      shown-snoc given (given_as c i) ∙ ap (shown_with (shown given)) first ∙ tags_shown (shown given) in
+      let all : shown ((given ++ given_as c i ∷ []) ++ given_next c) ≡ shown_with (Some (record { pairs = c.reading.tags.held; items = []; marker = None })) (given_as c next) =
+      ap (λ (o : Option CodeItem). shown ((given ++ given_as c i ∷ []) ++ given_if c o)) is ∙ shown-snoc (given ++ given_as c i ∷ []) (given_as c next)
+      ∙ ap (λ (s : Option Shown). shown_with s (given_as c next)) before in
+      subst (λ (s : Option Shown). IsSomeAnd s (IsShown c)) (sym before) (record {
+        pairs = refl;
+        position = ap (λ (o : Option CodeItem). position_without o c.reading) is
+            ∙ first_here c next c.reading.tags.held (subst (λ (s : Option Shown). IsSomeAnd s (IsHeld c)) all held) refl;
+      })
+    where
+      same_Some : (a b : CodeItem) → Some a ≡ Some b → a ≡ b
+      same_Some a b h = cc
+
+      tags_shown : (s : Option Shown) → shown_with s (tags c.reading.tags.held) ≡ Some (record { pairs = c.reading.tags.held; items = []; marker = None })
+      tags_shown None = refl
+      tags_shown (Some s) = refl
+
+  pub shows_given : IsBehindTags c.pending c.last → IsSomeAnd (shown (given ++ given_as c i ∷ [])) (IsShown c)
+  shows_given at = shows_by c.pending refl at
+
+-- an item that was read, and what is behind it
+pub gives_one : (p : Profile) (u : List ℕ) (given : List Given) (left : Option (List ℕ)) (new : Items) (i : CodeItem) (tokens : List Token)
+    → ItemsRead p left u new tokens → given_of (read p tokens).progress ≡ given ++ given_as new.current i ∷ given_next new.current
+    → steps.HoldsShown (given_of (read p tokens).progress) new.current → new.current.last ≡ Some i → IsBehindTags new.current.pending new.current.last
+    → HaveGiven p left u new (given ++ given_as new.current i ∷ [])
+gives_one p u given left new i tokens reads all holds last at =
+    let whole : given_of (read p tokens).progress ≡ (given ++ given_as new.current i ∷ []) ++ given_next new.current =
+    all ∙ sym (append_assoc given (given_as new.current i ∷ []) (given_next new.current)) in
+    let held = subst (λ (gs : List Given). IsSomeAnd (shown gs) (IsHeld new.current)) whole holds.holds in
+    record {
+      tokens = tokens;
+      reads = reads;
+      whole = whole;
+      behind = at;
+      shows = λ some. shows_given new.current i given last held at;
+      holds = λ some. held;
+    }
+
+-- ---- in the bytes that were read
+
+pub nothing_next : (i : Items) (given : List Given) → AreGoing i → given ++ given_next i.current ≡ given
+nothing_next i given going = ap (λ (o : Option CodeItem). given ++ given_if i.current o) going.pending ∙ append-nil given
+
+none_shown : (i : Items) → AreGoing i → IsTrue (is_some i.current.last) → ⊥
+none_shown i going some = false≢true (subst (λ (o : Option CodeItem). is_some o ≡ true) going.last some)
+
+pub reads_within : (p : Profile) (left : Option (List ℕ)) (u : List ℕ) (i : Items) (tokens : List Token) → i.has_read_all ≡ false → i.is_finished ≡ false
+    → ItemsRead p left u i tokens → ReadsOn p u (games_of_items i) tokens
+reads_within p left u i tokens more going (within is on) = on
+reads_within p left u i tokens more going (behind is rest) = absurd (false≢true (sym more ∙ is))
+reads_within p left u i tokens more going (at_end is all) = absurd (false≢true (sym going ∙ is))
+
+pub so_far_none : (old : Items) (left : Option (List ℕ)) → AreGoing old → old.has_read_all ≡ false → steps.ReadSoFar old old left left
+so_far_none old left going more p u given have = record {
+  more = [];
+  consumed = Consumes-nil left;
+  tokens = have.tokens;
+  reads = subst (λ (v : List ℕ). ReadsOn p v (games_of_items old) have.tokens) (sym (append-nil u))
+      (reads_within p left u old have.tokens more going.not_finished have.reads);
+  whole = have.whole ∙ nothing_next old given going;
+  no_sooner = inl refl;
+}
+
+module _ (p : Profile) (u : List ℕ) (given : List Given) (left_old left_now : Option (List ℕ)) (now : Items) (so : ItemsSoFar p u given left_old left_now now) where
+  -- where no byte is left, the tokens are those that the bytes decide
+  decided_now : now.unused ≡ [] → given_of (read p (decided (u ++ so.more))).progress ≡ given
+  decided_now none =
+      let used : so.reads.used ≡ u ++ so.more = sym (append-nil so.reads.used) ∙ ap (λ (xs : List ℕ). so.reads.used ++ xs) (sym none) ∙ sym so.reads.bytes in
+      let all : so.tokens ≡ decided so.reads.used =
+      decided_at_end so.reads.used so.tokens (subst (λ (xs : List ℕ). IsDecided so.reads.used xs so.tokens) none so.reads.decided) in
+      ap (λ (ts : List Token). given_of (read p ts).progress) (sym (all ∙ ap decided used)) ∙ so.whole
+
+  passes_now : now.unused ≡ [] → (read p (decided (u ++ so.more))).fault ≡ None
+  passes_now none =
+      let used : so.reads.used ≡ u ++ so.more = sym (append-nil so.reads.used) ∙ ap (λ (xs : List ℕ). so.reads.used ++ xs) (sym none) ∙ sym so.reads.bytes in
+      let all : so.tokens ≡ decided so.reads.used =
+      decided_at_end so.reads.used so.tokens (subst (λ (xs : List ℕ). IsDecided so.reads.used xs so.tokens) none so.reads.decided) in
+      subst (λ (ts : List Token). (read p ts).fault ≡ None) (all ∙ ap decided used) so.reads.stands.has_read.passes
+
+  module _ (left_new : Option (List ℕ)) (new : Items) where
+    -- bytes came
+    pub filled : FillsItems left_now left_new now new → ItemsSoFar p u given left_old left_new new
+    filled fills = by fills.empty
+      where
+        by : (fills.more ≡ []) ⊎ (now.unused ≡ []) → ItemsSoFar p u given left_old left_new new
+        by (inl none) =
+            let same : new ≡ now = fills.new_is ∙ ap (λ (xs : List ℕ). record now { unused = now.unused ++ xs }) none
+            ∙ ap (λ (xs : List ℕ). record now { unused = xs }) (append-nil now.unused) in
+            rw same (record {
+              more = so.more;
+              consumed = subst (Consumes left_old left_new) (append-nil so.more)
+                  (Consumes-trans left_old left_now left_new so.more [] so.consumed (subst (Consumes left_now left_new) none fills.consumed));
+              tokens = so.tokens;
+              reads = so.reads;
+              whole = so.whole;
+              no_sooner = so.no_sooner;
+            })
+        by (inr empty) =
+            let same : new ≡ record now { unused = fills.more } = fills.new_is ∙ ap (λ (xs : List ℕ). record now { unused = xs ++ fills.more }) empty in
+            let used : so.reads.used ≡ u ++ so.more = sym (append-nil so.reads.used) ∙ ap (λ (xs : List ℕ). so.reads.used ++ xs) (sym empty) ∙ sym so.reads.bytes in
+            let all : so.tokens ≡ decided so.reads.used =
+            decided_at_end so.reads.used so.tokens (subst (λ (xs : List ℕ). IsDecided so.reads.used xs so.tokens) empty so.reads.decided) in
+            rw same (record {
+              more = so.more ++ fills.more;
+              consumed = Consumes-trans left_old left_now left_new so.more fills.more so.consumed fills.consumed;
+              tokens = so.tokens;
+              reads = record {
+                used = so.reads.used;
+                bytes = sym (append_assoc u so.more fills.more) ∙ ap (λ (xs : List ℕ). xs ++ fills.more) (sym used);
+                stands = stands_before_any (subst (λ (xs : List ℕ). Stands p (converter_of now) so.reads.used (first xs) so.tokens) empty so.reads.stands);
+                at_limit = so.reads.at_limit;
+                decided = inl all;
+                not_finished = so.reads.not_finished;
+              };
+              whole = so.whole;
+              no_sooner = inr (so.more, fills.more, refl, decided_now empty);
+            })
+
+    -- a token of them gave nothing
+    pub took_none : TakesBuffered now new (Ok None) → left_new ≡ left_now → ItemsSoFar p u given left_old left_new new
+    took_none takes same =
+        let after = takes.after p (u ++ so.more) so.tokens so.reads in
+        rw same (record {
+          more = so.more;
+          consumed = so.consumed;
+          tokens = after.0;
+          reads = after.1;
+          whole = after.2.gives ∙ append-nil (given_of (read p so.tokens).progress) ∙ so.whole;
+          no_sooner = so.no_sooner;
+        })
+
+    -- it gave an item
+    pub took_item : (i : CodeItem) → now.has_read_all ≡ false → TakesBuffered now new (Ok (Some i)) → GivesItem p u given left_old left_now new i
+    took_item i more takes =
+        let after = takes.after p (u ++ so.more) so.tokens so.reads in
+        record {
+          more = so.more;
+          consumed = so.consumed;
+          have_given = gives_one p (u ++ so.more) given left_now new i after.0 (within (takes.read_all ∙ more) after.1)
+              (after.2.0.gives ∙ ap (λ (gs : List Given). gs ++ given_as new.current i ∷ given_next new.current) so.whole) after.2.1 takes.goes.2 takes.goes.3;
+          last = takes.goes.2;
+          no_sooner = so.no_sooner;
+        }
+
+    -- it was rejected
+    pub took_fault : (f : Fault) (failures failures_after : ℕ) → TakesBuffered now new (Err f)
+        → GivesFault p u given (record { before = left_old; after = left_now; failures = failures; failures_after = failures_after }) new f
+    took_fault f failures failures_after takes = record {
+      more = so.more;
+      consumed = so.consumed;
+      stops = by f (takes.after p (u ++ so.more) so.tokens so.reads);
+      kept = takes.goes.0;
+      last = takes.goes.1;
+      none_next = takes.goes.2;
+    }
+      where
+        by : (g : Fault) → StopsInBuffer p (u ++ so.more) so.tokens g
+            → ItemsStop p (u ++ so.more) given (record { before = left_old; after = left_now; failures = failures; failures_after = failures_after }) g
+        by _ (steps.at_token g token rejects next) =
+            at_token g (so.tokens ++ token ∷ []) next rejects.fault (ap given_of rejects.progress ∙ so.whole)
+        by _ (steps.too_long front rest is full more all) =
+            too_long front rest is full more (subst (λ (ts : List Token). (read p ts).fault ≡ None) all so.reads.stands.has_read.passes)
+            (ap (λ (ts : List Token). given_of (read p ts).progress) (sym all) ∙ so.whole)
+
+    -- a read failed
+    pub read_failed : now.unused ≡ [] → now.fault ≡ None → (f : Fault) → f ≡ record { at = now.lexer.count; reason = ReadFault } → new.fault ≡ Some f
+        → Keeps left_now left_new → new.current ≡ now.current → AreGoing now → now.lexer.count ≤ 2 ^ 62 → (failures : ℕ)
+        → GivesFault p u given (record { before = left_old; after = left_new; failures = failures; failures_after = one_more failures }) new f
+    read_failed none going f is kept keeps same at short failures =
+        let used : length so.reads.used ≡ length (u ++ so.more) =
+        ap (length {A = ℕ}) (sym (append-nil so.reads.used) ∙ ap (λ (xs : List ℕ). so.reads.used ++ xs) (sym none) ∙ sym so.reads.bytes) in
+        let place : now.lexer.count ≡ length (u ++ so.more) = so.reads.stands.lexer.count ∙ used in
+        record {
+          more = so.more;
+          consumed = Consumes-kept left_old left_now left_new so.more so.consumed keeps;
+          stops = subst (λ (g : Fault). ItemsStop p (u ++ so.more) given (record { before = left_old; after = left_new; failures = failures; failures_after = one_more failures }) g) (sym (is ∙ ap (λ (n : ℕ). record { at = n; reason = ReadFault }) place))
+              (unread refl (omega (arith, place, short)) (passes_now none) (decided_now none));
+          kept = kept;
+          last = ap (λ (c : Current). c.last) same ∙ at.last;
+          none_next = ap (λ (c : Current). c.pending) same ∙ at.pending;
+        }
+
+    consumed_on : Consumes left_now left_new [] → (xs : List ℕ) → Consumes left_new left_new xs → Consumes left_old left_new (so.more ++ xs)
+    consumed_on ended xs consumed =
+        Consumes-trans left_old left_new left_new so.more xs
+        (subst (Consumes left_old left_new) (append-nil so.more) (Consumes-trans left_old left_now left_new so.more [] so.consumed ended)) consumed
+
+    stops_on : {failures failures_after : ℕ} (f : Fault) (v : List ℕ) → ItemsStop p v given (still_at left_new failures failures_after) f
+        → ItemsStop p v given (record { before = left_old; after = left_new; failures = failures; failures_after = failures_after }) f
+    stops_on f v (at_token g tokens next fault all) = at_token g tokens next fault all
+    stops_on f v (at_end g ended short fault all) = at_end g ended short fault all
+    stops_on f v (unread failed short passes all) = unread failed short passes all
+    stops_on f v (too_long front rest is full more passes all) = too_long front rest is full more passes all
+
+    sooner : (xs : List ℕ) → ReadsNoSooner p (u ++ so.more) xs given → ReadsNoSooner p u (so.more ++ xs) given
+    sooner xs (inl none) = subst (λ (ys : List ℕ). ReadsNoSooner p u (so.more ++ ys) given) (sym none) (subst (λ (ys : List ℕ). ReadsNoSooner p u ys given) (sym (append-nil so.more)) so.no_sooner)
+    sooner xs (inr (front, back, is, all)) =
+        inr (
+          so.more ++ front,
+          back,
+          ap (λ (ys : List ℕ). so.more ++ ys) is ∙ sym (append_assoc so.more front back),
+          subst (λ (v : List ℕ). given_of (read p (decided v)).progress ≡ given) (append_assoc u so.more front) all,
+        )
+
+    -- ---- the source has ended
+
+    pub rest_begins : now.unused ≡ [] → AreGoing now → now.lexer.count ≤ 2 ^ 62 → new ≡ record now { has_read_all = true } → IsAtEnd left_new
+        → HaveGiven p left_new (u ++ so.more) new given
+    rest_begins none going short is ended =
+        let used : so.reads.used ≡ u ++ so.more = sym (append-nil so.reads.used) ∙ ap (λ (xs : List ℕ). so.reads.used ++ xs) (sym none) ∙ sym so.reads.bytes in
+        let stands = subst (λ (xs : List ℕ). Stands p (converter_of now) so.reads.used (first xs) so.tokens) none so.reads.stands in
+        let rest : HasLeft now.lexer so.reads.used so.tokens = ap tokens_of (sym (append-nil so.reads.used)) ∙ stands.lexer.tokens [] tt in
+        rw is (record {
+          tokens = so.tokens;
+          reads = behind refl (record {
+            at_end = ended;
+            short = omega (arith, short, stands.lexer.count, ap (length {A = ℕ}) used);
+            rest = subst (λ (v : List ℕ). HasLeft now.lexer v so.tokens) used rest;
+            has_read = stands.has_read;
+            not_finished = so.reads.not_finished;
+          });
+          whole = so.whole ∙ sym (nothing_next now given going);
+          behind = subst (λ (o : Option CodeItem). IsBehindTags o now.current.last) (sym going.pending) tt;
+          shows = λ some. absurd (none_shown now going some);
+          holds = λ some. absurd (none_shown now going some);
+        })
+
+    -- what is given then
+    pub after_more : Consumes left_now left_new [] → (failures failures_after : ℕ) (result : Result (Option CodeItem) Fault)
+        → AfterItem p (u ++ so.more) given (still_at left_new failures failures_after) new result
+        → AfterItem p u given (record { before = left_old; after = left_new; failures = failures; failures_after = failures_after }) new result
+    after_more ended failures failures_after (Ok (Some i)) gives = record {
+      more = so.more ++ gives.more;
+      consumed = consumed_on ended gives.more gives.consumed;
+      have_given = subst (λ (v : List ℕ). HaveGiven p left_new v new (given ++ given_as new.current i ∷ [])) (append_assoc u so.more gives.more) gives.have_given;
+      last = gives.last;
+      no_sooner = sooner gives.more gives.no_sooner;
+    }
+    after_more ended failures failures_after (Ok None) gives = record {
+      more = so.more ++ gives.more;
+      consumed = consumed_on ended gives.more gives.consumed;
+      all = subst (λ (v : List ℕ). HasReadAll p left_new v (games_of_items new) (tokens_of v)) (append_assoc u so.more gives.more) gives.all;
+      whole = subst (λ (v : List ℕ). given_of (read p (tokens_of v)).progress ≡ given) (append_assoc u so.more gives.more) gives.whole;
+      last = gives.last;
+      none_next = gives.none_next;
+    }
+    after_more ended failures failures_after (Err f) gives = record {
+      more = so.more ++ gives.more;
+      consumed = consumed_on ended gives.more gives.consumed;
+      stops = stops_on f (u ++ (so.more ++ gives.more))
+          (subst (λ (v : List ℕ). ItemsStop p v given (still_at left_new failures failures_after) f) (append_assoc u so.more gives.more) gives.stops);
+      kept = gives.kept;
+      last = gives.last;
+      none_next = gives.none_next;
+    }
+
+-- ---- behind the last bytes
+
+pub rest_none : (old : Items) → AreGoing old → old.has_read_all ≡ true → steps.ReadRestSoFar old old
+rest_none old going all p u given left have = record {
+  tokens = have.tokens;
+  rest = by have.reads;
+  whole = have.whole ∙ nothing_next old given going;
+}
+  where
+    by : ItemsRead p left u old have.tokens → HasRest p left u old have.tokens
+    by (within is on) = absurd (false≢true (sym is ∙ all))
+    by (behind is rest) = rest
+    by (at_end is whole) = absurd (false≢true (sym going.not_finished ∙ is))
+
+module _ (p : Profile) (u : List ℕ) (given : List Given) (left : Option (List ℕ)) (now : Items) (so : RestSoFar p u given left now) (going : AreGoing now) (lexer : Standing) (current : Current) where
+  abbrev new : Bool → Option Fault → Items
+  new finished fault = record {
+    lexer = lexer;
+    current = current;
+    unused = now.unused;
+    has_read_all = now.has_read_all;
+    is_finished = finished;
+    fault = fault;
+  }
+
+  has_read : HasRead p (reads_as now.lexer now.current) so.tokens
+  has_read = read_as so.rest.has_read refl refl refl tt
+
+  module _ (is_end : Bool) (result : Result (Option CodeItem) Fault) (reads : ReadsLastToken now.lexer now.current lexer current is_end result) where
+    after : AfterLastToken p u so.tokens lexer current is_end result
+    after = reads.after p u so.tokens so.rest.rest has_read
+
+  pub rest_on : ReadsLastToken now.lexer now.current lexer current false (Ok None) → RestSoFar p u given left (new false None)
+  rest_on reads =
+      let h = after false (Ok None) reads in
+      record {
+        tokens = so.tokens ++ h.0 ∷ [];
+        rest = record {
+          at_end = so.rest.at_end;
+          short = so.rest.short;
+          rest = h.1;
+          has_read = read_as h.2.has_read refl refl refl tt;
+          not_finished = refl;
+        };
+        whole = h.2.gives ∙ append-nil (given_of (read p so.tokens).progress) ∙ so.whole;
+      }
+
+  pub rest_item : (i : CodeItem) (e : Bool) → now.has_read_all ≡ true → ReadsLastToken now.lexer now.current lexer current e (Ok (Some i)) → GivesItem p u given left left (new false None) i
+  rest_item i true all reads = absurd (none-some i (sym (after true (Ok (Some i)) reads).0))
+  rest_item i false all reads =
+      let h = after false (Ok (Some i)) reads in
+      record {
+        more = [];
+        consumed = Consumes-nil left;
+        have_given = subst (λ (v : List ℕ). HaveGiven p left v (new false None) (given ++ given_as current i ∷ [])) (sym (append-nil u))
+            (gives_one p u given left (new false None) i (so.tokens ++ h.0 ∷ [])
+            (behind all (record {
+              at_end = so.rest.at_end;
+              short = so.rest.short;
+              rest = h.1;
+              has_read = read_as h.2.0.has_read refl refl refl tt;
+              not_finished = refl;
+            }))
+            (h.2.0.gives ∙ ap (λ (gs : List Given). gs ++ given_as current i ∷ given_next current) so.whole) h.2.1 reads.last.0 reads.last.1);
+        last = reads.last.0;
+        no_sooner = inl refl;
+      }
+
+  pub rest_ends : ReadsLastToken now.lexer now.current lexer current true (Ok None) → GivesNoItem p u given left left (new true None)
+  rest_ends reads =
+      let h = after true (Ok None) reads in
+      record {
+        more = [];
+        consumed = Consumes-nil left;
+        all = subst (λ (v : List ℕ). HasReadAll p left v (games_of_items (new true None)) (tokens_of v)) (sym (append-nil u)) (record {
+          at_end = so.rest.at_end;
+          short = so.rest.short;
+          whole = refl;
+          none_begun = h.2;
+          has_read = read_as h.1.has_read refl refl refl tt;
+          finished = refl;
+        });
+        whole = subst (λ (v : List ℕ). given_of (read p (tokens_of v)).progress ≡ given) (sym (append-nil u))
+            (h.1.gives ∙ append-nil (given_of (read p so.tokens).progress) ∙ so.whole);
+        last = reads.last.0;
+        none_next = reads.last.1;
+      }
+
+  pub rest_fault : (f : Fault) (e : Bool) → ReadsLastToken now.lexer now.current lexer current e (Err f) → (failures failures_after : ℕ)
+      → GivesFault p u given (still_at left failures failures_after) (new false (Some f)) f
+  rest_fault f e reads failures failures_after =
+      let h = cut e reads in
+      let all : tokens_of u ≡ (so.tokens ++ h.0 ∷ []) ++ h.1 = h.2 ∙ sym (append_assoc so.tokens (h.0 ∷ []) h.1) in
+      let same : read p (tokens_of u) ≡ read p (so.tokens ++ h.0 ∷ []) =
+      ap (read p) all ∙ stops_from p no_progress (so.tokens ++ h.0 ∷ []) h.1 h.3.fault in
+      record {
+        more = [];
+        consumed = Consumes-nil left;
+        stops = subst (λ (v : List ℕ). ItemsStop p v given (still_at left failures failures_after) f) (sym (append-nil u))
+            (at_end f so.rest.at_end so.rest.short (ap (λ r. r.fault) same ∙ h.3.fault) (ap (λ r. given_of r.progress) same ∙ ap given_of h.3.progress ∙ so.whole));
+        kept = refl;
+        last = reads.last.0;
+        none_next = reads.last.1;
+      }
+    where
+      cut : (e : Bool) → ReadsLastToken now.lexer now.current lexer current e (Err f)
+          → (t : Token) × (rest : List Token) × (tokens_of u ≡ so.tokens ++ t ∷ rest) × Rejects p so.tokens t f
+      cut true reads = after true (Err f) reads
+      cut false reads = after false (Err f) reads
+
+-- what a token behind them does
+module _ (now : Items) (going : AreGoing now) (all : now.has_read_all ≡ true) (lexer : Standing) (current : Current) where
+  abbrev then : Bool → Option Fault → Items
+  then finished fault = record {
+    lexer = lexer;
+    current = current;
+    unused = now.unused;
+    has_read_all = now.has_read_all;
+    is_finished = finished;
+    fault = fault;
+  }
+
+  pub takes_last : (e : Bool) (o : Option CodeItem) → ReadsLastToken now.lexer now.current lexer current e (Ok o) → TakesAtEnd now (then e now.fault) e (Ok o)
+  takes_last e o reads = subst (λ (fault : Option Fault). TakesAtEnd now (then e fault) e (Ok o)) (sym going.no_fault) (by e o reads)
+    where
+      by : (e : Bool) (o : Option CodeItem) → ReadsLastToken now.lexer now.current lexer current e (Ok o) → TakesAtEnd now (then e None) e (Ok o)
+      by false None reads = record {
+        after = λ p u given left so. rest_on p u given left now so going lexer current reads;
+        goes = (record { no_fault = refl; not_finished = refl; last = reads.last.0; pending = reads.last.1 }, reads.nearer refl);
+        read_all = refl;
+      }
+      by true None reads = record {
+        after = λ p u given left so. rest_ends p u given left now so going lexer current reads;
+        goes = tt;
+        read_all = refl;
+      }
+      by false (Some i) reads = record {
+        after = λ p u given left so. rest_item p u given left now so going lexer current i false all reads;
+        goes = tt;
+        read_all = refl;
+      }
+      by true (Some i) reads = record {
+        after = λ p u given left so. absurd (none-some i (sym (reads.after p u so.tokens so.rest.rest (read_as so.rest.has_read refl refl refl tt)).0));
+        goes = tt;
+        read_all = refl;
+      }
+
+  pub takes_last_fault : (f : Fault) (e : Bool) → ReadsLastToken now.lexer now.current lexer current e (Err f) → TakesAtEnd now (then now.is_finished (Some f)) e (Err f)
+  takes_last_fault f e reads = subst (λ (finished : Bool). TakesAtEnd now (then finished (Some f)) e (Err f)) (sym going.not_finished) (record {
+    after = λ p u given left so. rest_fault p u given left now so going lexer current f e reads;
+    goes = by e;
+    read_all = refl;
+  })
+    where
+      by : (e : Bool) → steps.GoesOnAtEnd now (then false (Some f)) e (Err f)
+      by true = tt
+      by false = tt
+
+-- ---- an item that is given next
+
+module _ (old : Items) (i : CodeItem) (next : old.current.pending ≡ Some i) where
+  abbrev given_now : Items
+  given_now = record old { current = record old.current { last = Some i; pending = None } }
+
+  reads_same : (p : Profile) (left : Option (List ℕ)) (u : List ℕ) (tokens : List Token) → ItemsRead p left u old tokens → ItemsRead p left u given_now tokens
+  reads_same p left u tokens (within is on) = within is on
+  reads_same p left u tokens (behind is rest) =
+      behind is (record { at_end = rest.at_end; short = rest.short; rest = rest.rest; has_read = rest.has_read; not_finished = rest.not_finished })
+  reads_same p left u tokens (at_end is all) = at_end is all
+
+  same_as : given_as given_now.current i ≡ given_as old.current i
+  same_as = by i
+    where
+      by : (x : CodeItem) → given_as given_now.current x ≡ given_as old.current x
+      by items.Tags = refl
+      by (items.Move m) = refl
+      by (items.Glyph n) = refl
+      by items.CommentOpen = refl
+      by items.Word = refl
+      by items.CommentClose = refl
+      by items.Open = refl
+      by items.Close = refl
+      by (items.Marker m) = refl
+
+  pub gives_next : (p : Profile) (u : List ℕ) (given : List Given) (left : Option (List ℕ)) → HaveGiven p left u old given
+      → GivesItem p u given left left given_now i
+  gives_next p u given left have =
+      let some : IsTrue (is_some old.current.last) = ap is_some (subst (λ (o : Option CodeItem). IsBehindTags o old.current.last) next have.behind) in
+      let all : given ++ given_next old.current ≡ given ++ given_as given_now.current i ∷ [] =
+      ap (λ (o : Option CodeItem). given ++ given_if old.current o) next ∙ ap (λ (g : Given). given ++ g ∷ []) (sym same_as) in
+      let held = keep (shown (given ++ given_as given_now.current i ∷ [])) (subst (λ (gs : List Given). IsSomeAnd (shown gs) (IsHeld old.current)) all (have.holds some)) in
+      record {
+        more = [];
+        consumed = Consumes-nil left;
+        have_given = subst (λ (v : List ℕ). HaveGiven p left v given_now (given ++ given_as given_now.current i ∷ [])) (sym (append-nil u)) (record {
+          tokens = have.tokens;
+          reads = reads_same p left u have.tokens have.reads;
+          whole = have.whole ∙ all ∙ sym (append-nil (given ++ given_as given_now.current i ∷ []));
+          behind = tt;
+          shows = λ is. shows_given given_now.current i given refl (more held) tt;
+          holds = λ is. more held;
+        });
+        last = refl;
+        no_sooner = inl refl;
+      }
+    where
+      keep : (o : Option Shown) → IsSomeAnd o (IsHeld old.current) → IsSomeAnd o (IsHeld given_now.current)
+      keep None h = h
+      keep (Some s) h = record { pairs = h.pairs; text = h.text }
+
+      more : IsSomeAnd (shown (given ++ given_as given_now.current i ∷ [])) (IsHeld given_now.current)
+          → IsSomeAnd (shown ((given ++ given_as given_now.current i ∷ []) ++ given_next given_now.current)) (IsHeld given_now.current)
+      more h = subst (λ (gs : List Given). IsSomeAnd (shown gs) (IsHeld given_now.current)) (sym (append-nil (given ++ given_as given_now.current i ∷ []))) h
+
+-- ---- no item was given last
+
+module _ (old : Items) (none : old.current.pending ≡ None) where
+  abbrev pub forgotten : Items
+  forgotten = record old { current = record old.current { last = None } }
+
+  pub forgets : (p : Profile) (u : List ℕ) (given : List Given) (left : Option (List ℕ)) → HaveGiven p left u old given → HaveGiven p left u forgotten given
+  forgets p u given left have = record {
+    tokens = have.tokens;
+    reads = by have.reads;
+    whole = have.whole ∙ ap (λ (o : Option CodeItem). given ++ given_if old.current o) none
+        ∙ sym (ap (λ (o : Option CodeItem). given ++ given_if forgotten.current o) none);
+    behind = subst (λ (o : Option CodeItem). IsBehindTags o None) (sym none) tt;
+    shows = λ some. absurd (false≢true some);
+    holds = λ some. absurd (false≢true some);
+  }
+    where
+      by : ItemsRead p left u old have.tokens → ItemsRead p left u forgotten have.tokens
+      by (within is on) = within is on
+      by (behind is rest) =
+          behind is (record { at_end = rest.at_end; short = rest.short; rest = rest.rest; has_read = rest.has_read; not_finished = rest.not_finished })
+      by (at_end is all) = at_end is all
+
+  -- all was given
+  pub gives_none : old.is_finished ≡ true → (p : Profile) (u : List ℕ) (given : List Given) (left : Option (List ℕ)) → HaveGiven p left u old given
+      → GivesNoItem p u given left left forgotten
+  gives_none is p u given left have = record {
+    more = [];
+    consumed = Consumes-nil left;
+    all = subst (λ (v : List ℕ). HasReadAll p left v (games_of_items forgotten) (tokens_of v)) (sym (append-nil u)) whole.0;
+    whole = subst (λ (v : List ℕ). given_of (read p (tokens_of v)).progress ≡ given) (sym (append-nil u)) whole.1;
+    last = refl;
+    none_next = none;
+  }
+    where
+      by : ItemsRead p left u old have.tokens → HasReadAll p left u (games_of_items old) (tokens_of u) × (have.tokens ≡ tokens_of u)
+      by (within more on) = absurd (false≢true (sym on.not_finished ∙ is))
+      by (behind more rest) = absurd (false≢true (sym rest.not_finished ∙ is))
+      by (at_end e all) = (subst (λ (ts : List Token). HasReadAll p left u (games_of_items old) ts) all.whole all, all.whole)
+
+      whole : HasReadAll p left u (games_of_items forgotten) (tokens_of u) × (given_of (read p (tokens_of u)).progress ≡ given)
+      whole =
+          let (all, is_all) = by have.reads in (
+            all,
+            ap (λ (ts : List Token). given_of (read p ts).progress) (sym is_all) ∙ have.whole
+                ∙ ap (λ (o : Option CodeItem). given ++ given_if old.current o) none ∙ append-nil given,
+          )
+
+-- what giving the item does that is given next
+module _ (c : Current) where
+  pub gives_nothing : c.pending ≡ None → giving_next c ≡ c
+  gives_nothing none = by c.pending none
+    where
+      by : (o : Option CodeItem) → o ≡ None → elim o [ None ↦ c | Some i ↦ record c { last = Some i; pending = None } ] ≡ c
+      by None is = refl
+      by (Some i) is = absurd (none-some i (sym is))
+
+  pub gives_some : (i : CodeItem) → c.pending ≡ Some i → giving_next c ≡ record c { last = Some i; pending = None }
+  gives_some i is = ap (λ (o : Option CodeItem). elim o [ None ↦ c | Some i ↦ record c { last = Some i; pending = None } ]) is

@@ -1,0 +1,222 @@
+-- One token of a text, and what is given for it.
+use Rattle.pgn_lexer.specs.PartialToken.{refusal as refusal_token}
+use Rattle.pgn_lexer.specs.Scanned.{token}
+use Rattle.pgn_game.proofs.Words.{◌≡◌, ℕ, ◌+◌, ◌^◌, ◌<◌, ◌≤◌, false, List, [], ◌∷◌, ◌++◌, map, length, take, drop, fold, fold-append, Option, None, Some, IsSomeAnd, Result, Ok, Err, refl, sym, ap, subst, ◌∙◌, arith, append-nil, append_assoc, inl, false≢true, take_all, drop_of_length-le, Token, Reason, WriteFault, Lexical, LexFault, Profile, Game, Item, Pair, Next, going, whole, Progress, progress_with, read, refusal, next, Follows, StandsAfter, first, Scans, Standing, more, fault, HasRead, IsSound, Keeps, Answers, Accepted, More, Finished, CountsWrites, TakesToken, part_after, unused}
+use Rattle.pgn_game.specs.state.ReaderState as reader_state
+use Rattle.pgn_game.specs.declared.item.Item.{Item as CodeItem}
+use Rattle.pgn_game.specs.calls.Given.{Given, Shown, given_of, given_of_game, given_of_games, given_of_next, given_of_part, given_with, item, shown, shown_with}
+use Rattle.pgn_game.specs.calls.ItemsCalls.{Current, IsHeld, given_as, given_next}
+use Rattle.pgn_game.specs.state.ItemsSteps.{AfterToken, GivesFor, IsAnswer, ReadsToken, Rejects, TakesItem, games_added, marker_given, reads_as}
+use Rattle.pgn_game.proofs.tokens.AcceptedToConverter.{follows_own, has_read_game, has_read_more, lexical-refusal, next_in_piece, read_as, read_at, still_none}
+use Rattle.pgn_game.proofs.tokens.OneMoreToken.{read-passes, read-refuses}
+
+games-snoc : (games : List Game) (g : Game) → given_of_games (games ++ g ∷ []) ≡ given_of_games games ++ given_of_game g
+games-snoc [] g = append-nil (given_of_game g)
+games-snoc (h ∷ games) g =
+    ap (λ (gs : List Given). given_of_game h ++ gs) (games-snoc games g) ∙ sym (append_assoc (given_of_game h) (given_of_games games) (given_of_game g))
+
+-- what is given with a token more
+pub given_after : (games : List Game) (nx : Next) → given_of (progress_with games nx) ≡ given_of_games games ++ given_of_next nx
+given_after games (going part) = refl
+given_after games (whole g) = append-nil (given_of_games (games ++ g ∷ [])) ∙ games-snoc games g
+
+items_shown : (ps : List Pair) (before is : List Item)
+    → fold shown_with (Some (record { pairs = ps; items = before; marker = None })) (map item is) ≡ Some (record { pairs = ps; items = before ++ is; marker = None })
+items_shown ps before [] = ap (λ (is : List Item). Some (record { pairs = ps; items = is; marker = None })) (sym (append-nil before))
+items_shown ps before (i ∷ is) =
+    items_shown ps (before ++ i ∷ []) is ∙ ap (λ (is : List Item). Some (record { pairs = ps; items = is; marker = None })) (append_assoc before (i ∷ []) is)
+
+marker_shown : (s : Shown) (ended : Option (List ℕ)) → s.marker ≡ None
+    → fold shown_with (Some s) (marker_given ended) ≡ Some (record { pairs = s.pairs; items = s.items; marker = ended })
+marker_shown s None none = ap (λ (m : Option (List ℕ)). Some (record { pairs = s.pairs; items = s.items; marker = m })) none
+marker_shown s (Some m) none = refl
+
+-- the game of which something was given last
+pub shown_is : (given : List Given) (ps : List Pair) (is : List Item) (ended : Option (List ℕ))
+    → shown (given ++ (given_with ps is ++ marker_given ended)) ≡ Some (record { pairs = ps; items = is; marker = ended })
+shown_is given ps is ended =
+    fold-append shown_with None given (given_with ps is ++ marker_given ended)
+    ∙ fold-append shown_with (Some (record { pairs = ps; items = []; marker = None })) (map item is) (marker_given ended)
+    ∙ ap (λ (s : Option Shown). fold shown_with s (marker_given ended)) (items_shown ps [] is)
+    ∙ marker_shown (record { pairs = ps; items = is; marker = None }) ended refl
+
+-- A token was taken by the current game.
+module _ (p : Profile) (old_lexer lexer : Standing) (old new : Current) (given : List Token) (t : Token) (has_read : HasRead p (reads_as old_lexer old) given) where
+  abbrev b : Progress
+  b = (read p given).progress
+
+  abbrev tokens : List Token
+  tokens = given ++ t ∷ []
+
+  passes : refusal old.reading.profile b.part t.kind ≡ None → refusal p b.part t.kind ≡ None
+  passes h = subst (λ (q : Profile). refusal q b.part t.kind ≡ None) has_read.profile h
+
+  progress_is : refusal old.reading.profile b.part t.kind ≡ None → (read p tokens).progress ≡ progress_with b.games (next b.part t.kind)
+  progress_is h = ap (λ r. r.progress) (read-passes p given t has_read.passes (passes h))
+
+  module _ (games : ℕ) (keeps : Keeps old.reading new.reading) where
+    reads_on : (accepted : Accepted) → Answers old.reading b.part t.kind new.reading (Ok accepted) None None
+        → new.games ≡ old.games + games_added (Ok accepted) → HasRead p (reads_as lexer new) tokens
+    reads_on More h counted =
+        read_as (has_read_more p (reads_as old_lexer old) given t lexer new.reading false has_read keeps.profile keeps.probes keeps.writing h.free h.leads h.plies h.tried)
+        refl (omega (arith, counted)) refl tt
+    reads_on Finished h counted =
+        read_as (has_read_game p (reads_as old_lexer old) given t lexer new.reading false has_read keeps.profile keeps.probes keeps.writing h.free h.leads h.plies h.tried)
+        refl counted refl tt
+
+  given_more : refusal old.reading.profile b.part t.kind ≡ None → (rest : List Given) → given_of_next (next b.part t.kind) ≡ given_of_part b.part ++ rest
+      → given_of (read p tokens).progress ≡ given_of b ++ rest
+  given_more h rest is =
+      ap given_of (progress_is h) ∙ given_after b.games (next b.part t.kind) ∙ ap (λ (gs : List Given). given_of_games b.games ++ gs) is
+      ∙ sym (append_assoc (given_of_games b.games) (given_of_part b.part) rest)
+
+  given_whole : refusal old.reading.profile b.part t.kind ≡ None → (all : List Given) → given_of_next (next b.part t.kind) ≡ all
+      → given_of (read p tokens).progress ≡ given_of_games b.games ++ all
+  given_whole h all is =
+      ap given_of (progress_is h) ∙ given_after b.games (next b.part t.kind) ∙ ap (λ (gs : List Given). given_of_games b.games ++ gs) is
+
+  module _ (item : Option CodeItem) (takes : TakesItem old t.kind new (Ok item)) where
+    after_by : (answer : Result Accepted Reason) → takes.answer ≡ answer → IsAnswer (Ok item) answer → AfterToken p given tokens lexer new item
+    after_by (Err reason) is none = absurd none
+    after_by (Ok accepted) is ok =
+        let taken = subst (λ (a : Result Accepted Reason). TakesToken old.reading t.kind new.reading a (unused None 0)) is takes.takes in
+        let h = taken.accepts b.part has_read.agrees in
+        let counted = subst (λ (a : Result Accepted Reason). new.games ≡ old.games + games_added a) is takes.games in
+        let reads = reads_on 0 taken.keeps accepted h counted in
+        by item h.free reads (takes.gives b.part has_read.agrees)
+      where
+        by : (o : Option CodeItem) → refusal old.reading.profile b.part t.kind ≡ None → HasRead p (reads_as lexer new) tokens → GivesFor b.part t.kind new (Ok o)
+            → AfterToken p given tokens lexer new o
+        by None free reads gives =
+            record { has_read = reads; gives = given_more free [] (gives ∙ sym (append-nil (given_of_part b.part))) }
+        by (Some i) free reads gives = (
+          record { has_read = reads; gives = given_more free (given_as new i ∷ given_next new) gives.given },
+          record {
+            holds = subst (λ (s : Option Shown). IsSomeAnd s (IsHeld new))
+                (sym (ap shown (given_whole free _ gives.whole) ∙ shown_is (given_of_games b.games) b.part.pairs gives.items gives.ended))
+                (record { pairs = gives.pairs; text = gives.text });
+          },
+        )
+
+    pub after_item : AfterToken p given tokens lexer new item
+    after_item = after_by takes.answer refl takes.is
+
+  pub free : (i : Option CodeItem) → TakesItem old t.kind new (Ok i) → refusal p b.part t.kind ≡ None
+  free i takes = by takes.answer refl takes.is
+    where
+      by : (answer : Result Accepted Reason) → takes.answer ≡ answer → IsAnswer (Ok i) answer → refusal p b.part t.kind ≡ None
+      by (Err reason) is none = absurd none
+      by (Ok accepted) is ok =
+          passes ((subst (λ (a : Result Accepted Reason). TakesToken old.reading t.kind new.reading a (unused None 0)) is takes.takes).accepts b.part has_read.agrees).free
+
+  no_write_fails : (reason : Reason) → TakesToken old.reading t.kind new.reading (Err reason) (unused None 0) → reason ≡ WriteFault → ⊥
+  no_write_fails reason takes is =
+      absurd (omega (arith, (subst (λ (r : Reason). CountsWrites (Err r) (unused None 0)) is takes.counted).1))
+
+  pub rejected : (reason : Reason) → TakesItem old t.kind new (Err reason) → Rejects p given t (record { at = t.at; reason = reason })
+  rejected reason takes =
+      let taken = subst (λ (a : Result Accepted Reason). TakesToken old.reading t.kind new.reading a (unused None 0)) takes.is takes.takes in
+      by reason (no_write_fails reason taken) (taken.accepts b.part has_read.agrees)
+    where
+      by : (why : Reason) → (why ≡ WriteFault → ⊥) → Answers old.reading b.part t.kind new.reading (Err why) None None → Rejects p given t (record { at = t.at; reason = why })
+      by why other (reader_state.unwritten none wrote tries) = absurd (other refl)
+      by why other (reader_state.refused reason some wrote tries here) =
+          let ends = read-refuses p given t [] reason has_read.passes (subst (λ (q : Profile). refusal q b.part t.kind ≡ Some reason) has_read.profile some) in
+          record { fault = ap (λ r. r.fault) ends; progress = ap (λ r. r.progress) ends }
+
+-- The lexer rejects the text.
+pub rejected_text : (p : Profile) (given : List Token) (f : LexFault) → (read p given).fault ≡ None
+    → Rejects p given (refusal_token f) (record { at = f.at; reason = Lexical f.reason })
+rejected_text p given f passes =
+    let ends = read-refuses p given (refusal_token f) [] (Lexical f.reason) passes (lexical-refusal p (part_after p given) f) in
+    record { fault = ap (λ r. r.fault) ends; progress = ap (λ r. r.progress) ends }
+
+-- What is read of a piece.
+module _ (old_lexer lexer : Standing) (old new : Current) (piece : List ℕ) (used : ℕ) (some : 0 < length piece) (short : old_lexer.count + length piece ≤ 2 ^ 62)
+    (sound : IsSound old_lexer old.reading old.games false false None) (within : used ≤ length piece) where
+  pub reads_nothing : Scans old_lexer piece lexer used more → old.last ≡ None → old.pending ≡ None → ReadsToken old_lexer old piece lexer old used (Ok None)
+  reads_nothing scans last pending = record {
+    after = λ p u given stands has_read.
+        let scan = scans.carries u (first piece) given stands (follows_own piece) in
+        let all : used ≡ length piece = scan.0 in
+        let front : take used piece ≡ piece = take_all used piece (omega (arith, all)) in
+        let rest : drop used piece ≡ [] = drop_of_length-le piece (omega (arith, all)) in (
+          given,
+          rw (front, rest) (subst (λ k. StandsAfter lexer (u ++ piece) k given) (still_none (first piece) piece some) scan.1),
+          rw (front, rest) (inl (scan.2 some)),
+          record { has_read = read_at p (reads_as old_lexer old) given lexer false has_read; gives = sym (append-nil (given_of (read p given).progress)) },
+        );
+    within = within;
+    last = (last, pending);
+    writing = refl;
+    count = scans.count;
+    sound = record {
+      count = omega (arith, scans.count, short, within);
+      few = λ none. omega (arith, sound.few none, scans.count, scans.few, scans.reads.0, some);
+      few_plies = λ none. omega (arith, sound.fewer_plies none refl, scans.count, scans.few, scans.reads.0, some);
+      fewer_plies = λ none going. omega (arith, sound.fewer_plies none refl, scans.count, scans.few, scans.reads.0, some);
+      between = λ finished. absurd (false≢true finished);
+      no_fault = λ finished. absurd (false≢true finished);
+    };
+    nearer = omega (arith, scans.few, scans.reads.0, some);
+  }
+
+  module _ (t : Token) (scans : Scans old_lexer piece lexer used (token t)) where
+    few_games : (answer : Result Accepted Reason) → games_added answer ≤ 1
+    few_games (Ok Finished) = omega arith
+    few_games (Ok More) = omega arith
+    few_games (Err reason) = omega arith
+
+    pub reads_item : (i : Option CodeItem) → TakesItem old t.kind new (Ok i) → ReadsToken old_lexer old piece lexer new used (Ok i)
+    reads_item i takes = record {
+      after = λ p u given stands has_read.
+          let scan = scans.carries u (first piece) given stands (follows_own piece) in
+          (given ++ t ∷ [], scan.0, scan.1, after_item p old_lexer lexer old new given t has_read i takes);
+      within = within;
+      last = takes.last;
+      writing = takes.takes.keeps.writing;
+      count = scans.count;
+      sound = record {
+        count = omega (arith, scans.count, short, within);
+        few = λ none. omega (arith, sound.few none, scans.count, scans.advances, takes.games, few_games takes.answer);
+        few_plies = λ none. omega (arith, sound.fewer_plies none refl, scans.count, scans.advances, takes.takes.keeps.plies);
+        fewer_plies = λ none going. omega (arith, sound.fewer_plies none refl, scans.count, scans.advances, takes.takes.keeps.plies);
+        between = λ finished. absurd (false≢true finished);
+        no_fault = λ finished. absurd (false≢true finished);
+      };
+      nearer = omega (arith, scans.advances);
+    }
+
+    pub reads_refused : (reason : Reason) → TakesItem old t.kind new (Err reason)
+        → ReadsToken old_lexer old piece lexer new used (Err (record { at = t.at; reason = reason }))
+    reads_refused reason takes = record {
+      after = λ p u given stands has_read.
+          let scan = scans.carries u (first piece) given stands (follows_own piece) in
+          (t, rejected p old_lexer lexer old new given t has_read reason takes, next_in_piece lexer u piece used scan.0);
+      within = within;
+      last = takes.last;
+      writing = takes.takes.keeps.writing;
+      count = scans.count;
+      sound = tt;
+      nearer = tt;
+    }
+
+  pub reads_fault : (f : LexFault) → Scans old_lexer piece lexer used (fault f) → old.last ≡ None → old.pending ≡ None
+      → ReadsToken old_lexer old piece lexer old used (Err (record { at = f.at; reason = Lexical f.reason }))
+  reads_fault f scans last pending = record {
+    after = λ p u given stands has_read.
+        let scan = scans.carries u (first piece) given stands (follows_own piece) in (
+          refusal_token f,
+          rejected_text p given f has_read.passes,
+          λ s. (
+            [],
+            scan.0 s (subst (λ b. Follows b s) (sym (still_none (first piece) piece some)) tt) ∙ sym (append-nil (given ++ refusal_token f ∷ [])),
+          ),
+        );
+    within = within;
+    last = (last, pending);
+    writing = refl;
+    count = scans.count;
+    sound = tt;
+    nearer = tt;
+  }

@@ -1,0 +1,11 @@
+use Rattle.pgn_game.proofs.Words.{◌≡◌, Bool, Option, Some, None, is_some, not, true, refl, ap, sym, subst, ◌∙◌}
+use Rattle.pgn_game.specs.state.Accepted.{unwritten}
+use Rattle.pgn_game.proofs.giving.EventToItem.{leads_from, none_next, played_before}
+use Rattle.pgn_game.proofs.giving.CurrentFitsInMemory.{current_fits_reader, items_fit_current}
+use Rattle.pgn_game.proofs.items.CurrentGame.position_before.Goals as goal
+
+pub position_before-requires : goal.position_before-requires
+position_before-requires g c =
+    let is = sym c.move_of.ensures ∙ c.in-Some.is in
+    let none = none_next (unwritten c.self.inside.reader) c.self.inside.last c.in-Some.field-0 is _ c.self.invariant.behind in
+    (search current_fits_reader, played_before (unwritten c.self.inside.reader) c.self.inside.last c.in-Some.field-0 is (c.self.invariant.last none))

@@ -1,0 +1,5 @@
+use Rattle.pgn_game.proofs.giving.CurrentFitsInMemory.{current_fits_reader, items_fit_current}
+use Rattle.pgn_game.proofs.items.Items.position_before.Goals as goal
+
+pub position_before-requires : goal.position_before-requires
+position_before-requires g c = search items_fit_current

@@ -1,0 +1,16 @@
+use Rattle.pgn_game.proofs.Words.{◌≡◌, ◌+◌, ◌-◌, ◌*◌, ◌^◌, ◌≤◌, false, waiting}
+use Rattle.pgn_game.specs.state.ItemsSteps.{AreGoing, ReadSoFar}
+use Rattle.pgn_game.proofs.items.Items.read_item.Given as goal
+
+abbrev pub invariant-loop-fault : goal.invariant-loop-fault
+invariant-loop-fault g l =
+    record {
+      going : AreGoing l.self;
+      more : l.self.has_read_all ≡ false;
+      short : l.self.lexer.count ≤ 2 ^ 62;
+      failures : g.R.Source.failures l.source ≡ g.R.Source.failures l.fn.source;
+      reads : ReadSoFar l.fn.self l.self (g.R.Source.left l.fn.source) (g.R.Source.left l.source);
+    }
+
+abbrev pub decreases-loop-fault : goal.decreases-loop-fault
+decreases-loop-fault g l = 4 * (2 ^ 62 - l.self.lexer.count) + waiting l.self.lexer

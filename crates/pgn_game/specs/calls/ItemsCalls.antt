@@ -1,0 +1,261 @@
+-- **Definition**: what a contract sees of `Items`, and what each call does to them.
+-- Letters: p is the profile, u are the bytes that the source has given before a call, and `more`
+-- those that it gives during it. `given` is what was given before a call, and g what is given by
+-- it. `left` are the bytes that the source has left, if it reports them; `left_old` and `left_new`
+-- are these before a call and after it. f is a fault.
+use Rattle.std.specs.Prelude.{◌≡◌, ℕ, ◌+◌, ◌^◌, ◌<◌, ◌≤◌, ◌⊎◌, Bool, true, false, IsTrue, is_some, List, [], ◌∷◌, ◌++◌, length, Option, None, Some, IsSomeAnd, unwrap_or, option_map, Result, Ok, Err}
+use Rattle.std.specs.Io.KnownBytes.{Consumes, IsAtEnd}
+use Rattle.chess_rules.specs.declared.position.Move.{Move}
+use Rattle.chess_rules.specs.declared.position.Parts.{Parts}
+use Rattle.pgn_layout.specs.Device.{Device, one_more}
+use Rattle.pgn_lexer.specs.Tokens.{Token}
+use Rattle.pgn_lexer.specs.TokensOf.{tokens_of}
+use Rattle.pgn_lexer.specs.Decided.{decided}
+use Rattle.pgn_lexer.specs.Standing.{Standing}
+use Rattle.pgn_lexer.specs.Stands.{HasLeft}
+use Rattle.pgn_game.specs.declared.item.Item.{Item as CodeItem}
+use Rattle.pgn_game.specs.declared.item.Item.TheVariants as items
+use Rattle.pgn_game.specs.declared.reason.Fault.{Fault}
+use Rattle.pgn_game.specs.declared.reason.Reason.TheVariants.{ReadFault, InputTooLong}
+use Rattle.pgn_game.specs.games.Game as games
+use Rattle.pgn_game.specs.games.Levels.{here, levels_of, start_of}
+use Rattle.pgn_game.specs.games.Markers.{marker_text}
+use Rattle.chess_text.specs.San.{MarkPairs, disambiguation_pairs, san}
+use Rattle.chess_text.specs.Uci.{uci}
+use Rattle.pgn_game.specs.export.TagSection.{exported, tag_section}
+use Rattle.pgn_game.specs.games.Pairs.{value_of}
+use Rattle.pgn_game.specs.games.Profile.{Profile, known_result}
+use Rattle.pgn_game.specs.games.Progress.{read}
+use Rattle.pgn_game.specs.calls.ConverterCalls.{AreNext, Converter, HasRead, within_limit}
+use Rattle.pgn_game.specs.calls.GamesCalls.{Games, HasReadAll, ReadsOn}
+use Rattle.pgn_game.specs.calls.Given.{Given, Shown, given_of, item, marker, shown, tags}
+use Rattle.pgn_game.specs.state.Movetext.{HoldsItems}
+use Rattle.pgn_game.specs.state.ReaderState.{ReaderState}
+
+-- ---- what was given so far
+
+-- The game whose items are given: its reader, of which nothing is written, the number of games that
+-- were finished, the word that was read last, the item given last, if the last call gave one, and
+-- the one that was read and is given next.
+pub record Current : Type 0 where
+  pub reading : ReaderState
+  pub games : ℕ
+  pub word : List ℕ
+  pub last : Option CodeItem
+  pub pending : Option CodeItem
+
+-- what an item of the code stands for
+abbrev pub given_as : Current → CodeItem → Given
+given_as c items.Tags = tags c.reading.tags.held
+given_as c (items.Move m) = item (games.move m)
+given_as c (items.Glyph n) = item (games.glyph n)
+given_as c items.CommentOpen = item games.comment_open
+given_as c items.Word = item (games.word c.word)
+given_as c items.CommentClose = item games.comment_close
+given_as c items.Open = item games.open_variation
+given_as c items.Close = item games.close_variation
+given_as c (items.Marker m) = marker (marker_text m)
+
+abbrev pub given_if : Current → Option CodeItem → List Given
+given_if c None = []
+given_if c (Some i) = given_as c i ∷ []
+
+-- what was read and is given next
+abbrev pub given_next : Current → List Given
+given_next c = given_if c c.pending
+
+-- the lexer, the current game, the bytes that were read and are not used yet, whether the source
+-- has ended, whether all was given, and the fault
+pub record Items : Type 0 where
+  pub lexer : Standing
+  pub current : Current
+  pub unused : List ℕ
+  pub has_read_all : Bool
+  pub is_finished : Bool
+  pub fault : Option Fault
+
+-- they read as a converter does that writes nothing
+abbrev pub converter_of : Items → Converter
+converter_of i = record {
+  lexer = i.lexer;
+  reading = i.current.reading;
+  games = i.current.games;
+  just_finished = None;
+  is_finished = i.is_finished;
+  fault = i.fault;
+}
+
+abbrev pub games_of_items : Items → Games
+games_of_items i = record { converter = converter_of i; unused = i.unused }
+
+-- The source is at its end, so u is the whole text. The lexer still gives the rest of its tokens.
+pub record HasRest (p : Profile) (left : Option (List ℕ)) (u : List ℕ) (i : Items) (tokens : List Token) : Type 0 where
+  pub at_end : IsAtEnd left
+  pub short : length u ≤ 2 ^ 62
+  pub rest : HasLeft i.lexer u tokens
+  pub has_read : HasRead p (converter_of i) tokens
+  pub not_finished : i.is_finished ≡ false
+
+-- The source has given the bytes u, and of these the tokens were read: none is rejected.
+-- - `within`: the source has not ended. The tokens are those that the used bytes decide.
+-- - `behind`: it has ended.
+-- - `at_end`: all tokens of the text were read, and no game is begun after them.
+pub data ItemsRead (p : Profile) (left : Option (List ℕ)) (u : List ℕ) (i : Items) (tokens : List Token) : Type 0 where
+  within : i.has_read_all ≡ false → ReadsOn p u (games_of_items i) tokens → ItemsRead p left u i tokens
+  behind : i.has_read_all ≡ true → HasRest p left u i tokens → ItemsRead p left u i tokens
+  at_end : i.is_finished ≡ true → HasReadAll p left u (games_of_items i) tokens → ItemsRead p left u i tokens
+
+-- the position after the items given: without the item that was read and is given next
+abbrev pub position_without : Option CodeItem → ReaderState → Parts
+position_without (Some (items.Move m)) reading =
+    unwrap_or reading.text.levels.current.before reading.text.levels.current.position
+position_without _ reading = reading.text.levels.current.position
+
+abbrev pub current_position : Current → Parts
+current_position c = position_without c.pending c.reading
+
+-- What can be asked of the game of which something was given last: the value of a name in its tag
+-- section, its tag section, and the position after the items given. Without one there is nothing.
+abbrev pub shown_value : Current → List ℕ → Option (List ℕ)
+shown_value c name = elim c.last [
+  | None ↦ None
+  | Some i ↦ value_of (exported c.reading.profile.mode (known_result c.reading.profile.missing_result) c.reading.tags.held) name
+]
+
+abbrev pub shown_section : Current → List ℕ
+shown_section c = elim c.last [
+  | None ↦ []
+  | Some i ↦ tag_section c.reading.profile.mode (known_result c.reading.profile.missing_result) c.reading.tags.held
+]
+
+abbrev pub shown_position : Current → Option Parts
+shown_position c = elim c.last [ None ↦ None | Some i ↦ Some (current_position c) ]
+
+-- the move that was given last, if a move was
+abbrev pub shown_move : Option CodeItem → Option Move
+shown_move (Some (items.Move m)) = Some m
+shown_move _ = None
+
+-- the position before it
+abbrev pub position_before_move : Current → Option Parts
+position_before_move c = elim (shown_move c.last) [ None ↦ None | Some m ↦ c.reading.text.levels.current.before ]
+
+-- its text in SAN and in UCI
+abbrev pub shown_san : Current → Option (List ℕ)
+shown_san c = elim (shown_move c.last) [ None ↦ None | Some m ↦ option_map (λ before. san before m) c.reading.text.levels.current.before ]
+
+abbrev pub shown_uci : Current → Option (List ℕ)
+shown_uci c = option_map uci (shown_move c.last)
+
+-- The current game is the one of which something was given last, with its pairs, and at the place
+-- after its items.
+pub record IsShown (c : Current) (s : Shown) : Type 0 where
+  pub pairs : c.reading.tags.held ≡ s.pairs
+  pub position : current_position c ≡ here (start_of s.pairs) (levels_of s.items)
+
+-- The same with the item that was read and is given next: the reader holds all these items.
+pub record IsHeld (c : Current) (s : Shown) : Type 0 where
+  pub pairs : c.reading.tags.held ≡ s.pairs
+  pub text : HoldsItems None (start_of s.pairs) s.items c.reading.text []
+
+-- Something is given next only behind the tags.
+abbrev pub IsBehindTags : Option CodeItem → Option CodeItem → Type 0
+IsBehindTags None last = Unit {0}
+IsBehindTags (Some i) last = last ≡ Some items.Tags
+
+-- The source has given the bytes u, and of the text so far this was given: what its tokens are
+-- read into, but for an item that is given next.
+pub record HaveGiven (p : Profile) (left : Option (List ℕ)) (u : List ℕ) (i : Items) (given : List Given) : Type 0 where
+  pub tokens : List Token
+  pub reads : ItemsRead p left u i tokens
+  pub whole : given_of (read p tokens).progress ≡ given ++ given_next i.current
+  pub behind : IsBehindTags i.current.pending i.current.last
+  pub shows : IsTrue (is_some i.current.last) → IsSomeAnd (shown given) (IsShown i.current)
+  pub holds : IsTrue (is_some i.current.last) → IsSomeAnd (shown (given ++ given_next i.current)) (IsHeld i.current)
+
+-- ---- what a call of `next` does
+
+-- If the call read bytes, those known before some of them decide nothing more: no item is held back
+-- that the bytes read before the call decide.
+abbrev pub ReadsNoSooner : Profile → List ℕ → List ℕ → List Given → Type 0
+ReadsNoSooner p u more given =
+    (more ≡ []) ⊎ ((front : List ℕ) × (back : List ℕ) × (more ≡ front ++ back) × (given_of (read p (decided (u ++ front))).progress ≡ given))
+
+-- An item more was given. If the source has not ended, the bytes before place 2^62 decide it.
+pub record GivesItem (p : Profile) (u : List ℕ) (given : List Given) (left_old left_new : Option (List ℕ)) (new : Items) (i : CodeItem) : Type 0 where
+  pub more : List ℕ
+  pub consumed : Consumes left_old left_new more
+  pub have_given : HaveGiven p left_new (u ++ more) new (given ++ given_as new.current i ∷ [])
+  pub last : new.current.last ≡ Some i
+  pub no_sooner : ReadsNoSooner p u more given
+
+-- The source has ended, and all that its text is read into was given before.
+pub record GivesNoItem (p : Profile) (u : List ℕ) (given : List Given) (left_old left_new : Option (List ℕ)) (new : Items) : Type 0 where
+  pub more : List ℕ
+  pub consumed : Consumes left_old left_new more
+  pub all : HasReadAll p left_new (u ++ more) (games_of_items new) (tokens_of (u ++ more))
+  pub last : new.current.last ≡ None
+  pub none_next : new.current.pending ≡ None
+  pub whole : given_of (read p (tokens_of (u ++ more))).progress ≡ given
+
+-- Why a call gives no item though the text goes on, after all items before were given.
+-- - `at_token`: a token is rejected that the bytes before place 2^62 decide.
+-- - `at_end`: a token of the whole text is.
+-- - `unread`: a read failed.
+-- - `too_long`: the source has given the byte at place 2^62.
+pub data ItemsStop (p : Profile) (u : List ℕ) (given : List Given) (source : Device) : Fault → Type 0 where
+  at_token : (f : Fault) (tokens : List Token) → AreNext (within_limit u) tokens → (read p tokens).fault ≡ Some f
+      → given_of (read p tokens).progress ≡ given → ItemsStop p u given source f
+  at_end : (f : Fault) → IsAtEnd source.after → length u ≤ 2 ^ 62 → (read p (tokens_of u)).fault ≡ Some f
+      → given_of (read p (tokens_of u)).progress ≡ given → ItemsStop p u given source f
+  unread : source.failures_after ≡ one_more source.failures → length u ≤ 2 ^ 62 → (read p (decided u)).fault ≡ None
+      → given_of (read p (decided u)).progress ≡ given
+      → ItemsStop p u given source (record { at = length u; reason = ReadFault })
+  too_long : (front rest : List ℕ) → u ≡ front ++ rest → length front ≡ 2 ^ 62 → 0 < length rest
+      → (read p (decided front)).fault ≡ None → given_of (read p (decided front)).progress ≡ given
+      → ItemsStop p u given source (record { at = 2 ^ 62; reason = InputTooLong })
+
+-- Then no item was given last, and none is given next.
+pub record GivesFault (p : Profile) (u : List ℕ) (given : List Given) (source : Device) (new : Items) (f : Fault) : Type 0 where
+  pub more : List ℕ
+  pub consumed : Consumes source.before source.after more
+  pub stops : ItemsStop p (u ++ more) given source f
+  pub kept : new.fault ≡ Some f
+  pub last : new.current.last ≡ None
+  pub none_next : new.current.pending ≡ None
+
+abbrev pub AfterItem : Profile → List ℕ → List Given → Device → Items → Result (Option CodeItem) Fault → Type 0
+AfterItem p u given source new (Ok (Some i)) = GivesItem p u given source.before source.after new i
+AfterItem p u given source new (Ok None) = GivesNoItem p u given source.before source.after new
+AfterItem p u given source new (Err f) = GivesFault p u given source new f
+
+-- What `next` does to items that have read any bytes of the source, which is seen as a device.
+abbrev pub ReadsItem : Items → Items → Result (Option CodeItem) Fault → Device → Type 0
+ReadsItem old new result source =
+    (p : Profile) (u : List ℕ) (given : List Given) → HaveGiven p source.before u old given
+    → AfterItem p u given source new result
+
+-- The source is not touched where the item is given that was read before, nor once it has ended.
+abbrev pub LeavesSource : {R : Type 0} → Items → R → R → Type 0
+LeavesSource old source_old source_new =
+    (IsTrue (is_some old.current.pending) → source_new ≡ source_old) × (old.has_read_all ≡ true → source_new ≡ source_old)
+
+-- The pairs that are tried for the mark and against rivals of the move given last are counted.
+abbrev pub CountsSan : Current → ℕ → ℕ → Type 0
+CountsSan c old new = elim (shown_move c.last) [
+  | None ↦ new ≡ old
+  | Some m ↦ IsSomeAnd c.reading.text.levels.current.before
+      (λ before. MarkPairs c.reading.text.levels.current.position (old + disambiguation_pairs before m) new)
+]
+
+-- After a fault each call returns it again and does not touch the source.
+abbrev pub ItemsAgain : {R : Type 0} → Items → Items → Result (Option CodeItem) Fault → R → R → Type 0
+ItemsAgain old new result source_old source_new =
+    (f : Fault) → old.fault ≡ Some f → old.current.pending ≡ None
+    → (result ≡ Err f) × (new.fault ≡ Some f) × (new.current.pending ≡ None) × (source_new ≡ source_old)
+
+-- So it does after the end, where no item is left.
+abbrev pub ItemsAtEnd : {R : Type 0} → Items → Items → Result (Option CodeItem) Fault → R → R → Type 0
+ItemsAtEnd old new result source_old source_new =
+    old.fault ≡ None → old.is_finished ≡ true → old.current.pending ≡ None
+    → (result ≡ Ok None) × (new.is_finished ≡ true) × (new.current.pending ≡ None) × (source_new ≡ source_old)
