@@ -182,19 +182,26 @@ fn stays<R: Read>(
     assert!(rt; items.position_before().is_none());
 }
 
-/// The text of the items is the export, and they end as it does. At a fault the current line is
-/// missing in the export.
+/// What the export has of the text: at a fault without the current line.
+fn complete_lines<'a>(text: &'a [u8], written: &Written, fault: Option<Fault>) -> &'a [u8] {
+    match fault {
+        Some(_) => text.get(..written.line).unwrap_or_default(),
+        None => text,
+    }
+}
+
+/// The text of the items is the export, and they end as it does.
 fn agrees(rt: &impl Abort, vector: &Vector, most: usize, text: &mut Vec<u8>, export: &mut Vec<u8>) {
     let input = vector.input.as_bytes();
     let run = converted(input, Mode::Full, export);
     let mut items = UsualItems::new();
     let mut source = Inlet::new(Drops { left: input, most });
     let (written, fault) = write_items(&mut items, &mut source, text);
-    let complete = match fault {
-        Some(_) => text.get(..written.line).unwrap_or_default(),
-        None => text.as_slice(),
-    };
-    assert!(rt; complete == export.as_slice(), "{} by {most}", vector.name);
+    assert!(rt;
+        complete_lines(text.as_slice(), &written, fault) == export.as_slice(),
+        "{} by {most}",
+        vector.name
+    );
     match run {
         Ok(totals) => {
             assert_eq!(rt; fault, None, "{} by {most}", vector.name);
