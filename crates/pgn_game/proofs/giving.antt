@@ -2,6 +2,9 @@
 pub mod BufferToItems
 pub mod CurrentFitsInMemory
 pub mod EventToItem
+pub mod ItemsAhead
+pub mod ItemsAtStart
+pub mod ItemsJoined
 pub mod LastTokenToItems
 pub mod SilentEvents
 pub mod SourceToItems

@@ -1,6 +1,7 @@
 -- **Definition**: what the laws of `laws` say.
 pub mod EqualReadings
 pub mod SilentReadings
+pub mod ItemsJoined
 pub mod Laws
 pub mod MovesAreLegal
 pub mod UniqueReading

@@ -2,12 +2,13 @@
 ghost use Rattle.std.specs.Prelude.{◌≡◌, ◌+◌, ◌-◌, ◌<◌, ◌≤◌, ◌^◌, None, Option, [], ℕ, IsTrue, List, false, length, option_map, true};
 ghost use Rattle.pgn_lexer.specs.Tokens.{HasLength};
 ghost use Rattle.pgn_lexer.specs.Scanned.{kind_of};
+ghost use Rattle.pgn_lexer.specs.WhiteSpace.{white_space};
 ghost use Rattle.pgn_game.specs.calls.ConverterCalls.{IsSound};
 ghost use Rattle.pgn_layout.specs.Device.{Counts, WritesText, device};
 ghost use Rattle.std.specs.Option.{option_copied};
 ghost use Rattle.pgn_game.specs.calls.ConverterCalls.{profile_of};
 ghost use Rattle.pgn_game.specs.calls.ItemsCalls.{CountsSan, HaveGiven, ItemsAgain, ItemsAtEnd};
-ghost use Rattle.pgn_game.specs.calls.ItemsCalls.{LeavesSource, ReadsItem};
+ghost use Rattle.pgn_game.specs.calls.ItemsCalls.{LeavesSource, LowersAhead, ReadsItem};
 ghost use Rattle.pgn_game.specs.calls.ItemsCalls.{position_before_move};
 ghost use Rattle.pgn_game.specs.calls.ItemsCalls.{shown_move, shown_position, shown_san, shown_section};
 ghost use Rattle.pgn_game.specs.calls.ItemsCalls.{shown_uci, shown_value};
@@ -372,9 +373,39 @@ impl<const T: usize, const L: usize> Items<T, L> {
         ensures no_fault { result.fault ≡ None }
         ensures not_finished { result.is_finished ≡ false }
     {
+        Items::begin_at(0, true)
+    }
+
+    /// Returns the items of the rest of a text, from the byte at this place on.
+    ///
+    /// The source has to give that rest. The bytes before are taken for white space, as by
+    /// [`crate::Converter::begin_at`], which says what the place and `in_first_column` have to be.
+    /// Places count from the first byte of the text, and so does `place`; `games` counts from here.
+    ///
+    /// # Examples
+    ///
+    /// ```
+    /// use pgn_game::{Inlet, Item, Items, Marker};
+    ///
+    /// let text = b"1. e4 * *";
+    /// let mut source = Inlet::new(&text[7..]);
+    /// let mut items = Items::<64, 33>::begin_at(7, false);
+    /// assert_eq!(items.next(&mut source).unwrap(), Some(Item::Tags));
+    /// assert_eq!(items.next(&mut source).unwrap(), Some(Item::Marker(Marker::Unknown)));
+    /// assert_eq!(items.place(), 9);
+    /// ```
+    pub fn begin_at(place: u64, in_first_column: bool) -> Self
+        requires levels { 1 ≤ L }
+        requires place { place ≤ 2 ^ 62 }
+        ensures begins { (left : Option (List ℕ)) → HaveGiven (profile_of T (L - 1) Full) left
+            (white_space place in_first_column) result [] }
+        ensures count { result.lexer.count ≡ place }
+        ensures no_fault { result.fault ≡ None }
+        ensures not_finished { result.is_finished ≡ false }
+    {
         Items {
             current: CurrentGame::new(),
-            lexer: Lexer::begin_at(0, true),
+            lexer: Lexer::begin_at(place, in_first_column),
             buffer: ReadBuffer::new(),
             has_read_all: false,
             is_finished: false,
@@ -404,6 +435,7 @@ impl<const T: usize, const L: usize> Items<T, L> {
         ensures leaves { LeavesSource self.old source.old source.new }
         ensures again { ItemsAgain self.old self.new result source.old source.new }
         ensures at_end { ItemsAtEnd self.old self.new result source.old source.new }
+        ensures lowers { LowersAhead self.old self.new result }
     {
         if let Some(item) = self.current.give_next() {
             return Ok(Some(item));
@@ -522,8 +554,9 @@ impl<const T: usize, const L: usize> Items<T, L> {
         requires going { AreGoing self.old }
         requires more { self.old.has_read_all ≡ false }
         requires short { self.old.lexer.count ≤ 2 ^ 62 }
-        ensures { ReadsItem self.old self.new result
+        ensures reads { ReadsItem self.old self.new result
             (device R.left R.failures source.old source.new) }
+        ensures lowers { LowersAhead self.old self.new result }
     {
         loop {
             match self.fill_buffer(source) {
@@ -588,7 +621,8 @@ impl<const T: usize, const L: usize> Items<T, L> {
     fn next_at_end(&mut self) -> Result<Option<Item>, Fault>
         requires going { AreGoing self.old }
         requires all { self.old.has_read_all ≡ true }
-        ensures { GivesAtEnd self.old self.new result }
+        ensures gives { GivesAtEnd self.old self.new result }
+        ensures lowers { LowersAhead self.old self.new result }
     {
         loop {
             let (is_end, taken) = self.take_at_end();

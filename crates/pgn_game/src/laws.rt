@@ -1,6 +1,7 @@
 //! Laws of the definitions that the contracts cite. The functions do nothing.
 ghost use Rattle.pgn_game.specs.laws.Laws as laws;
 ghost use Rattle.pgn_game.specs.laws.GamesJoined as games_joined;
+ghost use Rattle.pgn_game.specs.laws.ItemsJoined as items_joined;
 ghost use Rattle.pgn_game.specs.laws.GameEnds as game_ends;
 ghost use Rattle.pgn_game.specs.laws.GamesRestart as restart;
 ghost use Rattle.pgn_game.specs.laws.MovesAreLegal as legality;
@@ -47,6 +48,23 @@ pub fn games_restart()
 /// `convert`. Each call has to get the source and the sink as the call before left them.
 pub fn games_join()
     ensures { games_joined.GamesJoin }
+{}
+
+/// What is given for some tokens is the front of what is given for these and more.
+pub fn given_grows()
+    ensures { items_joined.GivenGrows }
+{}
+
+/// The calls of `Items::next` together give what the whole text of their source is read into.
+///
+/// What was given so far is the front of it. After `Ok(None)` all of it was given, and no token of
+/// the text is rejected. After an error all of it was given, and the error is the first fault of
+/// the text. This holds for a text of at most 2^62 bytes, unless a read failed. Each call has to
+/// get the source as the call before left it.
+pub fn items_join()
+    ensures front { items_joined.GivenIsFront }
+    ensures end { items_joined.EndGivesAll }
+    ensures fault { items_joined.FaultGivesAll }
 {}
 
 /// The token that finishes a game is its marker, and the Result of its tag section is that marker.

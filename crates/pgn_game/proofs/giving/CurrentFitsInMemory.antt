@@ -10,3 +10,7 @@ current_fits_reader T L fits = second _ _ _ _ (first _ _ _ _ (first _ _ _ _ (fir
 
 pub items_fit_current : (T L : RattleType) → FitsInMemory (items_row T L) → FitsInMemory (the_row T L)
 items_fit_current T L fits = second _ _ _ _ (first _ _ _ _ (first _ _ _ _ (first _ _ _ _ (first _ _ _ _ (first _ _ _ _ fits)))))
+
+-- items of the same bounds fit too
+pub items_alike : (T L : RattleType) → FitsInMemory (items_row T L) → FitsInMemory (items_row T L)
+items_alike T L fits = fits

@@ -10,6 +10,7 @@ use Rattle.pgn_game.specs.calls.ItemsCalls.{AfterItem, Current, GivesFault, Give
 use Rattle.pgn_game.specs.state.ItemsSteps as steps
 use Rattle.pgn_game.specs.state.ItemsSteps.{AfterLastToken, AfterToken, AreGoing, FillsItems, GivesAtEnd, ItemsSoFar, ReadsLastToken, Rejects, RestSoFar, StopsInBuffer, TakesAtEnd, TakesBuffered, still_at, giving_next, reads_as}
 use Rattle.pgn_game.proofs.tokens.AcceptedToConverter.{read_as}
+use Rattle.pgn_game.proofs.giving.ItemsAhead.{lowers_end, lowers_on}
 use Rattle.pgn_game.proofs.tokens.OneMoreToken.{stops_from}
 use Rattle.pgn_game.proofs.tokens.StepsInPiece.{decided_at_end, stands_before_any}
 
@@ -437,21 +438,29 @@ module _ (now : Items) (going : AreGoing now) (all : now.has_read_all ≡ true) 
         after = λ p u given left so. rest_on p u given left now so going lexer current reads;
         goes = (record { no_fault = refl; not_finished = refl; last = reads.last.0; pending = reads.last.1 }, reads.nearer refl);
         read_all = refl;
+        count = reads.count;
+        lowers = tt;
       }
       by true None reads = record {
         after = λ p u given left so. rest_ends p u given left now so going lexer current reads;
         goes = tt;
         read_all = refl;
+        count = reads.count;
+        lowers = tt;
       }
       by false (Some i) reads = record {
         after = λ p u given left so. rest_item p u given left now so going lexer current i false all reads;
         goes = tt;
         read_all = refl;
+        count = reads.count;
+        lowers = lowers_on now (then false None) going refl (omega (arith, reads.nearer refl, reads.count));
       }
       by true (Some i) reads = record {
         after = λ p u given left so. absurd (none-some i (sym (reads.after p u so.tokens so.rest.rest (read_as so.rest.has_read refl refl refl tt)).0));
         goes = tt;
         read_all = refl;
+        count = reads.count;
+        lowers = lowers_end now (then true None) going refl;
       }
 
   pub takes_last_fault : (f : Fault) (e : Bool) → ReadsLastToken now.lexer now.current lexer current e (Err f) → TakesAtEnd now (then now.is_finished (Some f)) e (Err f)
@@ -459,6 +468,8 @@ module _ (now : Items) (going : AreGoing now) (all : now.has_read_all ≡ true) 
     after = λ p u given left so. rest_fault p u given left now so going lexer current f e reads;
     goes = by e;
     read_all = refl;
+    count = reads.count;
+    lowers = tt;
   })
     where
       by : (e : Bool) → steps.GoesOnAtEnd now (then false (Some f)) e (Err f)

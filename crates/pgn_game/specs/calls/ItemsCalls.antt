@@ -3,7 +3,7 @@
 -- those that it gives during it. `given` is what was given before a call, and g what is given by
 -- it. `left` are the bytes that the source has left, if it reports them; `left_old` and `left_new`
 -- are these before a call and after it. f is a fault.
-use Rattle.std.specs.Prelude.{◌≡◌, ℕ, ◌+◌, ◌^◌, ◌<◌, ◌≤◌, ◌⊎◌, Bool, true, false, IsTrue, is_some, List, [], ◌∷◌, ◌++◌, length, Option, None, Some, IsSomeAnd, unwrap_or, option_map, Result, Ok, Err}
+use Rattle.std.specs.Prelude.{◌≡◌, ℕ, ◌+◌, ◌-◌, ◌*◌, ◌^◌, ◌<◌, ◌≤◌, ◌⊎◌, Bool, true, false, IsTrue, is_some, List, [], ◌∷◌, ◌++◌, length, Option, None, Some, IsSomeAnd, unwrap_or, option_map, Result, Ok, Err}
 use Rattle.std.specs.Io.KnownBytes.{Consumes, IsAtEnd}
 use Rattle.chess_rules.specs.declared.position.Move.{Move}
 use Rattle.chess_rules.specs.declared.position.Parts.{Parts}
@@ -11,7 +11,7 @@ use Rattle.pgn_layout.specs.Device.{Device, one_more}
 use Rattle.pgn_lexer.specs.Tokens.{Token}
 use Rattle.pgn_lexer.specs.TokensOf.{tokens_of}
 use Rattle.pgn_lexer.specs.Decided.{decided}
-use Rattle.pgn_lexer.specs.Standing.{Standing}
+use Rattle.pgn_lexer.specs.Standing.{Standing, waiting}
 use Rattle.pgn_lexer.specs.Stands.{HasLeft}
 use Rattle.pgn_game.specs.declared.item.Item.{Item as CodeItem}
 use Rattle.pgn_game.specs.declared.item.Item.TheVariants as items
@@ -259,3 +259,30 @@ abbrev pub ItemsAtEnd : {R : Type 0} → Items → Items → Result (Option Code
 ItemsAtEnd old new result source_old source_new =
     old.fault ≡ None → old.is_finished ≡ true → old.current.pending ≡ None
     → (result ≡ Ok None) × (new.is_finished ≡ true) × (new.current.pending ≡ None) × (source_new ≡ source_old)
+
+-- ---- how many items are still to come
+
+-- a bound on the tokens that a lexer still gives
+abbrev pub tokens_ahead : Standing → ℕ
+tokens_ahead l = 4 * (2 ^ 62 - l.count) + waiting l
+
+abbrev pub one_if : Option CodeItem → ℕ
+one_if None = 0
+one_if (Some i) = 1
+
+-- a token gives two items at most
+abbrev pub ahead_unless : (is_finished : Bool) → (tokens : ℕ) → ℕ
+ahead_unless true tokens = 0
+ahead_unless false tokens = 2 + 2 * tokens
+
+-- A bound on the items that are still to come.
+abbrev pub items_ahead : Items → ℕ
+items_ahead i = ahead_unless i.is_finished (tokens_ahead i.lexer) + one_if i.current.pending
+
+abbrev pub IsLessIfItem : {E : Type 0} → (before after : ℕ) → Result (Option CodeItem) E → Type 0
+IsLessIfItem before after (Ok (Some i)) = after < before
+IsLessIfItem before after _ = Unit {0}
+
+-- Each item lowers it.
+abbrev pub LowersAhead : {E : Type 0} → Items → Items → Result (Option CodeItem) E → Type 0
+LowersAhead old new result = IsLessIfItem (items_ahead old) (items_ahead new) result

@@ -25,7 +25,7 @@ use Rattle.pgn_game.specs.export.Text.{text_of}
 use Rattle.pgn_game.specs.calls.ConverterCalls.{AreNext, Converter, HasRead, IsSound, within_limit}
 use Rattle.pgn_game.specs.calls.Given.{Given, given_of, given_of_next, given_of_part, given_with, marker, shown}
 use Rattle.pgn_game.specs.calls.GamesCalls.{ReadsOn}
-use Rattle.pgn_game.specs.calls.ItemsCalls.{Current, GivesFault, GivesItem, GivesNoItem, HasRest, HaveGiven, IsBehindTags, IsHeld, Items, ReadsItem, ReadsNoSooner, games_of_items, given_as, given_next}
+use Rattle.pgn_game.specs.calls.ItemsCalls.{Current, GivesFault, GivesItem, GivesNoItem, HasRest, HaveGiven, IsBehindTags, IsHeld, Items, LowersAhead, ReadsItem, ReadsNoSooner, games_of_items, given_as, given_next}
 use Rattle.pgn_game.specs.state.Judged.{IsPlayed}
 use Rattle.pgn_game.specs.state.Movetext.{HoldsItems}
 use Rattle.pgn_game.specs.state.TokenInMovetext.{has_whole_pairs}
@@ -280,6 +280,8 @@ pub record TakesAtEnd (old new : Items) (is_end : Bool) (result : Result (Option
       → AfterRest p u given left new is_end result
   pub goes : GoesOnAtEnd old new is_end result
   pub read_all : new.has_read_all ≡ old.has_read_all
+  pub count : new.lexer.count ≡ old.lexer.count
+  pub lowers : LowersAhead old new result
 
 abbrev pub ReadRestSoFar : Items → Items → Type 0
 ReadRestSoFar old now =

@@ -1,42 +1,6 @@
-use Rattle.pgn_game.proofs.Words.{arith, refl, inl, no_progress, none, false≢true, []}
-use Rattle.pgn_game.specs.calls.ItemsCalls.{within}
-use Rattle.pgn_game.proofs.tokens.SoundAtStart.{sound_at_start}
-use Rattle.pgn_game.proofs.giving.CurrentFitsInMemory.{items_fit_current}
+use Rattle.pgn_game.proofs.Words.{arith}
+use Rattle.pgn_game.proofs.giving.CurrentFitsInMemory.{items_alike}
 use Rattle.pgn_game.proofs.items.Items.new.Goals as goal
 
-pub new-requires : goal.new-requires
-new-requires g c = (search items_fit_current, c.requires)
-
-pub invariant_of-result : goal.invariant_of-result
-invariant_of-result g c = rw (c.new.ensures) (sound_at_start c.begin_at.result _ (omega (arith, c.begin_at.ensures.count)) c.begin_at.ensures.few refl refl)
-
-pub returns-clause-begins : goal.returns-clause-begins
-returns-clause-begins g c = λ left. rw (c.new.ensures, c.new-2.ensures) (record {
-  tokens = [];
-  reads = within refl (record {
-    used = [];
-    bytes = refl;
-    stands = record {
-      known = λ writes. refl;
-      lexer = c.begin_at.ensures.stands;
-      has_read = record {
-        profile = refl;
-        no_fault = refl;
-        passes = refl;
-        agrees = record { stage = refl; pairs = refl; text = refl };
-        games = refl;
-        plies = refl;
-        probed = λ moves. absurd (false≢true moves);
-        tried = none no_progress;
-        just_finished = tt;
-      };
-    };
-    at_limit = λ full. refl;
-    decided = inl refl;
-    not_finished = refl;
-  });
-  whole = refl;
-  behind = tt;
-  shows = λ some. absurd (false≢true some);
-  holds = λ some. absurd (false≢true some);
-})
+pub begin_at-requires : goal.begin_at-requires
+begin_at-requires g c = (search items_alike, (c.requires, omega arith))

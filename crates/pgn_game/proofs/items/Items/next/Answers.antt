@@ -1,6 +1,8 @@
-use Rattle.pgn_game.proofs.Words.{None, ap, sym, ◌∙◌}
-use Rattle.pgn_game.specs.calls.ItemsCalls.{Current}
+use Rattle.pgn_game.proofs.Words.{None, Option, ap, arith, sym, ◌∙◌}
+use Rattle.pgn_game.specs.declared.item.Item.{Item as CodeItem}
+use Rattle.pgn_game.specs.calls.ItemsCalls.{Current, one_if}
 use Rattle.pgn_game.proofs.giving.CurrentFitsInMemory.{items_fit_current}
+use Rattle.pgn_game.proofs.giving.ItemsAhead.{lowers_from}
 use Rattle.pgn_game.proofs.giving.SourceToItems.{forgets, gives_next, gives_none, gives_nothing, gives_some}
 use Rattle.pgn_game.proofs.items.Items.next.Goals as goal
 
@@ -18,6 +20,12 @@ returns-in-Some-clause-reads g c =
     rw (c.give_next.ensures.current ∙ gives_some _ c.in-Some.item is)
     (λ p u given have. gives_next _ c.in-Some.item is p u given _ (rw (← c.self.view_is) at have))
 
+pub returns-in-Some-clause-lowers : goal.returns-in-Some-clause-lowers
+returns-in-Some-clause-lowers g c =
+    let is = sym c.give_next.ensures.item ∙ c.in-Some.is in
+    rw (← c.self.view_is, c.give_next.ensures.current ∙ gives_some _ c.in-Some.item is)
+    (omega (arith, ap (λ (o : Option CodeItem). one_if o) is))
+
 pub returns-then-self-clause-reads : goal.returns-then-self-clause-reads
 returns-then-self-clause-reads g c =
     let none = sym c.give_next.ensures.item ∙ c.in_default.is in
@@ -29,11 +37,23 @@ returns-then-self-2-clause-reads g c =
     let none = sym c.give_next.ensures.item ∙ c.in_default.is in
     let current_is = c.forget_last.ensures ∙ ap (λ (x : Current). record x { last = None }) (c.give_next.ensures.current ∙ gives_nothing _ none) in
     λ p u given have.
-    (rw current_is at c.next_at_end.ensures) _ _ _ p u given (forgets _ none p u given _ (rw (← c.self.view_is) at have))
+    (rw current_is at c.next_at_end.ensures.gives) _ _ _ p u given (forgets _ none p u given _ (rw (← c.self.view_is) at have))
+
+pub returns-then-self-2-clause-lowers : goal.returns-then-self-2-clause-lowers
+returns-then-self-2-clause-lowers g c =
+    let none = sym c.give_next.ensures.item ∙ c.in_default.is in
+    let current_is = c.forget_last.ensures ∙ ap (λ (x : Current). record x { last = None }) (c.give_next.ensures.current ∙ gives_nothing _ none) in
+    rw (← c.self.view_is) (lowers_from _ _ _ _ (rw current_is at c.next_at_end.ensures.lowers) (omega arith))
 
 pub returns-clause-reads : goal.returns-clause-reads
 returns-clause-reads g c =
     let none = sym c.give_next.ensures.item ∙ c.in_default.is in
     let current_is = c.forget_last.ensures ∙ ap (λ (x : Current). record x { last = None }) (c.give_next.ensures.current ∙ gives_nothing _ none) in
     λ p u given have.
-    (rw current_is at c.read_item.ensures) p u given (forgets _ none p u given _ (rw (← c.self.view_is) at have))
+    (rw current_is at c.read_item.ensures.reads) p u given (forgets _ none p u given _ (rw (← c.self.view_is) at have))
+
+pub returns-clause-lowers : goal.returns-clause-lowers
+returns-clause-lowers g c =
+    let none = sym c.give_next.ensures.item ∙ c.in_default.is in
+    let current_is = c.forget_last.ensures ∙ ap (λ (x : Current). record x { last = None }) (c.give_next.ensures.current ∙ gives_nothing _ none) in
+    rw (← c.self.view_is) (lowers_from _ _ _ _ (rw current_is at c.read_item.ensures.lowers) (omega arith))

@@ -1,20 +1,27 @@
-use Rattle.pgn_game.proofs.Words.{◌∙◌}
+use Rattle.pgn_game.proofs.Words.{◌∙◌, arith}
+use Rattle.pgn_game.proofs.giving.ItemsAhead.{ahead_going}
 use Rattle.pgn_game.proofs.giving.SourceToItems.{rest_none}
 use Rattle.pgn_game.proofs.items.Items.next_at_end.Goals as goal
 
 pub loop-fault-init : goal.loop-fault-init
-loop-fault-init g c = record { going = c.requires.going; all = c.requires.all; rest = rest_none _ c.requires.going c.requires.all }
+loop-fault-init g c =
+    record { going = c.requires.going; all = c.requires.all; rest = rest_none _ c.requires.going c.requires.all; ahead = omega arith }
 
-pub returns-in-Err : goal.returns-in-Err
-returns-in-Err g c = λ left n m p u given have.
+pub returns-in-Err-clause-gives : goal.returns-in-Err-clause-gives
+returns-in-Err-clause-gives g c = λ left n m p u given have.
     (rw c.in-Err.is at c.take_at_end-is_end.ensures).after p u given left (c.loop-fault.invariant.rest p u given left have) n m
 
-pub returns-in-Ok-Some : goal.returns-in-Ok-Some
-returns-in-Ok-Some g c = λ left n m p u given have.
+pub returns-in-Ok-Some-clause-gives : goal.returns-in-Ok-Some-clause-gives
+returns-in-Ok-Some-clause-gives g c = λ left n m p u given have.
     (rw (c.in-Ok-Some.is, c.in-Ok-Some.field-0-is) at c.take_at_end-is_end.ensures).after p u given left (c.loop-fault.invariant.rest p u given left have)
 
-pub returns-then-is_end : goal.returns-then-is_end
-returns-then-is_end g c = λ left n m p u given have.
+pub returns-in-Ok-Some-clause-lowers : goal.returns-in-Ok-Some-clause-lowers
+returns-in-Ok-Some-clause-lowers g c =
+    let takes = rw (c.in-Ok-Some.is, c.in-Ok-Some.field-0-is) at c.take_at_end-is_end.ensures in
+    omega (arith, takes.lowers, ahead_going _ c.loop-fault.invariant.going, ahead_going _ c.requires.going, c.loop-fault.invariant.ahead)
+
+pub returns-then-is_end-clause-gives : goal.returns-then-is_end-clause-gives
+returns-then-is_end-clause-gives g c = λ left n m p u given have.
     (rw (c.in-Ok-None.is, c.in-Ok-None.field-0-is, c.if-is_end.true) at c.take_at_end-is_end.ensures).after p u given left
     (c.loop-fault.invariant.rest p u given left have)
 
@@ -25,4 +32,5 @@ loop-fault-preserved g c =
       going = takes.goes.0;
       all = takes.read_all ∙ c.loop-fault.invariant.all;
       rest = λ p u given left have. takes.after p u given left (c.loop-fault.invariant.rest p u given left have);
+      ahead = omega (arith, takes.goes.1, takes.count, c.loop-fault.invariant.ahead);
     }

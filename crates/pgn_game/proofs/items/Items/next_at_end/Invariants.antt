@@ -1,4 +1,5 @@
-use Rattle.pgn_game.proofs.Words.{◌≡◌, true, waiting}
+use Rattle.pgn_game.proofs.Words.{◌≡◌, ◌≤◌, true, waiting}
+use Rattle.pgn_game.specs.calls.ItemsCalls.{tokens_ahead}
 use Rattle.pgn_game.specs.state.ItemsSteps.{AreGoing, ReadRestSoFar}
 use Rattle.pgn_game.proofs.items.Items.next_at_end.Given as goal
 
@@ -8,6 +9,7 @@ invariant-loop-fault g l =
       going : AreGoing l.self;
       all : l.self.has_read_all ≡ true;
       rest : ReadRestSoFar l.fn.self l.self;
+      ahead : tokens_ahead l.self.lexer ≤ tokens_ahead l.fn.self.lexer;
     }
 
 abbrev pub decreases-loop-fault : goal.decreases-loop-fault

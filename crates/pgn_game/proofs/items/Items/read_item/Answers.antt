@@ -1,5 +1,6 @@
-use Rattle.pgn_game.proofs.Words.{ℕ, ap, one_more, refl, subst, sym, ◌∙◌}
-use Rattle.pgn_game.specs.calls.ItemsCalls.{GivesFault, Items}
+use Rattle.pgn_game.proofs.Words.{ℕ, ap, arith, one_more, refl, subst, sym, ◌∙◌}
+use Rattle.pgn_game.specs.calls.ItemsCalls.{GivesFault, Items, items_ahead, tokens_ahead}
+use Rattle.pgn_game.proofs.giving.ItemsAhead.{ahead_going, lowers_buffered, lowers_from}
 use Rattle.pgn_game.proofs.giving.SourceToItems.{after_more, filled, read_failed, rest_begins, so_far_none, took_fault, took_item, took_none}
 use Rattle.pgn_game.proofs.items.Items.read_item.Goals as goal
 
@@ -8,12 +9,13 @@ loop-fault-init g c = record {
   going = c.requires.going;
   more = c.requires.more;
   short = c.requires.short;
+  ahead = omega arith;
   failures = refl;
   reads = so_far_none _ _ c.requires.going c.requires.more;
 }
 
-pub returns-in-Err : goal.returns-in-Err
-returns-in-Err g c = λ p u given have.
+pub returns-in-Err-clause-reads : goal.returns-in-Err-clause-reads
+returns-in-Err-clause-reads g c = λ p u given have.
     let so = c.loop-fault.invariant in
     let fails = c.in-Err.ensures.more in
     subst (λ (n : ℕ). GivesFault p u given (record {
@@ -24,27 +26,41 @@ returns-in-Err g c = λ p u given have.
     }) c.fill_buffer.new.self c.in-Err.fault) (sym (c.in-Err.ensures.counted ∙ ap one_more so.failures))
     (read_failed p u given _ _ _ (so.reads p u given have) _ _ fails.0 so.going.no_fault c.in-Err.fault fails.1 fails.2 fails.3 fails.4 so.going so.short _)
 
-pub returns-in-Ok-false : goal.returns-in-Ok-false
-returns-in-Ok-false g c = λ p u given have.
+pub returns-in-Ok-false-clause-reads : goal.returns-in-Ok-false-clause-reads
+returns-in-Ok-false-clause-reads g c = λ p u given have.
     let so = c.loop-fault.invariant in
     let x = so.reads p u given have in
     let ends = rw c.in-Ok-false.field-0-test at c.in-Ok-false.ensures.more in
     after_more p u given _ _ _ x _ _ ends.2 _ _ c.next_at_end.result
-    (c.next_at_end.ensures _ _ _ p _ given (rest_begins p u given _ _ _ x _ _ ends.0 so.going so.short ends.1 ends.3))
+    (c.next_at_end.ensures.gives _ _ _ p _ given (rest_begins p u given _ _ _ x _ _ ends.0 so.going so.short ends.1 ends.3))
 
-pub returns-in-Err-take_buffered : goal.returns-in-Err-take_buffered
-returns-in-Err-take_buffered g c = λ p u given have.
+pub returns-in-Ok-false-clause-lowers : goal.returns-in-Ok-false-clause-lowers
+returns-in-Ok-false-clause-lowers g c =
+    let so = c.loop-fault.invariant in
+    let ends = rw c.in-Ok-false.field-0-test at c.in-Ok-false.ensures.more in
+    lowers_from _ _ _ _ c.next_at_end.ensures.lowers
+    (omega (arith, ap items_ahead ends.1, ahead_going _ so.going, ahead_going _ c.requires.going, so.ahead))
+
+pub returns-in-Err-take_buffered-clause-reads : goal.returns-in-Err-take_buffered-clause-reads
+returns-in-Err-take_buffered-clause-reads g c = λ p u given have.
     let fills = rw c.in-Ok-true.field-0-test at c.in-Ok-true.ensures.more in
     let x = filled p u given _ _ _ (c.loop-fault.invariant.reads p u given have) _ _ fills in
     took_fault p u given _ _ _ x (g.R.Source.left c.fill_buffer.new.source) _ c.in-Err-take_buffered.fault _ _ c.in-Err-take_buffered.ensures
 
-pub returns-in-Ok-Some : goal.returns-in-Ok-Some
-returns-in-Ok-Some g c = λ p u given have.
+pub returns-in-Ok-Some-clause-reads : goal.returns-in-Ok-Some-clause-reads
+returns-in-Ok-Some-clause-reads g c = λ p u given have.
     let so = c.loop-fault.invariant in
     let fills = rw c.in-Ok-true.field-0-test at c.in-Ok-true.ensures.more in
     let x = filled p u given _ _ _ (so.reads p u given have) _ _ fills in
     took_item p u given _ _ _ x (g.R.Source.left c.fill_buffer.new.source) _ c.in-Ok-Some.item
     (ap (λ (i : Items). i.has_read_all) fills.new_is ∙ so.more) (rw c.in-Ok-Some.field-0-is at c.in-Ok-Some.ensures)
+
+pub returns-in-Ok-Some-clause-lowers : goal.returns-in-Ok-Some-clause-lowers
+returns-in-Ok-Some-clause-lowers g c =
+    let so = c.loop-fault.invariant in
+    let fills = rw c.in-Ok-true.field-0-test at c.in-Ok-true.ensures.more in
+    let takes = rw c.in-Ok-Some.field-0-is at c.in-Ok-Some.ensures in
+    lowers_buffered _ _ _ c.in-Ok-Some.item c.requires.going takes (omega (arith, ap (λ (i : Items). tokens_ahead i.lexer) fills.new_is, so.ahead))
 
 pub loop-fault-preserved : goal.loop-fault-preserved
 loop-fault-preserved g c =
@@ -55,6 +71,7 @@ loop-fault-preserved g c =
       going = takes.goes;
       more = takes.read_all ∙ ap (λ (i : Items). i.has_read_all) fills.new_is ∙ so.more;
       short = takes.short;
+      ahead = omega (arith, takes.nearer, takes.short, ap (λ (i : Items). tokens_ahead i.lexer) fills.new_is, so.ahead);
       failures = c.in-Ok-true.ensures.counted ∙ so.failures;
       reads = λ p u given have.
           took_none p u given _ _ _ (filled p u given _ _ _ (so.reads p u given have) _ _ fills) _ _ takes refl;

@@ -1,4 +1,5 @@
-use Rattle.pgn_game.proofs.Words.{◌≡◌, ◌+◌, ◌-◌, ◌*◌, ◌^◌, ◌≤◌, false, waiting}
+use Rattle.pgn_game.proofs.Words.{◌≡◌, ◌^◌, ◌≤◌, false}
+use Rattle.pgn_game.specs.calls.ItemsCalls.{tokens_ahead}
 use Rattle.pgn_game.specs.state.ItemsSteps.{AreGoing, ReadSoFar}
 use Rattle.pgn_game.proofs.items.Items.read_item.Given as goal
 
@@ -8,9 +9,10 @@ invariant-loop-fault g l =
       going : AreGoing l.self;
       more : l.self.has_read_all ≡ false;
       short : l.self.lexer.count ≤ 2 ^ 62;
+      ahead : tokens_ahead l.self.lexer ≤ tokens_ahead l.fn.self.lexer;
       failures : g.R.Source.failures l.source ≡ g.R.Source.failures l.fn.source;
       reads : ReadSoFar l.fn.self l.self (g.R.Source.left l.fn.source) (g.R.Source.left l.source);
     }
 
 abbrev pub decreases-loop-fault : goal.decreases-loop-fault
-decreases-loop-fault g l = 4 * (2 ^ 62 - l.self.lexer.count) + waiting l.self.lexer
+decreases-loop-fault g l = tokens_ahead l.self.lexer
