@@ -10,7 +10,7 @@ ghost use Rattle.pgn_game.specs.declared.converter.Fed.TheVariants as fed;
 ghost use Rattle.pgn_game.specs.declared.reason.Reason.TheVariants.{InputTooLong, Lexical, ReadFault};
 ghost use Rattle.pgn_game.specs.declared.stage.Stage.TheVariants.{InMovetext};
 ghost use Rattle.pgn_game.specs.state.ConverterSteps.{IsBeforePiece, IsBeforeToken, IsGoing, IsReady};
-ghost use Rattle.pgn_game.specs.state.ConverterSteps.{StepsInPiece, StepsAtEnd, ReadsOn, FeedsToMarker, fed_marker};
+ghost use Rattle.pgn_game.specs.state.ConverterSteps.{StepsInPiece, StepsAtEnd, ReadsOn, ReadsToMarker, fed_marker};
 ghost use Rattle.pgn_game.specs.state.ConverterSteps.{GoesToMarker, GoesToEndOfPiece, EndsToMarker};
 ghost use Rattle.pgn_game.specs.state.ConverterSteps.{EndsGame, CountsGame, fault_of, outcome_at};
 ghost use Rattle.pgn_game.specs.state.ConverterSteps.{taking_announced_marker, announcing};
@@ -324,7 +324,7 @@ impl<const T: usize, const L: usize> Converter<T, L> {
         out: &mut W,
     ) -> Result<FedUpTo, Fault>
         requires { self.old.is_finished ≡ false }
-        ensures feeds { FeedsToMarker self.old piece.now self.new result
+        ensures feeds { ReadsToMarker self.old piece.now self.new (fed_marker result)
             (sink_of self.old.reading W.taken W.failures out.old out.new) }
         ensures goes { GoesToMarker self.old piece.now self.new result
             (sink_of self.old.reading W.taken W.failures out.old out.new) }

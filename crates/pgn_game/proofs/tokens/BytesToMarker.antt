@@ -1,140 +1,151 @@
 -- The bytes of a source, read up to a marker.
-use Rattle.std.specs.Io.KnownBytes.{Keeps}
-use Rattle.pgn_game.proofs.Words.{first_bytes, Token, ReadFault, Fault, Profile, ◌≡◌, ℕ, ◌^◌, ◌≤◌, List, [], ◌∷◌, ◌++◌, length, drop, take, Option, None, refl, sym, ap, subst, ◌∙◌, inl, inr, append-nil, append_assoc, take-append-drop, Consumes, Consumes-nil, Consumes-trans, decided, IsDecided, StandsAfter, first, still, Games, games_of, Converter, HasRead, Reaches, ReadsMore, as_written, MoreSoFar, StandsWithin, StopsIn, at_token, too_long, arith, IsAtEnd, FailsIn, ReadsPiece, ReadsToMarker, MeetsNext, ReadsAllOf, StopsBefore, UsesAll, common_steps}
-use Rattle.pgn_game.specs.declared.marker.PlacedMarker.{PlacedMarker}
+use Rattle.pgn_game.specs.state.ConverterSteps.{start_of}
 use Rattle.pgn_game.specs.state.GamesSteps as games_steps
-use Rattle.pgn_game.proofs.tokens.AcceptedToConverter.{follows_none}
-use Rattle.pgn_game.proofs.tokens.StepsInPiece.{decided_at_end}
-use Rattle.pgn_game.proofs.tokens.GamesInPiece.{behind_first}
-use Rattle.pgn_game.proofs.tokens.MarkerToGame.{reads_none, reads_more, meets_more, not_taken_more}
-use Rattle.pgn_game.proofs.tokens.WholeInput.{keeps_consumed}
+use Rattle.pgn_game.proofs.Words.{first_bytes, At, ReadsPiece, ReadsMore, Start, Token, ReadFault, Fault, Profile, ◌≡◌, ℕ, ◌+◌, ◌-◌, ◌^◌, ◌≤◌, List, [], ◌∷◌, ◌++◌, length, drop, take, Option, None, Err, refl, sym, ap, subst, ◌∙◌, inl, inr, append-nil, append_assoc, length-append, length-drop, length-take, take-append-drop, take-append_seam, drop-append_seam, drop-drop, take-take, take_all, decided, StandsAfter, HasLeft, Follows, first, Games, games_of, Converter, HasRead, MoreSoFar, StandsWithin, within_limit, arith, ReadsAllOf, StopsBefore, UsesAll}
+use Rattle.pgn_game.proofs.tokens.AcceptedToConverter.{follows_own}
+use Rattle.pgn_game.proofs.tokens.BytesWithinLimit.{front_within}
+use Rattle.pgn_game.proofs.tokens.ReadsInText.{begins, used_up}
+use Rattle.pgn_game.proofs.tokens.StepsAtEnd.{left_of}
+use Rattle.pgn_game.proofs.tokens.StepsInPiece.{before_any, decided_at_end}
 
--- ---- the bytes that are not used yet
+-- what is unused after more bytes are used
+pub unused_now : (s unused : List ℕ) (old new used : ℕ) → drop old s ≡ unused → new ≡ old + used → drop new s ≡ drop used unused
+unused_now s unused old new used is count = ap (λ n. drop n s) count ∙ sym (drop-drop used old s) ∙ ap (drop used) is
 
-pub none_yet : (p : Profile) (u : List ℕ) (given : List Token) (left : Option (List ℕ)) (now : Games) (o : Option (List ℕ))
-    → StandsWithin u now given → HasRead p now.converter given → MoreSoFar p u given left left now o o
-none_yet p u given left now o stands has_read =
-    record {
-      more = [];
-      consumed = Consumes-nil left;
-      tokens = given;
-      stands = rw (append-nil u) stands;
-      reads = reads_none p given now.converter o has_read;
-    }
+first_none : (xs : List ℕ) → length xs ≡ 0 → first xs ≡ None
+first_none [] none = refl
+first_none (x ∷ xs) none = absurd (omega (arith, none))
 
--- what was read of a front of the bytes not used is decided
-front_decided : {p : Profile} {u : List ℕ} (rest front : List ℕ) {given : List Token}
-    → (front ≡ [] → given ≡ decided u) → {new : Converter} {a c : Option (List ℕ)}
-    (reads : ReadsPiece p u (first rest) given front new a c) → reads.tokens ≡ decided (u ++ front)
-front_decided {u} rest [] none reads = reads.empty refl ∙ none refl ∙ ap decided (sym (append-nil u))
-front_decided rest (x ∷ xs) none reads = reads.decided (omega arith)
+-- A call that has begun where games stand within the bytes u.
+module _ (p : Profile) (u : List ℕ) (given : List Token) (old : Games) (a : Option (List ℕ)) (begun : StandsWithin u old given) where
+  abbrev start : Start
+  start = start_of p old.converter (first old.unused) given a
 
-decided_before : (u piece : List ℕ) {ts : List Token} → IsDecided u [] ts → IsDecided u piece ts
-decided_before u piece (inl e) = inl e
-decided_before u piece (inr (b, e, k)) = absurd (cc)
+  pub none_yet : HasRead p old.converter given → old.converter.lexer.count ≤ 2 ^ 62 → MoreSoFar start (u ++ []) old a
+  none_yet has_read few =
+      rw (append-nil u, begun.bytes) (record {
+        unused = rw begun.lexer.count (drop-append_seam begun.used old.unused);
+        tokens = given;
+        here = begins p begun.used (first old.unused) given old.converter old.unused a begun.lexer has_read (follows_own old.unused) few;
+      })
 
--- a lexer that stands after bytes has the rest of their tokens left
-reads_all : {p : Profile} {given : List Token} {u : List ℕ} (b : Option ℕ) {ts : List Token} (new now : Converter) {a c : Option (List ℕ)}
-    → new.reading ≡ now.reading → StandsAfter now.lexer u b ts → ts ≡ decided u → ReadsMore p given ts now a c
-    → ReadsAllOf p given u new a c
-reads_all {u} b new now same stands is reads = grind (arith, common_steps, append-nil, follows_none)
+  size_at_start : (more : List ℕ) → length (u ++ more) ≡ old.converter.lexer.count + length old.unused + length more
+  size_at_start more =
+      omega (arith, length-append u more, ap (length {A = ℕ}) begun.bytes, length-append begun.used old.unused, begun.lexer.count)
 
-module _ (p : Profile) (u : List ℕ) (given : List Token) (left_old left : Option (List ℕ))
-    (now : Games) (a c : Option (List ℕ)) (so : MoreSoFar p u given left_old left now a c) where
-  pub reaches : Reaches p now.converter so.stands.used (first now.unused) so.tokens
-  reaches = record { lexer = so.stands.lexer; has_read = so.reads.has_read }
+  -- if they were all that the source has given, their tokens are those decided
+  given_decided : (more unused : List ℕ) → old.unused ≡ unused → length (within_limit (u ++ more)) ≡ old.converter.lexer.count
+      → given ≡ decided begun.used
+  given_decided more [] none size = decided_at_end begun.used given (rw none at begun.decided)
+  given_decided more (x ∷ xs) some size =
+      begun.at_limit (omega (arith, size, size_at_start more, length-take (2 ^ 62) (u ++ more), ap (length {A = ℕ}) some, begun.lexer.count))
 
-  module _ (d : Option (List ℕ)) (new : Converter) (written : as_written new.reading ≡ as_written now.converter.reading) where
-    pub marker_read : (used : ℕ) (m : PlacedMarker) → ReadsToMarker p so.stands.used so.tokens now.unused used m new c d
-        → MeetsNext p u given left_old left m (games_of new (drop used now.unused)) a d
-    marker_read used m reads =
+  all_of : (more : List ℕ) → length (within_limit (u ++ more)) ≡ old.converter.lexer.count → within_limit (u ++ more) ≡ begun.used
+  all_of more size =
+      let few : length begun.used ≤ 2 ^ 62 = omega (arith, size, length-take (2 ^ 62) (u ++ more), begun.lexer.count) in
+      sym (take_all (length begun.used) (within_limit (u ++ more)) (omega (arith, size, begun.lexer.count)))
+      ∙ take-take (length begun.used) (2 ^ 62) (u ++ more) few
+      ∙ ap (λ xs. take (length begun.used) (xs ++ more)) begun.bytes
+      ∙ ap (take (length begun.used)) (append_assoc begun.used old.unused more) ∙ take-append_seam begun.used (old.unused ++ more)
+
+  -- All bytes of the source before place 2^62 were used, by the converter `now`.
+  module _ (more : List ℕ) (now : Converter) (tokens : List Token) (c : Option (List ℕ))
+      (here : At start (first_bytes (within_limit (u ++ more))) now tokens c) (size : length (within_limit (u ++ more)) ≡ now.lexer.count) where
+    abbrev text : List ℕ
+    text = within_limit (u ++ more)
+
+    all_read : StandsAfter now.lexer text (first old.unused) tokens × (tokens ≡ decided text)
+    all_read = elim here.lexer [
+      | inl on ↦ let all = used_up text now.lexer tokens on (omega (arith, size)) in (before_any all.0, all.1)
+      | inr none ↦ (
+        subst (λ xs. StandsAfter now.lexer xs (first old.unused) tokens) (take_all now.lexer.count text (omega (arith, size))) none.stands,
+        none.same ∙ given_decided more old.unused refl (size ∙ none.count) ∙ ap decided (sym (all_of more (size ∙ none.count))),
+      )
+    ]
+
+    reads_all : (new : Converter) → new.reading ≡ now.reading → ReadsAllOf start text new c
+    reads_all new same =
         record {
-          more = so.more;
-          consumed = so.consumed;
-          tokens = reads.tokens;
-          token = reads.token;
-          stands = record {
-            used = so.stands.used ++ take used now.unused;
-            bytes =
-                cc (so.stands.bytes, take-append-drop used now.unused, append_assoc so.stands.used (take used now.unused) (drop used now.unused));
-            lexer = reads.ends.stands;
-            at_limit = reads.at_limit;
-            decided = reads.ends.decided;
-          };
-          next = rw so.stands.bytes reads.next;
-          meets = meets_more p given so.tokens now.converter a c so.reads reads.tokens reads.token m new d reads.meets written;
+          now = now;
+          same = same;
+          left = subst (HasLeft now.lexer text) all_read.1 (left_of now.lexer text (first old.unused) tokens all_read.0);
+          reads = subst (λ ts. ReadsMore p given ts now a c) all_read.1 here.reads;
         }
 
-    pub rest_read : ReadsPiece p so.stands.used (first now.unused) so.tokens now.unused new c d
-        → MoreSoFar p u given left_old left (games_of new []) a d
-    rest_read reads =
-        let is = front_decided now.unused now.unused
-        (λ none. decided_at_end so.stands.used so.tokens (rw none at so.stands.decided)) reads in
-        record {
-          more = so.more;
-          consumed = so.consumed;
-          tokens = reads.tokens;
-          stands = record {
-            used = so.stands.used ++ now.unused;
-            bytes = so.stands.bytes ∙ sym (append-nil (so.stands.used ++ now.unused));
-            lexer = rw (behind_first now.unused) at reads.stands;
-            at_limit = λ h. is;
-            decided = inl is;
+  -- a token was rejected, a write failed, or the input is too long
+  pub rest_stops : (more front : List ℕ) (tokens : List Token) (new : Converter) (f : Fault) (c : Option (List ℕ))
+      → ReadsPiece start (u ++ more) front tokens new (Err f) c → StopsBefore start (u ++ more) new c f
+  rest_stops more front tokens new f c (inl fails) = games_steps.at_token f fails
+  rest_stops more front tokens new f c (inr past) =
+      let size : length (within_limit (u ++ more)) ≡ 2 ^ 62 = omega (arith, past.long, length-take (2 ^ 62) (u ++ more)) in
+      rw past.fault (games_steps.too_long (within_limit (u ++ more)) (drop (2 ^ 62) (u ++ more)) (sym (take-append-drop (2 ^ 62) (u ++ more))) size
+      (omega (arith, past.long, length-drop (2 ^ 62) (u ++ more)))
+      (reads_all more past.now past.reached.0 c past.reached.1 (size ∙ sym past.count) new past.same))
+
+  -- all bytes that the source gave are used
+  module _ (more : List ℕ) (now : Converter) (c : Option (List ℕ)) (so : MoreSoFar start (u ++ more) (games_of now []) c) where
+    abbrev bytes : List ℕ
+    bytes = u ++ more
+
+    inside : now.lexer.count ≤ length (within_limit bytes)
+    inside = elim so.here.lexer [ inl on ↦ on.inside | inr none ↦ none.inside ]
+
+    place : now.lexer.count ≡ length bytes
+    place = omega (arith, inside, length-take (2 ^ 62) bytes, length-drop now.lexer.count bytes, ap (length {A = ℕ}) so.unused)
+
+    short : length bytes ≤ 2 ^ 62
+    short = omega (arith, place, inside, length-take (2 ^ 62) bytes)
+
+    whole : within_limit bytes ≡ bytes
+    whole = take_all (2 ^ 62) bytes short
+
+    all : StandsAfter now.lexer bytes (first old.unused) so.tokens
+    all = rw whole at (all_read more now so.tokens c so.here (ap (length {A = ℕ}) whole ∙ sym place)).0
+
+    -- and it gives more
+    pub filled : (piece : List ℕ) → MoreSoFar start (u ++ (more ++ piece)) (games_of now piece) c
+    filled piece =
+        rw (sym (append_assoc u more piece)) (record {
+          unused = ap (λ n. drop n (bytes ++ piece)) place ∙ drop-append_seam bytes piece;
+          tokens = so.tokens;
+          here = record {
+            lexer = elim so.here.lexer [
+              | inl on ↦
+                  let none = used_up bytes now.lexer so.tokens (rw whole at on) (omega (arith, place)) in
+                  inl (record { inside = within; stands = rw up_to (before_any none.0); decided = inl (none.1 ∙ ap decided (sym up_to)) })
+              | inr none ↦ inr (record {
+                inside = within;
+                count = none.count;
+                same = none.same;
+                stands = rw up_to all;
+                follows = subst (λ b. Follows b (drop now.lexer.count (within_limit (bytes ++ piece))))
+                    (sym (first_none old.unused (omega (arith, size_at_start more, place, none.count)))) tt;
+              })
+            ];
+            reads = so.here.reads;
+            stays = so.here.stays;
           };
-          reads = reads_more p given so.tokens now.converter a c so.reads reads.tokens new d reads.reads written;
-        }
+        })
+      where
+        front : List ℕ
+        front = take (2 ^ 62 - now.lexer.count) piece
 
-    -- a token was rejected, a write failed, or the input is too long
-    pub rest_stops : (f : Fault) → StopsIn so.stands.used now.unused
-        (λ bytes fault. FailsIn p (first_bytes bytes) so.tokens fault new.reading c d)
-        (λ front. (n : Converter) × ReadsPiece p so.stands.used (first now.unused) so.tokens front n c d × (new.reading ≡ n.reading)) f
-        → StopsBefore p u given left_old left new a d f
-    rest_stops f (at_token h to) =
-        games_steps.at_token h so.more to.tokens to.token so.consumed (rw so.stands.bytes to.next)
-        (not_taken_more p given so.tokens now.converter a c so.reads to.tokens to.token h new.reading d to.fails written)
-    rest_stops f (too_long front rest cut place some (n, reads, same)) =
-        let full : front ≡ [] → so.tokens ≡ decided so.stands.used =
-        λ none. so.stands.at_limit
-        (ap (length {A = ℕ}) (sym (ap (λ xs. so.stands.used ++ xs) none ∙ append-nil so.stands.used)) ∙ place) in
-        games_steps.too_long so.more (so.stands.used ++ front) rest so.consumed
-        (so.stands.bytes ∙ ap (λ xs. so.stands.used ++ xs) cut ∙ sym (append_assoc so.stands.used front rest)) place some
-        (reads_all (still (first now.unused) front) new n same reads.stands (front_decided now.unused front full reads)
-        (reads_more p given so.tokens now.converter a c so.reads reads.tokens n d reads.reads (ap as_written (sym same) ∙ written)))
+        is : within_limit (bytes ++ piece) ≡ bytes ++ front
+        is = front_within bytes piece (2 ^ 62 - now.lexer.count) (omega (arith, place, short))
 
--- ---- all bytes read are used
+        up_to : take now.lexer.count (within_limit (bytes ++ piece)) ≡ bytes
+        up_to = ap (take now.lexer.count) is ∙ ap (λ n. take n (bytes ++ front)) place ∙ take-append_seam bytes front
 
-module _ (p : Profile) (u : List ℕ) (given : List Token) (left_old left left_new : Option (List ℕ)) (now : Converter) (a c : Option (List ℕ))
-    (so : MoreSoFar p u given left_old left (games_of now []) a c) where
-  all_used : u ++ so.more ≡ so.stands.used
-  all_used = so.stands.bytes ∙ append-nil so.stands.used
+        within : now.lexer.count ≤ length (within_limit (bytes ++ piece))
+        within = omega (arith, place, ap (length {A = ℕ}) is, length-append bytes front)
 
-  pub filled : (piece : List ℕ) → Consumes left left_new piece → MoreSoFar p u given left_old left_new (games_of now piece) a c
-  filled piece consumed =
-      record {
-        more = so.more ++ piece;
-        consumed = Consumes-trans left_old left left_new so.more piece so.consumed consumed;
-        tokens = so.tokens;
-        stands = record {
-          used = so.stands.used;
-          bytes = rw all_used at (sym (append_assoc u so.more piece));
-          lexer = record {
-            count = so.stands.lexer.count;
-            before = so.stands.lexer.before;
-            tokens = λ s k. so.stands.lexer.tokens s tt;
-          };
-          at_limit = so.stands.at_limit;
-          decided = decided_before so.stands.used piece so.stands.decided;
-        };
-        reads = so.reads;
-      }
+    -- its end was reached
+    pub at_source_end : UsesAll start bytes now c
+    at_source_end = record { short = short; tokens = so.tokens; stands = all; reads = so.here.reads }
 
-  pub at_source_end : Consumes left left_new [] → IsAtEnd left_new → UsesAll p u given left_old left_new (games_of now []) a c
-  at_source_end consumed end = record { so_far = filled [] consumed; none_left = refl; at_end = end }
-
-  pub unread : (new : Converter) (f : Fault) → new.reading ≡ now.reading → now.lexer.count ≤ 2 ^ 62 → Keeps left left_new
-      → f ≡ record { at = now.lexer.count; reason = ReadFault } → StopsBefore p u given left_old left_new new a c f
-  unread new f same few keeps is =
-      let place : now.lexer.count ≡ length (u ++ so.more) = so.stands.lexer.count ∙ ap (length {A = ℕ}) (sym all_used) in
-      subst (StopsBefore p u given left_old left_new new a c) (sym (is ∙ ap (λ n. record { at = n; reason = ReadFault }) place))
-      (games_steps.unread so.more (keeps_consumed left_old left left_new so.more so.consumed keeps) (omega (arith, few, place))
-      (rw all_used (reads_all None new now same so.stands.lexer (decided_at_end so.stands.used so.tokens so.stands.decided) so.reads)))
+    -- a read failed
+    pub unread : (new : Converter) (f : Fault) → new.reading ≡ now.reading → f ≡ record { at = now.lexer.count; reason = ReadFault }
+        → StopsBefore start bytes new c f
+    unread new f same is =
+        rw (is ∙ ap (λ n. record { at = n; reason = ReadFault }) place)
+        (games_steps.unread short (rw whole at (reads_all more now so.tokens c so.here (ap (length {A = ℕ}) whole ∙ sym place) new same)))

@@ -38,7 +38,7 @@ end_same p ts t passes e none = grind (arith, common_steps, read-passes, end_add
 -- before the first marker
 pub ended_none : (p : Profile) (old : Converter) (u : List ℕ) (b : Option ℕ) (given : List Token) (o : Option (List ℕ))
     → Stands p old u b given → AtEndSoFar p u given old false o o
-ended_none p old u b given o stands = grind (arith, common_steps, left_of, le_refl, false≢true, gains_none)
+ended_none p old u b given o stands = grind (arith, common_steps, left_of old.lexer u b given stands.lexer, le_refl, false≢true, gains_none)
 
 -- behind the end a game counts as just finished only between games
 pub sound_finished : (lexer : Standing) (reading : ReaderState) (games : ℕ) {had has is_finished : Bool} {fault : Option Fault}

@@ -2,7 +2,8 @@
 use Rattle.pgn_lexer.specs.Scanned.{Scanned, token}
 use Rattle.pgn_lexer.specs.PartialToken.{refusal as refusal_token}
 use Rattle.pgn_game.specs.declared.marker.PlacedMarker.{PlacedMarker}
-use Rattle.pgn_game.proofs.Words.{Marker, Reason, Lexical, Fault, Profile, EndsAt, still, within_limit, InputTooLong, StopsIn, too_long, ◌≡◌, ℕ, ◌+◌, ◌-◌, ◌<◌, ◌≤◌, ◌^◌, ◌⊎◌, inl, inr, Bool, List, [], ◌∷◌, ◌++◌, length, take, drop, Option, None, Some, Result, Ok, Err, refl, sym, ap, subst, ◌∙◌, arith, append-nil, length-append, length-drop, length-take, take-add, take-append_seam, drop-append_seam, take-append-add, drop-append-add, take-append-drop, take-take, drop-take, take_all, drop-drop, drop_of_length-le, Token, tokens_of, Standing, StandsAfter, Follows, AfterScan, Scans, first, more, fault, LexFault, decided, Device, ReaderState, Converter, AreNext, TakesUnlessMarker, outcome_at, fault_of, as_written, Reaches, ReadsPiece, ReadsToMarker, FailsIn, GainsAs, HasRead, ReadsMore, first_bytes, At, ReadsOn, Reached, StandsAtStart, StandsInText, Start, step_marker}
+use Rattle.pgn_game.specs.state.ConverterSteps.{start_of}
+use Rattle.pgn_game.proofs.Words.{Marker, Reason, Lexical, Fault, Profile, still, within_limit, ◌≡◌, ℕ, ◌+◌, ◌-◌, ◌<◌, ◌≤◌, ◌^◌, ◌⊎◌, inl, inr, Bool, List, [], ◌∷◌, ◌++◌, length, take, drop, Option, None, Some, Result, Ok, Err, refl, sym, ap, subst, ◌∙◌, arith, append-nil, length-append, length-drop, length-take, take-add, take-append_seam, drop-append_seam, take-append-drop, take-take, drop-take, take_all, drop-drop, drop_of_length-le, Token, tokens_of, Standing, StandsAfter, StandsWithin, Games, Follows, AfterScan, Scans, first, more, fault, LexFault, decided, Device, ReaderState, Converter, AreNext, TakesUnlessMarker, outcome_at, fault_of, as_written, GainsAs, HasRead, ReadsMore, first_bytes, At, ReadsOn, Reached, StandsAtStart, StandsInText, Start, step_marker}
 use Rattle.pgn_game.proofs.tokens.AcceptedToConverter.{follows_own, next_in_piece, now_at, read_as, read_at, still_none}
 use Rattle.pgn_game.proofs.tokens.BytesWithinLimit.{front_within}
 use Rattle.pgn_game.proofs.tokens.MarkerToGame.{fails_at, meets_at, reads_none, rejects_at, takes_at}
@@ -30,7 +31,7 @@ follows_start [] (x ∷ rest) = tt
 follows_start (x ∷ front) rest = refl
 
 -- a text goes on behind the tokens of its bytes
-next_of : (s : List ℕ) (l : Standing) (tokens : List Token) → StandsInText s l tokens → AreNext s tokens
+pub next_of : (s : List ℕ) (l : Standing) (tokens : List Token) → StandsInText s l tokens → AreNext s tokens
 next_of s l tokens on =
     let u = take l.count s in
     rw (take-append-drop l.count s) at
@@ -195,103 +196,79 @@ reads_then old mid new piece at result a b c within one count two start s tokens
     by_result (Ok (Some m)) xs ts to = to
     by_result (Err f) xs ts to = to
 
--- ---- behind the bytes u, in a piece of which the bytes before place 2^62 are read
+-- ---- the bytes of a text before place 2^62
+
+-- what was ahead in them, and is read
+pub front_ahead : (s piece : List ℕ) (at room : ℕ) → drop at s ≡ piece → at + room ≡ 2 ^ 62 → drop at (within_limit s) ≡ take room piece
+front_ahead s piece at room ahead limit = ap (λ n. drop at (take n s)) (sym limit) ∙ drop-take at room s ∙ ap (take room) ahead
+
+pub read_ahead : (start : Start) (s : List ℕ) (tokens : List Token) (new : Converter) (c : Option (List ℕ)) (xs ys : List ℕ) → ys ≡ xs
+    → Reached start s xs tokens new (Ok None) c → Reached start s ys tokens new (Ok None) c
+read_ahead start s tokens new c xs ys same to = subst (λ zs. Reached start s zs tokens new (Ok None) c) (sym same) to
+
+-- where a lexer stands in the bytes of a text, if it looked at none from place 2^62 on
+pub stands_within : (s : List ℕ) (games : Games) (tokens : List Token) → StandsInText (within_limit s) games.converter.lexer tokens
+    → drop games.converter.lexer.count s ≡ games.unused → StandsWithin s games tokens
+stands_within s games tokens on unused =
+    let l = games.converter.lexer in
+    let few : l.count ≤ 2 ^ 62 = omega (arith, on.inside, length-take (2 ^ 62) s) in
+    let up_to : take l.count (within_limit s) ≡ take l.count s = take-take l.count (2 ^ 62) s few in
+    let left = front_ahead s games.unused l.count (2 ^ 62 - l.count) unused (omega (arith, few)) in
+    let lexer = before_more games.unused (2 ^ 62 - l.count) (rw (up_to, left) at on.stands) in
+    record {
+      used = take l.count s;
+      bytes = sym (take-append-drop l.count s) ∙ ap (λ xs. take l.count s ++ xs) unused;
+      lexer = lexer;
+      at_limit = λ full.
+          let none : drop l.count (within_limit s) ≡ [] = drop_of_length-le (within_limit s) (omega (arith, lexer.count, full, length-take (2 ^ 62) s)) in
+          decided_at_end (take l.count s) tokens (rw (up_to, none) at on.decided);
+      decided = decided_before (take l.count s) games.unused (2 ^ 62 - l.count) (rw (up_to, left) at on.decided);
+    }
+
+-- all bytes of a text were read
+pub used_up : (s : List ℕ) (l : Standing) (tokens : List Token) → StandsInText s l tokens → length s ≤ l.count → StandsAfter l s None tokens × (tokens ≡ decided s)
+used_up s l tokens on size =
+    let all : take l.count s ≡ s = take_all l.count s size in
+    let none : drop l.count s ≡ [] = drop_of_length-le s size in
+    (rw (all, none) at on.stands, decided_at_end s tokens (rw (all, none) at on.decided))
+
+-- ---- where a call begins that is given the piece behind the bytes u
 
 module _ (p : Profile) (u : List ℕ) (b : Option ℕ) (given : List Token) (old : Converter) (piece : List ℕ) (a : Option (List ℕ))
-    (reaches : Reaches p old u b given) (follows : Follows b piece) (room : ℕ) (limit : old.lexer.count + room ≡ 2 ^ 62) where
+    (lexer : StandsAfter old.lexer u b given) (has_read : HasRead p old given) (follows : Follows b piece) (few : old.lexer.count ≤ 2 ^ 62) where
   abbrev front : List ℕ
-  front = take room piece
+  front = take (2 ^ 62 - old.lexer.count) piece
 
-  abbrev start : Start
-  start = record { profile = p; count = old.lexer.count; next = b; given = given; reading = old.reading; before = a }
+  pub within : within_limit (u ++ piece) ≡ u ++ front
+  within = front_within u piece (2 ^ 62 - old.lexer.count) (omega (arith, few, lexer.count))
 
-  place : length u + room ≡ 2 ^ 62
-  place = ap (λ n. n + room) (sym reaches.lexer.count) ∙ limit
+  pub ahead : drop old.lexer.count (u ++ piece) ≡ piece
+  ahead = ap (λ n. drop n (u ++ piece)) lexer.count ∙ drop-append_seam u piece
 
-  is_front : drop old.lexer.count (u ++ front) ≡ front
-  is_front = ap (λ n. drop n (u ++ front)) reaches.lexer.count ∙ drop-append_seam u front
+  pub begins : At (start_of p old b given a) (first_bytes (within_limit (u ++ piece))) old given a
+  begins =
+      let is_front = front_ahead (u ++ piece) piece old.lexer.count (2 ^ 62 - old.lexer.count) ahead (omega (arith, few)) in
+      record {
+        lexer = inr (record {
+          inside = omega (arith, lexer.count, ap (length {A = ℕ}) within, length-append u front);
+          count = refl;
+          same = refl;
+          stands = subst (λ xs. StandsAfter old.lexer xs b given)
+              (sym (ap (take old.lexer.count) within ∙ ap (λ n. take n (u ++ front)) lexer.count ∙ take-append_seam u front)) lexer;
+          follows = subst (Follows b) (sym is_front) (follows_front b piece (2 ^ 62 - old.lexer.count) follows);
+        });
+        reads = reads_none p given old a has_read;
+        stays = λ between. refl;
+      }
 
-  begins : At start (first_bytes (u ++ front)) old given a
-  begins = record {
-    lexer = inr (record {
-      inside = omega (arith, reaches.lexer.count, length-append u front);
-      count = refl;
-      same = refl;
-      stands = subst (λ xs. StandsAfter old.lexer xs b given) (sym (ap (λ n. take n (u ++ front)) reaches.lexer.count ∙ take-append_seam u front)) reaches.lexer;
-      follows = subst (Follows b) (sym is_front) (follows_front b piece room follows);
-    });
-    reads = reads_none p given old a reaches.has_read;
-    stays = λ between. refl;
-  }
-
-  all_behind : (xs : List ℕ) (l : Standing) (tokens : List Token) → l.count ≡ old.lexer.count + length xs
-      → StandsInText (u ++ xs) l tokens ⊎ StandsAtStart start (u ++ xs) l tokens
+  -- All bytes of it are read that are before place 2^62.
+  pub all_behind : (xs : List ℕ) (l : Standing) (tokens : List Token) → l.count ≡ old.lexer.count + length xs
+      → StandsInText (u ++ xs) l tokens ⊎ StandsAtStart (start_of p old b given a) (u ++ xs) l tokens
       → StandsAfter l (u ++ xs) (still b xs) tokens × (0 < length xs → tokens ≡ decided (u ++ xs))
   all_behind xs l tokens count (inl on) =
-      let size : length (u ++ xs) ≤ l.count = omega (arith, count, reaches.lexer.count, length-append u xs) in
-      let all : take l.count (u ++ xs) ≡ u ++ xs = take_all l.count (u ++ xs) size in
-      let none : drop l.count (u ++ xs) ≡ [] = drop_of_length-le (u ++ xs) size in
-      (before_any (rw (all, none) at on.stands), λ some. decided_at_end (u ++ xs) tokens (rw (all, none) at on.decided))
+      let all = used_up (u ++ xs) l tokens on (omega (arith, count, lexer.count, length-append u xs)) in
+      (before_any all.0, λ some. all.1)
   all_behind [] l tokens count (inr here) =
-      let all : take l.count (u ++ []) ≡ u ++ [] = take_all l.count (u ++ []) (omega (arith, count, reaches.lexer.count, length-append u [])) in
+      let all : take l.count (u ++ []) ≡ u ++ [] = take_all l.count (u ++ []) (omega (arith, count, lexer.count, length-append u [])) in
       (rw all at here.stands, λ some. absurd (omega (arith, some)))
   all_behind (x ∷ xs) l tokens count (inr here) = absurd (omega (arith, here.count, count))
-
-  pub piece_read : (new : Converter) (c : Option (List ℕ)) → ReadsOn old front new (Ok None) (between a c 0 0) → new.lexer.count ≡ old.lexer.count + length front
-      → ReadsPiece p u b given front new a c
-  piece_read new c on count =
-      let to = on start (u ++ front) given is_front begins in
-      let all = all_behind front new.lexer to.0 count to.1.lexer in
-      record { tokens = to.0; stands = all.0; decided = all.1; empty = to.2; reads = to.1.reads }
-
-  pub whole_read : (new : Converter) (c : Option (List ℕ)) → ReadsOn old front new (Ok None) (between a c 0 0) → new.lexer.count ≡ old.lexer.count + length front
-      → length piece ≤ room → ReadsPiece p u b given piece new a c
-  whole_read new c on count short = subst (λ xs. ReadsPiece p u b given xs new a c) (take_all room piece short) (piece_read new c on count)
-
-  -- and the piece goes on past them
-  pub past_limit : (now : Converter) (c : Option (List ℕ)) → ReadsOn old front now (Ok None) (between a c 0 0) → now.lexer.count ≡ old.lexer.count + length front
-      → room < length piece → {reading : ReaderState} → reading ≡ now.reading → {AtToken : List ℕ → Fault → Type 0}
-      → StopsIn u piece AtToken (λ xs. (n : Converter) × ReadsPiece p u b given xs n a c × (reading ≡ n.reading)) (record { at = 2 ^ 62; reason = InputTooLong })
-  past_limit now c on count long same =
-      too_long front (drop room piece) (sym (take-append-drop room piece)) (omega (arith, place, length-append u front, length-take room piece, long))
-      (omega (arith, length-drop room piece, long)) (now, piece_read now c on count, same)
-
-  pub fault_read : (new : Converter) (f : Fault) (c : Option (List ℕ)) → ReadsOn old front new (Err f) (between a c 0 0)
-      → FailsIn p (first_bytes (within_limit (u ++ piece))) given f new.reading a c
-  fault_read new f c on = rw (front_within u piece room place) (on start (u ++ front) given is_front begins)
-
-  module _ (new : Converter) (used : ℕ) (count : new.lexer.count ≡ old.lexer.count + used) (inside : used ≤ length front) where
-    within : used ≤ room
-    within = omega (arith, inside, length-take room piece)
-
-    count_now : new.lexer.count ≡ length u + used
-    count_now = count ∙ ap (λ n. n + used) reaches.lexer.count
-
-    up_to_now : take new.lexer.count (u ++ front) ≡ u ++ take used piece
-    up_to_now = ap (λ n. take n (u ++ front)) count_now ∙ take-append-add u front used ∙ ap (λ xs. u ++ xs) (take-take used room piece within)
-
-    left_now : drop new.lexer.count (u ++ front) ≡ take (room - used) (drop used piece)
-    left_now =
-        let more : room ≡ used + (room - used) = omega (arith, within) in
-        ap (λ n. drop n (u ++ front)) count_now ∙ drop-append-add u front used
-        ∙ ap (λ n. drop used (take n piece)) more ∙ drop-take used (room - used) piece
-
-    pub marker_read : (m : PlacedMarker) (c : Option (List ℕ)) → ReadsOn old front new (Ok (Some m)) (between a c 0 0) → ReadsToMarker p u given piece used m new a c
-    marker_read m c on =
-        let to = on start (u ++ front) given is_front begins in
-        let ts = to.tokens ++ to.token ∷ [] in
-        record {
-          tokens = to.tokens;
-          token = to.token;
-          ends = record {
-            stands = before_more (drop used piece) (room - used) (rw (up_to_now, left_now) at to.lexer.0.stands);
-            decided = decided_before (u ++ take used piece) (drop used piece) (room - used) (rw (up_to_now, left_now) at to.lexer.0.decided);
-            ends = subst (EndsAt to.token.kind to.token.at) count_now to.lexer.1;
-          };
-          at_limit = λ h.
-              let none : drop new.lexer.count (u ++ front) ≡ [] = drop_of_length-le (u ++ front)
-              (omega (arith, h, place, count_now, length-append u front, length-append u (take used piece), length-take used piece, length-take room piece)) in
-              decided_at_end (u ++ take used piece) ts (rw (up_to_now, none) at to.lexer.0.decided);
-          next = rw (front_within u piece room place) (next_of (u ++ front) new.lexer ts to.lexer.0);
-          meets = to.meets;
-        }

@@ -1,6 +1,6 @@
 -- Steps behind the last piece, and how small the counts stay.
 use Rattle.pgn_lexer.specs.Tokens as tokens
-use Rattle.pgn_game.proofs.Words.{length, Kind, Token, Stage, Between, Reason, Fault, Profile, Pair, Item, Game, Part, no_part, ◌≡◌, ℕ, ◌+◌, ◌<◌, ◌≤◌, Bool, true, false, ◌&&◌, List, [], ◌∷◌, ◌++◌, Option, None, Some, Result, Ok, Err, is_ok, refl, sym, subst, append-nil, append_assoc, Appends, arith, ◌*◌, ◌^◌, IsTrue, is_some, Device, tokens_of, Standing, waiting, HasLeft, IsNext, FinishGivesToken, More, refusal, is_end, marker_of, Marker, next, gain, progress_with, Progress, read, ReaderState, Agrees, HoldsPairs, as_written, CountsWrites, Keeps, TakesToken, ReachedAtEnd, At, Start, all_bytes, ReadsMore, due_as, part_after, outcome_at, fault_of, Converter, IsSound, game_in_reader_if, HasRead, Stands, CountsFault, CountsReason, IsStill, rules, ap, ◌∙◌, coming, none-some, false≢true, TakesUnlessMarker, IsBeforePiece, IsBeforeToken, IsReadyAfter, KeepsRest, StepAdvances, StepAtEndAdvances, is_ended, common_steps}
+use Rattle.pgn_game.proofs.Words.{length, Kind, Token, Stage, Between, Reason, Fault, Profile, Pair, Item, Game, Part, no_part, ◌≡◌, ℕ, ◌+◌, ◌<◌, ◌≤◌, Bool, true, false, ◌&&◌, List, [], ◌∷◌, ◌++◌, Option, None, Some, Result, Ok, Err, is_ok, refl, sym, subst, append-nil, append_assoc, Appends, arith, ◌*◌, ◌^◌, IsTrue, is_some, Device, tokens_of, Standing, StandsAfter, waiting, HasLeft, IsNext, FinishGivesToken, More, refusal, is_end, marker_of, Marker, next, gain, progress_with, Progress, read, ReaderState, Agrees, HoldsPairs, as_written, CountsWrites, Keeps, TakesToken, ReachedAtEnd, At, Start, all_bytes, ReadsMore, due_as, part_after, outcome_at, fault_of, Converter, IsSound, game_in_reader_if, HasRead, CountsFault, CountsReason, IsStill, rules, ap, ◌∙◌, coming, none-some, false≢true, TakesUnlessMarker, IsBeforePiece, IsBeforeToken, IsReadyAfter, KeepsRest, StepAdvances, StepAtEndAdvances, is_ended, common_steps}
 use Rattle.pgn_game.proofs.tokens.OneMoreToken.{read-passes}
 use Rattle.pgn_game.proofs.tokens.EndOfText.{end_place}
 use Rattle.pgn_game.proofs.tokens.AcceptedToConverter.{follows_none, has_read_more, now_at, read_as, read_at, written_same}
@@ -255,9 +255,8 @@ pub not_just_finished : (b : Bool) (r : ReaderState) → game_in_reader_if b r �
 not_just_finished true r h = absurd (cc)
 not_just_finished false r h = refl
 
-pub left_of : (p : Profile) (old : Converter) (u : List ℕ) (b : Option ℕ) (given : List Token)
-    → Stands p old u b given → HasLeft old.lexer u given
-left_of p old u b given stands = ap tokens_of (sym (append-nil u)) ∙ stands.lexer.tokens [] (follows_none b)
+pub left_of : (l : Standing) (u : List ℕ) (b : Option ℕ) (given : List Token) → StandsAfter l u b given → HasLeft l u given
+left_of l u b given stands = ap tokens_of (sym (append-nil u)) ∙ stands.tokens [] (follows_none b)
 
 -- while no game is just finished a converter owes no more
 pub sound_at_none : (lexer : Standing) (reading : ReaderState) (games : ℕ) (has_finished_game is_finished : Bool) (fault : Option Fault)

@@ -2,13 +2,14 @@
 -- ended.
 use Rattle.pgn_lexer.specs.declared.partial_token.LexMode.{LexMode}
 use Rattle.pgn_game.specs.declared.marker.PlacedMarker.{PlacedMarker as CodePlacedMarker}
-use Rattle.pgn_game.specs.state.ConverterSteps.{IsReady}
-use Rattle.pgn_game.proofs.Words.{Start, ReachedAtEnd, ReadsMore, last_step, Token, InputTooLong, Fault, Profile, ◌≡◌, ℕ, ◌^◌, ◌≤◌, arith, false, true, List, [], ◌∷◌, ◌++◌, length, Option, None, Some, Result, Ok, Err, IfSome, IsStill, CountsFault, refl, sym, ap, subst, ◌∙◌, append_assoc, append-nil, Consumes-trans, Consumes, Stands, takes_the_marker, with_missing, Device, tokens_of, decided, Standing, coming, HasLeft, first, Converter, ReadsMore, StandsWithin, Reading, games_of, AreShown, EndsToMarker, taking_announced_marker, AfterToMarker, CountsReading, StopsBefore, UsesAll, AfterMarker, HasGiven, ReadingStops, ReadFails, at_read, StandsIn, common_steps, IsReadyAfter, IfOk}
+use Rattle.pgn_game.specs.state.ConverterSteps.{IsReady, start_of}
+use Rattle.pgn_game.proofs.Words.{Start, ReachedAtEnd, ReadsMore, last_step, Token, InputTooLong, Fault, Profile, ◌≡◌, ℕ, ◌^◌, ◌≤◌, arith, false, true, List, [], ◌∷◌, ◌++◌, length, Option, None, Some, Result, Ok, Err, IfSome, IsStill, CountsFault, refl, sym, ap, subst, ◌∙◌, append_assoc, Consumes-trans, Consumes, Stands, takes_the_marker, with_missing, Device, tokens_of, decided, Standing, coming, HasLeft, first, Converter, ReadsMore, StandsWithin, Reading, games_of, AreShown, EndsToMarker, taking_announced_marker, Games, MeetsNext, MarkerComes, within_limit, CountsReading, StopsBefore, ReadsAllOf, IsAtEnd, UsesAll, AfterMarker, HasGiven, ReadingStops, ReadFails, at_read, StandsIn, common_steps, IsReadyAfter, IfOk}
 use Rattle.pgn_game.specs.calls.ConverterCalls.{at_end}
 use Rattle.pgn_game.specs.state.GamesSteps as games_steps
 use Rattle.pgn_game.specs.state.Readings.{at_token}
-use Rattle.pgn_game.proofs.tokens.AcceptedToConverter.{follows_none}
+use Rattle.pgn_game.proofs.tokens.StepsAtEnd.{left_of}
 use Rattle.pgn_game.proofs.tokens.BytesWithinLimit.{all_shown, none_next, shown_begins, shown_by, shown_none}
+use Rattle.pgn_game.proofs.tokens.ReadsInText.{next_of, stands_within}
 use Rattle.pgn_game.proofs.tokens.LastTokens.{IsLeft, glyph, left_in, none, symbol}
 use Rattle.pgn_game.proofs.tokens.MissingCountsAs.{reads_taking}
 use Rattle.pgn_game.proofs.tokens.WholeInput.{known_left, known_whole}
@@ -42,76 +43,6 @@ module _ (q : Profile) (left_old left : Option (List ℕ)) (r : Reading) (given 
   pub behind_source : r.has_ended ≡ true
       → HasLeft r.converter.lexer h.come.bytes given × (r.converter.lexer.count ≡ length h.come.bytes) × (length h.come.bytes ≤ 2 ^ 62) × IfSome left_old (λ s. s ≡ h.come.bytes)
   behind_source is = subst (λ e. StandsIn e r h.come.bytes given left_old) is h.come.stands
-
--- In the bytes of the source.
-module _ (q : Profile) (left_old left left_new : Option (List ℕ)) (given : List Token) (u : List ℕ) (consumed : Consumes left_old left u) where
-  all : (more : List ℕ) → Consumes left left_new more → Consumes left_old left_new (u ++ more)
-  all more taken = Consumes-trans left_old left left_new u more consumed taken
-
-  stops : (f : Fault) (new : Reading) (a c : Option (List ℕ)) → StopsBefore q u given left left_new new.converter a c f
-      → ReadingStops q left_old left_new given f new a c
-  stops f new a c (games_steps.at_token g more tokens t taken next fails) =
-      let here = shown_begins (u ++ more) (tokens ++ t ∷ []) (all_shown (u ++ more) (tokens ++ t ∷ []) next) in
-      at_token (record {
-        tokens = tokens;
-        token = t;
-        comes = known_left left_old left_new (u ++ more) (λ s. AreShown s (tokens ++ t ∷ [])) (all more taken)
-            (λ rest. shown_by _ (u ++ more) rest (tokens ++ t ∷ []) refl next);
-        fails = fails;
-        text = u ++ more;
-        rest = here.0;
-        cut = here.1 ∙ append_assoc tokens (t ∷ []) here.0;
-      })
-  stops f new a c (games_steps.unread more taken short reads) =
-      let behind = some_coming reads.now.lexer in
-      at_read (record {
-        tokens = decided (u ++ more);
-        now = reads.now;
-        same = reads.same;
-        fails = ReadFails.unread (u ++ more) (all more taken) short refl;
-        reads = reads.reads;
-        text = u ++ more;
-        token = behind.0;
-        rest = behind.1;
-        cut = reads.left ∙ ap (λ (ts : List Token). decided (u ++ more) ++ ts) behind.2;
-      })
-  stops f new a c (games_steps.too_long more front rest taken cut place some reads) =
-      let behind = some_coming reads.now.lexer in
-      at_read (record {
-        tokens = decided front;
-        now = reads.now;
-        same = reads.same;
-        fails = subst (λ n. ReadFails left_old left_new (decided front) (record { at = n; reason = InputTooLong })) place
-            (ReadFails.too_long front rest (subst (Consumes left_old left_new) cut (all more taken)) place some refl);
-        reads = reads.reads;
-        text = front;
-        token = behind.0;
-        rest = behind.1;
-        cut = reads.left ∙ ap (λ (ts : List Token). decided front ++ ts) behind.2;
-      })
-
-  -- a marker was met, or reading stops
-  pub met_in_source : (c : Converter) (unused : List ℕ) (m : CodePlacedMarker) (before after : Option (List ℕ))
-      → AfterToMarker q u given left left_new (games_of c unused) (Ok (Some m)) before after
-      → AfterMarker q left_old left_new given (record { converter = c; unused = unused; has_ended = false }) (Ok (Some m)) before after
-  met_in_source c unused m before after h =
-      record {
-        tokens = h.tokens;
-        token = h.token;
-        come = record {
-          bytes = u ++ h.more;
-          consumed = all h.more h.consumed;
-          stands = (h.stands, h.next);
-          shown = known_left left_old left_new (u ++ h.more) (λ s. AreShown s (h.tokens ++ h.token ∷ [])) (all h.more h.consumed)
-              (λ rest. shown_by _ (u ++ h.more) rest (h.tokens ++ h.token ∷ []) refl h.next);
-        };
-        meets = h.meets;
-      }
-
-  pub stops_in_source : (f : Fault) (new : Reading) (before after : Option (List ℕ))
-      → AfterToMarker q u given left left_new (games_of new.converter new.unused) (Err f) before after
-      → AfterMarker q left_old left_new given new (Err f) before after
-  stops_in_source f new before after h = stops f new before after h
 
 -- Where the source has ended: u is the whole text.
 module _ (left_old left_new : Option (List ℕ)) (start : Start) (u : List ℕ) (new : Converter) (c : Option (List ℕ))
@@ -161,27 +92,84 @@ module _ (left_old left_new : Option (List ℕ)) (start : Start) (u : List ℕ) 
         cut = h.next.1 ∙ append_assoc h.tokens (h.token ∷ []) h.next.0;
       })
 
--- The source has just ended.
-module _ (q : Profile) (left_old left left_new : Option (List ℕ)) (given : List Token) (u : List ℕ) (consumed : Consumes left_old left u)
-    (now : Converter) (unused : List ℕ) (a b : Option (List ℕ)) (uses : UsesAll q u given left left_new (games_of now unused) a b) where
-  pub all_used : (new : Converter) (c : Option (List ℕ)) (sink : Device) (r : Result (Option CodePlacedMarker) Fault) → sink.before ≡ b
-      → sink.after ≡ c
-      → EndsToMarker now new r sink → now.lexer.count ≤ 2 ^ 62
-      → AfterMarker q left_old left_new given (record { converter = new; unused = unused; has_ended = true }) r a c
-  all_used new c sink r from to ends few =
-      let so = uses.so_far in
-      let text : List ℕ = u ++ so.more in
-      let taken : Consumes left_old left_new text = Consumes-trans left_old left left_new u so.more consumed so.consumed in
-      let used_up : so.stands.used ≡ text =
-      sym (append-nil so.stands.used) ∙ ap (λ (l : List ℕ). so.stands.used ++ l) (sym uses.none_left) ∙ sym so.stands.bytes in
-      let left_over : HasLeft now.lexer text so.tokens =
-      ap tokens_of (sym used_up ∙ sym (append-nil so.stands.used)) ∙ so.stands.lexer.tokens [] (follows_none (first unused)) in
-      let start : Start = record { profile = q; count = 0; next = None; given = given; reading = now.reading; before = a } in
-      let size : now.lexer.count ≡ length text = so.stands.lexer.count ∙ ap (length {A = ℕ}) used_up in
-      met_at_end left_old left_new start text new c taken (known_whole left_old left_new text (λ s. s ≡ text) taken uses.at_end refl) (ends.count ∙ size)
-      (omega (arith, few, size)) unused r
-      (subst (λ o. ReachedAtEnd start text new (last_step r) o) to
-      (ends.after start text so.tokens (record { lexer = left_over; reads = subst (λ o. ReadsMore q given so.tokens now a o) (sym from) so.reads; stays = λ between. refl })))
+-- In the bytes of the source.
+module _ (q : Profile) (left_old left left_new : Option (List ℕ)) (given : List Token) (u more : List ℕ) (consumed : Consumes left_old left u) (taken : Consumes left left_new more)
+    (old : Games) (before : Option (List ℕ)) where
+  abbrev start : Start
+  start = start_of q old.converter (first old.unused) given before
+
+  abbrev bytes : List ℕ
+  bytes = u ++ more
+
+  all : Consumes left_old left_new bytes
+  all = Consumes-trans left_old left left_new u more consumed taken
+
+  -- no token is at fault
+  fails_at_read : (f : Fault) (new : Reading) (c : Option (List ℕ)) (s : List ℕ) → ReadFails left_old left_new (decided s) f → ReadsAllOf start s new.converter c
+      → ReadingStops q left_old left_new given f new before c
+  fails_at_read f new c s fails reads =
+      let behind = some_coming reads.now.lexer in
+      at_read (record {
+        tokens = decided s;
+        now = reads.now;
+        same = reads.same;
+        fails = fails;
+        reads = reads.reads;
+        text = s;
+        token = behind.0;
+        rest = behind.1;
+        cut = reads.left ∙ ap (λ (ts : List Token). decided s ++ ts) behind.2;
+      })
+
+  pub stops_in_source : (f : Fault) (new : Reading) (c : Option (List ℕ)) → StopsBefore start bytes new.converter c f
+      → ReadingStops q left_old left_new given f new before c
+  stops_in_source f new c (games_steps.at_token g h) =
+      let ts = h.tokens ++ h.token ∷ [] in
+      let here = shown_begins bytes ts (all_shown bytes ts h.next) in
+      at_token (record {
+        tokens = h.tokens;
+        token = h.token;
+        comes = known_left left_old left_new bytes (λ s. AreShown s ts) all (λ rest. shown_by _ bytes rest ts refl h.next);
+        fails = h.fails;
+        text = bytes;
+        rest = here.0;
+        cut = here.1 ∙ append_assoc h.tokens (h.token ∷ []) here.0;
+      })
+  stops_in_source f new c (games_steps.unread short reads) = fails_at_read f new c bytes (ReadFails.unread bytes all short refl) reads
+  stops_in_source f new c (games_steps.too_long front rest cut place some reads) =
+      fails_at_read f new c front (subst (λ n. ReadFails left_old left_new (decided front) (record { at = n; reason = InputTooLong })) place
+      (ReadFails.too_long front rest (subst (Consumes left_old left_new) cut all) place some refl)) reads
+
+  -- a marker was met
+  pub met_in_source : (c : Converter) (unused : List ℕ) (m : CodePlacedMarker) (after : Option (List ℕ)) → MeetsNext start bytes m (games_of c unused) after
+      → MarkerComes q left_old left_new given m (record { converter = c; unused = unused; has_ended = false }) before after
+  met_in_source c unused m after h =
+      let ts = h.met.tokens ++ h.met.token ∷ [] in
+      let next = next_of (within_limit bytes) c.lexer ts h.met.lexer.0 in
+      record {
+        tokens = h.met.tokens;
+        token = h.met.token;
+        come = record {
+          bytes = bytes;
+          consumed = all;
+          stands = (stands_within bytes (games_of c unused) ts h.met.lexer.0 h.unused, next);
+          shown = known_left left_old left_new bytes (λ s. AreShown s ts) all (λ rest. shown_by _ bytes rest ts refl next);
+        };
+        meets = h.met.meets;
+      }
+
+  -- the source has just ended
+  pub all_used : (now : Converter) (b : Option (List ℕ)) → UsesAll start bytes now b → IsAtEnd left_new
+      → (unused : List ℕ) (new : Converter) (c : Option (List ℕ)) (sink : Device) (r : Result (Option CodePlacedMarker) Fault) → sink.before ≡ b
+      → sink.after ≡ c → EndsToMarker now new r sink
+      → AfterMarker q left_old left_new given (record { converter = new; unused = unused; has_ended = true }) r before c
+  all_used now b so ended unused new c sink r from to ends =
+      let left_over = left_of now.lexer bytes (first old.unused) so.tokens so.stands in
+      let at : Start = start_of q now None given before in
+      met_at_end left_old left_new at bytes new c all (known_whole left_old left_new bytes (λ s. s ≡ bytes) all ended refl)
+      (ends.count ∙ so.stands.count) so.short unused r
+      (subst (λ o. ReachedAtEnd at bytes new (last_step r) o) to
+      (ends.after at bytes so.tokens (record { lexer = left_over; reads = subst (λ o. ReadsMore q given so.tokens now before o) (sym from) so.reads; stays = λ between. refl })))
 
 -- ---- what every call keeps
 

@@ -11,13 +11,13 @@ use Rattle.pgn_lexer.specs.Tokens.{Kind, Token, EndsAt}
 use Rattle.pgn_lexer.specs.TokensOf.{tokens_of}
 use Rattle.pgn_lexer.specs.Decided.{decided}
 use Rattle.pgn_lexer.specs.Standing.{Standing, waiting}
-use Rattle.pgn_lexer.specs.Stands.{StandsAfter, HasLeft, Follows, IsDecided, first, still}
+use Rattle.pgn_lexer.specs.Stands.{StandsAfter, HasLeft, Follows, IsDecided, first}
 use Rattle.pgn_game.specs.declared.stage.Stage.TheVariants.{Between}
 use Rattle.pgn_game.specs.declared.marker.Marker.{Marker}
 use Rattle.pgn_game.specs.declared.marker.PlacedMarker.{PlacedMarker}
 use Rattle.pgn_game.specs.declared.reason.Fault.{Fault}
 use Rattle.pgn_game.specs.declared.reason.Reason.{Reason}
-use Rattle.pgn_game.specs.declared.reason.Reason.TheVariants.{WriteFault}
+use Rattle.pgn_game.specs.declared.reason.Reason.TheVariants.{InputTooLong, WriteFault}
 use Rattle.pgn_game.specs.declared.converter.StepEnd.{StepEnd}
 use Rattle.pgn_game.specs.declared.converter.StepEnd.TheVariants.{NoMarker, Marker as AtMarker}
 use Rattle.pgn_game.specs.declared.converter.FedUpTo.{FedUpTo}
@@ -32,7 +32,7 @@ use Rattle.pgn_game.specs.export.Due.{Gains}
 use Rattle.pgn_game.specs.state.ReaderState.{Accepted, Finished, ReaderState, IsStopped, as_written, with_announced}
 use Rattle.pgn_game.specs.state.TokenInMovetext.{may_have_movetext}
 use Rattle.pgn_game.specs.state.PutResult.{EntersMovetext, TakesEntry}
-use Rattle.pgn_game.specs.calls.ConverterCalls.{Converter, CountsFault, KeepsFault, FinishedGame, game_in_reader, IsLast, HasRead, Stands, Stops, StopsIn, AreNext, within_limit, games_before, position_at_stop, reported_position, ProbesAtStop}
+use Rattle.pgn_game.specs.calls.ConverterCalls.{Converter, CountsFault, KeepsFault, FinishedGame, game_in_reader, IsLast, HasRead, Stands, Stops, AreNext, within_limit, games_before, position_at_stop, reported_position, ProbesAtStop}
 
 -- ---- what was read and written
 
@@ -57,11 +57,6 @@ pub record GainsAs (w p : Profile) (given tokens : List Token) (before after : O
   pub text : List ℕ
   pub due_for : due_as w p tokens ≡ due_as w p given ++ text
   pub appended : Appends before after text
-
--- The converter has read these tokens, and its lexer stands after the bytes u.
-pub record Reaches (p : Profile) (c : Converter) (u : List ℕ) (b : Option ℕ) (given : List Token) : Type 0 where
-  pub lexer : StandsAfter c.lexer u b given
-  pub has_read : HasRead p c given
 
 -- The converter has read `tokens`: those given and more, which finish no game. What they gain was
 -- written.
@@ -173,6 +168,10 @@ pub record Start : Type 0 where
   pub given : List Token
   pub reading : ReaderState
   pub before : Option (List ℕ)
+
+-- where a call of this converter begins
+abbrev pub start_of : Profile → Converter → Option ℕ → List Token → Option (List ℕ) → Start
+start_of p old b given before = record { profile = p; count = old.lexer.count; next = b; given = given; reading = old.reading; before = before }
 
 -- The lexer has given these tokens of a text that begins with the bytes s. The bytes used decide
 -- them.
@@ -336,50 +335,29 @@ fed_marker (Ok All) = Ok None
 fed_marker (Ok (ToMarker used m)) = Ok (Some m)
 fed_marker (Err f) = Err f
 
--- The lexer stands behind a token that ends in the piece.
-pub record EndsWithin (u : List ℕ) (given : List Token) (piece : List ℕ) (used : ℕ) (t : Token) (l : Standing) : Type 0 where
-  pub stands : StandsAfter l (u ++ take used piece) (first (drop used piece)) (given ++ t ∷ [])
-  pub decided : IsDecided (u ++ take used piece) (drop used piece) (given ++ t ∷ [])
-  pub ends : EndsAt t.kind t.at (length u + used)
+-- The text reaches past place 2^62: its bytes before that were all read, up to no marker.
+-- `now` has read them, and `new` still has its reader.
+pub record Reaches (start : Start) (s front : List ℕ) (given : List Token) (new : Converter) (after : Option (List ℕ)) (f : Fault) : Type 0 where
+  pub fault : f ≡ record { at = 2 ^ 62; reason = InputTooLong }
+  pub long : 2 ^ 62 < length s
+  pub now : Converter
+  pub reached : Reached start (within_limit s) front given now (Ok None) after
+  pub count : now.lexer.count ≡ 2 ^ 62
+  pub none_just_finished : now.just_finished ≡ None
+  pub same : new.reading ≡ now.reading
 
--- The whole piece was used: all tokens that are decided then were read, and none is a marker that
--- ends a game.
-pub record ReadsPiece (p : Profile) (u : List ℕ) (b : Option ℕ) (given : List Token) (piece : List ℕ) (new : Converter) (before after : Option (List ℕ)) : Type 0 where
-  pub tokens : List Token
-  pub stands : StandsAfter new.lexer (u ++ piece) (still b piece) tokens
-  pub decided : 0 < length piece → tokens ≡ decided (u ++ piece)
-  pub empty : length piece ≡ 0 → tokens ≡ given
-  pub reads : ReadsMore p given tokens new before after
+-- How a call leaves it that was given a piece of any length: `front`, which is before place 2^62,
+-- is read.
+abbrev pub ReadsPiece : Start → List ℕ → List ℕ → List Token → Converter → Result (Option PlacedMarker) Fault → Option (List ℕ) → Type 0
+ReadsPiece start s front given new (Ok met) after = Reached start (within_limit s) front given new (Ok met) after
+ReadsPiece start s front given new (Err f) after =
+    FailsIn start.profile (first_bytes (within_limit s)) start.given f new.reading start.before after ⊎ Reaches start s front given new after f
 
--- The used bytes end with a marker. A byte at place 2^62 is never looked at: those before it decide
--- the marker.
-pub record ReadsToMarker (p : Profile) (u : List ℕ) (given : List Token) (piece : List ℕ) (used : ℕ) (m : PlacedMarker) (new : Converter) (before after : Option (List ℕ)) : Type 0 where
-  pub tokens : List Token
-  pub token : Token
-  pub ends : EndsWithin u tokens piece used token new.lexer
-  pub at_limit : length (u ++ take used piece) ≡ 2 ^ 62
-      → tokens ++ token ∷ [] ≡ decided (u ++ take used piece)
-  pub next : AreNext (within_limit (u ++ piece)) (tokens ++ token ∷ [])
-  pub meets : Meets p given tokens token m new before after
-
--- the result of a piece
-abbrev pub AfterFeedToMarker : Profile → List ℕ → Option ℕ → List Token → List ℕ → Converter
-    → Result FedUpTo Fault → Option (List ℕ) → Option (List ℕ) → Type 0
-AfterFeedToMarker p u b given piece new (Ok All) before after = ReadsPiece p u b given piece new before after
-AfterFeedToMarker p u b given piece new (Ok (ToMarker used m)) before after =
-    ReadsToMarker p u given piece used m new before after
-AfterFeedToMarker p u b given piece new (Err f) before after =
-    StopsIn u piece
-    (λ bytes fault. FailsIn p (first_bytes bytes) given fault new.reading before after)
-    (λ front. (now : Converter) × ReadsPiece p u b given front now before after
-    × (new.reading ≡ now.reading)) f
-
--- What `feed_to_marker` does to a converter that stands after any bytes.
-abbrev pub FeedsToMarker : Converter → List ℕ → Converter → Result FedUpTo Fault → Device → Type 0
-FeedsToMarker old piece new result sink =
-    (p : Profile) (u : List ℕ) (b : Option ℕ) (given : List Token)
-    → Reaches p old u b given → Follows b piece
-    → AfterFeedToMarker p u b given piece new result sink.before sink.after
+-- What each call does that reads a piece of any length: from wherever it stands since any start.
+abbrev pub ReadsToMarker : Converter → List ℕ → Converter → Result (Option PlacedMarker) Fault → Device → Type 0
+ReadsToMarker old piece new result sink =
+    (start : Start) (s : List ℕ) (tokens : List Token) → drop old.lexer.count s ≡ piece → At start (first_bytes (within_limit s)) old tokens sink.before
+    → ReadsPiece start s (drop old.lexer.count (within_limit s)) tokens new result sink.after
 
 -- ---- the marker
 

@@ -2,7 +2,7 @@
 -- read up to a marker.
 -- Letters: as in `GamesCalls` and `ConverterSteps`. `left_now` are the bytes that the source has
 -- left, and `now` is the state, at some time during a call.
-use Rattle.std.specs.Prelude.{◌≡◌, ℕ, ◌+◌, ◌^◌, ◌<◌, ◌≤◌, Bool, true, false, List, [], ◌∷◌, ◌++◌, length, drop, Option, None, Some, Result, Ok, Err, IfOk, IfSome, OnOk}
+use Rattle.std.specs.Prelude.{◌≡◌, ℕ, ◌+◌, ◌^◌, ◌<◌, ◌≤◌, Bool, true, false, List, [], ◌++◌, length, drop, Option, None, Some, Result, Ok, Err, IfOk, IfSome, OnOk}
 use Rattle.std.specs.Io.KnownBytes.{Consumes, IsAtEnd, Keeps}
 use Rattle.pgn_layout.specs.Device.{Device, IsStill}
 use Rattle.pgn_lexer.specs.Tokens.{Token}
@@ -12,11 +12,10 @@ use Rattle.pgn_game.specs.declared.reason.Reason.TheVariants.{ReadFault, InputTo
 use Rattle.pgn_game.specs.declared.reason.Fault.{Fault}
 use Rattle.pgn_game.specs.declared.source.ReadFailed.{ReadFailed}
 use Rattle.pgn_game.specs.declared.marker.PlacedMarker.{PlacedMarker}
-use Rattle.pgn_game.specs.declared.converter.FedUpTo.TheVariants.{All, Marker as ToMarker}
 use Rattle.pgn_game.specs.games.Profile.{Profile}
-use Rattle.pgn_game.specs.calls.ConverterCalls.{Converter, AreNext, CountsFault, KeepsFault, within_limit, HasRead}
+use Rattle.pgn_game.specs.calls.ConverterCalls.{Converter, CountsFault, KeepsFault, within_limit, HasRead}
 use Rattle.pgn_game.specs.calls.Conversion.{CountsDevices}
-use Rattle.pgn_game.specs.state.ConverterSteps.{NotTaken, FeedsToMarker, IsReady, KeepsRest, Meets, ReadsMore}
+use Rattle.pgn_game.specs.state.ConverterSteps.{At, FailsIn, IsReady, KeepsRest, MeetsAt, ReadsMore, ReadsToMarker, Start, first_bytes, start_of}
 use Rattle.pgn_game.specs.calls.GamesCalls.{CountsNext, Games, ReadsNext, most_left}
 
 -- what a read puts into the empty buffer: bytes, or none at the end of the source (`false`) or if
@@ -33,17 +32,13 @@ MoreResult left_old left_new old new unused (Ok true) = (new ≡ old) × (0 < le
 MoreResult left_old left_new old new unused (Ok false) = (new ≡ old) × (unused ≡ []) × Consumes left_old left_new [] × IsAtEnd left_new
 MoreResult left_old left_new old new unused (Err f) = (f ≡ record { at = old.lexer.count; reason = ReadFault }) × (new ≡ record old { just_finished = None; fault = Some f }) × Keeps left_old left_new
 
--- The bytes not used yet are fed: up to a marker, all of them, or up to a fault.
-abbrev pub RestResult : Games → Games → Result (Option PlacedMarker) Fault → Device → Type 0
-RestResult old new (Ok (Some m)) sink = (used : ℕ) × (new.unused ≡ drop used old.unused) × FeedsToMarker old.converter old.unused new.converter (Ok (ToMarker used m)) sink
-RestResult old new (Ok None) sink = (new.unused ≡ []) × FeedsToMarker old.converter old.unused new.converter (Ok All) sink
-RestResult old new (Err f) sink = FeedsToMarker old.converter old.unused new.converter (Err f) sink
-
--- What `feed_rest` does to a converter and a buffer.
+-- What `feed_rest` does to a converter and a buffer: it feeds the bytes that are not used yet.
 pub record FeedsRest (old new : Games) (result : Result (Option PlacedMarker) Fault) (sink : Device) : Type 0 where
-  pub feeds : RestResult old new result sink
+  pub feeds : ReadsToMarker old.converter old.unused new.converter result sink
+  pub unused : OnOk result ((used : ℕ) × (new.converter.lexer.count ≡ old.converter.lexer.count + used) × (new.unused ≡ drop used old.unused))
   pub used : result ≡ Ok None → new.converter.lexer.count ≡ old.converter.lexer.count + length old.unused
   pub ready : IfOk result (λ marker. IfSome marker (λ m. IsReady new.converter))
+  pub place : old.converter.lexer.count ≤ 2 ^ 62
   pub short : new.converter.lexer.count ≤ 2 ^ 62
   pub keeps : KeepsRest old.converter new.converter false result
   pub counted : CountsFault result sink
@@ -57,68 +52,60 @@ pub record StandsWithin (u : List ℕ) (games : Games) (given : List Token) : Ty
   pub at_limit : length used ≡ 2 ^ 62 → given ≡ decided used
   pub decided : IsDecided used games.unused given
 
--- What was read since the call began: none of its tokens is a marker that may end a game.
-pub record MoreSoFar (p : Profile) (u : List ℕ) (given : List Token) (left_old left_now : Option (List ℕ)) (now : Games) (before after : Option (List ℕ)) : Type 0 where
-  pub more : List ℕ
-  pub consumed : Consumes left_old left_now more
+-- What was read since the start, up to no marker. The source has given the bytes s so far.
+pub record MoreSoFar (start : Start) (s : List ℕ) (now : Games) (after : Option (List ℕ)) : Type 0 where
+  pub unused : drop now.converter.lexer.count s ≡ now.unused
   pub tokens : List Token
-  pub stands : StandsWithin (u ++ more) now tokens
-  pub reads : ReadsMore p given tokens now.converter before after
+  pub here : At start (first_bytes (within_limit s)) now.converter tokens after
 
--- A marker was met: it is `token`, after the tokens read. The bytes before place 2^62 decide it.
-pub record MeetsNext (p : Profile) (u : List ℕ) (given : List Token) (left_old left_new : Option (List ℕ)) (m : PlacedMarker) (new : Games) (before after : Option (List ℕ)) : Type 0 where
-  pub more : List ℕ
-  pub consumed : Consumes left_old left_new more
+-- A marker was met.
+pub record MeetsNext (start : Start) (s : List ℕ) (m : PlacedMarker) (new : Games) (after : Option (List ℕ)) : Type 0 where
+  pub unused : drop new.converter.lexer.count s ≡ new.unused
+  pub met : MeetsAt start (first_bytes (within_limit s)) m new.converter after
+
+-- All bytes are used, and no marker was met.
+pub record UsesAll (start : Start) (s : List ℕ) (new : Converter) (after : Option (List ℕ)) : Type 0 where
+  pub short : length s ≤ 2 ^ 62
   pub tokens : List Token
-  pub token : Token
-  pub stands : StandsWithin (u ++ more) new (tokens ++ token ∷ [])
-  pub next : AreNext (within_limit (u ++ more)) (tokens ++ token ∷ [])
-  pub meets : Meets p given tokens token m new.converter before after
-
--- The source has ended, all its bytes are used, and no marker was met.
-pub record UsesAll (p : Profile) (u : List ℕ) (given : List Token) (left_old left_new : Option (List ℕ)) (new : Games) (before after : Option (List ℕ)) : Type 0 where
-  pub so_far : MoreSoFar p u given left_old left_new new before after
-  pub none_left : new.unused ≡ []
-  pub at_end : IsAtEnd left_new
+  pub stands : StandsAfter new.lexer s start.next tokens
+  pub reads : ReadsMore start.profile start.given tokens new start.before after
 
 -- All tokens that the bytes u decide were read, by the converter `now`. `new` still has its reader.
-pub record ReadsAllOf (p : Profile) (given : List Token) (u : List ℕ) (new : Converter) (before after : Option (List ℕ)) : Type 0 where
+pub record ReadsAllOf (start : Start) (u : List ℕ) (new : Converter) (after : Option (List ℕ)) : Type 0 where
   pub now : Converter
   pub same : new.reading ≡ now.reading
   pub left : HasLeft now.lexer u (decided u)
-  pub reads : ReadsMore p given (decided u) now before after
+  pub reads : ReadsMore start.profile start.given (decided u) now start.before after
 
 -- How reading stops before a marker.
 -- - `at_token`: at a token that the bytes before place 2^62 decide.
 -- - `unread`: a read failed.
 -- - `too_long`: the source has given the byte at place 2^62.
-pub data StopsBefore (p : Profile) (u : List ℕ) (given : List Token) (left_old left_new : Option (List ℕ)) (new : Converter) (before after : Option (List ℕ)) : Fault → Type 0 where
-  at_token : (f : Fault) (more : List ℕ) (tokens : List Token) (t : Token) → Consumes left_old left_new more → AreNext (within_limit (u ++ more)) (tokens ++ t ∷ [])
-      → NotTaken p given tokens t f new.reading before after
-      → StopsBefore p u given left_old left_new new before after f
-  unread : (more : List ℕ) → Consumes left_old left_new more → length (u ++ more) ≤ 2 ^ 62 → ReadsAllOf p given (u ++ more) new before after
-      → StopsBefore p u given left_old left_new new before after (record { at = length (u ++ more); reason = ReadFault })
-  too_long : (more front rest : List ℕ) → Consumes left_old left_new more → u ++ more ≡ front ++ rest → length front ≡ 2 ^ 62 → 0 < length rest
-      → ReadsAllOf p given front new before after
-      → StopsBefore p u given left_old left_new new before after (record { at = 2 ^ 62; reason = InputTooLong })
+pub data StopsBefore (start : Start) (s : List ℕ) (new : Converter) (after : Option (List ℕ)) : Fault → Type 0 where
+  at_token : (f : Fault) → FailsIn start.profile (first_bytes (within_limit s)) start.given f new.reading start.before after → StopsBefore start s new after f
+  unread : length s ≤ 2 ^ 62 → ReadsAllOf start s new after → StopsBefore start s new after (record { at = length s; reason = ReadFault })
+  too_long : (front rest : List ℕ) → s ≡ front ++ rest → length front ≡ 2 ^ 62 → 0 < length rest → ReadsAllOf start front new after
+      → StopsBefore start s new after (record { at = 2 ^ 62; reason = InputTooLong })
 
 -- What `next_marker` results in: a marker was met, the source has ended, or reading stopped.
-abbrev pub AfterToMarker : Profile → List ℕ → List Token → Option (List ℕ) → Option (List ℕ) → Games → Result (Option PlacedMarker) Fault → Option (List ℕ) → Option (List ℕ) → Type 0
-AfterToMarker p u given left_old left_new new (Ok (Some m)) before after = MeetsNext p u given left_old left_new m new before after
-AfterToMarker p u given left_old left_new new (Ok None) before after = UsesAll p u given left_old left_new new before after
-AfterToMarker p u given left_old left_new new (Err f) before after = StopsBefore p u given left_old left_new new.converter before after f
+abbrev pub AfterToMarker : Start → List ℕ → Option (List ℕ) → Games → Result (Option PlacedMarker) Fault → Option (List ℕ) → Type 0
+AfterToMarker start s left_new new (Ok (Some m)) after = MeetsNext start s m new after
+AfterToMarker start s left_new new (Ok None) after = IsAtEnd left_new × UsesAll start s new.converter after
+AfterToMarker start s left_new new (Err f) after = StopsBefore start s new.converter after f
 
 -- What `next_marker` does to a converter and a buffer that have read any bytes of the source.
 abbrev pub ReadsNextMarker : Games → Games → Result (Option PlacedMarker) Fault → Device → Device → Type 0
 ReadsNextMarker old new result source sink =
     (p : Profile) (u : List ℕ) (given : List Token) → StandsWithin u old given → HasRead p old.converter given
-    → AfterToMarker p u given source.before source.after new result sink.before sink.after
+    → (more : List ℕ) × Consumes source.before source.after more
+    × AfterToMarker (start_of p old.converter (first old.unused) given sink.before) (u ++ more) source.after new result sink.after
 
 -- what was read from the state `old` on, while `next_marker` runs
 abbrev pub ReadsSoFar : Games → Games → Device → Device → Type 0
 ReadsSoFar old now source sink =
-    (p : Profile) (u : List ℕ) (given : List Token) → StandsWithin u old given → HasRead p old.converter given
-    → MoreSoFar p u given source.before source.after now sink.before sink.after
+    (p : Profile) (u : List ℕ) (given : List Token) → StandsWithin u old given → HasRead p old.converter given → now.converter.lexer.count ≤ 2 ^ 62
+    → (more : List ℕ) × Consumes source.before source.after more
+    × MoreSoFar (start_of p old.converter (first old.unused) given sink.before) (u ++ more) now sink.after
 
 -- If the fault is `ReadFault`, the source counts one failure more. If it is `WriteFault`, the sink
 -- does. Otherwise no count rises.
@@ -129,7 +116,6 @@ CountsReading (Err f) source sink = CountsDevices f.reason source.failures sourc
 -- How `next_marker` leaves the rest of the converter, and what it counts.
 pub record GoesToNextMarker (old new : Converter) (result : Result (Option PlacedMarker) Fault) (source sink : Device) : Type 0 where
   pub ready : IfOk result (λ marker. IfSome marker (λ m. IsReady new))
-  pub short : OnOk result (new.lexer.count ≤ 2 ^ 62)
   pub keeps : KeepsRest old new false result
   pub counted : CountsReading result source sink
 

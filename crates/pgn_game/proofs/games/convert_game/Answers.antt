@@ -1,4 +1,4 @@
-use Rattle.pgn_game.proofs.Words.{sym, seen, Fault, ◌≡◌, Bool, Result, Ok, Err, refl, ◌∙◌, arith, Device, device, CountsFault, CountsNext, EndsGame, Ends, CountsGame}
+use Rattle.pgn_game.proofs.Words.{sym, games_of, seen, Fault, ◌≡◌, Bool, Result, Ok, Err, refl, ◌∙◌, arith, Device, device, CountsFault, CountsNext, EndsGame, Ends, CountsGame}
 use Rattle.pgn_game.proofs.ReaderFitsInMemory.{fits_alike}
 use Rattle.pgn_game.proofs.tokens.GamesInTurn.{begins, game_read, marker_stops, stops_before, stands_at_end, finished}
 use Rattle.pgn_game.proofs.putting.SilentReader.{none_fails, seen_alike, silence_then}
@@ -21,12 +21,13 @@ returns-in_err-marker-clause-goes g c =
     rw (error_returned _ c.from_residual.ensures.1) (record {
       reads = λ p u given have.
           let begun = begins p u given _ _ have c.requires.not_finished in
+          let x = c.in_err-marker.ensures.reads p u given begun.1 begun.2 in
           record {
-            stops = stops_before p _ begun.0 u given _ _ _ c.next_marker.new.converter _ _
+            stops = stops_before p _ begun.0 u given _ _ _ (games_of c.args.converter.now c.args.buffer.now) x.0 x.1 c.next_marker.new.converter _ _
                 (λ silent. no_write_seen {A = Unit} (Err c.in_err-marker.field-0.0)
                 (device g.R.Source.left g.R.Source.failures c.args.source.now c.next_marker.new.source)
                 (device g.W.Sink.taken g.W.Sink.failures c.args.out.now c.next_marker.new.out) _ silent c.in_err-marker.ensures.goes.counted)
-                (c.in_err-marker.ensures.reads p u given begun.1 begun.2);
+                x.2;
             games = c.in_err-marker.ensures.goes.keeps.games ∙ begun.2.games;
             none_just_finished = c.in_err-marker.ensures.goes.keeps.none_just_finished;
           };
@@ -47,9 +48,9 @@ returns-in_err-end_game-in-Some g c =
       goes = rw (error_returned _ c.from_residual-in_err-end_game-in-Some.ensures.1) (record {
         reads = λ p u given have.
             let begun = begins p u given _ _ have c.requires.not_finished in
+            let x = rw c.in-Some.is at (c.in_ok-marker.ensures.reads p u given begun.1 begun.2) in
             record {
-              stops = marker_stops p _ begun.0 u given _ _ _ c.in-Some.marker _ (seen _ sink)
-                  (rw c.in-Some.is at (c.in_ok-marker.ensures.reads p u given begun.1 begun.2)) c.end_game.new.self f
+              stops = marker_stops p _ begun.0 u given _ _ _ (games_of c.args.converter.now c.args.buffer.now) x.0 x.1 c.in-Some.marker _ (seen _ sink) x.2 c.end_game.new.self f
                   (λ silent. none_fails {A = Unit} _ (Err f) sink silent counted)
                   (seen_alike (EndsGame _ _ _ _) _ _ sink same c.in_err-end_game-in-Some.ensures.ends);
               games = c.in_err-end_game-in-Some.ensures.counts.games ∙ c.next_marker.ensures.goes.keeps.games ∙ begun.2.games;
@@ -73,8 +74,8 @@ returns-in_ok-end_game-in-Some g c =
       goes = record {
         reads = λ p u given have.
             let begun = begins p u given _ _ have c.requires.not_finished in
-            game_read p _ begun.0 u given _ _ _ c.in-Some.marker _ (seen _ sink)
-            (rw c.in-Some.is at (c.in_ok-marker.ensures.reads p u given begun.1 begun.2)) c.end_game.new.self
+            let x = rw c.in-Some.is at (c.in_ok-marker.ensures.reads p u given begun.1 begun.2) in
+            game_read p _ begun.0 u given _ _ _ (games_of c.args.converter.now c.args.buffer.now) x.0 x.1 c.in-Some.marker _ (seen _ sink) x.2 c.end_game.new.self
             (c.end_game.ensures.silent.silent ∙ same) (seen_alike (EndsGame _ _ _ _) _ _ sink same ended.ends) counts;
         fewer = λ same.
             rw (counts.not_finished, c.requires.not_finished) (omega (arith, counts.few, counts.games, c.next_marker.ensures.goes.keeps.games));
@@ -93,11 +94,11 @@ returns-in-None g c =
       goes = record {
         reads = λ p u given have.
             let begun = begins p u given _ _ have c.requires.not_finished in
-            let uses = rw c.in-None.is at (c.in_ok-marker.ensures.reads p u given begun.1 begun.2) in
-            finished p _ begun.0 u given _ _ _ _ _ same uses c.finish.new.self _ c.finish.result
+            let x = rw c.in-None.is at (c.in_ok-marker.ensures.reads p u given begun.1 begun.2) in
+            finished p _ begun.0 u given _ _ (games_of c.args.converter.now c.args.buffer.now) (games_of c.next_marker.new.converter c.next_marker.new.buffer) _ _ same x.0 x.1 x.2.0 x.2.1 c.finish.new.self _ c.finish.result
             (seen_alike (λ (d : Device). Ends c.next_marker.new.converter c.finish.new.self c.finish.result d) _ _ sink same c.finish.ensures.ends
-            p _ _ _ (stands_at_end p _ begun.0 u given _ _ _ _ _ same uses))
-            c.finish.ensures.finished c.finish.ensures.none_just_finished c.in_ok-marker.ensures.goes.short;
+            p _ _ _ (stands_at_end p _ begun.0 u given _ _ (games_of c.args.converter.now c.args.buffer.now) (games_of c.next_marker.new.converter c.next_marker.new.buffer) _ _ same x.0 x.1 x.2.0 x.2.1))
+            c.finish.ensures.finished c.finish.ensures.none_just_finished;
         fewer = λ same. rw (c.finish.ensures.finished, same, c.requires.not_finished) (omega arith);
         fault = c.finish.ensures.fault;
         probes = omega (arith, c.finish.ensures.probes, c.next_marker.ensures.goes.keeps.probes);

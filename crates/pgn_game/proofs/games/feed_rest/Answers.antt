@@ -1,4 +1,4 @@
-use Rattle.pgn_game.proofs.Words.{refl}
+use Rattle.pgn_game.proofs.Words.{◌∙◌, drop-length, le_trans, length, refl, sym}
 use Rattle.pgn_game.proofs.ReaderFitsInMemory.{fits_alike}
 use Rattle.pgn_game.proofs.tokens.GoesToMarker.{keeps_as}
 use Rattle.pgn_game.proofs.reader.ErrorReturned.{error_returned}
@@ -11,11 +11,15 @@ pub returns-in-All-clause-feeds : goal.returns-in-All-clause-feeds
 returns-in-All-clause-feeds g c =
     let fed = c.in_ok-feed_to_marker.ensures in
     record {
-      feeds = (c.clear.ensures, rw (c.in-All.is, c.unused.ensures) at fed.feeds);
+      feeds = rw (c.in-All.is, c.unused.ensures) at fed.feeds;
+      unused =
+          let count = rw (c.in-All.is, c.unused.ensures) at fed.goes.count in
+          (length c.args.buffer.now, count, c.clear.ensures ∙ sym (drop-length c.args.buffer.now));
       used =
           let count = rw (c.in-All.is, c.unused.ensures) at fed.goes.count in
           λ same. count;
       ready = tt;
+      place = le_trans fed.goes.grows fed.short;
       short = fed.short;
       keeps = keeps_as fed.goes.keeps refl;
       counted = fed.goes.counted c.requires.no_fault;
@@ -25,9 +29,11 @@ pub returns-in-Marker-clause-feeds : goal.returns-in-Marker-clause-feeds
 returns-in-Marker-clause-feeds g c =
     let fed = c.in_ok-feed_to_marker.ensures in
     record {
-      feeds = (c.in-Marker.used, c.skip.ensures, rw (c.in-Marker.is, c.unused.ensures) at fed.feeds);
+      feeds = rw (c.in-Marker.is, c.unused.ensures) at fed.feeds;
+      unused = (c.in-Marker.used, rw c.in-Marker.is at fed.goes.count, c.skip.ensures);
       used = λ same. absurd (cc);
       ready = rw c.in-Marker.is at fed.goes.ready;
+      place = le_trans fed.goes.grows fed.short;
       short = fed.short;
       keeps = keeps_as fed.goes.keeps refl;
       counted = fed.goes.counted c.requires.no_fault;
@@ -38,8 +44,10 @@ returns-in_err-feed_to_marker-clause-feeds g c =
     let fed = c.in_err-feed_to_marker.ensures in
     rw (error_returned _ c.from_residual.ensures.1) (record {
       feeds = rw c.unused.ensures at fed.feeds;
+      unused = tt;
       used = λ same. absurd (cc);
       ready = tt;
+      place = le_trans fed.goes.grows fed.short;
       short = fed.short;
       keeps = keeps_as fed.goes.keeps refl;
       counted = fed.goes.counted c.requires.no_fault;

@@ -1,8 +1,8 @@
-use Rattle.pgn_game.proofs.Words.{None, [], ℕ, Ok, refl, ap, ◌∙◌, device, le_refl, le_trans, games_of, one_more, sink_of, FeedsRest, ReadsSoFar}
+use Rattle.pgn_game.proofs.Words.{None, [], ◌++◌, append-nil, drop-length, sym, Consumes-nil, Consumes-trans, ℕ, Ok, refl, ap, ◌∙◌, device, le_refl, le_trans, games_of, one_more, sink_of, FeedsRest, ReadsSoFar}
 use Rattle.pgn_game.proofs.twice.FailuresOfSteps.{behind_still, reader_reason}
-use Rattle.pgn_game.proofs.tokens.AcceptedToConverter.{follows_own}
 use Rattle.pgn_game.proofs.tokens.GoesToMarker.{keeps_behind, keeps_failing}
-use Rattle.pgn_game.proofs.tokens.BytesToMarker.{none_yet, reaches, marker_read, rest_read, rest_stops, filled, at_source_end, unread}
+use Rattle.pgn_game.proofs.tokens.BytesToMarker.{none_yet, rest_stops, filled, at_source_end, unread, unused_now}
+use Rattle.pgn_game.proofs.tokens.WholeInput.{keeps_consumed}
 use Rattle.pgn_game.proofs.putting.SilentReader.{seen_alike, silence_kept, silence_then}
 use Rattle.pgn_game.proofs.reader.ErrorReturned.{error_returned}
 use Rattle.pgn_game.proofs.games.next_marker.Given.{Over}
@@ -18,10 +18,11 @@ module _ (g : Over) (c : In_default g) where
   all_fed : ReadsSoFar (games_of c.args.converter.now c.args.buffer.now) (games_of c.feed_rest.new.converter [])
       (device g.R.Source.left g.R.Source.failures c.args.source.now c.loop-marker.source)
       (sink_of c.args.converter.now.reading g.W.Sink.taken g.W.Sink.failures c.args.out.now c.feed_rest.new.out)
-  all_fed p u given stands has_read =
-      let x = c.loop-marker.invariant.reads p u given stands has_read in
-      rest_read p u given _ _ _ _ _ x _ c.feed_rest.new.converter fed.keeps.written
-      (fed.feeds.1 p _ _ _ (reaches p u given _ _ _ _ _ x) (follows_own c.loop-marker.buffer))
+  all_fed p u given stands has_read few =
+      let x = c.loop-marker.invariant.reads p u given stands has_read fed.place in
+      let to = fed.feeds _ (u ++ x.0) x.2.tokens x.2.unused x.2.here in
+      let unused = unused_now (u ++ x.0) c.loop-marker.buffer _ _ _ x.2.unused (fed.used refl) ∙ drop-length c.loop-marker.buffer in
+      (x.0, x.1, record { unused = unused; tokens = to.0; here = to.1 })
 
 pub loop-marker-init : goal.loop-marker-init
 loop-marker-init g c =
@@ -33,7 +34,7 @@ loop-marker-init g c =
       source = refl;
       sink = refl;
       silent = silence_kept c.args.converter.now.reading c.args.converter.now.reading c.args.out.now refl;
-      reads = λ p u given stands has_read. none_yet p u given _ _ _ stands has_read;
+      reads = λ p u given stands has_read few. ([], Consumes-nil _, none_yet p u given _ _ stands has_read few);
     }
 
 pub returns-in_err-marker : goal.returns-in_err-marker
@@ -42,12 +43,15 @@ returns-in_err-marker g c =
     let fed = seen_alike (FeedsRest _ _ _) _ _ _ so.silent.silent c.in_err-marker.ensures.feeds in
     record {
       reads = λ p u given stands has_read.
-          let x = so.reads p u given stands has_read in
-          rw (error_returned _ c.from_residual.ensures.1) (rest_stops p u given _ _ _ _ _ x _ c.feed_rest.new.converter fed.keeps.written _
-          (fed.feeds p _ _ _ (reaches p u given _ _ _ _ _ x) (follows_own c.loop-marker.buffer)));
+          let x = so.reads p u given stands has_read fed.place in
+          rw (error_returned _ c.from_residual.ensures.1) (
+            x.0,
+            x.1,
+            rest_stops p u given _ _ stands x.0 _ x.2.tokens c.feed_rest.new.converter _ _
+                (fed.feeds _ (u ++ x.0) x.2.tokens x.2.unused x.2.here),
+          );
       goes = rw (error_returned _ c.from_residual.ensures.1) (record {
         ready = tt;
-        short = tt;
         keeps = keeps_behind so.games so.written so.probes fed.keeps refl;
         counted = behind_still _ _ _ _ _ _ _ so.source so.sink (reader_reason c.in_err-marker.field-0.0.reason _ _ _ fed.counted);
       });
@@ -60,12 +64,16 @@ returns-in-Some g c =
     let fed = rw c.in-Some.is at (seen_alike (FeedsRest _ _ _) _ _ _ so.silent.silent c.in_ok-marker.ensures.feeds) in
     record {
       reads = λ p u given stands has_read.
-          let x = so.reads p u given stands has_read in
-          rw fed.feeds.1 (marker_read p u given _ _ _ _ _ x _ c.feed_rest.new.converter fed.keeps.written fed.feeds.0 c.in-Some.marker
-          (fed.feeds.2 p _ _ _ (reaches p u given _ _ _ _ _ x) (follows_own c.loop-marker.buffer)));
+          let x = so.reads p u given stands has_read fed.place in (
+            x.0,
+            x.1,
+            record {
+              unused = unused_now (u ++ x.0) c.loop-marker.buffer _ _ _ x.2.unused fed.unused.1 ∙ sym fed.unused.2;
+              met = fed.feeds _ (u ++ x.0) x.2.tokens x.2.unused x.2.here;
+            },
+          );
       goes = record {
         ready = fed.ready;
-        short = fed.short;
         keeps = keeps_behind so.games so.written so.probes fed.keeps refl;
         counted = (so.source, fed.counted ∙ so.sink);
       };
@@ -79,10 +87,10 @@ returns-in_err-read_more g c =
     let more = c.in_err-read_more.ensures.more in
     rw (error_returned _ c.from_residual-in_err-read_more.ensures.1, more.1) (record {
       reads = λ p u given stands has_read.
-          unread p u given _ _ _ c.feed_rest.new.converter _ _ (all_fed g place p u given stands has_read) _ _ refl (fed g place).short more.2 more.0;
+          let x = all_fed g place p u given stands has_read (fed g place).short in
+          (x.0, keeps_consumed _ _ _ x.0 x.1 more.2, unread p u given _ _ stands x.0 c.feed_rest.new.converter _ x.2 _ _ refl more.0);
       goes = record {
         ready = tt;
-        short = tt;
         keeps = keeps_failing _ (keeps_behind {B = ℕ} {second = Ok 0} so.games so.written so.probes (fed g place).keeps refl);
         counted = rw more.0 (c.in_err-read_more.ensures.counted ∙ ap one_more so.source, (fed g place).counted ∙ so.sink);
       };
@@ -96,10 +104,10 @@ returns-then-not-branch g c =
     let more = rw c.if-not-branch.true at c.in_ok-read_more.ensures.more in
     rw more.0 (record {
       reads = λ p u given stands has_read.
-          rw more.1 (at_source_end p u given _ _ _ c.feed_rest.new.converter _ _ (all_fed g place p u given stands has_read) more.2 more.3);
+          let x = all_fed g place p u given stands has_read (fed g place).short in
+          (x.0, rw (append-nil x.0) at (Consumes-trans _ _ _ x.0 [] x.1 more.2), (more.3, at_source_end p u given _ _ stands x.0 c.feed_rest.new.converter _ x.2));
       goes = record {
         ready = tt;
-        short = (fed g place).short;
         keeps = keeps_behind so.games so.written so.probes (fed g place).keeps refl;
         counted = (c.in_ok-read_more.ensures.counted ∙ so.source, (fed g place).counted ∙ so.sink);
       };
@@ -120,6 +128,7 @@ loop-marker-preserved g c =
       source = c.in_ok-read_more.ensures.counted ∙ so.source;
       sink = (fed g place).counted ∙ so.sink;
       silent = silence_then _ _ _ _ _ _ so.silent c.feed_rest.ensures.silent;
-      reads = λ p u given stands has_read.
-          filled p u given _ _ _ c.feed_rest.new.converter _ _ (all_fed g place p u given stands has_read) c.read_more.new.buffer more.2;
+      reads = λ p u given stands has_read few.
+          let x = all_fed g place p u given stands has_read few in
+          (_, Consumes-trans _ _ _ x.0 _ x.1 more.2, filled p u given _ _ stands x.0 c.feed_rest.new.converter _ x.2 c.read_more.new.buffer);
     })

@@ -1,4 +1,4 @@
-use Rattle.pgn_game.proofs.Words.{device, le_trans, refl, sink_of, ◌∙◌, StepsAtEnd}
+use Rattle.pgn_game.proofs.Words.{device, games_of, le_trans, refl, sink_of, ◌∙◌, StepsAtEnd}
 use Rattle.pgn_game.proofs.ReaderFitsInMemory.{reading_fits_converter}
 use Rattle.pgn_game.proofs.putting.SilentReader.{seen_alike, silence_then}
 use Rattle.pgn_game.proofs.tokens.FinishesGames.{at_left}
@@ -44,8 +44,8 @@ returns-in_err-marker g c =
     (record {
       reads = record {
         reads = λ q left_old given h.
-            stops_in_source q left_old _ _ given h.come.bytes h.come.consumed _ _ _ _
-            (c.in_err-marker.ensures.reads q h.come.bytes given (within_source q left_old _ _ given h c.if-self.false) h.has_read);
+            let x = c.in_err-marker.ensures.reads q h.come.bytes given (within_source q left_old _ _ given h c.if-self.false) h.has_read in
+            stops_in_source q left_old _ _ given h.come.bytes x.0 h.come.consumed x.1 (games_of c.self.inside.converter c.self.inside.buffer) _ _ _ _ x.2;
         ready = tt;
         games = read.goes.keeps.games;
         written = read.goes.keeps.written;
@@ -63,9 +63,9 @@ returns-in-Some g c =
       reads = record {
         reads = λ q left_old given h.
             let reads = rw c.in-Some.is at c.in_ok-marker.ensures.reads in
+            let x = reads q h.come.bytes given (within_source q left_old _ _ given h c.if-self.false) h.has_read in
             rw c.if-self.false
-            (met_in_source q left_old _ _ given h.come.bytes h.come.consumed c.next_marker.new.converter c.next_marker.new.buffer c.in-Some.marker _ _
-            (reads q h.come.bytes given (within_source q left_old _ _ given h c.if-self.false) h.has_read));
+            (met_in_source q left_old _ _ given h.come.bytes x.0 h.come.consumed x.1 (games_of c.self.inside.converter c.self.inside.buffer) _ c.next_marker.new.converter c.next_marker.new.buffer c.in-Some.marker _ x.2);
         ready = rw c.in-Some.is at c.in_ok-marker.ensures.goes.ready;
         games = read.goes.keeps.games;
         written = read.goes.keeps.written;
@@ -86,11 +86,10 @@ returns g c =
       reads = record {
         reads = λ q left_old given h.
             let reads = rw c.in_default.is at c.in_ok-marker.ensures.reads in
-            all_used q left_old _ _ given h.come.bytes h.come.consumed c.next_marker.new.converter c.next_marker.new.buffer _ _
-            (reads q h.come.bytes given (within_source q left_old _ _ given h c.if-self.false) h.has_read)
-            c.finish_to_marker-2.new.self _ (sink_of r g.W.Sink.taken g.W.Sink.failures c.next_marker.new.out c.finish_to_marker-2.new.out)
-            c.finish_to_marker-2.result refl refl
-            ends c.in_ok-marker.ensures.goes.short;
+            let x = reads q h.come.bytes given (within_source q left_old _ _ given h c.if-self.false) h.has_read in
+            all_used q left_old _ _ given h.come.bytes x.0 h.come.consumed x.1 (games_of c.self.inside.converter c.self.inside.buffer) _ c.next_marker.new.converter _ x.2.1 x.2.0
+            _ c.finish_to_marker-2.new.self _ (sink_of r g.W.Sink.taken g.W.Sink.failures c.next_marker.new.out c.finish_to_marker-2.new.out)
+            c.finish_to_marker-2.result refl refl ends;
         ready = ready_met _ _ ends.ready;
         games = ends.keeps.games ∙ read.goes.keeps.games;
         written = ends.keeps.written ∙ read.goes.keeps.written;

@@ -1,9 +1,9 @@
-use Rattle.pgn_game.proofs.Words.{refl, ◌≡◌, ℕ, ◌+◌, ◌-◌, ◌^◌, length, arith, ap, take_all, length-take, err_from_is_err_and, Converter, at_token}
+use Rattle.pgn_game.proofs.Words.{◌∙◌, refl, ◌≡◌, ℕ, ◌+◌, ◌-◌, ◌^◌, length, arith, ap, take_all, length-take, err_from_is_err_and, Converter, within_limit, inl, inr, sym, length-drop}
 use Rattle.pgn_game.proofs.putting.SilentReader.{silence_kept}
 use Rattle.pgn_game.proofs.ReaderFitsInMemory.{fits_alike}
 use Rattle.pgn_game.proofs.tokens.GoesToMarker.{front_goes, too_long_goes}
 use Rattle.pgn_game.proofs.tokens.StepsAtEnd.{not_just_finished, sound_behind_fault}
-use Rattle.pgn_game.proofs.tokens.ReadsInText.{fault_read, marker_read, past_limit, whole_read}
+use Rattle.pgn_game.proofs.tokens.ReadsInText.{front_ahead, read_ahead}
 use Rattle.pgn_game.proofs.tokens.StepsInPiece.{limit_left, front_used}
 use Rattle.pgn_game.proofs.converter.Converter.feed_to_marker.Goals as goal
 use Rattle.pgn_game.proofs.converter.Converter.feed_to_marker.Goals.{After-feed_front}
@@ -17,8 +17,8 @@ returns-in_err-used-clause-feeds g c =
     let e = err_from_is_err_and c.from_residual.result c.from_residual.ensures.1 in
     let is = limit g (goal.at.returns-in_err-used-clause-feeds g c).After-feed_front in
     let fed = rw c.within_limit-front.ensures at c.in_err-used.ensures in
-    rw (e.1, e.2) (λ p u b given reaches follows.
-    at_token _ (fault_read p u b given _ c.args.piece.now _ reaches follows _ is c.feed_front.new.self _ _ fed.feeds))
+    rw (e.1, e.2) (λ start s tokens ahead here.
+    inl (fed.feeds start (within_limit s) tokens (front_ahead s c.args.piece.now _ _ ahead is) here))
 
 pub returns-in_err-used-clause-goes : goal.returns-in_err-used-clause-goes
 returns-in_err-used-clause-goes g c =
@@ -29,8 +29,8 @@ pub returns-in-Marker-clause-feeds : goal.returns-in-Marker-clause-feeds
 returns-in-Marker-clause-feeds g c =
     let is = limit g (goal.at.returns-in-Marker-clause-feeds g c).After-feed_front in
     let fed = rw (c.in-Marker.is, c.within_limit-front.ensures) at c.in_ok-used.ensures in
-    λ p u b given reaches follows.
-    marker_read p u b given _ c.args.piece.now _ reaches follows _ is c.feed_front.new.self c.in-Marker.used fed.goes.count fed.goes.used _ _ fed.feeds
+    λ start s tokens ahead here.
+    fed.feeds start (within_limit s) tokens (front_ahead s c.args.piece.now _ _ ahead is) here
 
 pub returns-in-Marker-clause-goes : goal.returns-in-Marker-clause-goes
 returns-in-Marker-clause-goes g c =
@@ -41,9 +41,18 @@ returns-then-front-piece-clause-feeds g c =
     let is = limit g (goal.at.returns-then-front-piece-clause-feeds g c).After-feed_front in
     let fed = rw (c.in-All.is, c.within_limit-front.ensures) at c.in_ok-used.ensures in
     let more = limit_left c.args.piece.now _ (rw c.within_limit-front.ensures at c.if-front-piece.true) in
-    λ p u b given reaches follows.
-    rw c.too_long.ensures.fault (past_limit p u b given _ c.args.piece.now _ reaches follows _ is c.feed_front.new.self _ fed.feeds fed.goes.count more
-    (ap (λ (s : Converter). s.reading) c.self-2.view_is))
+    λ start s tokens ahead here.
+    let front = front_ahead s c.args.piece.now _ _ ahead is in
+    let size : length c.args.piece.now ≡ length s - c.args.self.now.lexer.count = ap (length {A = ℕ}) (sym ahead) ∙ length-drop _ s in
+    inr (record {
+      fault = c.too_long.ensures.fault;
+      long = omega (arith, more, size, is);
+      now = c.feed_front.new.self;
+      reached = read_ahead start (within_limit s) tokens c.feed_front.new.self _ _ _ front (fed.feeds start (within_limit s) tokens front here);
+      count = omega (arith, fed.goes.count, is, more, length-take (2 ^ 62 - c.place.result) c.args.piece.now);
+      none_just_finished = fed.goes.keeps.none_just_finished;
+      same = ap (λ (s : Converter). s.reading) c.self-2.view_is;
+    })
 
 pub returns-then-front-piece-clause-goes : goal.returns-then-front-piece-clause-goes
 returns-then-front-piece-clause-goes g c =
@@ -57,9 +66,9 @@ pub returns-else-front-piece-clause-feeds : goal.returns-else-front-piece-clause
 returns-else-front-piece-clause-feeds g c =
     let is = limit g (goal.at.returns-else-front-piece-clause-feeds g c).After-feed_front in
     let fed = rw (c.in-All.is, c.within_limit-front.ensures) at c.in_ok-used.ensures in
-    let whole = front_used c.args.piece.now (2 ^ 62 - c.place.result) (length c.args.piece.now) (rw c.within_limit-front.ensures at c.if-front-piece.false) in
-    λ p u b given reaches follows.
-    whole_read p u b given _ c.args.piece.now _ reaches follows _ is c.feed_front.new.self _ fed.feeds fed.goes.count whole
+    λ start s tokens ahead here.
+    let front = front_ahead s c.args.piece.now _ _ ahead is in
+    read_ahead start (within_limit s) tokens c.feed_front.new.self _ _ _ front (fed.feeds start (within_limit s) tokens front here)
 
 pub returns-else-front-piece-clause-goes : goal.returns-else-front-piece-clause-goes
 returns-else-front-piece-clause-goes g c =

@@ -35,7 +35,7 @@ returns-in_err-marker-clause-ends g c =
     failed_input p u given _ _ _ _ so _ (shows_stop p _ _ c.in_err-marker.field-0.0 stands.known (λ silent. none_fails {A = Unit} _ (Err c.in_err-marker.field-0.0)
     (device g.W.Sink.taken g.W.Sink.failures c.loop-marker.out c.finish_to_marker.new.out) silent met.counted))
     c.args.self.now.lexer c.finish_to_marker.new.self _
-    (left_of p c.args.self.now u b given stands) stands.has_read.passes (met.after _ u _ (at_left p u _ _ _ so.left so.has_read)) met.keeps.games)
+    (left_of c.args.self.now.lexer u b given stands.lexer) stands.has_read.passes (met.after _ u _ (at_left p u _ _ _ so.left so.has_read)) met.keeps.games)
 
 pub returns-in_err-end_game-in-Some-2-clause-ends : goal.returns-in_err-end_game-in-Some-2-clause-ends
 returns-in_err-end_game-in-Some-2-clause-ends g c =
@@ -50,7 +50,7 @@ returns-in_err-end_game-in-Some-2-clause-ends g c =
     failed_game p u given _ _ _ _ so _ (shows_stop p _ _ c.in_err-end_game-in-Some-2.field-0.0 stands.known (λ silent. none_fails {A = Unit} _ (Err c.in_err-end_game-in-Some-2.field-0.0)
     (device g.W.Sink.taken g.W.Sink.failures c.finish_to_marker.new.out c.end_game.new.out) silent counts.counted))
     c.args.self.now.lexer c.in-Some-2.marker c.finish_to_marker.new.self c.end_game.new.self _
-    (left_of p c.args.self.now u b given stands) stands.has_read.passes (met.after _ u _ (at_left p u _ _ _ so.left so.has_read)) ended counts met.keeps.games)
+    (left_of c.args.self.now.lexer u b given stands.lexer) stands.has_read.passes (met.after _ u _ (at_left p u _ _ _ so.left so.has_read)) ended counts met.keeps.games)
 
 pub loop-marker-preserved : goal.loop-marker-preserved
 loop-marker-preserved g c =
