@@ -1,13 +1,11 @@
 -- **Bookkeeping**: what one byte, or the end of the text, does to what a lexer holds.
 -- Letters: h is what is held, b the byte, `place` its place. Bytes are numbers: 10 is a line
--- feed, 33 is `!`, 48 is `0`, 92 is a backslash, and 239 187 191 is the byte order mark EF BB BF.
-use Rattle.std.specs.Prelude.{◌≡◌, Bool, true, false, ℕ, ◌+◌, ◌-◌, ◌*◌, List, [], ◌∷◌, ◌++◌, length, nat_lt, nat_le, ◌==◌, if◌then◌else◌}
+-- feed, 48 is `0`, and 239 187 191 is the byte order mark EF BB BF.
+use Rattle.std.specs.Prelude.{◌≡◌, Bool, ℕ, ◌+◌, ◌-◌, ◌*◌, List, [], ◌∷◌, ◌++◌, length, nat_lt, nat_le, ◌==◌, if◌then◌else◌}
 use Rattle.pgn_lexer.specs.declared.token.LexReason.{LexReason}
-use Rattle.pgn_lexer.specs.declared.token.LexReason.TheVariants.{StrayByte, ControlByte, StringTooLong, LoneDollar, GlyphRange, BraceInLineComment, UnclosedString, UnclosedComment}
-use Rattle.pgn_lexer.specs.declared.class.Class.{Class}
-use Rattle.pgn_lexer.specs.declared.class.Class.TheVariants as classes
-use Rattle.pgn_lexer.specs.CommentClass.{CommentClass}
-use Rattle.pgn_lexer.specs.CommentClass as comment_classes
+use Rattle.pgn_lexer.specs.declared.token.LexReason.TheVariants.{StrayByte, ControlByte, StringTooLong, LoneDollar, GlyphRange, UnclosedString, UnclosedComment}
+use Rattle.pgn_lexer.specs.Class.{Class}
+use Rattle.pgn_lexer.specs.Class as classes
 use Rattle.pgn_lexer.specs.StringClass.{StringClass}
 use Rattle.pgn_lexer.specs.StringClass as string_classes
 use Rattle.pgn_lexer.specs.declared.partial_token.LexMode.{LexMode}
@@ -21,7 +19,12 @@ use Rattle.pgn_lexer.specs.declared.partial_token.ByteResult.{ByteResult}
 use Rattle.pgn_lexer.specs.declared.partial_token.ByteResult.TheVariants.{Used, Ends, EndsBefore, Fault}
 use Rattle.pgn_lexer.specs.Bytes.{is_line_end, is_digit}
 use Rattle.pgn_lexer.specs.Spelling.{class, comment_class, string_class}
-use Rattle.pgn_lexer.specs.PartialToken.{PartialToken}
+use Rattle.pgn_lexer.specs.declared.token.TokenKind.TheVariants as kinds
+use Rattle.pgn_lexer.specs.declared.partial_token.begins.Begins.{Begins}
+use Rattle.pgn_lexer.specs.declared.partial_token.begins.Begins.TheVariants as begins
+use Rattle.pgn_lexer.specs.Begins.{begins_outside, begins_in_comment}
+use Rattle.pgn_lexer.specs.Lexes.{is_escaped}
+use Rattle.pgn_lexer.specs.PartialToken.{PartialToken, before_last}
 use Rattle.pgn_lexer.specs.Sets.{is_in}
 use Rattle.pgn_lexer.specs.Texts.{bytes_of, longest_of, too_long_of, mode_behind}
 
@@ -55,24 +58,22 @@ fails h at reason = set_at (Failed reason) at h.text (Fault reason)
 abbrev pub if_room : ℕ → LexReason → PartialToken → AfterByte → AfterByte
 if_room most reason h after = if nat_lt (length h.text) most then after else fails h h.at reason
 
--- outside strings and comments
-abbrev pub begin : ℕ → PartialToken → ℕ → Class → AfterByte
-begin place h b classes.LineEnd = set_at LineStart place h.text Used
-begin place h b classes.Space = set_at Outside place h.text Used
-begin place h b classes.Percent = fails h place StrayByte
-begin place h b classes.SymbolStart = set_at (Text texts.Symbol) place (b ∷ []) Used
-begin place h b classes.Quote = set_at (Text texts.Str) place [] Used
-begin place h b classes.Dollar = set_at Dollar place h.text Used
-begin place h b classes.Suffix = set_at (Text texts.Suffix) place (b ∷ []) Used
-begin place h b classes.OpenBrace = set_at (Comment closes.Brace) place h.text (Ends token_forms.CommentOpen)
-begin place h b classes.Semicolon = set_at (Comment closes.LineEnd) place h.text (Ends token_forms.CommentOpen)
-begin place h b (classes.Alone s) = set_at Outside place h.text (Ends (token_forms.Single s))
-begin place h b (classes.Refused r) = fails h place r
+-- what a byte between tokens begins
+abbrev pub begin : ℕ → PartialToken → ℕ → Begins → AfterByte
+begin place h b (begins.Gap mode) = set_at mode place h.text Used
+begin place h b (begins.Text text) = set_at (Text text) place (b ∷ []) Used
+begin place h b begins.Str = set_at (Text texts.Str) place [] Used
+begin place h b begins.Dollar = set_at Dollar place h.text Used
+begin place h b (begins.Alone kind mode) = set_at mode place h.text (Ends (token_forms.Other kind))
+begin place h b (begins.Refused reason) = fails h place reason
+
+abbrev pub begin_outside : ℕ → PartialToken → ℕ → Class → AfterByte
+begin_outside place h b c = begin place h b (begins_outside c)
 
 -- in the first column a percent sign begins an escape line
 abbrev pub begin_line : ℕ → PartialToken → ℕ → Class → AfterByte
 begin_line place h b classes.Percent = into h EscapeLine Used
-begin_line place h b c = begin place h b c
+begin_line place h b c = begin_outside place h b c
 
 abbrev pub escape_line : PartialToken → ℕ → AfterByte
 escape_line h b = if is_line_end b then into h LineStart Used else into h EscapeLine Used
@@ -92,49 +93,41 @@ dollar h b = if is_digit b then into h (Glyph (b - 48)) Used else fails h h.at L
 abbrev pub glyph : PartialToken → ℕ → ℕ → AfterByte
 glyph h n b =
     if is_digit b then (if nat_le (10 * n + (b - 48)) 255 then into h (Glyph (10 * n + (b - 48))) Used else fails h h.at GlyphRange)
-    else into h Outside (EndsBefore (token_forms.Glyph n))
+    else into h Outside (EndsBefore (token_forms.Other (kinds.Glyph n)))
 
--- In a string; `escaped` says that a backslash (92) is just before. That is a datum itself, unless
--- it escapes the byte.
-abbrev pub string : Bool → ℕ → PartialToken → ℕ → StringClass → AfterByte
-string escaped place h b string_classes.LineEnd = fails h h.at UnclosedString
-string escaped place h b string_classes.Control = fails h place ControlByte
-string false place h b string_classes.Quote = into h Outside (Ends (token_forms.Text texts.Str))
-string false place h b string_classes.Backslash = if_room 255 StringTooLong h (into h AfterBackslash Used)
-string false place h b string_classes.Plain = if_room 255 StringTooLong h (grown h (Text texts.Str) b)
-string true place h b string_classes.Plain = if_room 254 StringTooLong h (grown (grown h (Text texts.Str) 92).held (Text texts.Str) b)
-string true place h b _ = grown h (Text texts.Str) b
-
--- between the words of a comment
-abbrev pub comment : Close → ℕ → PartialToken → ℕ → CommentClass → AfterByte
-comment closes.Brace place h b comment_classes.CloseBrace = set_at Outside place h.text (Ends token_forms.CommentClose)
-comment closes.LineEnd place h b comment_classes.LineEnd = set_at LineStart place h.text (Ends token_forms.CommentClose)
-comment closes.LineEnd place h b comment_classes.CloseBrace = fails h place BraceInLineComment
-comment close place h b comment_classes.WordByte = set_at (Text (texts.Word close)) place (b ∷ []) Used
-comment close place h b comment_classes.Control = fails h place ControlByte
-comment close place h b _ = set_at (Comment close) place h.text Used
+-- in a string
+abbrev pub string : ℕ → PartialToken → ℕ → StringClass → AfterByte
+string place h b string_classes.LineEnd = fails h h.at UnclosedString
+string place h b string_classes.Control = fails h place ControlByte
+string place h b string_classes.Quote = into h Outside (Ends (token_forms.Text texts.Str))
+string place h b string_classes.Backslash = if_room 255 StringTooLong h (grown h AfterBackslash b)
+string place h b string_classes.Plain = if_room 255 StringTooLong h (grown h (Text texts.Str) b)
 
 -- a byte that is none of a text
 abbrev pub text_end : TextKind → ℕ → PartialToken → ℕ → AfterByte
-text_end texts.Str place h b = string false place h b (string_class b)
+text_end texts.Str place h b = string place h b (string_class b)
 text_end t place h b = into h (mode_behind t) (EndsBefore (token_forms.Text t))
 
 -- in a text
 abbrev pub in_text : TextKind → ℕ → PartialToken → ℕ → AfterByte
 in_text t place h b = if is_in (bytes_of t) b then if_room (longest_of t) (too_long_of t) h (grown h (Text t) b) else text_end t place h b
 
+-- After a backslash, an escaped byte takes its place, and another one is read by itself.
+abbrev pub after_backslash : ℕ → PartialToken → ℕ → AfterByte
+after_backslash place h b = if is_escaped b then set_at (Text texts.Str) h.at (before_last h.text ++ b ∷ []) Used else in_text texts.Str place h b
+
 abbrev pub after_byte_in : LexMode → ℕ → PartialToken → ℕ → AfterByte
 after_byte_in Start place h b = start place h b
 after_byte_in AfterEf place h b = mark 187 AfterEfBb h b
 after_byte_in AfterEfBb place h b = mark 191 LineStart h b
 after_byte_in LineStart place h b = begin_line place h b (class b)
-after_byte_in Outside place h b = begin place h b (class b)
+after_byte_in Outside place h b = begin_outside place h b (class b)
 after_byte_in EscapeLine place h b = escape_line h b
 after_byte_in (Text t) place h b = in_text t place h b
-after_byte_in AfterBackslash place h b = string true place h b (string_class b)
+after_byte_in AfterBackslash place h b = after_backslash place h b
 after_byte_in Dollar place h b = dollar h b
 after_byte_in (Glyph n) place h b = glyph h n b
-after_byte_in (Comment close) place h b = comment close place h b (comment_class b)
+after_byte_in (Comment close) place h b = begin place h b (begins_in_comment close (comment_class b))
 after_byte_in (Failed reason) place h b = record { held = h; step = Fault reason }
 
 -- the byte b at the place
@@ -150,7 +143,7 @@ after_end_in Outside place h = record { held = h; step = Used }
 after_end_in EscapeLine place h = record { held = h; step = Used }
 after_end_in (Text t) place h = text_end t place h 10
 after_end_in (Comment closes.Brace) place h = fails h place UnclosedComment
-after_end_in (Comment closes.LineEnd) place h = set_at Outside place h.text (EndsBefore token_forms.CommentClose)
+after_end_in (Comment closes.LineEnd) place h = set_at Outside place h.text (EndsBefore (token_forms.Other kinds.CommentClose))
 after_end_in mode place h = after_byte_in mode place h 10
 
 unfoldable pub after_end : ℕ → PartialToken → AfterByte

@@ -1,5 +1,7 @@
 -- **Bookkeeping**: the list of this crate's files of definitions.
+pub mod Begins
 pub mod Bytes
+pub mod Class
 pub mod CommentClass
 pub mod Comments
 pub mod Decided

@@ -1,7 +1,7 @@
 -- **Bookkeeping**: what a lexer holds of the current token, and the tokens that it still gives.
 -- Letters: h is what is held, s the bytes that come. `place` is the number of bytes used, `at` the
 -- place of the current token, `text` its bytes so far. 239 187 191 is the byte order mark EF BB BF.
-use Rattle.std.specs.Prelude.{◌≡◌, ℕ, ◌+◌, ◌<◌, ◌≤◌, true, false, List, [], ◌∷◌, ◌++◌, take_while, length}
+use Rattle.std.specs.Prelude.{◌≡◌, ℕ, ◌+◌, ◌-◌, ◌<◌, ◌≤◌, true, false, List, [], ◌∷◌, ◌++◌, take, take_while, length}
 use Rattle.pgn_lexer.specs.declared.token.LexFault.{LexFault}
 use Rattle.pgn_lexer.specs.declared.token.LexReason.{LexReason}
 use Rattle.pgn_lexer.specs.declared.partial_token.LexMode.{LexMode}
@@ -11,11 +11,12 @@ use Rattle.pgn_lexer.specs.declared.partial_token.Text.TheVariants as texts
 use Rattle.pgn_lexer.specs.declared.partial_token.TokenForm.{TokenForm}
 use Rattle.pgn_lexer.specs.declared.partial_token.TokenForm.TheVariants as token_forms
 use Rattle.pgn_lexer.specs.Bytes.{is_digit}
-use Rattle.pgn_lexer.specs.Tokens.{Kind, Token, glyph, comment_open, comment_close, refused}
+use Rattle.pgn_lexer.specs.Scanned.{kind_of}
+use Rattle.pgn_lexer.specs.Tokens.{Kind, Token, refused}
 use Rattle.pgn_lexer.specs.Comments.{between}
 use Rattle.pgn_lexer.specs.Sets.{is_in}
 use Rattle.pgn_lexer.specs.Texts.{bytes_of, found_of, kind_of_text, longest_of, within_of}
-use Rattle.pgn_lexer.specs.Spelling.{kind_of_single, Reading, closed, broken, reading, number_from, glyph_at, numbered_at, string_at}
+use Rattle.pgn_lexer.specs.Spelling.{Reading, closed, broken, reading, number_from, glyph_at, numbered_at, string_at}
 use Rattle.pgn_lexer.specs.TokensOf.{column, outside, in_escape_line, in_glyph, quotes, backslash, onto, tokens_from, tokens_of}
 
 -- where the partial token began, and what was read of it
@@ -30,11 +31,8 @@ refusal f = record { at = f.at; kind = refused f.reason }
 
 -- the token of a form, at its place with its text
 abbrev pub kind_in : TokenForm → List ℕ → Kind
-kind_in (token_forms.Single s) text = kind_of_single s
 kind_in (token_forms.Text t) text = kind_of_text t text
-kind_in (token_forms.Glyph n) text = glyph n
-kind_in token_forms.CommentOpen text = comment_open
-kind_in token_forms.CommentClose text = comment_close
+kind_in (token_forms.Other k) text = kind_of k
 
 abbrev pub token_of : TokenForm → PartialToken → Token
 token_of form h = record { at = h.at; kind = kind_in form h.text }
@@ -43,6 +41,10 @@ token_of form h = record { at = h.at; kind = kind_in form h.text }
 abbrev pub with_front : List ℕ → Reading → Reading
 with_front text (closed more) = closed (text ++ more)
 with_front text (broken at reason) = broken at reason
+
+-- the bytes before the last one
+abbrev pub before_last : List ℕ → List ℕ
+before_last text = take (length text - 1) text
 
 -- the tokens that come, if the bytes from the place on are s
 abbrev pub tokens_to_come_in : LexMode → ℕ → ℕ → List ℕ → List ℕ → List Token
@@ -54,7 +56,8 @@ tokens_to_come_in Outside place at text s = tokens_from place outside s
 tokens_to_come_in EscapeLine place at text s = tokens_from place in_escape_line s
 tokens_to_come_in (Text texts.Str) place at text s = onto at (string_at (with_front text (reading at place (length text) false s))) (tokens_from place quotes s)
 tokens_to_come_in (Text t) place at text s = onto at (found_of t at (text ++ take_while (is_in (bytes_of t)) s)) (tokens_from place (within_of t) s)
-tokens_to_come_in AfterBackslash place at text s = onto at (string_at (with_front text (reading at place (length text) true s))) (tokens_from place backslash s)
+tokens_to_come_in AfterBackslash place at text s =
+    onto at (string_at (with_front (before_last text) (reading at place (length (before_last text)) true s))) (tokens_from place backslash s)
 tokens_to_come_in Dollar place at text s = onto at (glyph_at at (take_while is_digit s)) (tokens_from place in_glyph s)
 tokens_to_come_in (Glyph n) place at text s = onto at (numbered_at at (number_from n (take_while is_digit s))) (tokens_from place in_glyph s)
 tokens_to_come_in (Comment close) place at text s = tokens_from place (between close) s
@@ -63,12 +66,11 @@ tokens_to_come_in (Failed reason) place at text s = refusal (record { at = at; r
 abbrev pub tokens_to_come : ℕ → PartialToken → List ℕ → List Token
 tokens_to_come place h s = tokens_to_come_in h.mode place h.at h.text s
 
--- what the text and the number of a token so far have, and room for what must still go into the
--- buffer
+-- what the text and the number of a token so far have; 92 is a backslash
 abbrev pub HasMore : LexMode → List ℕ → Type 0
 HasMore (Text texts.Str) text = Unit {0}
 HasMore (Text t) text = (0 < length text) × (length text ≤ longest_of t)
-HasMore AfterBackslash text = length text < 255
+HasMore AfterBackslash text = (front : List ℕ) × (text ≡ front ++ 92 ∷ [])
 HasMore (Glyph n) text = n ≤ 255
 HasMore _ text = Unit {0}
 

@@ -2,10 +2,8 @@
 use Rattle.std.specs.Prelude.{ℕ, ◌+◌, ◌-◌, ◌*◌, Bool, true, false, ◌||◌, List, [], ◌∷◌, fold, length, nat_lt, nat_le, ◌==◌, if◌then◌else◌}
 use Rattle.pgn_lexer.specs.declared.token.LexReason.{LexReason}
 use Rattle.pgn_lexer.specs.declared.token.LexReason.TheVariants.{StrayByte, ControlByte, Reserved, SymbolTooLong, StringTooLong, WordTooLong, LoneDollar, GlyphRange, BadSuffix, UnclosedString}
-use Rattle.pgn_lexer.specs.declared.class.Single.{Single}
-use Rattle.pgn_lexer.specs.declared.class.Single.TheVariants as singles
-use Rattle.pgn_lexer.specs.declared.class.Class.{Class}
-use Rattle.pgn_lexer.specs.declared.class.Class.TheVariants.{LineEnd, Space, Percent, SymbolStart, Quote, Dollar, Suffix, OpenBrace, Semicolon, Alone, Refused}
+use Rattle.pgn_lexer.specs.Class as singles
+use Rattle.pgn_lexer.specs.Class.{Class, Single, LineEnd, Space, Percent, SymbolStart, Quote, Dollar, Suffix, OpenBrace, Semicolon, Alone, Refused}
 use Rattle.pgn_lexer.specs.CommentClass.{CommentClass}
 use Rattle.pgn_lexer.specs.CommentClass as comment_classes
 use Rattle.pgn_lexer.specs.StringClass.{StringClass}

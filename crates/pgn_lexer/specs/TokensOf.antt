@@ -1,8 +1,7 @@
 -- **Definition**: the tokens of a whole text, computed place by place (PGN 5, 6, 7).
 use Rattle.std.specs.Prelude.{ℕ, ◌+◌, Bool, true, false, ◌&&◌, drop, List, [], ◌∷◌, take_while, ◌==◌, if◌then◌else◌}
 use Rattle.pgn_lexer.specs.declared.token.LexReason.TheVariants.{StrayByte, ControlByte, BraceInLineComment, UnclosedComment}
-use Rattle.pgn_lexer.specs.declared.class.Class.{Class}
-use Rattle.pgn_lexer.specs.declared.class.Class.TheVariants.{LineEnd, Space, Percent, SymbolStart, Quote, Dollar, Suffix, OpenBrace, Semicolon, Alone, Refused}
+use Rattle.pgn_lexer.specs.Class.{Class, LineEnd, Space, Percent, SymbolStart, Quote, Dollar, Suffix, OpenBrace, Semicolon, Alone, Refused}
 use Rattle.pgn_lexer.specs.CommentClass.{CommentClass}
 use Rattle.pgn_lexer.specs.CommentClass as comment_classes
 use Rattle.pgn_lexer.specs.StringClass.{StringClass}

@@ -1,40 +1,9 @@
-//! The sets that a byte is in, by one table; runs of the bytes of a set; and what a byte is outside
-//! strings and comments.
+//! The sets that a byte is in, by one table, and runs of the bytes of a set.
 
 ghost use Rattle.std.specs.Prelude.{◌≡◌, ℕ, true, false, ◌<◌, ◌≤◌, ◌^◌, length, get_or, MatchOption};
 ghost use Rattle.pgn_lexer.specs.Lexes as lexes;
 ghost use Rattle.pgn_lexer.specs.Runs as runs;
 ghost use Rattle.pgn_lexer.specs.Sets as sets;
-ghost use Rattle.pgn_lexer.specs.Spelling as spelling;
-
-use crate::token::LexReason;
-
-/// A token of one byte (PGN 7).
-#[derive(Clone, Copy)]
-pub(crate) enum Single {
-    LeftBracket,
-    RightBracket,
-    LeftParen,
-    RightParen,
-    Period,
-    Asterisk,
-}
-
-/// What a byte is outside strings and comments.
-#[derive(Clone, Copy)]
-pub(crate) enum Class {
-    LineEnd,
-    Space,
-    Percent,
-    SymbolStart,
-    Quote,
-    Dollar,
-    Suffix,
-    OpenBrace,
-    Semicolon,
-    Alone(Single),
-    Refused(LexReason),
-}
 
 /// A set of bytes.
 #[derive(Clone, Copy)]
@@ -173,35 +142,6 @@ pub(crate) fn run_length(bytes: &[u8], set: Set, longest: usize) -> Option<usize
     let limit = bytes.len().min(longest + 1);
     let length = run_end(&bytes[..limit], 1, set);
     (length < limit).then_some(length)
-}
-
-/// The class of a byte outside strings and comments.
-#[inline(always)]
-pub(crate) fn class_of(byte: u8) -> Class
-    ensures { result ≡ spelling.class byte }
-{
-    if is_in(byte, Set::SymbolStart) {
-        return Class::SymbolStart;
-    }
-    match byte {
-        b'\n' | b'\r' => Class::LineEnd,
-        b' ' | b'\t' | 11 | 12 => Class::Space,
-        b'!' | b'?' => Class::Suffix,
-        b'%' => Class::Percent,
-        b'"' => Class::Quote,
-        b'$' => Class::Dollar,
-        b'{' => Class::OpenBrace,
-        b';' => Class::Semicolon,
-        b'[' => Class::Alone(Single::LeftBracket),
-        b']' => Class::Alone(Single::RightBracket),
-        b'(' => Class::Alone(Single::LeftParen),
-        b')' => Class::Alone(Single::RightParen),
-        b'.' => Class::Alone(Single::Period),
-        b'*' => Class::Alone(Single::Asterisk),
-        b'<' | b'>' => Class::Refused(LexReason::Reserved),
-        0..=31 | 127 => Class::Refused(LexReason::ControlByte),
-        _ => Class::Refused(LexReason::StrayByte),
-    }
 }
 
 /// Whether a backslash before the byte escapes it.

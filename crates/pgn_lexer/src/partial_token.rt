@@ -2,15 +2,15 @@
 
 ghost use Rattle.std.specs.Prelude.{◌≡◌, ◌==◌, [], if◌then◌else◌, IsTrue};
 ghost use Rattle.pgn_lexer.specs.Scanned.{kind_of};
-ghost use Rattle.pgn_lexer.specs.Spelling as spelling;
 ghost use Rattle.pgn_lexer.specs.Texts as texts;
 
+mod begins;
 mod byte;
 mod end;
 mod run;
 mod whole;
 
-use crate::class::{Set, Single, is_escaped, is_in};
+use crate::class::{Set, is_escaped};
 use crate::token::{LexFault, LexReason, Token, TokenKind};
 use arrayvec::ArrayVec;
 use std::marker::Model;
@@ -61,7 +61,7 @@ pub(crate) enum LexMode {
     EscapeLine,
     /// In a text of this kind.
     Text(Text),
-    /// In a string, after a backslash that is not in the buffer yet.
+    /// In a string, after a backslash, which is the last byte stored.
     AfterBackslash,
     /// After a dollar sign.
     Dollar,
@@ -73,14 +73,11 @@ pub(crate) enum LexMode {
     Failed(LexReason),
 }
 
-/// The kind of a token; its place and its text are in the partial token.
+/// A token whose bytes are stored, or the kind of another one.
 #[derive(Clone, Copy)]
 pub(crate) enum TokenForm {
-    Single(Single),
     Text(Text),
-    Glyph(u8),
-    CommentOpen,
-    CommentClose,
+    Other(TokenKind<'static>),
 }
 
 /// The result of one byte, of a piece, or of the end of the text.
@@ -191,32 +188,6 @@ impl Text {
     }
 }
 
-impl Close {
-    ghost use Rattle.pgn_lexer.specs.Comments.{gap_of, behind};
-
-    /// The white space between the words of the comment.
-    #[inline(always)]
-    pub(crate) fn gap(self) -> Set
-        ensures { result ≡ gap_of self }
-    {
-        match self {
-            Close::Brace => Set::Space,
-            Close::LineEnd => Set::Blank,
-        }
-    }
-
-    /// The mode behind the comment, if the byte ends it.
-    #[inline(always)]
-    pub(crate) fn mode_behind(self, byte: u8) -> Option<LexMode>
-        ensures { result ≡ behind self (spelling.comment_class byte) }
-    {
-        match self {
-            Close::Brace => (byte == b'}').then_some(LexMode::Outside),
-            Close::LineEnd => is_in(byte, Set::LineEnd).then_some(LexMode::LineStart),
-        }
-    }
-}
-
 impl PartialToken {
     ghost use Rattle.pgn_lexer.specs.PartialToken.{fault_met, kind_in};
 
@@ -260,11 +231,8 @@ impl PartialToken {
         ensures kind { kind_of result.kind ≡ kind_in form self.now.text }
     {
         let kind = match form {
-            TokenForm::Single(single) => kind_of_single(single),
             TokenForm::Text(text) => text.kind(self.buffer.as_slice()),
-            TokenForm::Glyph(number) => TokenKind::Glyph(number),
-            TokenForm::CommentOpen => TokenKind::CommentOpen,
-            TokenForm::CommentClose => TokenKind::CommentClose,
+            TokenForm::Other(kind) => kind,
         };
         Token { at: self.at, kind }
     }
@@ -292,20 +260,5 @@ fn glyph_of(suffix: &[u8]) -> u8
             (false, false) => 4,
         },
         [] => 4,
-    }
-}
-
-/// The kind of a token of one byte.
-#[inline(always)]
-pub(crate) fn kind_of_single<'a>(single: Single) -> TokenKind<'a>
-    ensures { kind_of result ≡ spelling.kind_of_single single }
-{
-    match single {
-        Single::LeftBracket => TokenKind::LeftBracket,
-        Single::RightBracket => TokenKind::RightBracket,
-        Single::LeftParen => TokenKind::LeftParen,
-        Single::RightParen => TokenKind::RightParen,
-        Single::Period => TokenKind::Period,
-        Single::Asterisk => TokenKind::Asterisk,
     }
 }

@@ -1,5 +1,5 @@
 -- Each byte, and the end of the text, gives the tokens that come.
-use Rattle.pgn_lexer.proofs.Words.{◌≡◌, ◌⊎◌, inl, inr, ℕ, ◌<◌, ◌≤◌, List, [], ◌∷◌, length, refl, arith, Some, LexFault, LexMode, LexReason, TokenForm, HasLength, end, PartialToken, IsSound, HasNotFailed, tokens_to_come, kind_in, token_of, refusal, pending, fault_met, fault_in_mode, after_byte, after_byte_in, after_end, after_end_in, AfterByte, IsAfterByte, text_end, Text, ByteResult, Used, Ends, EndsBefore, Fault, common_steps}
+use Rattle.pgn_lexer.proofs.Words.{◌≡◌, ◌⊎◌, inl, inr, ℕ, ◌<◌, ◌≤◌, List, [], ◌∷◌, length, refl, arith, Some, LexFault, LexMode, LexReason, TokenForm, HasLength, end, PartialToken, IsSound, HasNotFailed, tokens_to_come, kind_in, kind_of_text, token_of, refusal, pending, fault_met, fault_in_mode, after_byte, after_byte_in, after_end, after_end_in, AfterByte, IsAfterByte, text_end, Text, ByteResult, Used, Ends, EndsBefore, Fault, common_steps}
 use Rattle.pgn_lexer.proofs.stepping.StepGives.{Gives, GivesIn, front_of, holds}
 use Rattle.pgn_lexer.proofs.stepping.RunOfBytes.{run_closes}
 use Rattle.pgn_lexer.proofs.stepping.ByteOutside.{begin_gives, begin_line_gives, start_gives, escape_line_gives}
@@ -19,7 +19,8 @@ step_in (LexMode.Text Text.Str) place at b text fits sound = in_string_gives pla
 step_in (LexMode.Text Text.Symbol) place at b text fits sound = text_gives Text.Symbol tt place at b text sound
 step_in (LexMode.Text Text.Suffix) place at b text fits sound = text_gives Text.Suffix tt place at b text sound
 step_in (LexMode.Text (Text.Word close)) place at b text fits sound = text_gives (Text.Word close) tt place at b text sound
-step_in m place at b text fits sound = grind (arith, front_of, escaped_gives, dollar_gives, glyph_gives)
+step_in LexMode.AfterBackslash place at b text fits sound = escaped_gives place at b text sound.room.1.0 sound.room.1.1 fits sound.placed
+step_in m place at b text fits sound = grind (arith, front_of, dollar_gives, glyph_gives)
 
 pub step_gives : (place : ℕ) (h : PartialToken) (b : ℕ) → IsSound place h → Gives (front_of place h b) (after_byte place h b)
 unfolding after_byte
@@ -31,6 +32,7 @@ pub record ClosesToken (place : ℕ) (h : PartialToken) (form : TokenForm) (new 
   pub fresh : HasNotFailed h.mode
   pub not_failed : HasNotFailed new.mode
   pub lengths : HasLength (kind_in form new.text)
+  pub not_end : kind_in form new.text ≡ end → ⊥
   pub less : pending new < pending h
   pub comes : tokens_to_come place h [] ≡ token_of form new ∷ tokens_to_come place new []
 
@@ -54,6 +56,9 @@ CloseGives place h new (Fault reason) = ClosesFault place h reason new
 abbrev ClosedGives : ℕ → PartialToken → AfterByte → Type 0
 ClosedGives place h t = CloseGives place h t.held t.step
 
+text_is_not_end : (t : Text) (text : List ℕ) → kind_of_text t text ≡ end → ⊥
+text_is_not_end t text is = grind arith
+
 close_text : (t : Text) → IsNoString t → (place at : ℕ) (text : List ℕ) → IsSound place (holds (LexMode.Text t) at text)
     → ClosedGives place (holds (LexMode.Text t) at text) (text_end t place (holds (LexMode.Text t) at text) 10)
 close_text t runs place at text sound =
@@ -63,6 +68,7 @@ close_text t runs place at text sound =
       fresh = tt;
       not_failed = behind_stands t;
       lengths = text_length t runs text so.some so.fits;
+      not_end = text_is_not_end t text;
       less = less t runs;
       comes = text_closes t runs place at text so.some so.fits;
     })

@@ -1,6 +1,5 @@
 -- A byte in a comment.
-use Rattle.pgn_lexer.proofs.Words.{◌≡◌, ℕ, ◌+◌, ◌<◌, ◌≤◌, Bool, true, false, List, [], ◌∷◌, length, sym, ◌∙◌, arith, WordTooLong, CommentClass, continues_word, Token, word, comment_class, gives, stops, word_at, between, in_word, begins_brace, begins_line, after_brace, after_line, onto, tokens_from, PartialToken, Close}
-use Rattle.pgn_lexer.specs.ByteResult as byte_result
+use Rattle.pgn_lexer.proofs.Words.{◌≡◌, ℕ, ◌+◌, ◌<◌, ◌≤◌, Bool, true, false, List, [], ◌∷◌, length, sym, ◌∙◌, arith, WordTooLong, CommentClass, continues_word, Token, word, comment_class, gives, stops, word_at, between, in_word, begins_brace, begins_line, after_brace, after_line, onto, tokens_from, PartialToken, Close, begin, begins_in_comment}
 use Rattle.pgn_lexer.proofs.stepping.StepGives.{Gives, front_by}
 
 abbrev is_word_class : CommentClass → Bool
@@ -35,7 +34,7 @@ module _ (close : Close) (place b : ℕ) (s : List ℕ) where
 
 module _ (close : Close) (c : CommentClass) (place b : ℕ) where
   comment_class_gives : (h : PartialToken) (ended : List Token) (waits : ℕ) → length h.text ≤ 255
-      → Gives (front_by place b ended waits (λ s. comment_tokens close place false b s c)) (byte_result.comment close place h b c)
+      → Gives (front_by place b ended waits (λ s. comment_tokens close place false b s c)) (begin place h b (begins_in_comment close c))
   comment_class_gives h ended waits h1 = grind arith
 
   -- where no word goes on, it is the same as where none was
@@ -47,7 +46,7 @@ pub word_ends : (close : Close) (place b : ℕ) (s : List ℕ) → is_word_class
 word_ends close place b s e = word_tokens close place b s ∙ same_tokens close _ place b s e ∙ sym (between_tokens close place b s)
 
 pub comment_gives : (close : Close) (place b : ℕ) (h : PartialToken) (ended : List Token) (waits : ℕ) → length h.text ≤ 255
-    → Gives (front_by place b ended waits (λ s. tokens_from place (between close) (b ∷ s))) (byte_result.comment close place h b (comment_class b))
+    → Gives (front_by place b ended waits (λ s. tokens_from place (between close) (b ∷ s))) (begin place h b (begins_in_comment close (comment_class b)))
 comment_gives Close.Brace place b h ended waits fits = comment_class_gives Close.Brace _ place b h ended waits fits
 comment_gives Close.LineEnd place b h ended waits fits = comment_class_gives Close.LineEnd _ place b h ended waits fits
 

@@ -1,5 +1,5 @@
 -- A byte in a glyph.
-use Rattle.pgn_lexer.proofs.Words.{◌≡◌, ℕ, ◌+◌, ◌-◌, ◌*◌, ◌<◌, ◌≤◌, Bool, true, false, List, [], ◌∷◌, length, refl, ap, ◌∙◌, arith, take_while, nat_le, if◌then◌else◌, leb-true, leb-false, LoneDollar, GlyphRange, Used, EndsBefore, is_digit, glyph, gives, stops, number_from, numbered_at, glyph_at, in_glyph, outside, onto, tokens_from, into, fails, LexMode, TokenForm}
+use Rattle.pgn_lexer.proofs.Words.{◌≡◌, ℕ, ◌+◌, ◌-◌, ◌*◌, ◌<◌, ◌≤◌, Bool, true, false, List, [], ◌∷◌, length, refl, ap, ◌∙◌, arith, take_while, nat_le, if◌then◌else◌, leb-true, leb-false, LoneDollar, GlyphRange, Used, EndsBefore, is_digit, glyph, gives, stops, number_from, numbered_at, glyph_at, in_glyph, outside, onto, tokens_from, into, fails, LexMode, TokenForm, TokenKind}
 use Rattle.pgn_lexer.proofs.stepping.RunOfBytes.{take_while-true, glyph_goes, glyph_ends, run_grows, run_breaks, run_ends}
 use Rattle.pgn_lexer.proofs.stepping.StepGives.{GivesIn}
 
@@ -19,7 +19,7 @@ digit_small b e = grind arith
 pub glyph_gives : (place at b n : ℕ) (text : List ℕ) → length text ≤ 255 → n ≤ 255 → at < place → (c : Bool) → is_digit b ≡ c
     → (d : Bool) → nat_le (10 * n + (b - 48)) 255 ≡ d
     → GivesIn (LexMode.Glyph n) place at b text (λ h. if c then (if d then into h (LexMode.Glyph (10 * n + (b - 48))) Used else fails h h.at GlyphRange)
-    else into h LexMode.Outside (EndsBefore (TokenForm.Glyph n)))
+    else into h LexMode.Outside (EndsBefore (TokenForm.Other (TokenKind.Glyph n))))
 glyph_gives place at b n text fits small began true e true low =
     record {
       sound = record { room = (fits, leb-true _ _ low); placed = omega arith };

@@ -1,7 +1,13 @@
 -- A byte in a string.
-use Rattle.pgn_lexer.proofs.Words.{◌≡◌, ℕ, ◌+◌, ◌<◌, ◌≤◌, Bool, true, false, List, [], ◌∷◌, ◌++◌, length, append-nil, append_assoc, arith, length-append, nat_lt, if◌then◌else◌, ControlByte, StringTooLong, UnclosedString, StringClass, Used, Token, string_class, Reading, closed, broken, datum, reading, string_at, quotes, onto, tokens_from, with_front, grown, fails, LexMode, Text, is_plain, refl}
+use Rattle.pgn_lexer.proofs.Words.{◌≡◌, ℕ, ◌+◌, ◌<◌, ◌≤◌, Bool, true, false, List, [], ◌∷◌, ◌++◌, length, append-nil, append_assoc, arith, length-append, nat_lt, if◌then◌else◌, ControlByte, StringTooLong, UnclosedString, StringClass, Used, Token, string_class, Reading, closed, broken, datum, reading, string_at, quotes, onto, tokens_from, tokens_to_come_in, with_front, grown, fails, set_at, in_text, AfterBackslash, after_backslash, before_last, backslash, ap, eqb-true, ltb-true, subst, take, ◌-◌, PartialToken, LexMode, Text, is_plain, is_escaped, refl, sym, ◌∙◌, ◌⊎◌, true≢false}
 use Rattle.pgn_lexer.specs.ByteResult as byte_result
-use Rattle.pgn_lexer.proofs.stepping.StepGives.{GivesIn}
+use Rattle.std.proofs.Math.Seq.{take-append_seam}
+use Rattle.pgn_lexer.proofs.stepping.StepGives.{Front, Gives, GivesIn, front_by}
+
+pub before_one_more : (front : List ℕ) (b : ℕ) → before_last (front ++ b ∷ []) ≡ front
+before_one_more front b =
+    let long : length (front ++ b ∷ []) - 1 ≡ length front = omega (arith, length-append front (b ∷ [])) in
+    ap (λ n. take n (front ++ b ∷ [])) long ∙ take-append_seam front (b ∷ [])
 
 -- data read so far go in front, one by one
 with_front-datum : (text : List ℕ) (b : ℕ) (r : Reading) → with_front text (datum b r) ≡ with_front (text ++ b ∷ []) r
@@ -36,6 +42,15 @@ escaped_tokens place at text s r = onto at (string_at (with_front text r)) (toke
 pub plain_class : (b : ℕ) → is_plain b ≡ true → string_class b ≡ StringClass.Plain
 plain_class b e = grind arith
 
+class_plain : (b : ℕ) → string_class b ≡ StringClass.Plain → is_plain b ≡ true
+class_plain b e = grind arith
+
+backslash_is : (b : ℕ) → string_class b ≡ StringClass.Backslash → b ≡ 92
+backslash_is b e = grind (arith, eqb-true)
+
+pub escaped_class : (b : ℕ) → is_escaped b ≡ true → (string_class b ≡ StringClass.Quote) ⊎ (string_class b ≡ StringClass.Backslash)
+escaped_class b e = grind arith
+
 module _ (place at b : ℕ) (text : List ℕ) (fits : length text ≤ 255) (began : at < place) where
   datum_comes : (s : List ℕ) → escaped_tokens place at text s (datum b (reading at (place + 1) (length text + 1) false s))
       ≡ escaped_tokens place at (text ++ b ∷ []) s (reading at (place + 1) (length (text ++ b ∷ [])) false s)
@@ -45,27 +60,71 @@ module _ (place at b : ℕ) (text : List ℕ) (fits : length text ≤ 255) (bega
       → GivesIn (LexMode.Text Text.Str) place at b text (λ h. if d then grown h (LexMode.Text Text.Str) b else fails h h.at StringTooLong)
   plain_plain d h1 h2 = grind (arith, length-append, datum_comes)
 
-  pub string_gives : (c : StringClass) → string_class b ≡ c → GivesIn (LexMode.Text Text.Str) place at b text (λ h. byte_result.string false place h b c)
-  string_gives c h1 = grind (arith, append-nil, plain_plain)
+  backslash_comes : (s : List ℕ) → nat_lt (length text) 255 ≡ true → string_class b ≡ StringClass.Backslash
+      → tokens_to_come_in (LexMode.Text Text.Str) place at text (b ∷ s)
+      ≡ onto at (string_at (with_front text (reading at (place + 1) (length text) true s))) (tokens_from (place + 1) backslash s)
+  backslash_comes s h1 h2 = grind arith
+
+  plain_backslash : (d : Bool) → nat_lt (length text) 255 ≡ d → string_class b ≡ StringClass.Backslash
+      → GivesIn (LexMode.Text Text.Str) place at b text (λ h. if d then grown h AfterBackslash b else fails h h.at StringTooLong)
+  plain_backslash true room is =
+      let short = ltb-true _ _ room in
+      record {
+        sound = record {
+          room = (omega (arith, length-append text (b ∷ [])), (text, ap (λ b. text ++ b ∷ []) (backslash_is b is)));
+          placed = omega arith;
+        };
+        not_failed = tt;
+        comes = λ s. backslash_comes s room is ∙ rw (before_one_more text b) refl;
+      }
+  plain_backslash false full is = grind arith
+
+  pub string_gives : (c : StringClass) → string_class b ≡ c → GivesIn (LexMode.Text Text.Str) place at b text (λ h. byte_result.string place h b c)
+  string_gives StringClass.Plain is = plain_plain _ refl is
+  string_gives StringClass.Backslash is = plain_backslash _ refl is
+  string_gives c h1 = grind (arith, append-nil)
 
   pub in_string_gives : (c : Bool) → is_plain b ≡ c → GivesIn (LexMode.Text Text.Str) place at b text
       (λ h. if c then (if nat_lt (length h.text) 255 then grown h (LexMode.Text Text.Str) b else fails h h.at StringTooLong)
-      else byte_result.string false place h b (string_class b))
+      else byte_result.string place h b (string_class b))
   in_string_gives true e = plain_plain _ refl (plain_class b e)
   in_string_gives false e = string_gives _ refl
 
-module _ (place at b : ℕ) (text : List ℕ) (short : length text < 255) (began : at < place) where
+-- what comes after a backslash, behind these data
+module _ (place at b : ℕ) (front : List ℕ) (short : length front < 255) (began : at < place) where
+  abbrev behind : Front
+  behind =
+      front_by place b (onto at (string_at (with_front front (reading at place (length front) true []))) (tokens_from place backslash [])) 0
+      (λ s. escaped_tokens place at front s (reading at place (length front) true (b ∷ s)))
+
+  abbrev stored : PartialToken
+  stored = record { mode = LexMode.AfterBackslash; at = at; text = front ++ 92 ∷ [] }
+
   -- a quote or a backslash is a datum
-  taken_back : (c : StringClass) → ((s : List ℕ) → escaped_tokens place at text s (reading at place (length text) true (b ∷ s))
-      ≡ escaped_tokens place at text s (datum b (reading at (place + 1) (length text + 1) false s)))
-      → GivesIn LexMode.AfterBackslash place at b text (λ h. grown h (LexMode.Text Text.Str) b)
-  taken_back c same = grind (arith, length-append, datum_comes)
+  taken_back : is_escaped b ≡ true → Gives behind (set_at (LexMode.Text Text.Str) at (front ++ b ∷ []) Used)
+  taken_back h1 = grind (arith, length-append, datum_comes, escaped_class)
 
-  escaped_plain : (d : Bool) → nat_lt (length text) 254 ≡ d → string_class b ≡ StringClass.Plain
-      → GivesIn LexMode.AfterBackslash place at b text (λ h. if d
-      then record { held = record { mode = (LexMode.Text Text.Str); at = at; text = (text ++ 92 ∷ []) ++ b ∷ [] }; step = Used } else fails h h.at StringTooLong)
-  escaped_plain d h1 h2 = grind (arith, length-append, with_front-datum)
+  -- another byte is read by itself
+  read_plain_byte : (d : Bool) → nat_lt (length (front ++ 92 ∷ [])) 255 ≡ d → string_class b ≡ StringClass.Plain
+      → Gives behind (if d then grown stored (LexMode.Text Text.Str) b else fails stored at StringTooLong)
+  read_plain_byte d h1 h2 = grind (arith, length-append, with_front-datum)
 
-  pub escaped_gives : (c : StringClass) → string_class b ≡ c
-      → GivesIn LexMode.AfterBackslash place at b text (λ h. byte_result.string true place h b c)
-  escaped_gives c h1 = grind (arith, taken_back, escaped_plain)
+  read_end : (c : StringClass) → string_class b ≡ c → is_escaped b ≡ false → (c ≡ StringClass.Plain → ⊥) → Gives behind (byte_result.string place stored b c)
+  read_end c h1 h2 h3 = grind (arith, length-append)
+
+  read_by_itself : (c : Bool) → is_plain b ≡ c → is_escaped b ≡ false
+      → Gives behind (if c then (if nat_lt (length stored.text) 255 then grown stored (LexMode.Text Text.Str) b else fails stored at StringTooLong)
+      else byte_result.string place stored b (string_class b))
+  read_by_itself true e other = read_plain_byte _ refl (plain_class b e)
+  read_by_itself false e other = read_end _ refl other (λ same. true≢false (sym (class_plain b same) ∙ e))
+
+  pub escaped_gives_by : (c : Bool) → is_escaped b ≡ c
+      → Gives behind (if c then set_at (LexMode.Text Text.Str) at (front ++ b ∷ []) Used else in_text Text.Str place stored b)
+  escaped_gives_by true e = taken_back e
+  escaped_gives_by false e = read_by_itself _ refl e
+
+pub escaped_gives : (place at b : ℕ) (text front : List ℕ) → text ≡ front ++ 92 ∷ [] → length text ≤ 255 → at < place
+    → GivesIn LexMode.AfterBackslash place at b text (λ h. after_backslash place h b)
+escaped_gives place at b text front is fits began =
+    let short : length front < 255 = omega (arith, subst (λ xs. length xs ≤ 255) is fits, length-append front (92 ∷ [])) in
+    rw (is, before_one_more front 92) (escaped_gives_by place at b front short began _ refl)

@@ -1,12 +1,12 @@
 -- A byte outside strings and comments, also as the first of a text, and in an escape line.
 use Rattle.pgn_lexer.proofs.Words.{after_byte}
-use Rattle.pgn_lexer.proofs.Words.{◌≡◌, ℕ, ◌≤◌, Bool, false, List, ◌∷◌, length, ◌==◌, if◌then◌else◌, eqb-true, ByteResult, Used, is_line_end, Token, class, column, tokens_from, tokens_of, has_mark, PartialToken, into, begin_line, arith, LexMode, ◌+◌, Class, begins_class, begins_first, after_class, after_first, onto, begin, IsAfterByte}
+use Rattle.pgn_lexer.proofs.Words.{◌≡◌, ℕ, ◌≤◌, Bool, false, List, ◌∷◌, length, ◌==◌, if◌then◌else◌, eqb-true, ByteResult, Used, is_line_end, Token, class, column, tokens_from, tokens_of, has_mark, PartialToken, into, begin_line, arith, LexMode, ◌+◌, Class, begins_class, begins_first, after_class, after_first, onto, begin_outside, IsAfterByte}
 use Rattle.pgn_lexer.proofs.stepping.StepGives.{Front, StepGives, GivesIn, Gives, front_by}
 
 module _ (c : Class) (place b : ℕ) (h : PartialToken) (ended : List Token) (waits : ℕ) where
   pub begin_gives : length h.text ≤ 255
       → Gives (front_by place b ended waits (λ s. onto place (begins_class place c b s) (tokens_from (place + 1) (after_class c) s)))
-      (begin place h b c)
+      (begin_outside place h b c)
   begin_gives h1 = grind arith
 
   -- in the first column
@@ -37,10 +37,10 @@ escape_line_gives place at b text h1 c h2 = grind arith
 unless_percent : (b : ℕ) → (b ≡ 37 → ⊥) → class b ≡ Class.Percent → ⊥
 unless_percent b h1 h2 = grind (arith, eqb-true)
 
-begins_on : (place b : ℕ) (h : PartialToken) (c : Class) → (c ≡ Class.Percent → ⊥) → begin_line place h b c ≡ begin place h b c
+begins_on : (place b : ℕ) (h : PartialToken) (c : Class) → (c ≡ Class.Percent → ⊥) → begin_line place h b c ≡ begin_outside place h b c
 begins_on place b h c h1 = grind arith
 
-module _ (place b : ℕ) (h new : PartialToken) (answer : ByteResult) (t : IsAfterByte (begin place h b (class b)) new answer) where
+module _ (place b : ℕ) (h new : PartialToken) (answer : ByteResult) (t : IsAfterByte (begin_outside place h b (class b)) new answer) where
   pub begins_outside : h.mode ≡ LexMode.Outside → IsAfterByte (after_byte place h b) new answer
   unfolding after_byte
   begins_outside is = rw is t

@@ -1,12 +1,12 @@
 -- The end of the text gives what is left.
-use Rattle.pgn_lexer.proofs.Words.{◌≡◌, ℕ, List, [], ◌∷◌, ◌++◌, LexFault, LexReason, TokenForm, Token, end, PartialToken, kind_in, fault_met, Scanned, fault, Standing, IsNext, HasLeft, Finishes, arith, common_steps}
+use Rattle.pgn_lexer.proofs.Words.{◌≡◌, ℕ, List, [], ◌∷◌, ◌++◌, LexFault, LexReason, TokenForm, Token, end, PartialToken, kind_in, fault_met, Scanned, Kind, fault, Standing, IsNext, HasLeft, Finishes, arith, common_steps}
 use Rattle.pgn_lexer.specs.Scanned.{token}
 use Rattle.pgn_lexer.proofs.stepping.ByteGives.{ClosesToken, ClosesFault, ClosesEnd}
 use Rattle.pgn_lexer.proofs.stepping.StandsAfterCalls.{same_parts}
 
-next_form : (form : TokenForm) (text u : List ℕ) (given : List Token) (new : Standing) (t : Token) → HasLeft new u (given ++ t ∷ [])
-    → IsNext u given (kind_in form text) new t
-next_form form text u given new t h1 = grind arith
+next_kind : (k : Kind) → (k ≡ end → ⊥) → (u : List ℕ) (given : List Token) (new : Standing) (t : Token) → HasLeft new u (given ++ t ∷ [])
+    → IsNext u given k new t
+next_kind k not_end u given new t h1 = grind arith
 
 module _ (count : ℕ) (old new : PartialToken) where
   abbrev before : Standing
@@ -20,7 +20,7 @@ module _ (count : ℕ) (old new : PartialToken) where
 
   pub finishes_token : (form : TokenForm) (t : Token) → t.at ≡ new.at → t.kind ≡ kind_in form new.text → ClosesToken count old form new
       → Finishes before after (token t)
-  finishes_token form t at kind h = grind (arith, common_steps, same_parts, next_form)
+  finishes_token form t at kind h = grind (arith, common_steps, same_parts, next_kind)
 
   -- the fault that is told is the one that was met
   pub finishes_told : (reason : LexReason) (told : LexFault) → told ≡ fault_met reason new → ClosesFault count old reason new → Finishes before after (fault told)

@@ -1,9 +1,8 @@
 -- A run over a piece, byte by byte.
-use Rattle.pgn_lexer.specs.ByteResult.{comment}
 use Rattle.pgn_lexer.specs.declared.partial_token.LexMode.TheVariants.{Comment, Dollar}
 use Rattle.pgn_lexer.specs.PartialToken.{HasRoom}
 use Rattle.pgn_lexer.specs.RunResult.{RunGives}
-use Rattle.pgn_lexer.proofs.Words.{Close, behind, gap_of, is_blank, is_line_end, AfterBackslash, Text, bytes_of, longest_of, mode_behind, in_text, is_in, is_plain, length-append, is_escaped, ◌≡◌, Bool, ℕ, suc, ◌+◌, ◌-◌, ◌*◌, ◌<◌, ◌≤◌, inl, inr, List, [], ◌∷◌, ◌++◌, length, get_or, take, drop, refl, sym, ap, ◌∙◌, add-one, arith, ◌⊎◌, true, false, Some, take_all, drop-cons, LexFault, LexMode, LexReason, Class, CommentClass, StringClass, Outside, Failed, is_digit, class, comment_class, string_class, TokenForm, ByteResult, Used, Ends, EndsBefore, Fault, PartialToken, tokens_to_come, token_of, IsSound, HasNotFailed, pending, fault_met, fault_in_mode, begin, begin_line, string, after_byte, IsAfterByte, IsOutside, Ran, RunsOut, StoodAt, RunsToToken, RunsToFault, common_steps, Glyph}
+use Rattle.pgn_lexer.proofs.Words.{Begins, CommentClass, Fits, IsBetween, begins_outside, Close, TokenKind, begin_outside, begins_in_comment, before_last, comment_close, is_space, kind_of, set_at, AfterBackslash, Text, bytes_of, longest_of, mode_behind, in_text, is_in, is_plain, length-append, is_escaped, ◌≡◌, Bool, ℕ, suc, ◌+◌, ◌-◌, ◌*◌, ◌<◌, ◌≤◌, inl, inr, List, [], ◌∷◌, ◌++◌, length, get_or, take, drop, refl, sym, ap, ◌∙◌, add-one, arith, ◌⊎◌, true, false, Some, take_all, drop-cons, LexFault, LexMode, LexReason, Class, StringClass, Outside, Failed, is_digit, class, comment_class, string_class, TokenForm, ByteResult, Used, Ends, EndsBefore, Fault, PartialToken, tokens_to_come, token_of, IsSound, HasNotFailed, pending, fault_met, fault_in_mode, begin, begin_line, string, after_byte, IsAfterByte, IsOutside, Ran, RunsOut, StoodAt, RunsToToken, RunsToFault, common_steps, Glyph}
 use Rattle.pgn_lexer.proofs.stepping.StepGives.{StepGives, front_of}
 use Rattle.pgn_lexer.proofs.stepping.ByteGives.{step_gives}
 use Rattle.pgn_lexer.proofs.stepping.ByteInString.{plain_class}
@@ -148,7 +147,7 @@ pub takes_text_end : (t : Text) → IsNoString t → (place b : ℕ) (h new : Pa
 takes_text_end t runs place b h new e stops is = takes_text t _ b h new _ e (ended t runs place b h new stops is)
 
 pub takes_outside : (place b : ℕ) (h new : PartialToken) (answer : ByteResult) (c : Class) → IsOutside h.mode → class b ≡ c
-    → begin_line place h b c ≡ begin place h b c → IsAfterByte (begin place h b c) new answer → IsAfterByte (after_byte place h b) new answer
+    → begin_line place h b c ≡ begin_outside place h b c → IsAfterByte (begin_outside place h b c) new answer → IsAfterByte (after_byte place h b) new answer
 unfolding after_byte
 takes_outside place b h new answer c outside e same t = grind arith
 
@@ -162,21 +161,18 @@ not_plain b c is other true e = absurd (other (sym is ∙ plain_class b e))
 not_plain b c is other false e = refl
 
 taken_string : (place b : ℕ) (h : PartialToken) (c : StringClass) → string_class b ≡ c → (c ≡ StringClass.Plain → ⊥)
-    → in_text Text.Str place h b ≡ string false place h b c
+    → in_text Text.Str place h b ≡ string place h b c
 taken_string place b h c same other = rw (not_plain b c same other _ refl, same) refl
 
 pub takes_backslash : (place b : ℕ) (h new : PartialToken) → h.mode ≡ LexMode.Text Text.Str → string_class b ≡ StringClass.Backslash → length h.text < 255
-    → new ≡ record { mode = AfterBackslash; at = h.at; text = h.text } → IsAfterByte (after_byte place h b) new Used
+    → new ≡ record { mode = AfterBackslash; at = h.at; text = h.text ++ b ∷ [] } → IsAfterByte (after_byte place h b) new Used
 takes_backslash place b h new e same room goes = takes_text Text.Str _ b h new _ e (rw (taken_string place b h _ same (λ f. cc f)) (grind arith))
-
-escaped_class : (b : ℕ) → is_escaped b ≡ true → (string_class b ≡ StringClass.Quote) ⊎ (string_class b ≡ StringClass.Backslash)
-escaped_class b e = grind arith
 
 -- a quote or a backslash, after a backslash
 pub takes_escaped : (place b : ℕ) (h new : PartialToken) → h.mode ≡ AfterBackslash → is_escaped b ≡ true
-    → new ≡ record { mode = LexMode.Text Text.Str; at = h.at; text = h.text ++ b ∷ [] } → IsAfterByte (after_byte place h b) new Used
+    → new ≡ record { mode = LexMode.Text Text.Str; at = h.at; text = before_last h.text ++ b ∷ [] } → IsAfterByte (after_byte place h b) new Used
 unfolding after_byte
-takes_escaped place b h new e escaped grows = grind (arith, escaped_class)
+takes_escaped place b h new e escaped goes = rw (e, escaped) (record { held = goes; step = refl })
 
 pub takes_quote : (place b : ℕ) (h new : PartialToken) → h.mode ≡ LexMode.Text Text.Str → string_class b ≡ StringClass.Quote
     → new ≡ record { mode = Outside; at = h.at; text = h.text } → IsAfterByte (after_byte place h b) new (Ends (TokenForm.Text Text.Str))
@@ -194,48 +190,37 @@ unfolding after_byte
 takes_digit place b h new n e digit small is = grind (arith, place, small)
 
 pub takes_glyph_end : (place b : ℕ) (h new : PartialToken) (n : ℕ) → h.mode ≡ Glyph n → is_digit b ≡ false
-    → new ≡ record { mode = Outside; at = h.at; text = h.text } → IsAfterByte (after_byte place h b) new (EndsBefore (TokenForm.Glyph n))
+    → new ≡ record { mode = Outside; at = h.at; text = h.text } → IsAfterByte (after_byte place h b) new (EndsBefore (TokenForm.Other (TokenKind.Glyph n)))
 unfolding after_byte
 takes_glyph_end place b h new n e ends is = rw (e, ends) (record { held = is; step = refl })
 
 -- ---- in a comment
 
-takes_between : (l : Close) (place b : ℕ) (h new : PartialToken) (answer : ByteResult) → h.mode ≡ Comment l
-    → IsAfterByte (comment l place h b (comment_class b)) new answer → IsAfterByte (after_byte place h b) new answer
+pub takes_between : (l : Close) (place b : ℕ) (h new : PartialToken) (answer : ByteResult) (begun : Begins) → h.mode ≡ Comment l
+    → begins_in_comment l (comment_class b) ≡ begun → IsAfterByte (begin place h b begun) new answer → IsAfterByte (after_byte place h b) new answer
 unfolding after_byte
-takes_between l place b h new answer e t = grind arith
+takes_between l place b h new answer begun e is t = rw (e, is) t
 
-blank_class : (b : ℕ) → is_blank b ≡ true → comment_class b ≡ CommentClass.Space
-blank_class b e = grind (arith, common_steps)
+-- what begins there
+gap_of_class : (l : Close) (c : CommentClass) (m : LexMode) → begins_in_comment l c ≡ Begins.Gap m
+    → (m ≡ Comment l) × ((c ≡ CommentClass.LineEnd) ⊎ (c ≡ CommentClass.Space))
+gap_of_class l c m is = grind arith
 
-line_end_class : (b : ℕ) → is_line_end b ≡ true → comment_class b ≡ CommentClass.LineEnd
-line_end_class b e = grind arith
+space_of_class : (b : ℕ) → (comment_class b ≡ CommentClass.LineEnd) ⊎ (comment_class b ≡ CommentClass.Space) → is_space b ≡ true
+space_of_class b is = grind arith
 
--- white space in a comment
-in_gap : (l : Close) (place b : ℕ) (h : PartialToken) (c : Bool) → is_line_end b ≡ c → is_in (gap_of l) b ≡ true
-    → comment l place h b (comment_class b) ≡ record { held = record { mode = Comment l; at = place; text = h.text }; step = Used }
-in_gap Close.Brace place b h true e is = rw (line_end_class b e) refl
-in_gap Close.Brace place b h false e is = rw (blank_class b (rw e at is)) refl
-in_gap Close.LineEnd place b h c e is = rw (blank_class b is) refl
+pub gap_begun : (l : Close) (b : ℕ) (m : LexMode) → begins_in_comment l (comment_class b) ≡ Begins.Gap m → (m ≡ Comment l) × (is_space b ≡ true)
+gap_begun l b m is = let of = gap_of_class l _ m is in (of.0, space_of_class b of.1)
 
-pub takes_gap : (l : Close) (place b : ℕ) (h new : PartialToken) → h.mode ≡ Comment l → is_in (gap_of l) b ≡ true
-    → new ≡ record { mode = Comment l; at = place; text = h.text } → IsAfterByte (after_byte place h b) new Used
-takes_gap l place b h new e is goes = takes_between l _ b h new _ e (rw (in_gap l place b h _ refl is) (record { held = goes; step = refl }))
+pub word_begun : (l : Close) (c : CommentClass) (t : Text) → begins_in_comment l c ≡ Begins.Text t → Text.Word l ≡ t
+word_begun l c t is = grind arith
 
-begins_word : (l : Close) (place b : ℕ) (h : PartialToken) → comment l place h b CommentClass.WordByte ≡ record { held = record { mode = LexMode.Text (Text.Word l); at = place; text = b ∷ [] }; step = Used }
-begins_word l place b h = grind arith
+pub close_begun : (l : Close) (c : CommentClass) (k : TokenKind) (m : LexMode) → begins_in_comment l c ≡ Begins.Alone k m
+    → (kind_of k ≡ comment_close) × IsBetween m
+close_begun l c k m is = grind arith
 
-pub takes_word_start : (l : Close) (place b : ℕ) (h new : PartialToken) → h.mode ≡ Comment l → comment_class b ≡ CommentClass.WordByte
-    → new ≡ record { mode = LexMode.Text (Text.Word l); at = place; text = b ∷ [] } → IsAfterByte (after_byte place h b) new Used
-takes_word_start l place b h new e is goes = takes_between l _ b h new _ e (rw (is, begins_word l place b h) (record { held = goes; step = refl }))
-
-pub closes : (l : Close) (place b : ℕ) (h : PartialToken) (c : CommentClass) (m : LexMode) → behind l c ≡ Some m
-    → comment l place h b c ≡ record { held = record { mode = m; at = place; text = h.text }; step = Ends TokenForm.CommentClose }
-closes l place b h c m e = grind arith
-
-pub takes_close : (l : Close) (place b : ℕ) (h new : PartialToken) (m : LexMode) → h.mode ≡ Comment l → behind l (comment_class b) ≡ Some m
-    → new ≡ record { mode = m; at = place; text = h.text } → IsAfterByte (after_byte place h b) new (Ends TokenForm.CommentClose)
-takes_close l place b h new m e is goes = takes_between l _ b h new _ e (rw (closes l place b h _ m is) (record { held = goes; step = refl }))
+pub outside_fits : (c : Class) (text : List ℕ) → Fits (begins_outside c) text
+outside_fits c text = grind arith
 
 pub longest_fits : (t : Text) → longest_of t ≤ 255
 longest_fits t = grind arith

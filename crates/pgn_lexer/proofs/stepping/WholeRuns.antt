@@ -1,11 +1,11 @@
 -- Tokens and white space that lie in a piece as a whole: byte after byte gives the same.
-use Rattle.pgn_lexer.specs.declared.class.Class.TheVariants as classes
-use Rattle.pgn_lexer.specs.declared.class.Single.TheVariants.{Period}
+use Rattle.pgn_lexer.specs.Class as classes
+use Rattle.pgn_lexer.specs.Class.{Period}
 use Rattle.pgn_lexer.specs.declared.partial_token.LexMode.TheVariants as modes
 use Rattle.pgn_lexer.specs.Scanned.{token as token_scanned}
-use Rattle.pgn_lexer.proofs.Words.{Close, CommentClass, IfSome, IsText, None, Option, Some, behind, comment_class, gap_of, is_in, ◌≡◌, Bool, ℕ, zero, suc, ◌+◌, ◌-◌, ◌*◌, ◌<◌, ◌≤◌, inl, inr, List, [], ◌∷◌, ◌++◌, length, get_or, take, drop, refl, sym, ap, subst, ◌∙◌, add-one, arith, true, false, take_all, length-take-le, LexMode, Class, LineEnd, Space, SymbolStart, Alone, LineStart, Outside, is_digit, is_space, class, str, glyph, comment_close, word, Token, TokenForm, ByteResult, Ends, Kind, PartialToken, tokens_to_come, token_of, IsSound, HasNotFailed, begin, begin_line, IsOutside, IsAfterByte, after_byte, Ran, RunsOut, RunsToToken, Standing, standing_at, Scans, IsRunIn, IsNumberIn, Set, Text, continues_word, string_class, rules, common_steps, take-suc, get_or-take, get_or-drop, length-drop, IsTrue, IsFalse, list_all, bytes_of, kind_of_text, longest_of, mode_behind, tokens_to_come_in, pending_in, IsBetween, IsWhole, Passes, ReadsBehind, is_passed, BeginsUnpassed, Single, kind_of_single, and_parts, eqb-true, none, over_space, over_token}
+use Rattle.pgn_lexer.proofs.Words.{Begins, Close, TokenKind, IfSome, IsText, None, Option, Some, begin_outside, begins_in_comment, begins_outside, comment_class, kind_of, is_in, ◌≡◌, Bool, ℕ, zero, suc, ◌+◌, ◌-◌, ◌*◌, ◌<◌, ◌≤◌, inl, inr, List, [], ◌∷◌, ◌++◌, length, get_or, take, drop, refl, sym, ap, subst, ◌∙◌, add-one, arith, true, false, take_all, length-take-le, LexMode, Class, LineEnd, Space, SymbolStart, Alone, LineStart, Outside, is_digit, is_space, class, str, glyph, comment_close, word, Token, TokenForm, ByteResult, Ends, Kind, PartialToken, tokens_to_come, token_of, IsSound, HasNotFailed, begin_line, IsOutside, IsAfterByte, after_byte, Ran, RunsOut, RunsToToken, Standing, standing_at, Scans, IsRunIn, IsNumberIn, Set, Text, continues_word, string_class, rules, common_steps, take-suc, get_or-take, get_or-drop, length-drop, IsTrue, IsFalse, list_all, bytes_of, kind_of_text, longest_of, mode_behind, tokens_to_come_in, pending_in, IsBetween, IsWhole, Passes, ReadsBehind, is_passed, BeginsUnpassed, and_parts, eqb-true, none, over_space, over_token}
 use Rattle.pgn_lexer.proofs.bytes.ClassToTest.{ClassSays, class_says}
-use Rattle.pgn_lexer.proofs.stepping.PieceByByte.{ran_none, ran_uses, ran_ends, ran_ends_before, takes_outside, takes_more, takes_text_end, takes_quote, takes_dollar, takes_digit, takes_glyph_end, takes_gap, takes_word_start, takes_close}
+use Rattle.pgn_lexer.proofs.stepping.PieceByByte.{ran_none, ran_uses, ran_ends, ran_ends_before, takes_outside, takes_more, takes_text_end, takes_quote, takes_dollar, takes_digit, takes_glyph_end, takes_between, gap_begun, word_begun, close_begun}
 use Rattle.pgn_lexer.proofs.stepping.ByteInText.{IsNoString, word_byte}
 use Rattle.pgn_lexer.proofs.stepping.RunsInPiece.{digit_starts, digits_in, number_in, symbol_in}
 use Rattle.pgn_lexer.proofs.stepping.StandsAfterCalls.{scans_nothing, scans_token}
@@ -99,16 +99,16 @@ module _ (place : ℕ) (old : PartialToken) (piece : List ℕ) where
 
     -- a first byte that ends no token
     first_byte : (c : Class) (new : PartialToken) → 0 < length piece → class (get_or piece 0 0) ≡ c
-        → begin_line (place + 0) old (get_or piece 0 0) c ≡ begin (place + 0) old (get_or piece 0 0) c
-        → begin (place + 0) old (get_or piece 0 0) c ≡ record { held = new; step = ByteResult.Used } → Ran place old piece new 1
+        → begin_line (place + 0) old (get_or piece 0 0) c ≡ begin_outside (place + 0) old (get_or piece 0 0) c
+        → begin_outside (place + 0) old (get_or piece 0 0) c ≡ record { held = new; step = ByteResult.Used } → Ran place old piece new 1
     first_byte c new some is same begins =
         ran_uses place old piece old 0 (get_or piece 0 0) some refl at_start new
         (takes_outside _ _ _ _ _ c outside is same (rw begins (record { held = refl; step = refl })))
 
     -- a text that the first byte begins
     text_runs : (t : Text) → IsNoString t → (c : Class) (n : ℕ) → class (get_or piece 0 0) ≡ c
-        → begin_line (place + 0) old (get_or piece 0 0) c ≡ begin (place + 0) old (get_or piece 0 0) c
-        → begin (place + 0) old (get_or piece 0 0) c ≡ record { held = holding (LexMode.Text t) (get_or piece 0 0 ∷ []); step = ByteResult.Used }
+        → begin_line (place + 0) old (get_or piece 0 0) c ≡ begin_outside (place + 0) old (get_or piece 0 0) c
+        → begin_outside (place + 0) old (get_or piece 0 0) c ≡ record { held = holding (LexMode.Text t) (get_or piece 0 0 ∷ []); step = ByteResult.Used }
         → IsRunIn (bytes_of t) (longest_of t) piece n → RunsTo (kind_of_text t (take n piece)) (mode_behind t) (take n piece) n
     text_runs t runs c n starts same begins is =
         let within = is.within in
@@ -117,10 +117,12 @@ module _ (place : ℕ) (old : PartialToken) (piece : List ℕ) where
 
     -- a token of one byte
     single_runs : (c : Class) (m : LexMode) (form : TokenForm) → 0 < length piece → class (get_or piece 0 0) ≡ c
-        → begin (place + 0) old (get_or piece 0 0) c ≡ record { held = holding m old.text; step = Ends form }
-        → begin_line (place + 0) old (get_or piece 0 0) c ≡ begin (place + 0) old (get_or piece 0 0) c
+        → begin_outside (place + 0) old (get_or piece 0 0) c ≡ record { held = holding m old.text; step = Ends form }
+        → begin_line (place + 0) old (get_or piece 0 0) c ≡ begin_outside (place + 0) old (get_or piece 0 0) c
         → RunsToToken place old piece (token_of form (holding m old.text)) (holding m old.text) 1
-    single_runs c m form some is begins same = grind (arith, at_start, outside, place, ran_ends, same, some, takes_outside)
+    single_runs c m form some is begins on =
+        ran_ends place old piece old 0 (get_or piece 0 0) some refl at_start form (holding m old.text)
+        (takes_outside _ _ _ _ _ c outside is on (rw begins (record { held = refl; step = refl })))
 
     -- a string without an escape
     string_runs : (n : ℕ) → IsRunIn Set.Data 256 piece n → get_or piece n 0 ≡ 34 → class (get_or piece 0 0) ≡ classes.Quote
@@ -148,32 +150,54 @@ module _ (place : ℕ) (old : PartialToken) (piece : List ℕ) where
     glyph_runs : (n number : ℕ) → n < length piece → is_digit (get_or piece n 0) ≡ false
         → Ran place old piece (holding (modes.Glyph number) old.text) n → RunsTo (glyph number) Outside old.text n
     glyph_runs n number within ends ran =
-        ran_ends_before place old piece _ n (get_or piece n 0) within refl ran (TokenForm.Glyph number) _ (takes_glyph_end _ _ _ _ number refl ends refl)
+        ran_ends_before place old piece _ n (get_or piece n 0) within refl ran (TokenForm.Other (TokenKind.Glyph number)) _ (takes_glyph_end _ _ _ _ number refl ends refl)
 
   module _ (sound : IsSound place old) (l : Close) (in_comment : old.mode ≡ LexMode.Comment l) where
     at_start_comment : Ran place old piece old 0
     at_start_comment = grind (arith, comment_between, not_failed_between, place, ran_none, sound)
 
-    ran_gap : 0 < length piece → is_in (gap_of l) (get_or piece 0 0) ≡ true
-        → Ran place old piece (holding (LexMode.Comment l) old.text) 1
-    ran_gap some is =
-        ran_uses place old piece old 0 (get_or piece 0 0) some refl at_start_comment _ (takes_gap l (place + 0) (get_or piece 0 0) old _ in_comment is refl)
+    ran_gap : (m : LexMode) → 0 < length piece → begins_in_comment l (comment_class (get_or piece 0 0)) ≡ Begins.Gap m
+        → Ran place old piece (holding m old.text) 1
+    ran_gap m some is =
+        ran_uses place old piece old 0 (get_or piece 0 0) some refl at_start_comment _
+        (takes_between l _ _ _ _ _ _ in_comment is (record { held = refl; step = refl }))
 
-    word_runs : (n : ℕ) → continues_word (get_or piece 0 0) ≡ true → IsRunIn Set.Word 79 piece n → RunsTo (word (take n piece)) (LexMode.Comment l) (take n piece) n
-    word_runs n begins is =
+    word_runs : (t : Text) (n : ℕ) → begins_in_comment l (comment_class (get_or piece 0 0)) ≡ Begins.Text t → IsNoString t
+        → IsRunIn (bytes_of t) (longest_of t) piece n → RunsTo (kind_of_text t (take n piece)) (mode_behind t) (take n piece) n
+    word_runs t n begins runs is =
         let within = is.within in
         let one : take 1 piece ≡ get_or piece 0 0 ∷ [] = take-suc piece 0 0 (omega arith) in
-        let first = ran_uses place old piece old 0 (get_or piece 0 0) (omega arith) refl at_start_comment (holding (LexMode.Text (Text.Word l)) (take 1 piece))
-        (takes_word_start l _ _ _ _ in_comment (word_byte (get_or piece 0 0) begins) (rw one refl)) in
-        ran_text (Text.Word l) tt n first is
+        let first = ran_uses place old piece old 0 (get_or piece 0 0) (omega arith) refl at_start_comment (holding (LexMode.Text t) (take 1 piece))
+        (takes_between l _ _ _ _ _ _ in_comment begins (rw one (record { held = refl; step = refl }))) in
+        ran_text t runs n first is
 
-    close_runs : (m : LexMode) → 0 < length piece
-        → behind l (comment_class (get_or piece 0 0)) ≡ Some m
-        → RunsTo comment_close m old.text 1
-    close_runs m some is =
-        ran_ends place old piece old 0 (get_or piece 0 0) some refl at_start_comment TokenForm.CommentClose _ (takes_close l _ _ _ _ m in_comment is refl)
+    close_runs : (k : TokenKind) (m : LexMode) → 0 < length piece
+        → begins_in_comment l (comment_class (get_or piece 0 0)) ≡ Begins.Alone k m → RunsTo (kind_of k) m old.text 1
+    close_runs k m some is =
+        ran_ends place old piece old 0 (get_or piece 0 0) some refl at_start_comment (TokenForm.Other k) _
+        (takes_between l _ _ _ _ _ _ in_comment is (record { held = refl; step = refl }))
 
 -- ---- the tokens that a piece begins with, outside comments
+
+-- what a byte begins there, it begins in the first column too, but for a percent sign
+pub string_begun : (c : Class) → begins_outside c ≡ Begins.Str → c ≡ classes.Quote
+string_begun c begins = grind arith
+
+pub dollar_begun : (c : Class) → begins_outside c ≡ Begins.Dollar → c ≡ classes.Dollar
+dollar_begun c begins = grind arith
+
+begun_is_no_string : (c : Class) (t : Text) → begins_outside c ≡ Begins.Text t → IsNoString t
+begun_is_no_string c t begins = grind arith
+
+text_on : (c : Class) (t : Text) → begins_outside c ≡ Begins.Text t → (place b : ℕ) (h : PartialToken) → begin_line place h b c ≡ begin_outside place h b c
+text_on c t begins place b h = grind arith
+
+alone_on : (c : Class) (k : TokenKind) (m : LexMode) → begins_outside c ≡ Begins.Alone k m → (place b : ℕ) (h : PartialToken)
+    → begin_line place h b c ≡ begin_outside place h b c
+alone_on c k m begins place b h = grind arith
+
+alone_between : (c : Class) (k : TokenKind) (m : LexMode) → begins_outside c ≡ Begins.Alone k m → IsBetween m
+alone_between c k m begins = grind arith
 
 module _ (piece : List ℕ) where
   -- a token that the piece begins with, wherever it is read
@@ -188,8 +212,8 @@ module _ (piece : List ℕ) where
       }
 
   whole_text : (t : Text) → IsNoString t → (c : Class) (n : ℕ) → class (get_or piece 0 0) ≡ c
-      → ((place : ℕ) (old : PartialToken) → begin_line place old (get_or piece 0 0) c ≡ begin place old (get_or piece 0 0) c)
-      → ((place : ℕ) (old : PartialToken) → begin place old (get_or piece 0 0) c
+      → ((place : ℕ) (old : PartialToken) → begin_line place old (get_or piece 0 0) c ≡ begin_outside place old (get_or piece 0 0) c)
+      → ((place : ℕ) (old : PartialToken) → begin_outside place old (get_or piece 0 0) c
       ≡ record { held = record { mode = LexMode.Text t; at = place; text = get_or piece 0 0 ∷ [] }; step = ByteResult.Used })
       → IsRunIn (bytes_of t) (longest_of t) piece n → IsWhole piece n (mode_behind t) (kind_of_text t (take n piece))
   whole_text t runs c n starts same begins is =
@@ -197,11 +221,11 @@ module _ (piece : List ℕ) where
       whole_of n _ _ (λ old. take n piece) is.some (omega arith) (between_behind t)
       (λ place old sound outside. text_runs place old piece sound outside t runs c n starts (same (place + 0) old) (begins (place + 0) old) is)
 
-  pub whole_symbol : (n : ℕ) (mode : LexMode) (k : Kind) → class (get_or piece 0 0) ≡ SymbolStart → IsText Text.Symbol piece n mode k → IsWhole piece n mode k
-  whole_symbol n mode k starts is = rw (is.behind, is.is) (whole_text Text.Symbol tt SymbolStart n starts (λ _ _. refl) (λ _ _. refl) is.run)
-
-  pub whole_suffix : (n : ℕ) (mode : LexMode) (k : Kind) → class (get_or piece 0 0) ≡ classes.Suffix → IsText Text.Suffix piece n mode k → IsWhole piece n mode k
-  whole_suffix n mode k starts is = rw (is.behind, is.is) (whole_text Text.Suffix tt classes.Suffix n starts (λ _ _. refl) (λ _ _. refl) is.run)
+  pub whole_begun : (t : Text) (n : ℕ) (mode : LexMode) (k : Kind) → begins_outside (class (get_or piece 0 0)) ≡ Begins.Text t → IsText t piece n mode k
+      → IsWhole piece n mode k
+  whole_begun t n mode k begins is =
+      rw (is.behind, is.is)
+      (whole_text t (begun_is_no_string _ t begins) _ n refl (λ place old. text_on _ t begins place (get_or piece 0 0) old) (λ place old. rw begins refl) is.run)
 
   pub whole_string : (n : ℕ) → IsRunIn Set.Data 256 piece n → get_or piece n 0 ≡ 34 → class (get_or piece 0 0) ≡ classes.Quote
       → IsWhole piece (n + 1) Outside (str (take (n - 1) (drop 1 piece)))
@@ -210,14 +234,12 @@ module _ (piece : List ℕ) where
       whole_of (n + 1) _ _ (λ old. take (n - 1) (drop 1 piece)) (omega arith) (omega arith) tt
       (λ place old sound outside. string_runs place old piece sound outside n is ends quote)
 
-  pub whole_single : (c : Class) (m : LexMode) (form : TokenForm) → 0 < length piece → class (get_or piece 0 0) ≡ c → IsBetween m
-      → ((place : ℕ) (old : PartialToken) → begin place old (get_or piece 0 0) c ≡ record { held = record { mode = m; at = place; text = old.text }; step = Ends form })
-      → ((place : ℕ) (old : PartialToken) → begin_line place old (get_or piece 0 0) c ≡ begin place old (get_or piece 0 0) c)
-      → (k : Kind) → ((at : ℕ) (text : List ℕ) → token_of form (record { mode = m; at = at; text = text }) ≡ record { at = at; kind = k }) → IsWhole piece 1 m k
-  whole_single c m form some is between begins same k kind =
-      whole_of 1 m k (λ old. old.text) (omega arith) (omega arith) between
-      (λ place old sound outside. rw (kind (place + 0) old.text) at
-      (single_runs place old piece sound outside c m form some is (begins (place + 0) old) (same (place + 0) old)))
+  pub whole_alone : (k : TokenKind) (m : LexMode) → 0 < length piece → begins_outside (class (get_or piece 0 0)) ≡ Begins.Alone k m
+      → IsWhole piece 1 m (kind_of k)
+  whole_alone k m some begins =
+      whole_of 1 m (kind_of k) (λ old. old.text) (omega arith) (omega arith) (alone_between _ k m begins)
+      (λ place old sound outside. single_runs place old piece sound outside _ m (TokenForm.Other k) some refl
+      (rw begins refl) (alone_on _ k m begins (place + 0) (get_or piece 0 0) old))
 
   -- the digits of a NAG so far
   pub record GlyphSoFar (n number : ℕ) : Type 0 where
@@ -262,16 +284,15 @@ symbol_unpassed n xs is unpassed true e =
     let within = is.within in
     absurd (unpassed.no_number n (number_in xs n (digits_all n xs (omega arith) e) is))
 
-pub text_unpassed : (n : ℕ) (xs : List ℕ) (mode : LexMode) (k : Kind) → IsText Text.Symbol xs n mode k → BeginsUnpassed xs → IsFalse (is_passed k)
-text_unpassed n xs mode k is unpassed = rw is.is (symbol_unpassed n xs is.run unpassed _ refl)
-
-pub suffix_unpassed : (n : ℕ) (xs : List ℕ) (mode : LexMode) (k : Kind) → IsText Text.Suffix xs n mode k → IsFalse (is_passed k)
-suffix_unpassed n xs mode k is = rw is.is refl
+pub text_unpassed : (t : Text) (n : ℕ) (xs : List ℕ) (mode : LexMode) (k : Kind) → IsText t xs n mode k → BeginsUnpassed xs → IsFalse (is_passed k)
+text_unpassed Text.Symbol n xs mode k is unpassed = rw is.is (symbol_unpassed n xs is.run unpassed _ refl)
+text_unpassed t n xs mode k is unpassed = rw is.is (grind arith)
 
 -- a token of one byte that is no period
-pub single_unpassed : (s : Single) (b : ℕ) → class b ≡ Alone s → (b ≡ 46 → ⊥) → IsFalse (is_passed (kind_of_single s))
-single_unpassed Period b is no_period = absurd (no_period (eqb-true b 46 (subst (ClassSays b) is (class_says b))))
-single_unpassed _ b is no_period = refl
+pub alone_unpassed : (c : Class) (b : ℕ) (k : TokenKind) (m : LexMode) → class b ≡ c → begins_outside c ≡ Begins.Alone k m → (b ≡ 46 → ⊥)
+    → IsFalse (is_passed (kind_of k))
+alone_unpassed (Alone Period) b k m is begins no_period = absurd (no_period (eqb-true b 46 (subst (ClassSays b) is (class_says b))))
+alone_unpassed c b k m is begins no_period = grind arith
 
 -- ---- what is passed, and the token behind it
 
@@ -286,12 +307,6 @@ white_line_end b is = let e = subst (ClassSays b) is (class_says b) in rw e refl
 
 white_blank : (b : ℕ) → class b ≡ Space → is_space b ≡ true
 white_blank b is = let e = subst (ClassSays b) is (class_says b) in rw (e.0, e.1) refl
-
-gap_is_white : (l : Close) (b : ℕ) → is_in (gap_of l) b ≡ true → is_space b ≡ true
-gap_is_white l b is = grind arith
-
-closes_between : (l : Close) (c : CommentClass) (m : LexMode) → behind l c ≡ Some m → IsBetween m
-closes_between l c m h = grind arith
 
 -- no token waits outside comments
 none_waits : (m : LexMode) → IsOutside m → pending_in m ≡ 0
@@ -370,8 +385,8 @@ module _ (skips : Bool) (before : Standing) (place : ℕ) (h : PartialToken) (pi
       sound : IsSound (place + m) h
       sound = sound_outside (place + m) h outside room
 
-      passes_into : (c : Class) (mode : LexMode) → class (get_or piece m 0) ≡ c → begin_line (place + m + 0) h (get_or one 0 0) c ≡ begin (place + m + 0) h (get_or one 0 0) c
-          → begin (place + m + 0) h (get_or one 0 0) c ≡ record { held = holding (place + m) h one mode h.text; step = ByteResult.Used }
+      passes_into : (c : Class) (mode : LexMode) → class (get_or piece m 0) ≡ c → begin_line (place + m + 0) h (get_or one 0 0) c ≡ begin_outside (place + m + 0) h (get_or one 0 0) c
+          → begin_outside (place + m + 0) h (get_or one 0 0) c ≡ record { held = holding (place + m) h one mode h.text; step = ByteResult.Used }
           → IsOutside mode → is_space (get_or piece m 0) ≡ true → Passes skips before piece (standing_at (place + (m + 1)) (into_mode h mode)) (m + 1)
       passes_into c mode is same begins into is_white =
           search (rules, none_waits, space, out_alike, outside_between, one_long, first_byte, sound, class, one_here)
@@ -385,7 +400,7 @@ module _ (skips : Bool) (before : Standing) (place : ℕ) (h : PartialToken) (pi
       pub passes_period : IsTrue skips → get_or piece m 0 ≡ 46 → Passes skips before piece (standing_at (place + (m + 1)) (into_mode h Outside)) (m + 1)
       passes_period skipped is =
           over 1 _ Outside (omega arith) (held_as (place + m) h rest _ Outside _ 1 tt (single_runs (place + m) h rest sound outside (Alone Period) Outside
-          (TokenForm.Single Period) some (rw (here ∙ is) refl) refl refl) h.at h.text room) skipped refl
+          (TokenForm.Other TokenKind.Period) some (rw (here ∙ is) refl) refl refl) h.at h.text room) skipped refl
 
       pub passes_number : IsTrue skips → (n : ℕ) → IsNumberIn rest n → Passes skips before piece (standing_at (place + (m + n)) (into_mode h Outside)) (m + n)
       passes_number skipped n is =
@@ -396,20 +411,37 @@ module _ (skips : Bool) (before : Standing) (place : ℕ) (h : PartialToken) (pi
       sound_there : IsSound (place + m) h
       sound_there = sound_in_comment l (place + m) h in_comment room
 
-      pub passes_gap : is_in (gap_of l) (get_or piece m 0) ≡ true
+      pub passes_gap : (mode : LexMode) → begins_in_comment l (comment_class (get_or piece m 0)) ≡ Begins.Gap mode
           → Passes skips before piece (standing_at (place + (m + 1)) (into_mode h (LexMode.Comment l))) (m + 1)
-      passes_gap is = grind (arith, common_steps, space, gap_is_white, get_or, out_alike, comment_between, one_long, ran_gap, sound_there, one_here)
+      passes_gap mode is =
+          let begun = gap_begun l (get_or piece m 0) mode is in
+          let first = ran_gap (place + m) h one sound_there l in_comment (LexMode.Comment l) (omega (arith, one_long))
+          (rw (one_here, ← begun.0) is) in
+          space (LexMode.Comment l) (rw in_comment (omega arith)) begun.1
+          (out_alike (place + m) h one 1 (LexMode.Comment l) (comment_between l) _ h.at _ h.text room (sym one_long) (omega arith) first)
 
-      pub reads_word : (n : ℕ) (mode : LexMode) (k : Kind) → continues_word (get_or piece m 0) ≡ true → IsText (Text.Word l) rest n mode k
+      word_there : (t : Text) → Text.Word l ≡ t → (n : ℕ) (mode : LexMode) (k : Kind) → begins_in_comment l (comment_class (get_or piece m 0)) ≡ Begins.Text t
+          → IsText t rest n mode k
+          → ReadsBehind skips before piece (standing_at (place + (m + n)) (into_mode h (mode_behind t))) (m + n) (record { at = place + m; kind = k })
+      word_there t same n mode k begins is =
+          let between : IsBetween (mode_behind t) = between_behind t in
+          rw is.is (reads_behind within n _ (mode_behind t) is.run.some
+          (held_as (place + m) h rest _ (mode_behind t) _ n between
+          (word_runs (place + m) h rest sound_there l in_comment t n (rw here begins) (subst IsNoString same tt) is.run) h.at h.text room)
+          (λ skipped. subst (λ t. IsFalse (is_passed (kind_of_text t (take n rest)))) same refl))
+
+      pub reads_word : (t : Text) (n : ℕ) (mode : LexMode) (k : Kind) → begins_in_comment l (comment_class (get_or piece m 0)) ≡ Begins.Text t
+          → IsText t rest n mode k
           → ReadsBehind skips before piece (standing_at (place + (m + n)) (into_mode h (LexMode.Comment l))) (m + n) (record { at = place + m; kind = k })
-      reads_word n mode k begins is =
-          rw is.is (reads_behind within n _ (LexMode.Comment l) is.run.some
-          (held_as (place + m) h rest _ (LexMode.Comment l) _ n (comment_between l) (word_runs (place + m) h rest sound_there l in_comment n (ap continues_word here ∙ begins) is.run) h.at h.text room) (λ skipped. refl))
+      reads_word t n mode k begins is =
+          let same : Text.Word l ≡ t = word_begun l _ t begins in
+          subst (λ mode. ReadsBehind skips before piece (standing_at (place + (m + n)) (into_mode h mode)) (m + n) (record { at = place + m; kind = k }))
+          (ap mode_behind (sym same)) (word_there t same n mode k begins is)
 
-      pub reads_close : (mode : LexMode)
-          → behind l (comment_class (get_or piece m 0)) ≡ Some mode
-          → ReadsBehind skips before piece (standing_at (place + (m + 1)) (into_mode h mode)) (m + 1) (record { at = place + m; kind = comment_close })
-      reads_close mode is =
-          let between = closes_between l _ mode is in
+      pub reads_close : (k : TokenKind) (mode : LexMode) → begins_in_comment l (comment_class (get_or piece m 0)) ≡ Begins.Alone k mode
+          → ReadsBehind skips before piece (standing_at (place + (m + 1)) (into_mode h mode)) (m + 1) (record { at = place + m; kind = kind_of k })
+      reads_close k mode is =
+          let begun = close_begun l _ k mode is in
           reads_behind within 1 _ mode (omega arith)
-          (held_as (place + m) h rest _ mode _ 1 between (close_runs (place + m) h rest sound_there l in_comment mode some (rw (sym here) at is)) h.at h.text room) (λ skipped. refl)
+          (held_as (place + m) h rest _ mode _ 1 begun.1 (close_runs (place + m) h rest sound_there l in_comment k mode some (rw here is)) h.at h.text room)
+          (λ skipped. rw begun.0 refl)

@@ -1,17 +1,19 @@
 //! What one byte does to the current token, mode by mode.
 
-ghost use Rattle.std.specs.Prelude.{◌≡◌, true, false, [], ◌∷◌};
+ghost use Rattle.std.specs.Prelude.{◌≡◌, ◌<◌, [], ◌∷◌, ◌++◌, length};
 ghost use Rattle.pgn_lexer.specs.ByteResult as byte_result;
 ghost use Rattle.pgn_lexer.specs.StringClass as string_classes;
 
-use crate::class::{Class, Set, class_of, is_escaped, is_in};
+use crate::class::{Set, is_escaped, is_in};
+use crate::partial_token::begins::{Begins, begins_in_comment, begins_outside};
 use crate::partial_token::{
-    ByteResult, Close, LARGEST_GLYPH, LexMode, PartialToken, Text, TokenForm, clear,
+    ByteResult, LARGEST_GLYPH, LexMode, PartialToken, Text, TokenForm, clear,
 };
-use crate::token::LexReason;
+use crate::token::{LexReason, TokenKind};
 
 impl PartialToken {
     ghost use Rattle.pgn_lexer.specs.Spelling as spelling;
+    ghost use Rattle.pgn_lexer.specs.Begins.{Fits};
     ghost use Rattle.pgn_lexer.specs.ByteResult.{IsAfterByte};
     ghost use Rattle.pgn_lexer.specs.PartialToken.{HasMore};
     ghost use Rattle.pgn_lexer.specs.Texts.{longest_of, too_long_of};
@@ -28,7 +30,7 @@ impl PartialToken {
             LexMode::AfterEfBb => self.mark(0xBF, LexMode::LineStart, byte),
             LexMode::Start | LexMode::LineStart if byte == b'%' => self.go(LexMode::EscapeLine),
             LexMode::Start | LexMode::LineStart | LexMode::Outside => self.begin(
-                class_of(byte),
+                begins_outside(byte),
                 byte,
                 place,
             ),
@@ -41,7 +43,7 @@ impl PartialToken {
             LexMode::AfterBackslash => self.after_backslash(byte, place),
             LexMode::Dollar => self.dollar(byte),
             LexMode::Glyph(number) => self.glyph(number, byte),
-            LexMode::Comment(close) => self.comment(close, byte, place),
+            LexMode::Comment(close) => self.begin(begins_in_comment(byte, close), byte, place),
             LexMode::Failed(reason) => ByteResult::Fault(reason),
         }
     }
@@ -65,26 +67,23 @@ impl PartialToken {
         self.go(mode)
     }
 
-    fn begin(&mut self, class: Class, byte: u8, place: u64) -> ByteResult
-        ensures { IsAfterByte (byte_result.begin place self.old byte class) self.new result }
+    /// A byte between tokens, which begins this.
+    fn begin(&mut self, begins: Begins, byte: u8, place: u64) -> ByteResult
+        requires { Fits begins self.old.text }
+        ensures { IsAfterByte (byte_result.begin place self.old byte begins) self.new result }
     {
         self.at = place;
-        match class {
-            Class::LineEnd => self.go(LexMode::LineStart),
-            Class::Space => self.go(LexMode::Outside),
-            Class::Percent => self.fail(place, LexReason::StrayByte),
-            Class::SymbolStart => self.begin_text(Text::Symbol, byte),
-            Class::Quote => {
+        match begins {
+            Begins::Gap(mode) => self.go(mode),
+            Begins::Text(text) => self.begin_text(text, byte),
+            Begins::Str => {
                 clear(&mut self.buffer);
                 self.mode = LexMode::Text(Text::Str);
                 ByteResult::Used
             }
-            Class::Dollar => self.go(LexMode::Dollar),
-            Class::Suffix => self.begin_text(Text::Suffix, byte),
-            Class::OpenBrace => self.end(LexMode::Comment(Close::Brace), TokenForm::CommentOpen),
-            Class::Semicolon => self.end(LexMode::Comment(Close::LineEnd), TokenForm::CommentOpen),
-            Class::Alone(single) => self.end(LexMode::Outside, TokenForm::Single(single)),
-            Class::Refused(reason) => self.fail(place, reason),
+            Begins::Dollar => self.go(LexMode::Dollar),
+            Begins::Alone(kind, mode) => self.end(mode, TokenForm::Other(kind)),
+            Begins::Refused(reason) => self.fail(place, reason),
         }
     }
 
@@ -95,7 +94,7 @@ impl PartialToken {
         ensures { IsAfterByte (byte_result.in_text text place self.old byte) self.new result }
     {
         if is_in(byte, text.bytes()) {
-            return self.push(text, byte);
+            return self.push(text, byte, LexMode::Text(text));
         }
         if let Text::Str = text {
             return self.end_string(byte, place);
@@ -103,17 +102,19 @@ impl PartialToken {
         self.end_before(text.mode_behind(), TokenForm::Text(text))
     }
 
-    /// Stores one byte more of the text.
+    /// Stores one byte more of the text, and goes on in the mode.
     #[inline(always)]
-    fn push(&mut self, text: Text, byte: u8) -> ByteResult
-        requires { self.old.mode ≡ LexMode.Text text }
+    fn push(&mut self, text: Text, byte: u8, mode: LexMode) -> ByteResult
+        requires { length self.old.text < longest_of text
+            → HasMore mode (self.old.text ++ byte ∷ []) }
         ensures { IsAfterByte (byte_result.if_room (longest_of text) (too_long_of text) self.old
-            (byte_result.grown self.old self.old.mode byte)) self.new result }
+            (byte_result.grown self.old mode byte)) self.new result }
     {
         if self.buffer.len() >= text.longest() {
             return self.fail(self.at, text.too_long());
         }
         self.buffer.push(byte);
+        self.mode = mode;
         ByteResult::Used
     }
 
@@ -123,8 +124,7 @@ impl PartialToken {
         if !is_in(byte, Set::Digit) {
             return self.fail(self.at, LexReason::LoneDollar);
         }
-        self.mode = LexMode::Glyph(byte - b'0');
-        ByteResult::Used
+        self.go(LexMode::Glyph(byte - b'0'))
     }
 
     /// The next byte of `$` and digits, whose number so far is this one (PGN 10).
@@ -132,14 +132,13 @@ impl PartialToken {
         ensures { IsAfterByte (byte_result.glyph self.old number byte) self.new result }
     {
         if !is_in(byte, Set::Digit) {
-            return self.end_before(LexMode::Outside, TokenForm::Glyph(number));
+            return self.end_before(LexMode::Outside, TokenForm::Other(TokenKind::Glyph(number)));
         }
         let longer = 10 * u16::from(number) + u16::from(byte - b'0');
         if longer > LARGEST_GLYPH {
             return self.fail(self.at, LexReason::GlyphRange);
         }
-        self.mode = LexMode::Glyph(longer as u8);
-        ByteResult::Used
+        self.go(LexMode::Glyph(longer as u8))
     }
 
     /// A byte that is no data of the string.
@@ -147,65 +146,28 @@ impl PartialToken {
         requires text { self.old.mode ≡ LexMode.Text Text.Str }
         requires other { spelling.string_class byte ≡ string_classes.Plain → ⊥ }
         ensures { IsAfterByte
-            (byte_result.string false place self.old byte (spelling.string_class byte)) self.new
-            result }
+            (byte_result.string place self.old byte (spelling.string_class byte)) self.new result }
     {
         match byte {
             b'"' => self.end(LexMode::Outside, TokenForm::Text(Text::Str)),
-            b'\\' => {
-                if self.buffer.is_full() {
-                    return self.fail(self.at, LexReason::StringTooLong);
-                }
-                self.go(LexMode::AfterBackslash)
-            }
+            b'\\' => self.push(Text::Str, byte, LexMode::AfterBackslash),
             b'\n' | b'\r' => self.fail(self.at, LexReason::UnclosedString),
             _ => self.fail(place, LexReason::ControlByte),
         }
     }
 
+    /// An escaped byte takes the place of the backslash. Another one is read by itself.
     fn after_backslash(&mut self, byte: u8, place: u64) -> ByteResult
         requires { self.old.mode ≡ LexMode.AfterBackslash }
-        ensures { IsAfterByte (byte_result.string true place self.old byte
-            (spelling.string_class byte)) self.new result }
+        ensures { IsAfterByte (byte_result.after_backslash place self.old byte) self.new result }
     {
+        self.mode = LexMode::Text(Text::Str);
         if is_escaped(byte) {
+            self.buffer.pop();
             self.buffer.push(byte);
-            self.mode = LexMode::Text(Text::Str);
             return ByteResult::Used;
         }
-        if is_in(byte, Set::LineEnd) {
-            return self.fail(self.at, LexReason::UnclosedString);
-        }
-        if !is_in(byte, Set::Data) {
-            return self.fail(place, LexReason::ControlByte);
-        }
-        if self.buffer.remaining_capacity() < 2 {
-            return self.fail(self.at, LexReason::StringTooLong);
-        }
-        self.buffer.push(b'\\');
-        self.buffer.push(byte);
-        self.mode = LexMode::Text(Text::Str);
-        ByteResult::Used
-    }
-
-    /// Between the words of a comment.
-    fn comment(&mut self, close: Close, byte: u8, place: u64) -> ByteResult
-        ensures { IsAfterByte
-            (byte_result.comment close place self.old byte (spelling.comment_class byte)) self.new
-            result }
-    {
-        self.at = place;
-        if is_in(byte, Set::Word) {
-            return self.begin_text(Text::Word(close), byte);
-        }
-        if is_in(byte, close.gap()) {
-            return self.go(LexMode::Comment(close));
-        }
-        match close.mode_behind(byte) {
-            Some(mode) => self.end(mode, TokenForm::CommentClose),
-            None if byte == b'}' => self.fail(place, LexReason::BraceInLineComment),
-            None => self.fail(place, LexReason::ControlByte),
-        }
+        self.text(Text::Str, byte, place)
     }
 
     fn go(&mut self, mode: LexMode) -> ByteResult
@@ -243,6 +205,7 @@ impl PartialToken {
     {
         clear(&mut self.buffer);
         self.buffer.push(byte);
-        self.go(LexMode::Text(text))
+        self.mode = LexMode::Text(text);
+        ByteResult::Used
     }
 }

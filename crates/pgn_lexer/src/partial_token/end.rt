@@ -3,7 +3,7 @@
 ghost use Rattle.pgn_lexer.specs.ByteResult as byte_result;
 
 use crate::partial_token::{ByteResult, Close, LexMode, PartialToken, Text, TokenForm};
-use crate::token::LexReason;
+use crate::token::{LexReason, TokenKind};
 
 impl PartialToken {
     ghost use Rattle.pgn_lexer.specs.ByteResult.{IsAfterByte};
@@ -24,11 +24,14 @@ impl PartialToken {
             ),
             LexMode::Text(text) => self.end_before(text.mode_behind(), TokenForm::Text(text)),
             LexMode::Dollar => self.fail(self.at, LexReason::LoneDollar),
-            LexMode::Glyph(number) => self.end_before(LexMode::Outside, TokenForm::Glyph(number)),
+            LexMode::Glyph(number) => self.end_before(
+                LexMode::Outside,
+                TokenForm::Other(TokenKind::Glyph(number)),
+            ),
             LexMode::Comment(Close::Brace) => self.fail(place, LexReason::UnclosedComment),
             LexMode::Comment(Close::LineEnd) => {
                 self.at = place;
-                self.end_before(LexMode::Outside, TokenForm::CommentClose)
+                self.end_before(LexMode::Outside, TokenForm::Other(TokenKind::CommentClose))
             }
             LexMode::Failed(reason) => ByteResult::Fault(reason),
         }

@@ -1,18 +1,18 @@
 //! Reads a token that lies in the piece as a whole, without a copy of its text.
 
 ghost use Rattle.std.specs.Prelude.{◌≡◌, Bool, ℕ, ◌+◌, ◌<◌, ◌≤◌, ◌^◌, drop, length, get_or, IsTrue, IsFalse, IfSome, MatchOption};
+ghost use Rattle.pgn_lexer.specs.Begins.{begins_outside as begins_outside_of};
 ghost use Rattle.pgn_lexer.specs.Bytes as bytes;
 ghost use Rattle.pgn_lexer.specs.Runs.{BeginsUnpassed, IsNumberIn, IsText, IsWhole, standing_at};
 ghost use Rattle.pgn_lexer.specs.Scanned.{kind_of};
 ghost use Rattle.pgn_lexer.specs.Spelling as spelling;
 ghost use Rattle.pgn_lexer.specs.Tokens.{glyph};
 ghost use Rattle.pgn_lexer.specs.WholeTokens.{is_passed};
-ghost use Rattle.pgn_lexer.specs.declared.class.Class.TheVariants as classes;
+ghost use Rattle.pgn_lexer.specs.declared.partial_token.begins.Begins.TheVariants as begun;
 
-use crate::class::{Class, Set, class_of, is_in, run_length};
-use crate::partial_token::{
-    Close, LARGEST_GLYPH, LONGEST_TEXT, LexMode, PartialToken, Text, kind_of_single,
-};
+use crate::class::{Set, is_in, run_length};
+use crate::partial_token::begins::{Begins, begins_in_comment, begins_outside};
+use crate::partial_token::{Close, LARGEST_GLYPH, LONGEST_TEXT, LexMode, PartialToken, Text};
 use crate::token::{Token, TokenKind};
 
 /// No byte of white space, of a number or of a period is above this one.
@@ -140,26 +140,23 @@ impl PartialToken {
         ensures reads { (skips : Bool) → ReadsWhole skips (standing_at place self.old) piece.now
             (standing_at (place + result.0) self.new) result.0 result.1 }
     {
-        let gap = close.gap();
         let mut used = 0;
         while used < piece.len() {
             let at = place + used as u64;
-            let byte = piece[used];
-            if is_in(byte, Set::Word) {
-                let Some((length, _, kind)) = whole_text(&piece[used..], Text::Word(close)) else {
-                    break;
-                };
-                return (used + length, Some(Token { at, kind }));
+            match begins_in_comment(piece[used], close) {
+                Begins::Gap(_) => used += 1,
+                Begins::Text(text) => {
+                    let Some((length, _, kind)) = whole_text(&piece[used..], text) else {
+                        break;
+                    };
+                    return (used + length, Some(Token { at, kind }));
+                }
+                Begins::Alone(kind, mode) => {
+                    self.mode = mode;
+                    return (used + 1, Some(Token { at, kind }));
+                }
+                _ => break,
             }
-            if !is_in(byte, gap) {
-                let Some(mode) = close.mode_behind(byte) else {
-                    break;
-                };
-                self.mode = mode;
-                let kind = TokenKind::CommentClose;
-                return (used + 1, Some(Token { at, kind }));
-            }
-            used += 1;
         }
         (used, None)
     }
@@ -176,10 +173,11 @@ fn whole_at(piece: &[u8]) -> Option<(usize, LexMode, TokenKind<'_>)>
     if piece.is_empty() {
         return None;
     }
-    match class_of(piece[0]) {
-        Class::SymbolStart => whole_text(piece, Text::Symbol),
-        Class::Suffix => whole_text(piece, Text::Suffix),
-        Class::Quote => {
+    match begins_outside(piece[0]) {
+        // These are the most common, and know their set of bytes.
+        Begins::Text(Text::Symbol) => whole_text(piece, Text::Symbol),
+        Begins::Text(text) => whole_text(piece, text),
+        Begins::Str => {
             let end = run_length(piece, Set::Data, LONGEST_TEXT + 1)?;
             if piece[end] != b'"' {
                 return None;
@@ -187,14 +185,12 @@ fn whole_at(piece: &[u8]) -> Option<(usize, LexMode, TokenKind<'_>)>
             let kind = TokenKind::Str(&piece[1..end]);
             Some((end + 1, LexMode::Outside, kind))
         }
-        Class::Dollar => {
+        Begins::Dollar => {
             let (length, number) = glyph_in(piece)?;
             Some((length, LexMode::Outside, TokenKind::Glyph(number)))
         }
-        Class::OpenBrace => Some((1, LexMode::Comment(Close::Brace), TokenKind::CommentOpen)),
-        Class::Semicolon => Some((1, LexMode::Comment(Close::LineEnd), TokenKind::CommentOpen)),
-        Class::Alone(single) => Some((1, LexMode::Outside, kind_of_single(single))),
-        Class::LineEnd | Class::Space | Class::Percent | Class::Refused(_) => None,
+        Begins::Alone(kind, mode) => Some((1, mode, kind)),
+        Begins::Gap(_) | Begins::Refused(_) => None,
     }
 }
 
@@ -225,7 +221,7 @@ fn number_length(piece: &[u8]) -> Option<usize>
 // them, has no digit, or is too large.
 fn glyph_in(piece: &[u8]) -> Option<(usize, u8)>
     requires some { 0 < length piece.now }
-    requires first { spelling.class (get_or piece.now 0 0) ≡ classes.Dollar }
+    requires first { begins_outside_of (spelling.class (get_or piece.now 0 0)) ≡ begun.Dollar }
     ensures { IfSome result (λ r. IsWhole piece.now r.0 LexMode.Outside (glyph r.1)) }
 {
     if piece.len() < 2 || !is_in(piece[1], Set::Digit) {

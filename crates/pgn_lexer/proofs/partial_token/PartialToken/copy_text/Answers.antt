@@ -1,4 +1,5 @@
-use Rattle.pgn_lexer.proofs.Words.{◌<◌, length, refl, sym, ap, ◌∙◌, arith, AfterBackslash, LexMode, longest_of, string_class}
+use Rattle.pgn_lexer.proofs.Words.{◌<◌, [], ◌∷◌, ◌++◌, get_or, length, refl, sym, ap, ◌∙◌, arith, AfterBackslash, LexMode, longest_of, string_class}
+use Rattle.pgn_lexer.proofs.stepping.ByteInString.{before_one_more}
 use Rattle.pgn_lexer.proofs.stepping.CopiedBytes.{copied_on, escape_at}
 use Rattle.pgn_lexer.proofs.stepping.PieceByByte.{ran_uses, takes_more, grown_fits, takes_backslash, takes_escaped, longest_fits}
 use Rattle.pgn_lexer.proofs.partial_token.PartialToken.copy_text.Goals as goal
@@ -29,7 +30,7 @@ loop-used-preserved c =
       inside = here.inside;
       ran = λ old ran. ran_uses _ old _ _ _ _ (omega (arith, escape.within, here.copied.whole)) refl
           (ran_uses _ old _ _ _ _ (omega (arith, here.copied.whole)) refl (here.ran old ran)
-          (record { mode = AfterBackslash; at = c.loop-used.self-inside.at; text = c.loop-used.self-inside.buffer.items })
+          (record { mode = AfterBackslash; at = c.loop-used.self-inside.at; text = c.loop-used.self-inside.buffer.items ++ get_or c.args.piece.now c.loop-used.used 0 ∷ [] })
           (takes_backslash _ _ _ _ string (ap string_class escape.backslash) (omega (arith, short, fits)) refl)) _
-          (takes_escaped _ _ _ _ refl escape.escaped (rw (c.push-in-loop-used.ensures.items, string) refl));
+          (takes_escaped _ _ _ _ refl escape.escaped (rw (before_one_more c.loop-used.self-inside.buffer.items (get_or c.args.piece.now c.loop-used.used 0), c.push-in-loop-used.ensures.items, string) refl));
     }

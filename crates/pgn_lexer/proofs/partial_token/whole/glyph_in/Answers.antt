@@ -1,12 +1,12 @@
 use Rattle.pgn_lexer.proofs.Words.{sym, ◌∙◌, arith}
-use Rattle.pgn_lexer.proofs.stepping.WholeRuns.{glyph_first, glyph_more, whole_glyph}
+use Rattle.pgn_lexer.proofs.stepping.WholeRuns.{dollar_begun, glyph_first, glyph_more, whole_glyph}
 use Rattle.pgn_lexer.proofs.partial_token.whole.glyph_in.Goals as goal
 
 pub loop-length-init : goal.loop-length-init
 loop-length-init c = record {
   some = omega arith;
   small = omega (arith, c.type_inv.piece 1);
-  so = glyph_first _ (omega arith) c.requires.first (sym c.is_in.ensures ∙ c.if-not-is_in.false);
+  so = glyph_first _ (omega arith) (dollar_begun _ c.requires.first) (sym c.is_in.ensures ∙ c.if-not-is_in.false);
 }
 
 pub returns-then-not-is_in-2 : goal.returns-then-not-is_in-2

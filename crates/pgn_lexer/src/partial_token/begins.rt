@@ -1,0 +1,74 @@
+//! What a byte between tokens begins.
+
+ghost use Rattle.std.specs.Prelude.{◌≡◌};
+ghost use Rattle.pgn_lexer.specs.Begins as spec;
+ghost use Rattle.pgn_lexer.specs.Spelling as spelling;
+
+use crate::class::{Set, is_in};
+use crate::partial_token::{Close, LexMode, Text};
+use crate::token::{LexReason, TokenKind};
+
+/// What a byte between tokens begins.
+#[derive(Clone, Copy)]
+pub(crate) enum Begins {
+    /// White space, and the mode behind it.
+    Gap(LexMode),
+    /// A text, of which it is the first byte.
+    Text(Text),
+    /// A string, whose data follow.
+    Str,
+    /// A NAG, whose digits follow.
+    Dollar,
+    /// It is a token by itself, and this is the mode behind it.
+    Alone(TokenKind<'static>, LexMode),
+    Refused(LexReason),
+}
+
+/// What the byte begins outside strings and comments. In the first column a percent sign is looked
+/// for before.
+#[inline(always)]
+pub(crate) fn begins_outside(byte: u8) -> Begins
+    ensures { result ≡ spec.begins_outside (spelling.class byte) }
+{
+    if is_in(byte, Set::SymbolStart) {
+        return Begins::Text(Text::Symbol);
+    }
+    match byte {
+        b'\n' | b'\r' => Begins::Gap(LexMode::LineStart),
+        b' ' | b'\t' | 11 | 12 => Begins::Gap(LexMode::Outside),
+        b'!' | b'?' => Begins::Text(Text::Suffix),
+        b'"' => Begins::Str,
+        b'$' => Begins::Dollar,
+        b'{' => Begins::Alone(TokenKind::CommentOpen, LexMode::Comment(Close::Brace)),
+        b';' => Begins::Alone(TokenKind::CommentOpen, LexMode::Comment(Close::LineEnd)),
+        b'[' => Begins::Alone(TokenKind::LeftBracket, LexMode::Outside),
+        b']' => Begins::Alone(TokenKind::RightBracket, LexMode::Outside),
+        b'(' => Begins::Alone(TokenKind::LeftParen, LexMode::Outside),
+        b')' => Begins::Alone(TokenKind::RightParen, LexMode::Outside),
+        b'.' => Begins::Alone(TokenKind::Period, LexMode::Outside),
+        b'*' => Begins::Alone(TokenKind::Asterisk, LexMode::Outside),
+        b'<' | b'>' => Begins::Refused(LexReason::Reserved),
+        0..=31 | 127 => Begins::Refused(LexReason::ControlByte),
+        _ => Begins::Refused(LexReason::StrayByte),
+    }
+}
+
+/// What the byte begins in a comment that ends so.
+#[inline(always)]
+pub(crate) fn begins_in_comment(byte: u8, close: Close) -> Begins
+    ensures { result ≡ spec.begins_in_comment close (spelling.comment_class byte) }
+{
+    if is_in(byte, Set::Word) {
+        return Begins::Text(Text::Word(close));
+    }
+    match close {
+        Close::Brace if byte == b'}' => Begins::Alone(TokenKind::CommentClose, LexMode::Outside),
+        Close::LineEnd if is_in(byte, Set::LineEnd) => Begins::Alone(
+            TokenKind::CommentClose,
+            LexMode::LineStart,
+        ),
+        _ if is_in(byte, Set::Space) => Begins::Gap(LexMode::Comment(close)),
+        _ if byte == b'}' => Begins::Refused(LexReason::BraceInLineComment),
+        _ => Begins::Refused(LexReason::ControlByte),
+    }
+}
