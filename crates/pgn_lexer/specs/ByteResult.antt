@@ -134,16 +134,14 @@ after_byte_in (Failed reason) place h b = record { held = h; step = Fault reason
 unfoldable pub after_byte : ℕ → PartialToken → ℕ → AfterByte
 after_byte place h b = after_byte_in h.mode place h b
 
--- The end of the text ends a token as a line feed does, changes nothing between tokens, and rejects
--- a comment in braces.
+-- The end of the text ends a token, or a comment to the end of its line, as a line feed does. It
+-- changes nothing outside them, and rejects a comment in braces.
 abbrev pub after_end_in : LexMode → ℕ → PartialToken → AfterByte
 after_end_in Start place h = record { held = h; step = Used }
 after_end_in LineStart place h = record { held = h; step = Used }
 after_end_in Outside place h = record { held = h; step = Used }
 after_end_in EscapeLine place h = record { held = h; step = Used }
-after_end_in (Text t) place h = text_end t place h 10
 after_end_in (Comment closes.Brace) place h = fails h place UnclosedComment
-after_end_in (Comment closes.LineEnd) place h = set_at Outside place h.text (EndsBefore (token_forms.Other kinds.CommentClose))
 after_end_in mode place h = after_byte_in mode place h 10
 
 unfoldable pub after_end : ℕ → PartialToken → AfterByte

@@ -1,5 +1,5 @@
 -- Each byte, and the end of the text, gives the tokens that come.
-use Rattle.pgn_lexer.proofs.Words.{◌≡◌, ◌⊎◌, inl, inr, ℕ, ◌<◌, ◌≤◌, List, [], ◌∷◌, length, refl, arith, Some, LexFault, LexMode, LexReason, TokenForm, HasLength, end, PartialToken, IsSound, HasNotFailed, tokens_to_come, kind_in, kind_of_text, token_of, refusal, pending, fault_met, fault_in_mode, after_byte, after_byte_in, after_end, after_end_in, AfterByte, IsAfterByte, text_end, Text, ByteResult, Used, Ends, EndsBefore, Fault, common_steps}
+use Rattle.pgn_lexer.proofs.Words.{◌≡◌, ◌⊎◌, inl, inr, ℕ, ◌<◌, ◌≤◌, List, [], ◌∷◌, length, refl, arith, Some, LexFault, Close, LexMode, LexReason, TokenForm, HasLength, end, PartialToken, IsSound, HasNotFailed, tokens_to_come, kind_in, kind_of_text, token_of, refusal, pending, fault_met, fault_in_mode, after_byte, after_byte_in, after_end, after_end_in, AfterByte, IsAfterByte, bytes_of, false, in_text, is_in, Text, ByteResult, Used, Ends, EndsBefore, Fault, common_steps}
 use Rattle.pgn_lexer.proofs.stepping.StepGives.{Gives, GivesIn, front_of, holds}
 use Rattle.pgn_lexer.proofs.stepping.RunOfBytes.{run_closes}
 use Rattle.pgn_lexer.proofs.stepping.ByteOutside.{begin_gives, begin_line_gives, start_gives, escape_line_gives}
@@ -47,7 +47,7 @@ pub record ClosesEnd (place : ℕ) (h new : PartialToken) : Type 0 where
   pub same : new ≡ h
   pub comes : tokens_to_come place h [] ≡ record { at = place; kind = end } ∷ []
 
-abbrev CloseGives : ℕ → PartialToken → PartialToken → ByteResult → Type 0
+abbrev pub CloseGives : ℕ → PartialToken → PartialToken → ByteResult → Type 0
 CloseGives place h new Used = ClosesEnd place h new
 CloseGives place h new (Ends form) = ClosesToken place h form new
 CloseGives place h new (EndsBefore form) = ClosesToken place h form new
@@ -59,11 +59,14 @@ ClosedGives place h t = CloseGives place h t.held t.step
 text_is_not_end : (t : Text) (text : List ℕ) → kind_of_text t text ≡ end → ⊥
 text_is_not_end t text is = grind arith
 
+stops_text : (t : Text) → is_in (bytes_of t) 10 ≡ false
+stops_text t = grind arith
+
 close_text : (t : Text) → IsNoString t → (place at : ℕ) (text : List ℕ) → IsSound place (holds (LexMode.Text t) at text)
-    → ClosedGives place (holds (LexMode.Text t) at text) (text_end t place (holds (LexMode.Text t) at text) 10)
+    → ClosedGives place (holds (LexMode.Text t) at text) (in_text t place (holds (LexMode.Text t) at text) 10)
 close_text t runs place at text sound =
     let so : TextSoFar t place at text = so_far t runs place at text sound in
-    rw (ends_text t runs place 10 (holds (LexMode.Text t) at text)) (record {
+    rw (stops_text t, ends_text t runs place 10 (holds (LexMode.Text t) at text)) (record {
       sound = behind_sound t place at text so.fits;
       fresh = tt;
       not_failed = behind_stands t;
@@ -88,7 +91,25 @@ pub closes_gives : (place : ℕ) (h new : PartialToken) (answer : ByteResult) �
     → CloseGives place h new answer
 closes_gives place h new answer sound t = grind (arith, close_gives)
 
-pub closes_token : (place : ℕ) (h new : PartialToken) (answer : ByteResult) (form : TokenForm) → IsSound place h → IsAfterByte (after_end place h) new answer
-    → (answer ≡ Ends form) ⊎ (answer ≡ EndsBefore form) → ClosesToken place h form new
-closes_token place h new answer form sound t (inl e) = rw e at (closes_gives place h new answer sound t)
-closes_token place h new answer form sound t (inr e) = rw e at (closes_gives place h new answer sound t)
+pub closes_sound : (place : ℕ) (h new : PartialToken) (answer : ByteResult) → IsSound place h → CloseGives place h new answer → IsSound place new
+closes_sound place h new Used sound gives = rw gives.same sound
+closes_sound place h new (Ends form) sound gives = gives.sound
+closes_sound place h new (EndsBefore form) sound gives = gives.sound
+closes_sound place h new (Fault reason) sound gives = gives.sound
+
+-- a line feed does the same, but for these modes
+by_line_feed : (m : LexMode) (place : ℕ) (h : PartialToken) → (m ≡ LexMode.Start → ⊥) → (m ≡ LexMode.LineStart → ⊥) → (m ≡ LexMode.Outside → ⊥)
+    → (m ≡ LexMode.EscapeLine → ⊥) → ((close : Close) → m ≡ LexMode.Comment close → ⊥) → after_byte_in m place h 10 ≡ after_end_in m place h
+by_line_feed m place h h1 h2 h3 h4 h5 = grind arith
+
+module _ (place : ℕ) (inside h new : PartialToken) (answer : ByteResult) (view_is : inside ≡ h) where
+  pub takes_line_feed : (inside.mode ≡ LexMode.Start → ⊥) → (inside.mode ≡ LexMode.LineStart → ⊥) → (inside.mode ≡ LexMode.Outside → ⊥)
+      → (inside.mode ≡ LexMode.EscapeLine → ⊥) → ((close : Close) → inside.mode ≡ LexMode.Comment close → ⊥)
+      → IsAfterByte (after_byte place h 10) new answer → IsAfterByte (after_end place h) new answer
+  unfolding after_byte after_end
+  takes_line_feed h1 h2 h3 h4 h5 t = rw (← view_is) (rw (← view_is, by_line_feed inside.mode place inside h1 h2 h3 h4 h5) at t)
+
+  pub takes_comment_end : (close : Close) → inside.mode ≡ LexMode.Comment close → close ≡ Close.LineEnd
+      → IsAfterByte (after_byte place h 10) new answer → IsAfterByte (after_end place h) new answer
+  unfolding after_byte after_end
+  takes_comment_end close e line t = rw (← view_is, e, line) (rw (← view_is, e, line) at t)
