@@ -15,7 +15,7 @@ pub use Rattle.pgn_lexer.specs.Laws.{BeginsWithToken, CanBeMarker, DecidedIsPref
 pub use Rattle.pgn_lexer.specs.Lexes.{Cuts, Data, IsAtLineEnd, IsRun, IsSingle, IsSuffix, Lexes, Refuses, SpellsToken, StopsAt, Where, escaped, is_barred, is_escaped, is_plain, is_stray, lone, no_data, plain}
 pub use Rattle.pgn_lexer.specs.PartialToken.{HasNotFailed, IsSound, PartialToken, before_last, fault_met, kind_in, pending, pending_in, refusal, tokens_to_come_in, token_of, tokens_to_come, with_front}
 pub use Rattle.pgn_lexer.specs.WholeTokens.{Passes, ReadsBehind, none, over_space, over_token, is_passed}
-pub use Rattle.pgn_lexer.specs.RunResult.{EndsBeforeByte, EndsWithByte, IsOutside, Ran, RunsOut, RunsToFault, RunsToToken, StoodAt, RunGives, seen_in}
+pub use Rattle.pgn_lexer.specs.RunResult.{EndsBeforeByte, EndsWithByte, IsOutside, Ran, RunsOut, RunsToFault, RunsToToken, StoodAt}
 pub use Rattle.pgn_lexer.specs.Runs.{BeginsUnpassed, IsNumberIn, IsRunIn, IsText, standing_at, IsBetween, IsWhole}
 pub use Rattle.pgn_lexer.specs.Sets.{bits_of, is_in}
 pub use Rattle.pgn_lexer.specs.Begins.{Fits, begins_in_comment, begins_outside}

@@ -1,7 +1,7 @@
 -- **Bookkeeping**: what one byte, or the end of the text, does to what a lexer holds.
 -- Letters: h is what is held, b the byte, `place` its place. Bytes are numbers: 10 is a line
 -- feed, 48 is `0`, and 239 187 191 is the byte order mark EF BB BF.
-use Rattle.std.specs.Prelude.{◌≡◌, Bool, ℕ, ◌+◌, ◌-◌, ◌*◌, List, [], ◌∷◌, ◌++◌, length, nat_lt, nat_le, ◌==◌, if◌then◌else◌}
+use Rattle.std.specs.Prelude.{◌≡◌, ℕ, ◌+◌, ◌-◌, ◌*◌, List, [], ◌∷◌, ◌++◌, length, nat_lt, nat_le, ◌==◌, if◌then◌else◌}
 use Rattle.pgn_lexer.specs.declared.token.LexReason.{LexReason}
 use Rattle.pgn_lexer.specs.declared.token.LexReason.TheVariants.{StrayByte, ControlByte, StringTooLong, LoneDollar, GlyphRange, UnclosedString, UnclosedComment}
 use Rattle.pgn_lexer.specs.Class.{Class}
@@ -10,7 +10,6 @@ use Rattle.pgn_lexer.specs.StringClass.{StringClass}
 use Rattle.pgn_lexer.specs.StringClass as string_classes
 use Rattle.pgn_lexer.specs.declared.partial_token.LexMode.{LexMode}
 use Rattle.pgn_lexer.specs.declared.partial_token.LexMode.TheVariants.{Start, AfterEf, AfterEfBb, LineStart, Outside, EscapeLine, Text, AfterBackslash, Dollar, Glyph, Comment, Failed}
-use Rattle.pgn_lexer.specs.declared.partial_token.Close.{Close}
 use Rattle.pgn_lexer.specs.declared.partial_token.Close.TheVariants as closes
 use Rattle.pgn_lexer.specs.declared.partial_token.Text.{Text as TextKind}
 use Rattle.pgn_lexer.specs.declared.partial_token.Text.TheVariants as texts

@@ -10,7 +10,6 @@ use Rattle.pgn_lexer.specs.declared.partial_token.ByteResult.TheVariants.{Used, 
 use Rattle.pgn_lexer.specs.Tokens.{Token, HasLength, EndsAt, is_run}
 use Rattle.pgn_lexer.specs.TokensOf.{Within, tokens_from}
 use Rattle.pgn_lexer.specs.PartialToken.{PartialToken, tokens_to_come, token_of, refusal, IsSound, HasNotFailed, pending, fault_met}
-use Rattle.pgn_lexer.specs.Scanned.{Scanned, token, fault}
 use Rattle.pgn_lexer.specs.Standing.{fault_in_mode}
 
 -- the whole piece was used, and no token ends in it
@@ -89,10 +88,3 @@ abbrev pub IsOutside : LexMode → Type 0
 IsOutside LineStart = Unit {0}
 IsOutside Outside = Unit {0}
 IsOutside _ = ⊥
-
--- what a call returns, if it reached this: the token or the error, and otherwise that
-abbrev pub seen_in : ByteResult → PartialToken → Scanned → Scanned
-seen_in Used h otherwise = otherwise
-seen_in (Ends form) h otherwise = token (token_of form h)
-seen_in (EndsBefore form) h otherwise = token (token_of form h)
-seen_in (Fault reason) h otherwise = fault (fault_met reason h)

@@ -2,7 +2,7 @@
 ghost use Rattle.std.specs.Prelude.{◌≡◌, ◌+◌, ◌≤◌, ◌^◌, [], length, None};
 ghost use Rattle.std.specs.Borrow.{sem};
 
-use crate::partial_token::PartialToken;
+use crate::partial_token::{ByteResult, PartialToken};
 use crate::token::{Outcome, Scan, Token, TokenKind};
 use std::marker::Model;
 
@@ -109,9 +109,19 @@ impl Lexer {
     {
         let (used, reached) = self.partial.run(piece, self.count);
         self.count += used as u64;
-        Scan {
-            used,
-            outcome: self.partial.outcome(reached, Outcome::NeedMore),
+        match reached {
+            ByteResult::Used => Scan {
+                used,
+                outcome: Outcome::NeedMore,
+            },
+            ByteResult::Ends(form) | ByteResult::EndsBefore(form) => Scan {
+                used,
+                outcome: Outcome::Token(self.partial.token(form)),
+            },
+            ByteResult::Fault(reason) => Scan {
+                used,
+                outcome: Outcome::Fault(self.partial.fault(reason)),
+            },
         }
     }
 
@@ -170,11 +180,15 @@ impl Lexer {
     pub fn finish(&mut self) -> Outcome<'_>
         ensures* after { sem 𝓛 (Leaves self.entry (λ new. Finishes self.old new (scanned result))) }
     {
-        let reached = self.partial.close(self.count);
-        let end = Token {
-            at: self.count,
-            kind: TokenKind::End,
-        };
-        self.partial.outcome(reached, Outcome::Token(end))
+        match self.partial.close(self.count) {
+            ByteResult::Used => Outcome::Token(Token {
+                at: self.count,
+                kind: TokenKind::End,
+            }),
+            ByteResult::Ends(form) | ByteResult::EndsBefore(form) => Outcome::Token(
+                self.partial.token(form),
+            ),
+            ByteResult::Fault(reason) => Outcome::Fault(self.partial.fault(reason)),
+        }
     }
 }

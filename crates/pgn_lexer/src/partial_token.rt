@@ -11,7 +11,7 @@ mod run;
 mod whole;
 
 use crate::class::{Set, is_escaped};
-use crate::token::{LexFault, LexReason, Outcome, Token, TokenKind};
+use crate::token::{LexFault, LexReason, Token, TokenKind};
 use arrayvec::ArrayVec;
 use std::marker::Model;
 
@@ -189,8 +189,7 @@ impl Text {
 }
 
 impl PartialToken {
-    ghost use Rattle.pgn_lexer.specs.RunResult.{seen_in};
-    ghost use Rattle.pgn_lexer.specs.Scanned.{scanned};
+    ghost use Rattle.pgn_lexer.specs.PartialToken.{fault_met, kind_in};
 
     /// Returns the state outside all tokens, before the byte at this place.
     pub(crate) fn begin_at(place: u64, in_first_column: bool) -> PartialToken
@@ -215,25 +214,27 @@ impl PartialToken {
         }
     }
 
-    /// Returns the token that ended, or the error, with the place and the text in the partial token.
-    /// If neither was met, it returns `otherwise`.
-    #[inline(always)]
-    pub(crate) fn outcome<'a>(&'a self, reached: ByteResult, otherwise: Outcome<'a>) -> Outcome<'a>
-        ensures { scanned result ≡ seen_in reached self.now (scanned otherwise.entry) }
+    /// Returns the error of this reason, at the place in the partial token.
+    pub(crate) fn fault(&self, reason: LexReason) -> LexFault
+        ensures { result ≡ fault_met reason self.now }
     {
-        let form = match reached {
-            ByteResult::Used => return otherwise,
-            ByteResult::Fault(reason) => return Outcome::Fault(LexFault {
-                at: self.at,
-                reason,
-            }),
-            ByteResult::Ends(form) | ByteResult::EndsBefore(form) => form,
-        };
+        LexFault {
+            at: self.at,
+            reason,
+        }
+    }
+
+    /// Returns the token of this form, with the place and the text in the partial token.
+    #[inline(always)]
+    pub(crate) fn token(&self, form: TokenForm) -> Token<'_>
+        ensures at { result.at ≡ self.now.at }
+        ensures kind { kind_of result.kind ≡ kind_in form self.now.text }
+    {
         let kind = match form {
             TokenForm::Text(text) => text.kind(self.buffer.as_slice()),
             TokenForm::Other(kind) => kind,
         };
-        Outcome::Token(Token { at: self.at, kind })
+        Token { at: self.at, kind }
     }
 }
 

@@ -47,7 +47,7 @@ pub record ClosesEnd (place : ℕ) (h new : PartialToken) : Type 0 where
   pub same : new ≡ h
   pub comes : tokens_to_come place h [] ≡ record { at = place; kind = end } ∷ []
 
-abbrev pub CloseGives : ℕ → PartialToken → PartialToken → ByteResult → Type 0
+abbrev CloseGives : ℕ → PartialToken → PartialToken → ByteResult → Type 0
 CloseGives place h new Used = ClosesEnd place h new
 CloseGives place h new (Ends form) = ClosesToken place h form new
 CloseGives place h new (EndsBefore form) = ClosesToken place h form new
@@ -91,11 +91,10 @@ pub closes_gives : (place : ℕ) (h new : PartialToken) (answer : ByteResult) �
     → CloseGives place h new answer
 closes_gives place h new answer sound t = grind (arith, close_gives)
 
-pub closes_sound : (place : ℕ) (h new : PartialToken) (answer : ByteResult) → IsSound place h → CloseGives place h new answer → IsSound place new
-closes_sound place h new Used sound gives = rw gives.same sound
-closes_sound place h new (Ends form) sound gives = gives.sound
-closes_sound place h new (EndsBefore form) sound gives = gives.sound
-closes_sound place h new (Fault reason) sound gives = gives.sound
+pub closes_token : (place : ℕ) (h new : PartialToken) (answer : ByteResult) (form : TokenForm) → IsSound place h → IsAfterByte (after_end place h) new answer
+    → (answer ≡ Ends form) ⊎ (answer ≡ EndsBefore form) → ClosesToken place h form new
+closes_token place h new answer form sound t (inl e) = rw e at (closes_gives place h new answer sound t)
+closes_token place h new answer form sound t (inr e) = rw e at (closes_gives place h new answer sound t)
 
 -- a line feed does the same, but for these modes
 by_line_feed : (m : LexMode) (place : ℕ) (h : PartialToken) → (m ≡ LexMode.Start → ⊥) → (m ≡ LexMode.LineStart → ⊥) → (m ≡ LexMode.Outside → ⊥)

@@ -1,7 +1,8 @@
 -- The end of the text gives what is left.
-use Rattle.pgn_lexer.proofs.Words.{◌≡◌, ℕ, List, [], ◌∷◌, ◌++◌, ByteResult, Ends, EndsBefore, Fault, Used, LexReason, TokenForm, Token, end, PartialToken, fault_met, seen_in, token_of, Scanned, Kind, fault, Standing, IsNext, HasLeft, Finishes, arith, common_steps}
+use Rattle.pgn_lexer.proofs.Words.{◌≡◌, ℕ, List, [], ◌∷◌, ◌++◌, LexFault, LexReason, TokenForm, Token, end, PartialToken, kind_in, fault_met, Scanned, Kind, fault, Standing, IsNext, HasLeft, Finishes, arith, common_steps}
 use Rattle.pgn_lexer.specs.Scanned.{token}
-use Rattle.pgn_lexer.proofs.stepping.ByteGives.{CloseGives, ClosesToken, ClosesFault, ClosesEnd}
+use Rattle.pgn_lexer.proofs.stepping.ByteGives.{ClosesToken, ClosesFault, ClosesEnd}
+use Rattle.pgn_lexer.proofs.stepping.StandsAfterCalls.{same_parts}
 
 next_kind : (k : Kind) → (k ≡ end → ⊥) → (u : List ℕ) (given : List Token) (new : Standing) (t : Token) → HasLeft new u (given ++ t ∷ [])
     → IsNext u given k new t
@@ -14,22 +15,16 @@ module _ (count : ℕ) (old new : PartialToken) where
   abbrev after : Standing
   after = record { count = count; held = new }
 
-  finishes_end : ClosesEnd count old new → Finishes before after (token (record { at = count; kind = end }))
+  pub finishes_end : ClosesEnd count old new → Finishes before after (token (record { at = count; kind = end }))
   finishes_end h = grind arith
 
-  finishes_token : (form : TokenForm) → ClosesToken count old form new → Finishes before after (token (token_of form new))
-  finishes_token form h = grind (arith, common_steps, next_kind)
+  pub finishes_token : (form : TokenForm) (t : Token) → t.at ≡ new.at → t.kind ≡ kind_in form new.text → ClosesToken count old form new
+      → Finishes before after (token t)
+  finishes_token form t at kind h = grind (arith, common_steps, same_parts, next_kind)
 
-  finishes_fault : (reason : LexReason) → ClosesFault count old reason new → Finishes before after (fault (fault_met reason new))
-  finishes_fault reason h = grind arith
-
-  -- what a call returns by what it reached
-  pub finishes_reached : (reached : ByteResult) → CloseGives count old new reached
-      → Finishes before after (seen_in reached new (token (record { at = count; kind = end })))
-  finishes_reached Used h = finishes_end h
-  finishes_reached (Ends form) h = finishes_token form h
-  finishes_reached (EndsBefore form) h = finishes_token form h
-  finishes_reached (Fault reason) h = finishes_fault reason h
+  -- the fault that is told is the one that was met
+  pub finishes_told : (reason : LexReason) (told : LexFault) → told ≡ fault_met reason new → ClosesFault count old reason new → Finishes before after (fault told)
+  finishes_told reason told is h = grind arith
 
 -- what is said of one view of a lexer, of the other
 pub finishes_of : (old old' new : Standing) (seen : Scanned) → old ≡ old' → Finishes old new seen → Finishes old' new seen

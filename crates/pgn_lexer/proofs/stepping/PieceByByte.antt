@@ -1,11 +1,18 @@
 -- A run over a piece, byte by byte.
 use Rattle.pgn_lexer.specs.declared.partial_token.LexMode.TheVariants.{Comment, Dollar}
 use Rattle.pgn_lexer.specs.PartialToken.{HasRoom}
-use Rattle.pgn_lexer.proofs.Words.{Begins, CommentClass, Fits, IsBetween, begins_outside, Close, TokenKind, begin_outside, begins_in_comment, before_last, comment_close, is_space, kind_of, set_at, AfterBackslash, Text, bytes_of, longest_of, mode_behind, in_text, is_in, is_plain, length-append, is_escaped, ◌≡◌, Bool, ℕ, suc, ◌+◌, ◌-◌, ◌*◌, ◌<◌, ◌≤◌, inl, inr, List, [], ◌∷◌, ◌++◌, length, get_or, take, drop, refl, sym, ap, ◌∙◌, add-one, arith, ◌⊎◌, true, false, Some, take_all, drop-cons, LexFault, LexMode, LexReason, Class, StringClass, Outside, Failed, is_digit, class, comment_class, string_class, TokenForm, ByteResult, Used, Ends, EndsBefore, Fault, PartialToken, tokens_to_come, token_of, IsSound, HasNotFailed, pending, fault_met, fault_in_mode, begin, begin_line, string, after_byte, IsAfterByte, IsOutside, Ran, RunsOut, StoodAt, RunsToToken, RunsToFault, common_steps, Glyph}
+use Rattle.pgn_lexer.specs.RunResult.{RunGives}
+use Rattle.pgn_lexer.proofs.Words.{Begins, CommentClass, Fits, IsBetween, begins_outside, Close, TokenKind, begin_outside, begins_in_comment, before_last, comment_close, is_space, kind_of, AfterBackslash, Text, bytes_of, longest_of, mode_behind, in_text, is_in, is_plain, length-append, is_escaped, ◌≡◌, Bool, ℕ, suc, ◌+◌, ◌-◌, ◌*◌, ◌<◌, ◌≤◌, inl, inr, List, [], ◌∷◌, ◌++◌, length, get_or, take, drop, refl, sym, ap, ◌∙◌, add-one, arith, ◌⊎◌, true, false, Some, take_all, drop-cons, LexFault, LexMode, LexReason, Class, StringClass, Outside, Failed, is_digit, class, comment_class, string_class, TokenForm, ByteResult, Used, Ends, EndsBefore, Fault, PartialToken, tokens_to_come, token_of, IsSound, HasNotFailed, pending, fault_met, fault_in_mode, begin, begin_line, string, after_byte, IsAfterByte, IsOutside, Ran, RunsOut, StoodAt, RunsToToken, RunsToFault, common_steps, Glyph}
 use Rattle.pgn_lexer.proofs.stepping.StepGives.{StepGives, front_of}
 use Rattle.pgn_lexer.proofs.stepping.ByteGives.{step_gives}
 use Rattle.pgn_lexer.proofs.stepping.ByteInString.{plain_class}
 use Rattle.pgn_lexer.proofs.stepping.ByteInText.{IsNoString, ends_text}
+
+pub ran_to_token : (place : ℕ) (old : PartialToken) (piece : List ℕ) (new : PartialToken) (used : ℕ) (reached : ByteResult) (form : TokenForm)
+    → (reached ≡ Ends form) ⊎ (reached ≡ EndsBefore form) → RunGives place old piece new used reached
+    → RunsToToken place old piece (token_of form new) new used
+ran_to_token place old piece new used reached form (inl e) h = rw e at h
+ran_to_token place old piece new used reached form (inr e) h = rw e at h
 
 takes_gives : (place : ℕ) (h : PartialToken) (b : ℕ) (new : PartialToken) (answer : ByteResult) → IsSound place h
     → IsAfterByte (after_byte place h b) new answer → StepGives (front_of place h b) new answer

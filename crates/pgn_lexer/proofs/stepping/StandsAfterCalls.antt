@@ -1,5 +1,5 @@
 -- A call carries how the lexer stands.
-use Rattle.pgn_lexer.proofs.Words.{◌≡◌, Bool, true, false, ℕ, ◌+◌, ◌<◌, ◌≤◌, inl, inr, List, [], ◌∷◌, ◌++◌, length, take, drop, refl, sym, ap, subst, ◌∙◌, append_assoc, arith, length-append, length-take-le, take-append-drop, Option, None, Some, take_while, ◌⊎◌, AllByRecursion, LexFault, LexMode, Token, tokens_of, decided, known, ByteResult, Ends, EndsBefore, Fault, Used, RunGives, seen_in, PartialToken, tokens_to_come, token_of, refusal, HasNotFailed, RunsOut, StoodAt, EndsWithByte, EndsBeforeByte, RunsToToken, RunsToFault, Scanned, more, fault, Standing, fault_in_mode, fault_of, Follows, first, still, StandsAfter, EndsNoSooner, Scans, AfterScan}
+use Rattle.pgn_lexer.proofs.Words.{◌≡◌, Bool, true, false, ℕ, ◌+◌, ◌<◌, ◌≤◌, inl, inr, List, [], ◌∷◌, ◌++◌, length, take, drop, refl, sym, ap, subst, ◌∙◌, append_assoc, arith, length-append, length-take-le, take-append-drop, Option, None, Some, take_while, ◌⊎◌, AllByRecursion, LexFault, LexMode, Token, tokens_of, decided, known, TokenForm, PartialToken, tokens_to_come, token_of, kind_in, refusal, HasNotFailed, RunsOut, StoodAt, EndsWithByte, EndsBeforeByte, RunsToToken, RunsToFault, Scanned, more, fault, Standing, fault_in_mode, fault_of, Follows, first, still, StandsAfter, EndsNoSooner, Scans, AfterScan}
 use Rattle.pgn_lexer.specs.Scanned.{token}
 use Rattle.pgn_lexer.proofs.deciding.GivenAreDecided.{common_of, decided_is, going_decides, known_decides}
 use Rattle.pgn_lexer.proofs.deciding.CommonTokens.{common_front}
@@ -57,6 +57,9 @@ known_is u b given comes before from tokens =
     let front = common_front (later []) _ in
     sym (ap (take_while _) all
     ∙ take_before _ given _ before (all_from-front _ _ front.0 (rw front.1 at from)))
+
+pub same_parts : (i j : Token) → i.at ≡ j.at → i.kind ≡ j.kind → i ≡ j
+same_parts i j at kind = grind arith
 
 module _ (count : ℕ) (old new : PartialToken) (piece : List ℕ) (used : ℕ) where
   abbrev ahead : Standing
@@ -130,6 +133,9 @@ module _ (count : ℕ) (old new : PartialToken) (piece : List ℕ) (used : ℕ) 
       nothing : length piece ≡ 0 → HasNotFailed old.mode ⊎ ((g : LexFault) × (fault_of ahead ≡ Some g))
           → (behind ≡ ahead) × ((fault f ≡ more) ⊎ ((g : LexFault) × (fault_of ahead ≡ Some g)))
       nothing h1 h2 = grind arith
+
+  pub scans_told : (f g : LexFault) → f ≡ g → RunsToFault count old piece g new used → Scans ahead piece behind used (fault f)
+  scans_told f g same h = scans_fault f (rw same h)
 
   module _ (t : Token) (h : RunsToToken count old piece t new used) where
     reads_token : (s : List ℕ) → tokens_to_come count old (piece ++ s) ≡ t ∷ tokens_to_come (count + used) new (drop used piece ++ s)
@@ -211,18 +217,9 @@ module _ (count : ℕ) (old new : PartialToken) (piece : List ℕ) (used : ℕ) 
               elim h.ends [ inl e ↦ ends_with u b given stands starts e | inr e ↦ ends_before u b given stands starts e ];
         }
 
-  -- what a call returns by what it reached
-  pub scans_reached : (reached : ByteResult) → RunGives count old piece new used reached → Scans ahead piece behind used (seen_in reached new more)
-  scans_reached Used h = scans_nothing h
-  scans_reached (Ends form) h = scans_token _ h
-  scans_reached (EndsBefore form) h = scans_token _ h
-  scans_reached (Fault reason) h = scans_fault _ h
-
-  pub run_within : (reached : ByteResult) → RunGives count old piece new used reached → used ≤ length piece
-  run_within Used h = omega (arith, h.all)
-  run_within (Ends form) h = h.within
-  run_within (EndsBefore form) h = h.within
-  run_within (Fault reason) h = h.within
+  pub scans_form : (form : TokenForm) (t : Token) → t.at ≡ new.at → t.kind ≡ kind_in form new.text
+      → RunsToToken count old piece (token_of form new) new used → Scans ahead piece behind used (token t)
+  scans_form form t at kind h = rw (same_parts t _ at kind) (scans_token _ h)
 
 -- what is said of one view of a lexer, of the other
 pub scans_of : (old old' new : Standing) (piece : List ℕ) (used : ℕ) (seen : Scanned) → old ≡ old' → Scans old piece new used seen

@@ -1,13 +1,42 @@
-use Rattle.pgn_lexer.proofs.Words.{refl}
-use Rattle.pgn_lexer.proofs.stepping.ByteGives.{closes_gives, closes_sound}
-use Rattle.pgn_lexer.proofs.stepping.EndGives.{finishes_of, finishes_reached}
+use Rattle.pgn_lexer.proofs.Words.{refl, sym, subst, PartialToken, IsSound}
+use Rattle.pgn_lexer.proofs.stepping.ByteGives.{closes_gives, closes_token}
+use Rattle.pgn_lexer.proofs.stepping.EndGives.{finishes_end, finishes_token, finishes_told, finishes_of}
+use Rattle.pgn_lexer.proofs.lexer.Lexer.finish.Goals.{in-Ends, in-Ends-2}
 use Rattle.pgn_lexer.proofs.lexer.Lexer.finish.Goals as goal
 
 pub invariant_of-self : goal.invariant_of-self
-invariant_of-self c = closes_sound _ _ _ _ c.self.invariant (closes_gives _ _ _ _ c.self.invariant c.close-reached.ensures)
+invariant_of-self c =
+    let h = closes_gives _ _ _ _ c.self.invariant c.in-Used.ensures in
+    subst (λ (held : PartialToken). IsSound c.self.inside.count held) (sym h.same) c.self.invariant
 
-pub returns : goal.returns
-returns c = (
-  (refl, λ _. tt, rw c.outcome.ensures (finishes_of _ _ _ _ c.self.view_is (finishes_reached _ _ _ _ (closes_gives _ _ _ _ c.self.invariant c.close-reached.ensures)))),
-  record { after = tt },
-)
+pub invariant_of-self-in-Ends : goal.invariant_of-self-in-Ends
+invariant_of-self-in-Ends c =
+    elim c.in-Ends-1.branch [
+      | in-Ends w ↦ let h = closes_token _ _ _ _ w.in-Ends.form c.self.invariant c.close.ensures w.in-Ends.is in h.sound
+      | in-Ends-2 w ↦ let h = closes_token _ _ _ _ w.in-Ends.form c.self.invariant c.close.ensures w.in-Ends.is in h.sound
+    ]
+
+pub invariant_of-self-in-Fault : goal.invariant_of-self-in-Fault
+invariant_of-self-in-Fault c =
+    let h = closes_gives _ _ _ _ c.self.invariant c.in-Fault.ensures in h.sound
+
+pub returns-in-Used : goal.returns-in-Used
+returns-in-Used c =
+    let h = closes_gives _ _ _ _ c.self.invariant c.in-Used.ensures in
+    ((refl, λ _. tt, finishes_of _ _ _ _ c.self.view_is (finishes_end _ _ _ h)), record { after = tt })
+
+pub returns-in-Ends : goal.returns-in-Ends
+returns-in-Ends c =
+    elim c.in-Ends-1.branch [
+      | in-Ends w ↦
+          let h = closes_token _ _ _ _ w.in-Ends.form c.self.invariant c.close.ensures w.in-Ends.is in
+          ((refl, λ _. tt, finishes_of _ _ _ _ c.self.view_is (finishes_token _ _ _ _ _ c.token.ensures.at (rw w.form-is at c.token.ensures.kind) h)), record { after = tt })
+      | in-Ends-2 w ↦
+          let h = closes_token _ _ _ _ w.in-Ends.form c.self.invariant c.close.ensures w.in-Ends.is in
+          ((refl, λ _. tt, finishes_of _ _ _ _ c.self.view_is (finishes_token _ _ _ _ _ c.token.ensures.at (rw w.form-is at c.token.ensures.kind) h)), record { after = tt })
+    ]
+
+pub returns-in-Fault : goal.returns-in-Fault
+returns-in-Fault c =
+    let h = closes_gives _ _ _ _ c.self.invariant c.in-Fault.ensures in
+    ((refl, λ _. tt, finishes_of _ _ _ _ c.self.view_is (finishes_told _ _ _ _ _ c.fault.ensures h)), record { after = tt })

@@ -1,9 +1,32 @@
-use Rattle.pgn_lexer.proofs.Words.{refl}
-use Rattle.pgn_lexer.proofs.stepping.StandsAfterCalls.{run_within, scans_of, scans_reached}
+use Rattle.pgn_lexer.proofs.Words.{refl, arith}
+use Rattle.pgn_lexer.proofs.stepping.StandsAfterCalls.{scans_nothing, scans_form, scans_told, scans_of}
+use Rattle.pgn_lexer.proofs.stepping.PieceByByte.{ran_to_token}
+use Rattle.pgn_lexer.proofs.lexer.Lexer.next.Goals.{in-Ends, in-Ends-2}
 use Rattle.pgn_lexer.proofs.lexer.Lexer.next.Goals as goal
 
-pub returns : goal.returns
-returns c = (
-  (refl, λ _. tt, rw c.outcome.ensures (scans_of _ _ _ _ _ _ c.self.view_is (scans_reached _ _ _ _ _ _ c.run-used.ensures))),
-  record { used = run_within _ _ _ _ _ _ c.run-used.ensures; after = tt },
-)
+pub returns-in-Used : goal.returns-in-Used
+returns-in-Used c =
+    let ran = rw c.in-Used.is at c.run-used.ensures in
+    ((refl, λ _. tt, scans_of _ _ _ _ _ _ c.self.view_is (scans_nothing _ _ _ _ _ ran)), record { used = omega arith; after = tt })
+
+pub returns-in-Ends : goal.returns-in-Ends
+returns-in-Ends c =
+    elim c.in-Ends-1.branch [
+      | in-Ends w ↦
+          let ran = ran_to_token _ _ _ _ _ _ w.in-Ends.form w.in-Ends.is c.run-used.ensures in (
+            (refl, λ _. tt, scans_of _ _ _ _ _ _ c.self.view_is (scans_form _ _ _ _ _ _ _ c.token.ensures.at (rw w.form-is at c.token.ensures.kind) ran)),
+            record { used = ran.within; after = tt },
+          )
+      | in-Ends-2 w ↦
+          let ran = ran_to_token _ _ _ _ _ _ w.in-Ends.form w.in-Ends.is c.run-used.ensures in (
+            (refl, λ _. tt, scans_of _ _ _ _ _ _ c.self.view_is (scans_form _ _ _ _ _ _ _ c.token.ensures.at (rw w.form-is at c.token.ensures.kind) ran)),
+            record { used = ran.within; after = tt },
+          )
+    ]
+
+pub returns-in-Fault : goal.returns-in-Fault
+returns-in-Fault c =
+    let ran = rw c.in-Fault.is at c.run-used.ensures in (
+      (refl, λ _. tt, scans_of _ _ _ _ _ _ c.self.view_is (scans_told _ _ _ _ _ _ _ c.fault.ensures ran)),
+      record { used = ran.within; after = tt },
+    )
