@@ -1,6 +1,7 @@
 //! The sets that a byte is in, by one table, and runs of the bytes of a set.
 
 ghost use Rattle.std.specs.Prelude.{◌≡◌, ℕ, true, false, ◌<◌, ◌≤◌, ◌^◌, length, get_or, MatchOption};
+ghost use Rattle.pgn_lexer.specs.Bytes as of_bytes;
 ghost use Rattle.pgn_lexer.specs.Lexes as lexes;
 ghost use Rattle.pgn_lexer.specs.Runs as runs;
 ghost use Rattle.pgn_lexer.specs.Sets as sets;
@@ -111,6 +112,27 @@ pub(crate) fn is_in(byte: u8, set: Set) -> bool
     ensures { result ≡ sets.is_in set byte }
 {
     SETS[byte as usize] & bits_of(set) != 0
+}
+
+/// Whether the byte ends a line: a line feed (PGN 3.2.2), or a carriage return.
+pub fn is_line_end(byte: u8) -> bool
+    ensures { result ≡ of_bytes.is_line_end byte }
+{
+    is_in(byte, Set::LineEnd)
+}
+
+/// Whether the byte is white space (PGN 4.1, 7): a line end, a tabulator, a form feed or a space.
+pub fn is_space(byte: u8) -> bool
+    ensures { result ≡ of_bytes.is_space byte }
+{
+    is_in(byte, Set::Space)
+}
+
+/// Whether the byte is a digit, 0 to 9.
+pub fn is_digit(byte: u8) -> bool
+    ensures { result ≡ of_bytes.is_digit byte }
+{
+    is_in(byte, Set::Digit)
 }
 
 /// The index of the first byte, from this one on, that is not in the set. It is the length of the

@@ -12,5 +12,6 @@ mod lexer;
 mod partial_token;
 mod token;
 
+pub use class::{is_digit, is_line_end, is_space};
 pub use lexer::Lexer;
 pub use token::{LexFault, LexReason, Outcome, Scan, Token, TokenKind};

@@ -4,7 +4,7 @@ use Rattle.std.proofs.Common.{◌≡◌, ℕ, ◌+◌, ◌-◌, ◌<◌, ◌≤�
 use Rattle.std.proofs.lemmas.Bool.{true≢false}
 use Rattle.std.proofs.lemmas.List.{get_or-drop, take_more}
 use Rattle.std.specs.List.{cons_option}
-use Rattle.pgn_sections.specs.Bytes.{is_space}
+use Rattle.pgn_lexer.specs.Bytes.{is_space}
 use Rattle.pgn_sections.specs.Outside.{comment_after, last_word, outside_byte, without_comments}
 use Rattle.pgn_sections.specs.declared.outside.Comment.{Comment}
 use Rattle.pgn_sections.specs.declared.outside.Comment.TheVariants.{Closed}

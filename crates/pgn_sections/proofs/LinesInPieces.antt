@@ -6,7 +6,8 @@ use Rattle.std.proofs.lemmas.List.{drop_all}
 use Rattle.std.specs.Prelude.{IsTrue, is_some, not, ◌&&◌, ◌||◌, ◌==◌, if◌then◌else◌}
 use Rattle.std.specs.List.{list_all}
 use Rattle.pgn_sections.specs.BadGame.{behind_line, place_on, with_line}
-use Rattle.pgn_sections.specs.Bytes.{begins_with, is_space}
+use Rattle.pgn_lexer.specs.Bytes.{is_space}
+use Rattle.pgn_sections.specs.Bytes.{begins_with}
 use Rattle.pgn_sections.specs.FirstLine.{line_from, line_to_return}
 use Rattle.pgn_sections.specs.Lines.{ends_line, lines_of, place_in, with_first}
 use Rattle.pgn_sections.specs.Pieces.{CanFollow, FindsPlace, IsSameGame, behind_lines, ends_with_line_feed, whole_lines}

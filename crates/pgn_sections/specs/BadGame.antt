@@ -2,7 +2,9 @@
 use Rattle.std.specs.Prelude.{ℕ, ◌+◌, ◌-◌, Bool, true, false, not, ◌||◌, ◌&&◌, nat_le, nat_lt, List, drop, length, Option, None, Some, is_some, if◌then◌else◌}
 use Rattle.std.specs.List.{list_all}
 use Rattle.std.specs.Option.{option_and_then}
-use Rattle.pgn_sections.specs.Bytes.{is_space, begins_with, has_mark}
+use Rattle.pgn_lexer.specs.Bytes.{is_space}
+use Rattle.pgn_lexer.specs.TokensOf.{has_mark}
+use Rattle.pgn_sections.specs.Bytes.{begins_with}
 use Rattle.pgn_sections.specs.TagLine.{tag_line, behind_pair, behind_pairs, behind_stray}
 use Rattle.pgn_sections.specs.Outside.{without_comments, open_comment, outside_text, ends_with_tag}
 use Rattle.pgn_sections.specs.declared.bad_game.BadGame.{BadGame}

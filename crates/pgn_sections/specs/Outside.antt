@@ -1,7 +1,7 @@
 -- **Definition**: what a line of a bad game has outside tag pairs and comments.
 use Rattle.std.specs.Prelude.{ℕ, ◌+◌, Bool, true, false, not, ◌||◌, ◌&&◌, List, [], ◌∷◌, ◌++◌, Option, None, Some, is_some, ◌==◌, if◌then◌else◌, codes}
 use Rattle.std.specs.List.{list_any, cons_option, ends_with}
-use Rattle.pgn_sections.specs.Bytes.{is_space, is_digit}
+use Rattle.pgn_lexer.specs.Bytes.{is_space, is_digit}
 use Rattle.pgn_sections.specs.declared.outside.Comment.{Comment}
 use Rattle.pgn_sections.specs.declared.outside.Comment.TheVariants.{Closed, Braces, RestOfLine}
 use Rattle.pgn_sections.specs.declared.outside.Number.{Number}

@@ -1,6 +1,6 @@
 -- **Bookkeeping**: what the code keeps of the text outside comments, byte by byte.
 use Rattle.std.specs.Prelude.{ℕ, Bool, false, not, ◌||◌, ◌&&◌, List, [], ◌∷◌, None, Some, is_some, ◌==◌, if◌then◌else◌}
-use Rattle.pgn_sections.specs.Bytes.{is_space}
+use Rattle.pgn_lexer.specs.Bytes.{is_space}
 use Rattle.pgn_sections.specs.Outside.{number_after, is_byte, is_found}
 use Rattle.pgn_sections.specs.declared.outside.Number.TheVariants.{Blank}
 use Rattle.pgn_sections.specs.declared.outside.OutsideText.{OutsideText}

@@ -2,7 +2,10 @@
 use Rattle.std.specs.Prelude.{ℕ, ◌+◌, ◌-◌, Bool, true, false, ◌||◌, ◌&&◌, nat_le, List, [], ◌∷◌, suc, zero, drop, take, length, Option, None, Some, is_some, option_map, bytes_eq, ◌==◌, if◌then◌else◌, codes}
 use Rattle.std.specs.Option.{option_and_then}
 use Rattle.std.specs.List.{prefix_len}
-use Rattle.pgn_sections.specs.Bytes.{is_line_end, is_stray, name_length, begins_with, has_mark, behind_byte, behind_space, behind_name}
+use Rattle.pgn_lexer.specs.Bytes.{is_line_end}
+use Rattle.pgn_lexer.specs.Lexes.{is_escaped}
+use Rattle.pgn_lexer.specs.TokensOf.{has_mark}
+use Rattle.pgn_sections.specs.Bytes.{is_stray, name_length, begins_with, behind_byte, behind_space, behind_name}
 use Rattle.pgn_sections.specs.declared.tag_line.MarkProgress.{MarkProgress}
 use Rattle.pgn_sections.specs.declared.tag_line.MarkProgress.TheVariants.{Outside, BehindFirst, BehindSecond}
 use Rattle.pgn_sections.specs.declared.tag_line.TagLine.{TagLine}
@@ -62,7 +65,7 @@ tag_line line =
 abbrev pub behind_value : Bool → List ℕ → Option (List ℕ)
 behind_value escaping [] = None
 behind_value true (b ∷ s) =
-    if (b == 34) || (b == 92) then behind_value false s else if is_line_end b then None else behind_value false s
+    if is_escaped b then behind_value false s else if is_line_end b then None else behind_value false s
 behind_value false (b ∷ s) =
     if b == 34 then Some s else if is_line_end b then None else behind_value (b == 92) s
 

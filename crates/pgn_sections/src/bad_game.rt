@@ -1,13 +1,14 @@
 //! What the lines of a bad game had so far, and what ends it.
 ghost use Rattle.std.specs.Prelude.{◌≡◌, ◌+◌, ◌<◌, ◌^◌, IfSome, length};
 ghost use Rattle.std.specs.List.{list_all};
+ghost use Rattle.pgn_lexer.specs.Bytes.{is_space as is_space_byte};
 ghost use Rattle.pgn_sections.specs.BadGame as spec;
 ghost use Rattle.pgn_sections.specs.declared.bad_game.Ends.TheVariants.{Anywhere};
-ghost use Rattle.pgn_sections.specs.Bytes.{is_space as is_space_byte};
 
-use crate::bytes::{begins_with, has_mark_at, is_space};
+use crate::bytes::{begins_with, has_mark_at};
 use crate::outside::{Comment, OutsideText, ends_with_tag, open_comment, outside_text};
 use crate::tag_line::{TagLine, behind_pair, behind_pairs, behind_stray, tag_line};
+use pgn_lexer::is_space;
 
 /// Which lines can show where a game ends.
 #[derive(Clone, Copy, PartialEq, Eq, Debug)]

@@ -2,31 +2,17 @@
 ghost use Rattle.std.specs.Prelude.{◌≡◌, ◌+◌, ◌≤◌, IfSome, IsTrue, drop, length, take};
 ghost use Rattle.std.specs.List.{prefix_len};
 ghost use Rattle.std.specs.Option.{option_copied};
+ghost use Rattle.pgn_lexer.specs.Bytes as of_bytes;
+ghost use Rattle.pgn_lexer.specs.TokensOf as tokens_of;
 ghost use Rattle.pgn_sections.specs.Bytes as spec;
 
-pub(crate) fn is_line_end(byte: u8) -> bool
-    ensures { result ≡ spec.is_line_end byte }
-{
-    byte == b'\n' || byte == b'\r'
-}
-
-pub(crate) fn is_space(byte: u8) -> bool
-    ensures { result ≡ spec.is_space byte }
-{
-    (9 <= byte && byte <= 13) || byte == b' '
-}
+use pgn_lexer::{is_digit, is_space};
 
 // White space, control bytes and delete.
 pub(crate) fn is_stray(byte: u8) -> bool
     ensures { result ≡ spec.is_stray byte }
 {
     byte <= 32 || byte == 127
-}
-
-pub(crate) fn is_digit(byte: u8) -> bool
-    ensures { result ≡ spec.is_digit byte }
-{
-    b'0' <= byte && byte <= b'9'
 }
 
 // The bytes of a tag's name.
@@ -50,7 +36,7 @@ pub(crate) fn begins_with(text: &[u8], byte: u8) -> bool
 
 // Whether the text begins with a byte order mark.
 pub(crate) fn has_mark(text: &[u8]) -> bool
-    ensures value { result ≡ spec.has_mark text.now }
+    ensures value { result ≡ tokens_of.has_mark text.now }
     ensures within { IsTrue result → 3 ≤ length text.now }
 {
     match *text {
@@ -77,7 +63,7 @@ pub(crate) fn text_to(text: &[u8], end: usize) -> &[u8]
 
 // Whether a byte order mark begins at this place of the text.
 pub(crate) fn has_mark_at(text: &[u8], at: usize) -> bool
-    ensures value { result ≡ spec.has_mark (drop at text.now) }
+    ensures value { result ≡ tokens_of.has_mark (drop at text.now) }
     ensures within { IsTrue result → at + 3 ≤ length text.now }
 {
     at <= text.len() && has_mark(text_from(text, at))
@@ -103,7 +89,7 @@ pub(crate) fn behind_space(text: &[u8]) -> &[u8]
 }
 
 fn space_length(text: &[u8]) -> usize
-    ensures value { result ≡ prefix_len spec.is_space text.now }
+    ensures value { result ≡ prefix_len of_bytes.is_space text.now }
     ensures within { result ≤ length text.now }
 {
     for (index, byte) in text.iter().enumerate() {

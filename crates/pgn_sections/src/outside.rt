@@ -4,7 +4,7 @@ ghost use Rattle.pgn_sections.specs.Outside as spec;
 ghost use Rattle.pgn_sections.specs.declared.outside.Number.TheVariants.{Blank};
 ghost use Rattle.pgn_sections.specs.Shape.{begun, shape_has_number, shape_has_text, shape_over, shape_with, text_of_shape};
 
-use crate::bytes::{is_digit, is_space};
+use pgn_lexer::{is_digit, is_space};
 
 /// The comment that is open.
 #[derive(Clone, Copy)]

@@ -6,9 +6,10 @@ ghost use Rattle.pgn_sections.specs.declared.tag_line.MarkProgress.TheVariants.{
 ghost use Rattle.pgn_sections.specs.TagLine as spec;
 
 use crate::bytes::{
-    begins_with, behind_byte, behind_name, behind_space, has_mark_at, is_line_end, is_stray,
-    name_length, text_from,
+    begins_with, behind_byte, behind_name, behind_space, has_mark_at, is_stray, name_length,
+    text_from,
 };
+use pgn_lexer::is_line_end;
 
 /// How many bytes of a byte order mark are read.
 #[derive(Clone, Copy)]

@@ -1,6 +1,6 @@
 use Rattle.std.proofs.Common.{◌≡◌, ◌+◌, drop}
 use Rattle.std.specs.List.{prefix_len}
-use Rattle.pgn_sections.specs.Bytes.{is_space}
+use Rattle.pgn_lexer.specs.Bytes.{is_space}
 use Rattle.pgn_sections.proofs.bytes.space_length.Given as goal
 
 -- the bytes so far are white space
