@@ -1,5 +1,5 @@
 -- **Bookkeeping**: the tokens whose bytes are stored.
-use Rattle.std.specs.Prelude.{◌≡◌, ℕ, ◌<◌, true, List, length, get_or, ◌==◌, if◌then◌else◌}
+use Rattle.std.specs.Prelude.{◌≡◌, ℕ, ◌+◌, ◌-◌, ◌*◌, ◌<◌, nat_le, Option, None, Some, true, List, length, get_or, ◌==◌, if◌then◌else◌}
 use Rattle.pgn_lexer.specs.declared.class.Set.{Set}
 use Rattle.pgn_lexer.specs.declared.class.Set.TheVariants as sets
 use Rattle.pgn_lexer.specs.declared.partial_token.LexMode.{LexMode}
@@ -40,6 +40,10 @@ glyph_of text =
     if length text == 1 then (if get_or text 0 0 == 33 then 1 else 2)
     else (if get_or text 0 0 == 33 then (if get_or text 1 0 == 33 then 3 else 5)
     else (if get_or text 1 0 == 33 then 6 else 4))
+
+-- the number of a glyph with one digit more, if that is one; a digit is its byte less 48
+abbrev pub longer_number : ℕ → ℕ → Option ℕ
+longer_number n b = if nat_le (10 * n + (b - 48)) 255 then Some (10 * n + (b - 48)) else None
 
 abbrev pub kind_of_text : Text → List ℕ → Kind
 kind_of_text Symbol text = symbol text

@@ -1,6 +1,7 @@
 //! The current token: its place, its mode, and what was read of it.
 
 ghost use Rattle.std.specs.Prelude.{◌≡◌, ◌==◌, [], if◌then◌else◌, IsTrue};
+ghost use Rattle.pgn_lexer.specs.Bytes as bytes;
 ghost use Rattle.pgn_lexer.specs.Scanned.{kind_of};
 ghost use Rattle.pgn_lexer.specs.Texts as texts;
 
@@ -261,4 +262,17 @@ fn glyph_of(suffix: &[u8]) -> u8
         },
         [] => 4,
     }
+}
+
+/// The number with one digit more. `None` if no NAG is that large.
+#[inline(always)]
+pub(crate) fn longer_number(number: u8, digit: u8) -> Option<u8>
+    requires { IsTrue (bytes.is_digit digit) }
+    ensures { result ≡ texts.longer_number number digit }
+{
+    let longer = 10 * u16::from(number) + u16::from(digit - b'0');
+    if longer > LARGEST_GLYPH {
+        return None;
+    }
+    Some(longer as u8)
 }

@@ -3,7 +3,7 @@ use Rattle.pgn_lexer.specs.Class as classes
 use Rattle.pgn_lexer.specs.Class.{Period}
 use Rattle.pgn_lexer.specs.declared.partial_token.LexMode.TheVariants as modes
 use Rattle.pgn_lexer.specs.Scanned.{token as token_scanned}
-use Rattle.pgn_lexer.proofs.Words.{Begins, Close, TokenKind, IfSome, IsText, None, Option, Some, begin_outside, begins_in_comment, begins_outside, comment_class, kind_of, ◌≡◌, Bool, ℕ, zero, suc, ◌+◌, ◌-◌, ◌*◌, ◌<◌, ◌≤◌, inl, inr, List, [], ◌∷◌, ◌++◌, length, get_or, take, drop, refl, sym, ap, subst, ◌∙◌, add-one, arith, true, false, take_all, length-take-le, LexMode, Class, LineEnd, Space, SymbolStart, Alone, LineStart, Outside, is_digit, is_space, class, str, glyph, Token, TokenForm, ByteResult, Ends, Kind, PartialToken, tokens_to_come, token_of, IsSound, HasNotFailed, begin_line, IsOutside, IsAfterByte, after_byte, Ran, RunsOut, RunsToToken, Standing, standing_at, Scans, IsRunIn, IsNumberIn, Set, Text, string_class, rules, take-suc, get_or-take, get_or-drop, length-drop, IsTrue, IsFalse, list_all, bytes_of, kind_of_text, longest_of, mode_behind, tokens_to_come_in, pending_in, IsBetween, IsWhole, Passes, ReadsBehind, is_passed, BeginsUnpassed, and_parts, eqb-true, none, over_space, over_token}
+use Rattle.pgn_lexer.proofs.Words.{Begins, Close, TokenKind, longer_number, if◌then◌else◌, leb-true, nat_le, IfSome, IsText, None, Option, Some, begin_outside, begins_in_comment, begins_outside, comment_class, kind_of, ◌≡◌, Bool, ℕ, zero, suc, ◌+◌, ◌-◌, ◌*◌, ◌<◌, ◌≤◌, inl, inr, List, [], ◌∷◌, ◌++◌, length, get_or, take, drop, refl, sym, ap, subst, ◌∙◌, add-one, arith, true, false, take_all, length-take-le, LexMode, Class, LineEnd, Space, SymbolStart, Alone, LineStart, Outside, is_digit, is_space, class, str, glyph, Token, TokenForm, ByteResult, Ends, Kind, PartialToken, tokens_to_come, token_of, IsSound, HasNotFailed, begin_line, IsOutside, IsAfterByte, after_byte, Ran, RunsOut, RunsToToken, Standing, standing_at, Scans, IsRunIn, IsNumberIn, Set, Text, string_class, rules, take-suc, get_or-take, get_or-drop, length-drop, IsTrue, IsFalse, list_all, bytes_of, kind_of_text, longest_of, mode_behind, tokens_to_come_in, pending_in, IsBetween, IsWhole, Passes, ReadsBehind, is_passed, BeginsUnpassed, and_parts, eqb-true, none, over_space, over_token}
 use Rattle.pgn_lexer.proofs.bytes.ClassToTest.{ClassSays, class_says}
 use Rattle.pgn_lexer.proofs.stepping.PieceByByte.{ran_none, ran_uses, ran_ends, ran_ends_before, takes_outside, takes_more, takes_text_end, takes_quote, takes_dollar, takes_digit, takes_glyph_end, takes_between, gap_begun, word_begun, close_begun}
 use Rattle.pgn_lexer.proofs.stepping.ByteInText.{IsNoString}
@@ -263,6 +263,14 @@ module _ (piece : List ℕ) where
   whole_glyph n number some within ends so =
       whole_of n _ _ (λ old. old.text) some (omega arith) tt
       (λ place old sound outside. glyph_runs place old piece sound outside n number within ends (so.ran place old sound outside))
+
+pub longer_is : (n b m : ℕ) → Some m ≡ longer_number n b → (m ≡ 10 * n + (b - 48)) × (10 * n + (b - 48) ≤ 255)
+longer_is n b m e = longer_by _ refl e
+  where
+    longer_by : (c : Bool) → nat_le (10 * n + (b - 48)) 255 ≡ c → Some m ≡ (if c then Some (10 * n + (b - 48)) else None)
+        → (m ≡ 10 * n + (b - 48)) × (10 * n + (b - 48) ≤ 255)
+    longer_by true low e = (cc e, leb-true _ _ low)
+    longer_by false high e = absurd (cc e)
 
 -- ---- what the bytes of a number say of its text
 

@@ -7,7 +7,7 @@ ghost use Rattle.pgn_lexer.specs.StringClass as string_classes;
 use crate::class::{Set, is_escaped, is_in};
 use crate::partial_token::begins::{Begins, begins_in_comment, begins_outside};
 use crate::partial_token::{
-    ByteResult, LARGEST_GLYPH, LexMode, PartialToken, Text, TokenForm, clear,
+    ByteResult, LexMode, PartialToken, Text, TokenForm, clear, longer_number,
 };
 use crate::token::{LexReason, TokenKind};
 
@@ -134,11 +134,10 @@ impl PartialToken {
         if !is_in(byte, Set::Digit) {
             return self.end_before(LexMode::Outside, TokenForm::Other(TokenKind::Glyph(number)));
         }
-        let longer = 10 * u16::from(number) + u16::from(byte - b'0');
-        if longer > LARGEST_GLYPH {
-            return self.fail(self.at, LexReason::GlyphRange);
+        match longer_number(number, byte) {
+            Some(longer) => self.go(LexMode::Glyph(longer)),
+            None => self.fail(self.at, LexReason::GlyphRange),
         }
-        self.go(LexMode::Glyph(longer as u8))
     }
 
     /// A byte that is no data of the string.

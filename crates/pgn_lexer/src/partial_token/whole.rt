@@ -12,7 +12,7 @@ ghost use Rattle.pgn_lexer.specs.declared.partial_token.begins.Begins.TheVariant
 
 use crate::class::{Set, is_in, run_length};
 use crate::partial_token::begins::{Begins, begins_in_comment, begins_outside};
-use crate::partial_token::{Close, LARGEST_GLYPH, LONGEST_TEXT, LexMode, PartialToken, Text};
+use crate::partial_token::{Close, LONGEST_TEXT, LexMode, PartialToken, Text, longer_number};
 use crate::token::{Token, TokenKind};
 
 /// No byte of white space, of a number or of a period is above this one.
@@ -234,11 +234,7 @@ fn glyph_in(piece: &[u8]) -> Option<(usize, u8)>
         if !is_in(byte, Set::Digit) {
             return Some((length, number));
         }
-        let longer = 10 * u16::from(number) + u16::from(byte - b'0');
-        if longer > LARGEST_GLYPH {
-            return None;
-        }
-        number = longer as u8;
+        number = longer_number(number, byte)?;
         length += 1;
     }
     None

@@ -1,5 +1,5 @@
 use Rattle.pgn_lexer.proofs.Words.{sym, ◌∙◌, arith}
-use Rattle.pgn_lexer.proofs.stepping.WholeRuns.{dollar_begun, glyph_first, glyph_more, whole_glyph}
+use Rattle.pgn_lexer.proofs.stepping.WholeRuns.{dollar_begun, glyph_first, glyph_more, longer_is, whole_glyph}
 use Rattle.pgn_lexer.proofs.partial_token.whole.glyph_in.Goals as goal
 
 pub loop-length-init : goal.loop-length-init
@@ -17,11 +17,9 @@ returns-then-not-is_in-2 c =
 pub loop-length-preserved : goal.loop-length-preserved
 loop-length-preserved c =
     let here = c.loop-length.invariant in
-    let small = c.if-longer-gt-LARGEST_GLYPH.false in
+    let longer = longer_is _ _ _ c.in_ok-number.ensures in
     record {
       some = omega arith;
-      small = small;
-      so = rw (c.from.ensures, c.from-in-loop-length.ensures)
-          (glyph_more _ _ _ c.loop-length-test.true (sym c.is_in-in-loop-length.ensures ∙ c.if-not-is_in-2.false)
-          (rw (c.from.ensures, c.from-in-loop-length.ensures) at small) here.so);
+      small = rw longer.0 longer.1;
+      so = rw longer.0 (glyph_more _ _ _ c.loop-length-test.true (sym c.is_in-in-loop-length.ensures ∙ c.if-not-is_in-2.false) longer.1 here.so);
     }
