@@ -25,9 +25,6 @@ const LONGEST_WORD: usize = 79;
 /// The most bytes of a suffix (PGN 8.2.3.8).
 const LONGEST_SUFFIX: usize = 2;
 
-/// The largest NAG (PGN 8.2.4).
-const LARGEST_GLYPH: u16 = 255;
-
 /// What ends a comment (PGN 5).
 #[derive(Clone, Copy)]
 pub(crate) enum Close {
@@ -264,15 +261,11 @@ fn glyph_of(suffix: &[u8]) -> u8
     }
 }
 
-/// The number with one digit more. `None` if no NAG is that large.
+/// The number with one digit more. `None` if it is above 255, the largest NAG (PGN 8.2.4).
 #[inline(always)]
 pub(crate) fn longer_number(number: u8, digit: u8) -> Option<u8>
     requires { IsTrue (bytes.is_digit digit) }
     ensures { result ≡ texts.longer_number number digit }
 {
-    let longer = 10 * u16::from(number) + u16::from(digit - b'0');
-    if longer > LARGEST_GLYPH {
-        return None;
-    }
-    Some(longer as u8)
+    number.checked_mul(10)?.checked_add(digit - b'0')
 }
