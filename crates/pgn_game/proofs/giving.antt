@@ -9,3 +9,4 @@ pub mod LastTokenToItems
 pub mod SilentEvents
 pub mod SourceToItems
 pub mod TokenToItems
+pub mod WholeTokenToItems

@@ -12,6 +12,7 @@ ghost use Rattle.pgn_game.specs.calls.ItemsCalls.{LeavesSource, LowersAhead, Rea
 ghost use Rattle.pgn_game.specs.calls.ItemsCalls.{position_before_move};
 ghost use Rattle.pgn_game.specs.calls.ItemsCalls.{shown_move, shown_position, shown_san, shown_section};
 ghost use Rattle.pgn_game.specs.calls.ItemsCalls.{shown_uci, shown_value};
+ghost use Rattle.pgn_game.specs.calls.ItemsCalls.{IsLegalIfMove, shown_depth, shown_games, shown_word};
 ghost use Rattle.pgn_game.specs.declared.mode.Mode.TheVariants.{Full};
 ghost use Rattle.pgn_game.specs.state.Accepted.{unwritten};
 ghost use Rattle.pgn_game.specs.state.ReaderState.{unread};
@@ -130,7 +131,8 @@ impl<const T: usize, const L: usize> CurrentGame<T, L> {
 
     /// Returns the position before the move just given.
     pub fn position_before(&self) -> Option<&Position>
-        ensures { option_copied result ≡ position_before_move self.now }
+        ensures position { option_copied result ≡ position_before_move self.now }
+        ensures legal { IsLegalIfMove self.now }
     {
         match move_of(self.last) {
             Some(_) => Some(self.reader.position_before()),
@@ -138,10 +140,13 @@ impl<const T: usize, const L: usize> CurrentGame<T, L> {
         }
     }
 
-    /// Returns the number of open variations.
+    /// Returns the number of variations that are open after the items given.
     pub fn depth(&self) -> usize
-        ensures { result ≡ length self.now.reading.text.levels.around }
+        ensures { result ≡ shown_depth self.now }
     {
+        if self.last.is_none() || self.pending.is_some() {
+            return 0;
+        }
         self.reader.depth()
     }
 
@@ -171,18 +176,24 @@ impl<const T: usize, const L: usize> CurrentGame<T, L> {
         }
     }
 
-    /// Returns the text of the word read last.
+    /// Returns the text of the word just given.
     pub fn word(&self) -> &[u8]
-        ensures { result.now ≡ self.now.word }
+        ensures { result.now ≡ shown_word self.now }
     {
-        self.word.as_slice()
+        match self.last {
+            Some(Item::Word) => self.word.as_slice(),
+            _ => &[],
+        }
     }
 
-    /// Returns how many games are whole.
+    /// Returns the number of games whose marker was given.
     pub fn games(&self) -> u64
-        ensures { result ≡ self.now.games }
+        ensures { result ≡ shown_games self.now }
     {
-        self.games
+        match self.pending {
+            Some(Item::Marker(_)) => self.games.saturating_sub(1),
+            _ => self.games,
+        }
     }
 
     /// Takes a token, and returns the item that it gives, if it gives one.
@@ -489,16 +500,20 @@ impl<const T: usize, const L: usize> Items<T, L> {
 
     /// Returns the position before the move just given.
     ///
-    /// The result is `None` unless the last call gave a `Move`.
+    /// The move is legal in it, and leads to `position`. The result is `None` unless the last call
+    /// gave a `Move`.
     pub fn position_before(&self) -> Option<&Position>
-        ensures { option_copied result ≡ position_before_move self.now.current }
+        ensures position { option_copied result ≡ position_before_move self.now.current }
+        ensures legal { IsLegalIfMove self.now.current }
     {
         self.current.position_before()
     }
 
-    /// Returns the number of variations that are open.
+    /// Returns the number of variations that are open after the items given so far.
+    ///
+    /// `Open` is inside its variation, and `Close` outside. Without a current game it is 0.
     pub fn depth(&self) -> usize
-        ensures { result ≡ length self.now.current.reading.text.levels.around }
+        ensures { result ≡ shown_depth self.now.current }
     {
         self.current.depth()
     }
@@ -527,22 +542,24 @@ impl<const T: usize, const L: usize> Items<T, L> {
 
     /// Returns the text of the word just given: 1 to 79 bytes.
     ///
-    /// Unless the last call gave a `Word`, it is that of an earlier word, or empty.
+    /// The result is empty unless the last call gave a `Word`.
     pub fn word(&self) -> &[u8]
-        ensures { result.now ≡ self.now.current.word }
+        ensures { result.now ≡ shown_word self.now.current }
     {
         self.current.word()
     }
 
-    /// Returns the number of games of which all was read. The marker of the last one may still have
-    /// to be given.
+    /// Returns the number of games whose marker was given.
     pub fn games(&self) -> u64
-        ensures { result ≡ self.now.current.games }
+        ensures { result ≡ shown_games self.now.current }
     {
         self.current.games()
     }
 
     /// Returns the place of the next byte: how many were used.
+    ///
+    /// After a `Marker` it is the place behind the marker: `begin_at` reads on from there, with
+    /// `in_first_column` false.
     pub fn place(&self) -> u64
         ensures { result ≡ self.now.lexer.count }
     {
@@ -657,9 +674,37 @@ impl<const T: usize, const L: usize> Items<T, L> {
     }
 }
 
-// Reads the next token of a piece. Returns how many bytes were used, and the item that the token
-// gives, if it gives one.
+// Reads the next token of a piece, or white space before it. Returns how many bytes were used, and
+// the item that the token gives, if it gives one.
 fn read_token<const T: usize, const L: usize>(
+    lexer: &mut Lexer,
+    current: &mut CurrentGame<T, L>,
+    piece: &[u8],
+) -> (usize, Result<Option<Item>, Fault>)
+    requires sound { IsSound lexer.old current.old.reading current.old.games false false None }
+    requires last { current.old.last ≡ None }
+    requires pending { current.old.pending ≡ None }
+    requires some { 0 < length piece.now }
+    requires short { lexer.old.count + length piece.now ≤ 2 ^ 62 }
+    ensures { ReadsToken lexer.old current.old piece.now lexer.new current.new result.0 result.1 }
+{
+    let (used, token) = lexer.whole_token(piece, false);
+    let Some(token) = token else {
+        // Mostly a text goes on, which began in an earlier piece.
+        if used == 0 {
+            return read_by_bytes(lexer, current, piece);
+        }
+        return (used, Ok(None));
+    };
+    let at = token.at;
+    match current.take(token.kind) {
+        Ok(item) => (used, Ok(item)),
+        Err(reason) => (used, Err(Fault { at, reason })),
+    }
+}
+
+// Reads the next token of a piece as `read_token` does, but byte by byte.
+fn read_by_bytes<const T: usize, const L: usize>(
     lexer: &mut Lexer,
     current: &mut CurrentGame<T, L>,
     piece: &[u8],

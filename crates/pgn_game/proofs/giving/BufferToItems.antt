@@ -1,9 +1,9 @@
 -- From a token of the bytes that were read to what is read of the source.
-use Rattle.pgn_game.proofs.Words.{◌≡◌, ℕ, ◌+◌, ◌-◌, ◌^◌, ◌<◌, ◌≤◌, ◌==◌, true, false, List, [], ◌∷◌, ◌++◌, length, take, drop, Option, None, Some, Ok, Err, refl, sym, ap, subst, ◌∙◌, arith, append_assoc, length-append, length-take, take-append-drop, take_all, take-take, drop-take, drop_of_length-le, eqb-true, Token, Fault, InputTooLong, Profile, IsDecided, StandsAfter, Standing, first, within_limit, AreNext, HasRead}
+use Rattle.pgn_game.proofs.Words.{◌≡◌, ℕ, ◌+◌, ◌-◌, ◌^◌, ◌<◌, ◌≤◌, ◌==◌, true, false, List, [], ◌∷◌, ◌++◌, length, take, drop, Option, None, Some, Ok, Err, refl, sym, ap, subst, ◌∙◌, arith, inl, append-nil, Consumes-nil, append_assoc, length-append, length-take, take-append-drop, take_all, take-take, drop-take, drop_of_length-le, eqb-true, Token, Fault, InputTooLong, Profile, IsDecided, StandsAfter, Standing, first, within_limit, AreNext, HasRead}
 use Rattle.pgn_game.specs.declared.item.Item.{Item as CodeItem}
 use Rattle.pgn_game.specs.calls.GamesCalls.{ReadsOn}
 use Rattle.pgn_game.specs.calls.ItemsCalls.{Current, Items, games_of_items}
-use Rattle.pgn_game.specs.state.ItemsSteps.{AfterBuffered, AfterToken, AreGoing, GoesOn, LastIs, ReadsToken, TakesBuffered, at_token, reads_as, too_long}
+use Rattle.pgn_game.specs.state.ItemsSteps.{AfterBuffered, AfterToken, AreGoing, FillsItems, GoesOn, LastIs, ReadsToken, TakesBuffered, at_token, reads_as, too_long}
 use Rattle.pgn_game.specs.state.ReaderState.{Writing}
 use Rattle.pgn_game.proofs.tokens.AcceptedToConverter.{read_as}
 use Rattle.pgn_game.proofs.tokens.BytesWithinLimit.{front_within}
@@ -20,6 +20,17 @@ empty_if n h = eqb-true n 0 (sym h)
 pub some_if : (n : ℕ) → false ≡ (n == 0) → 0 < n
 some_if (Prim.Native.Nat.zero) h = absurd (cc)
 some_if (Prim.Native.Nat.suc n) h = omega arith
+
+-- bytes are left of an earlier read
+pub some_left : (left : Option (List ℕ)) (i : Items) → 0 < length i.unused → FillsItems left left i i
+some_left left i some = record {
+  more = [];
+  consumed = Consumes-nil left;
+  new_is = sym (ap (λ (xs : List ℕ). record i { unused = xs }) (append-nil i.unused));
+  some = some;
+  few = omega arith;
+  empty = inl refl;
+}
 
 module _ (old : Items) (going : AreGoing old) (count : old.lexer.count ≤ 2 ^ 62) where
   abbrev room : ℕ
@@ -117,6 +128,7 @@ module _ (old : Items) (going : AreGoing old) (count : old.lexer.count ≤ 2 ^ 6
                 not_finished = going.not_finished;
               },
               after.3,
+              after.4,
             )
 
         goes_to : (o : Option CodeItem) → LastIs {E = Fault} current (Ok o) → GoesOn (new None) (Ok o)

@@ -14,3 +14,7 @@ items_fit_current T L fits = second _ _ _ _ (first _ _ _ _ (first _ _ _ _ (first
 -- items of the same bounds fit too
 pub items_alike : (T L : RattleType) → FitsInMemory (items_row T L) → FitsInMemory (items_row T L)
 items_alike T L fits = fits
+
+-- and so does the current game
+pub current_alike : (T L : RattleType) → FitsInMemory (the_row T L) → FitsInMemory (the_row T L)
+current_alike T L fits = fits

@@ -1,13 +1,13 @@
 -- From the event that a token means to the item that is given for it.
 use Rattle.std.proofs.lemmas.List.{map-append}
-use Rattle.pgn_game.proofs.Words.{◌≡◌, ◌↔◌, ℕ, ◌+◌, Bool, true, false, IsTrue, List, [], ◌∷◌, ◌++◌, map, Option, None, Some, IsSome, IsSomeAnd, Ok, Err, refl, sym, ap, subst, ◌∙◌, arith, append-nil, false≢true, Kind, Reason, Stage, Between, AfterLeftBracket, AfterName, AfterValue, AfterTags, InMovetext, Move, Parts, Part, Pair, Item, Marker, legal, marker_text, Event, ReaderState, IsPlayed, Agrees, HoldsPairs, HoldsText, next, items_meant}
+use Rattle.pgn_game.proofs.Words.{◌≡◌, ◌↔◌, ℕ, ◌+◌, ◌||◌, Bool, true, false, is_some, IsTrue, List, [], ◌∷◌, ◌++◌, map, Option, None, Some, IsSome, IsSomeAnd, Ok, Err, refl, sym, ap, subst, ◌∙◌, arith, append-nil, false≢true, Kind, Reason, Stage, Between, AfterLeftBracket, AfterName, AfterValue, AfterTags, InMovetext, Move, Parts, Part, Pair, Item, Marker, legal, marker_text, Event, ReaderState, IsPlayed, Agrees, FinishesAtMarker, marker_of, HoldsPairs, HoldsText, next, items_meant}
 use Rattle.pgn_game.specs.declared.event.Event.TheVariants as events
 use Rattle.pgn_game.specs.declared.item.Item.{Item as CodeItem}
 use Rattle.pgn_game.specs.declared.item.Item.TheVariants as items
 use Rattle.pgn_game.specs.calls.Given.{Given, item, tags, given_at, given_of_next, given_of_part, given_with}
-use Rattle.pgn_game.specs.calls.ItemsCalls.{Current, IsBehindTags, shown_move, given_as, given_if, given_next}
+use Rattle.pgn_game.specs.calls.ItemsCalls.{Current, IsBehindTags, IsLegalIfMove, is_marker_item, shown_move, given_as, given_if, given_next}
 use Rattle.pgn_game.specs.state.Accepted.{Accepts, MeansItems, answer_of, given_for, unwritten}
-use Rattle.pgn_game.specs.state.ItemsSteps.{GivesFor, GivesMore, IsAnswer, IsPlayedItem, LastIs, TakesItem, games_added, given_first, given_second, item_meant, marker_given}
+use Rattle.pgn_game.specs.state.ItemsSteps.{GivesFor, GivesMore, IsAnswer, IsPlayedItem, IsSoundGame, LastIs, TakesItem, games_added, given_first, given_second, item_meant, marker_given}
 
 -- the text of a word that an event has
 abbrev pub IsSpelled : Event → List ℕ → Type 0
@@ -96,6 +96,28 @@ no_items AfterName r part h pairs text = text.0
 no_items AfterValue r part h pairs text = text.0
 no_items AfterTags r part h pairs text = text.0
 
+-- a marker is given for a marker alone
+marker_either : (begun : Bool) (o : Option CodeItem) → IsTrue (is_marker_item (given_first begun o) || is_marker_item (given_second begun o))
+    → IsTrue (is_marker_item o)
+marker_either true o is = left_of (is_marker_item o) is
+  where
+    left_of : (b : Bool) → IsTrue (b || false) → IsTrue b
+    left_of true h = refl
+    left_of false h = h
+marker_either false o is = is
+
+marker_if : (k : Kind) (r : ReaderState) (e : Event) → FinishesAtMarker k r (answer_of (Ok (Some e))) → IsTrue (is_marker_item (item_meant e))
+    → IsTrue (is_some (marker_of k))
+marker_if k r (events.Marker m) finishes is = finishes.0
+marker_if k r (events.Word text) finishes is = absurd (false≢true is)
+marker_if k r events.Number finishes is = absurd (false≢true is)
+marker_if k r (events.Move m n) finishes is = absurd (false≢true is)
+marker_if k r (events.Glyph n) finishes is = absurd (false≢true is)
+marker_if k r events.CommentOpen finishes is = absurd (false≢true is)
+marker_if k r events.CommentClose finishes is = absurd (false≢true is)
+marker_if k r events.Open finishes is = absurd (false≢true is)
+marker_if k r events.Close finishes is = absurd (false≢true is)
+
 -- The state after a token that means this.
 module _ (old new : ReaderState) (k : Kind) (e : Event) (accepts : Accepts old k new (Ok (Some e))) (games : ℕ) (word : List ℕ) (spelled : IsSpelled e word) where
   abbrev pub after_event : Bool → Current
@@ -158,6 +180,7 @@ module _ (old new : ReaderState) (k : Kind) (e : Event) (accepts : Accepts old k
     games = counted;
     gives = λ part agrees. by begun is part (rw same at agrees);
     last = last_is begun (item_meant e) refl;
+    is_marker = λ read. marker_if k (unwritten new) e accepts.takes.finished (marker_either begun (item_meant e) read);
   }
     where
       last_is : (begun : Bool) (o : Option CodeItem) → item_meant e ≡ o → LastIs {E = Reason} (after_event begun) (Ok (given_first begun o))
@@ -184,6 +207,7 @@ module _ (old new : ReaderState) (k : Kind) (c : Current) (same : c.reading ≡ 
     games = omega arith;
     gives = λ part agrees. tt;
     last = (refl, refl);
+    is_marker = λ read. absurd (false≢true read);
   }
 
 -- a move was played from a position
@@ -224,3 +248,10 @@ module _ (r : ReaderState) (o : Option CodeItem) (m : Move) (is : shown_move o �
     where
       tags_move : Some items.Tags ≡ Some (items.Move m) → ⊥
       tags_move h = absurd (cc)
+
+-- A move that was given last is legal where it stands.
+pub legal_if_move : (c : Current) → IsSoundGame c → IsLegalIfMove c
+legal_if_move c sound m is =
+    let none = none_next c.reading c.last m is c.pending sound.behind in
+    subst (λ (o : Option Move). IsSomeAnd (elim o [ None ↦ None | Some n ↦ c.reading.text.levels.current.before ])
+    (λ before. legal before m ≡ Some c.reading.text.levels.current.position)) (sym is) (played c.reading c.last m is (sound.last none))

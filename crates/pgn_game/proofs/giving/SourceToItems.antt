@@ -1,16 +1,18 @@
 -- What is given of a source, call by call.
-use Rattle.pgn_game.proofs.Words.{◌≡◌, ℕ, ◌^◌, ◌≤◌, ◌⊎◌, Bool, true, false, IsTrue, is_some, List, [], ◌∷◌, ◌++◌, length, fold-append, Option, None, Some, IsSomeAnd, Result, Ok, Err, refl, sym, ap, subst, ◌∙◌, arith, inl, inr, append-nil, append_assoc, false≢true, none-some, Consumes, Consumes-kept, Consumes-nil, Consumes-trans, one_more, IsAtEnd, Token, Fault, Profile, no_progress, Pair, HasLeft, IsDecided, Stands, first, HasRead, HasReadAll, Standing, decided, read, here, levels_of, start_of, StoredLevels, tokens_of}
+use Rattle.pgn_game.proofs.Words.{◌≡◌, ℕ, ◌^◌, ◌≤◌, ◌⊎◌, ◌||◌, length-map, Bool, true, false, IsTrue, is_some, List, [], ◌∷◌, ◌++◌, length, fold-append, Option, None, Some, IsSomeAnd, Result, Ok, Err, refl, sym, ap, subst, ◌∙◌, arith, inl, inr, append-nil, append_assoc, false≢true, none-some, Consumes, Consumes-kept, Consumes-nil, Consumes-trans, one_more, IsAtEnd, Token, Fault, Profile, no_progress, Pair, HasLeft, IsDecided, Stands, first, HasRead, HasReadAll, Standing, decided, read, here, levels_of, start_of, StoredLevels, tokens_of}
 use Rattle.std.specs.Io.KnownBytes.{Keeps}
 use Rattle.pgn_game.specs.declared.item.Item.{Item as CodeItem}
 use Rattle.pgn_game.specs.declared.item.Item.TheVariants as items
 use Rattle.pgn_game.specs.declared.reason.Reason.TheVariants.{ReadFault}
 use Rattle.pgn_game.specs.calls.GamesCalls.{ReadsOn}
 use Rattle.pgn_game.specs.calls.Given.{Given, Shown, given_of, shown, shown_with, tags}
-use Rattle.pgn_game.specs.calls.ItemsCalls.{AfterItem, Current, GivesFault, GivesItem, GivesNoItem, HasRest, HaveGiven, IsBehindTags, IsHeld, IsShown, Items, ItemsRead, ItemsStop, ReadsNoSooner, at_end, at_token, behind, converter_of, games_of_items, given_as, given_if, given_next, position_without, too_long, unread, within}
+use Rattle.pgn_game.specs.calls.ItemsCalls.{AfterItem, Current, EndsWithMarker, GivesFault, GivesItem, GivesNoItem, HasRest, HaveGiven, IsBehindTags, IsHeld, IsShown, Items, ItemsRead, ItemsStop, ReadsNoSooner, at_end, at_token, behind, converter_of, games_of_items, given_as, given_if, given_next, depth_behind, has_read_marker, is_marker_item, position_without, shown_depth, too_long, unread, within}
+use Rattle.pgn_game.specs.state.Movetext.{stored_level}
 use Rattle.pgn_game.specs.state.ItemsSteps as steps
 use Rattle.pgn_game.specs.state.ItemsSteps.{AfterLastToken, AfterToken, AreGoing, FillsItems, GivesAtEnd, ItemsSoFar, ReadsLastToken, Rejects, RestSoFar, StopsInBuffer, TakesAtEnd, TakesBuffered, still_at, giving_next, reads_as}
 use Rattle.pgn_game.proofs.tokens.AcceptedToConverter.{read_as}
 use Rattle.pgn_game.proofs.giving.ItemsAhead.{lowers_end, lowers_on}
+use Rattle.pgn_game.proofs.giving.TokenToItems.{no_marker}
 use Rattle.pgn_game.proofs.tokens.OneMoreToken.{stops_from}
 use Rattle.pgn_game.proofs.tokens.StepsInPiece.{decided_at_end, stands_before_any}
 
@@ -39,6 +41,10 @@ first_here c (items.Marker m) ps held is = held_here c _ held
 
 -- What is held with the item that is given next shows what was given.
 module _ (c : Current) (i : CodeItem) (given : List Given) (last : c.last ≡ Some i) (held : IsSomeAnd (shown ((given ++ given_as c i ∷ []) ++ given_next c)) (IsHeld c)) where
+  depth_is : (next : Option CodeItem) → c.pending ≡ next → shown_depth c ≡ depth_behind (Some i) next c.reading
+  depth_is next is =
+      ap (λ (o : Option CodeItem). depth_behind o c.pending c.reading) last ∙ ap (λ (o : Option CodeItem). depth_behind (Some i) o c.reading) is
+
   shows_by : (next : Option CodeItem) → c.pending ≡ next → IsBehindTags next c.last → IsSomeAnd (shown (given ++ given_as c i ∷ [])) (IsShown c)
   shows_by None is at =
       let all : (given ++ given_as c i ∷ []) ++ given_next c ≡ given ++ given_as c i ∷ [] =
@@ -47,7 +53,11 @@ module _ (c : Current) (i : CodeItem) (given : List Given) (last : c.last ≡ So
     where
       plain : (o : Option Shown) → IsSomeAnd o (IsHeld c) → IsSomeAnd o (IsShown c)
       plain None h = h
-      plain (Some s) h = record { pairs = h.pairs; position = ap (λ (next : Option CodeItem). position_without next c.reading) is ∙ held_here c s h }
+      plain (Some s) h = record {
+        pairs = h.pairs;
+        position = ap (λ (next : Option CodeItem). position_without next c.reading) is ∙ held_here c s h;
+        depth = depth_is None is ∙ ap (λ (ls : StoredLevels). length ls.around) h.text.levels ∙ length-map (levels_of s.items).around (stored_level (start_of s.pairs));
+      }
   shows_by (Some next) is at =
       let tags_last : i ≡ items.Tags = same_Some i items.Tags (sym last ∙ at) in
       let first : given_as c i ≡ tags c.reading.tags.held = ap (given_as c) tags_last in
@@ -60,6 +70,7 @@ module _ (c : Current) (i : CodeItem) (given : List Given) (last : c.last ≡ So
         pairs = refl;
         position = ap (λ (o : Option CodeItem). position_without o c.reading) is
             ∙ first_here c next c.reading.tags.held (subst (λ (s : Option Shown). IsSomeAnd s (IsHeld c)) all held) refl;
+        depth = depth_is (Some next) is;
       })
     where
       same_Some : (a b : CodeItem) → Some a ≡ Some b → a ≡ b
@@ -76,8 +87,9 @@ module _ (c : Current) (i : CodeItem) (given : List Given) (last : c.last ≡ So
 pub gives_one : (p : Profile) (u : List ℕ) (given : List Given) (left : Option (List ℕ)) (new : Items) (i : CodeItem) (tokens : List Token)
     → ItemsRead p left u new tokens → given_of (read p tokens).progress ≡ given ++ given_as new.current i ∷ given_next new.current
     → steps.HoldsShown (given_of (read p tokens).progress) new.current → new.current.last ≡ Some i → IsBehindTags new.current.pending new.current.last
+    → (IsTrue (has_read_marker new.current) → new.has_read_all ≡ false → EndsWithMarker tokens new.lexer.count)
     → HaveGiven p left u new (given ++ given_as new.current i ∷ [])
-gives_one p u given left new i tokens reads all holds last at =
+gives_one p u given left new i tokens reads all holds last at ends =
     let whole : given_of (read p tokens).progress ≡ (given ++ given_as new.current i ∷ []) ++ given_next new.current =
     all ∙ sym (append_assoc given (given_as new.current i ∷ []) (given_next new.current)) in
     let held = subst (λ (gs : List Given). IsSomeAnd (shown gs) (IsHeld new.current)) whole holds.holds in
@@ -88,6 +100,7 @@ gives_one p u given left new i tokens reads all holds last at =
       behind = at;
       shows = λ some. shows_given new.current i given last held at;
       holds = λ some. held;
+      marker_ends = ends;
     }
 
 -- ---- in the bytes that were read
@@ -167,7 +180,7 @@ module _ (p : Profile) (u : List ℕ) (given : List Given) (left_old left_now : 
                 not_finished = so.reads.not_finished;
               };
               whole = so.whole;
-              no_sooner = inr (so.more, fills.more, refl, decided_now empty);
+              no_sooner = inr (so.more, fills.more, refl, fills.few, decided_now empty);
             })
 
     -- a token of them gave nothing
@@ -191,7 +204,7 @@ module _ (p : Profile) (u : List ℕ) (given : List Given) (left_old left_now : 
           more = so.more;
           consumed = so.consumed;
           have_given = gives_one p (u ++ so.more) given left_now new i after.0 (within (takes.read_all ∙ more) after.1)
-              (after.2.0.gives ∙ ap (λ (gs : List Given). gs ++ given_as new.current i ∷ given_next new.current) so.whole) after.2.1 takes.goes.2 takes.goes.3;
+              (after.2.0.gives ∙ ap (λ (gs : List Given). gs ++ given_as new.current i ∷ given_next new.current) so.whole) after.2.1 takes.goes.2 takes.goes.3 (λ is none. after.3 is);
           last = takes.goes.2;
           no_sooner = so.no_sooner;
         }
@@ -248,11 +261,12 @@ module _ (p : Profile) (u : List ℕ) (given : List Given) (left_old left_now : 
 
     sooner : (xs : List ℕ) → ReadsNoSooner p (u ++ so.more) xs given → ReadsNoSooner p u (so.more ++ xs) given
     sooner xs (inl none) = subst (λ (ys : List ℕ). ReadsNoSooner p u (so.more ++ ys) given) (sym none) (subst (λ (ys : List ℕ). ReadsNoSooner p u ys given) (sym (append-nil so.more)) so.no_sooner)
-    sooner xs (inr (front, back, is, all)) =
+    sooner xs (inr (front, back, is, few, all)) =
         inr (
           so.more ++ front,
           back,
           ap (λ (ys : List ℕ). so.more ++ ys) is ∙ sym (append_assoc so.more front back),
+          few,
           subst (λ (v : List ℕ). given_of (read p (decided v)).progress ≡ given) (append_assoc u so.more front) all,
         )
 
@@ -269,6 +283,7 @@ module _ (p : Profile) (u : List ℕ) (given : List Given) (left_old left_now : 
           reads = behind refl (record {
             at_end = ended;
             short = omega (arith, short, stands.lexer.count, ap (length {A = ℕ}) used);
+            place = stands.lexer.count ∙ ap (length {A = ℕ}) used;
             rest = subst (λ (v : List ℕ). HasLeft now.lexer v so.tokens) used rest;
             has_read = stands.has_read;
             not_finished = so.reads.not_finished;
@@ -277,6 +292,7 @@ module _ (p : Profile) (u : List ℕ) (given : List Given) (left_old left_now : 
           behind = subst (λ (o : Option CodeItem). IsBehindTags o now.current.last) (sym going.pending) tt;
           shows = λ some. absurd (none_shown now going some);
           holds = λ some. absurd (none_shown now going some);
+          marker_ends = λ read. absurd (no_marker now.current going.last going.pending read);
         })
 
     -- what is given then
@@ -348,6 +364,7 @@ module _ (p : Profile) (u : List ℕ) (given : List Given) (left : Option (List 
         rest = record {
           at_end = so.rest.at_end;
           short = so.rest.short;
+          place = reads.count ∙ so.rest.place;
           rest = h.1;
           has_read = read_as h.2.has_read refl refl refl tt;
           not_finished = refl;
@@ -367,11 +384,13 @@ module _ (p : Profile) (u : List ℕ) (given : List Given) (left : Option (List 
             (behind all (record {
               at_end = so.rest.at_end;
               short = so.rest.short;
+              place = reads.count ∙ so.rest.place;
               rest = h.1;
               has_read = read_as h.2.0.has_read refl refl refl tt;
               not_finished = refl;
             }))
-            (h.2.0.gives ∙ ap (λ (gs : List Given). gs ++ given_as current i ∷ given_next current) so.whole) h.2.1 reads.last.0 reads.last.1);
+            (h.2.0.gives ∙ ap (λ (gs : List Given). gs ++ given_as current i ∷ given_next current) so.whole) h.2.1 reads.last.0 reads.last.1
+            (λ read none. absurd (false≢true (sym none ∙ all))));
         last = reads.last.0;
         no_sooner = inl refl;
       }
@@ -485,7 +504,7 @@ module _ (old : Items) (i : CodeItem) (next : old.current.pending ≡ Some i) wh
   reads_same : (p : Profile) (left : Option (List ℕ)) (u : List ℕ) (tokens : List Token) → ItemsRead p left u old tokens → ItemsRead p left u given_now tokens
   reads_same p left u tokens (within is on) = within is on
   reads_same p left u tokens (behind is rest) =
-      behind is (record { at_end = rest.at_end; short = rest.short; rest = rest.rest; has_read = rest.has_read; not_finished = rest.not_finished })
+      behind is (record { at_end = rest.at_end; short = rest.short; place = rest.place; rest = rest.rest; has_read = rest.has_read; not_finished = rest.not_finished })
   reads_same p left u tokens (at_end is all) = at_end is all
 
   same_as : given_as given_now.current i ≡ given_as old.current i
@@ -519,11 +538,21 @@ module _ (old : Items) (i : CodeItem) (next : old.current.pending ≡ Some i) wh
           behind = tt;
           shows = λ is. shows_given given_now.current i given refl (more held) tt;
           holds = λ is. more held;
+          marker_ends = λ read none. have.marker_ends (read_before read) none;
         });
         last = refl;
         no_sooner = inl refl;
       }
     where
+      either : (a b c : Bool) → IsTrue (b || false) → c ≡ b → IsTrue (a || c)
+      either true b c h is = refl
+      either false true c h is = is
+      either false false c h is = absurd (false≢true h)
+
+      read_before : IsTrue (has_read_marker given_now.current) → IsTrue (has_read_marker old.current)
+      read_before read =
+          either (is_marker_item old.current.last) (is_marker_item (Some i)) (is_marker_item old.current.pending) read (ap is_marker_item next)
+
       keep : (o : Option Shown) → IsSomeAnd o (IsHeld old.current) → IsSomeAnd o (IsHeld given_now.current)
       keep None h = h
       keep (Some s) h = record { pairs = h.pairs; text = h.text }
@@ -547,12 +576,13 @@ module _ (old : Items) (none : old.current.pending ≡ None) where
     behind = subst (λ (o : Option CodeItem). IsBehindTags o None) (sym none) tt;
     shows = λ some. absurd (false≢true some);
     holds = λ some. absurd (false≢true some);
+    marker_ends = λ read. absurd (no_marker forgotten.current refl none read);
   }
     where
       by : ItemsRead p left u old have.tokens → ItemsRead p left u forgotten have.tokens
       by (within is on) = within is on
       by (behind is rest) =
-          behind is (record { at_end = rest.at_end; short = rest.short; rest = rest.rest; has_read = rest.has_read; not_finished = rest.not_finished })
+          behind is (record { at_end = rest.at_end; short = rest.short; place = rest.place; rest = rest.rest; has_read = rest.has_read; not_finished = rest.not_finished })
       by (at_end is all) = at_end is all
 
   -- all was given

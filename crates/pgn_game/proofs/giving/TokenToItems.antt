@@ -1,11 +1,11 @@
 -- One token of a text, and what is given for it.
 use Rattle.pgn_lexer.specs.PartialToken.{refusal as refusal_token}
 use Rattle.pgn_lexer.specs.Scanned.{token}
-use Rattle.pgn_game.proofs.Words.{◌≡◌, ℕ, ◌+◌, ◌^◌, ◌<◌, ◌≤◌, false, List, [], ◌∷◌, ◌++◌, map, length, take, drop, fold, fold-append, Option, None, Some, IsSomeAnd, Result, Ok, Err, refl, sym, ap, subst, ◌∙◌, arith, append-nil, append_assoc, inl, false≢true, take_all, drop_of_length-le, Token, Reason, WriteFault, Lexical, LexFault, Profile, Game, Item, Pair, Next, going, whole, Progress, progress_with, read, refusal, next, Follows, StandsAfter, first, Scans, Standing, more, fault, HasRead, IsSound, Keeps, Answers, Accepted, More, Finished, CountsWrites, TakesToken, part_after, unused}
+use Rattle.pgn_game.proofs.Words.{◌≡◌, ℕ, ◌+◌, ◌^◌, ◌<◌, ◌≤◌, ◌||◌, IsTrue, false, List, [], ◌∷◌, ◌++◌, map, length, take, drop, fold, fold-append, Option, None, Some, IsSomeAnd, Result, Ok, Err, refl, sym, ap, subst, ◌∙◌, arith, append-nil, append_assoc, inl, false≢true, take_all, drop_of_length-le, Token, Reason, WriteFault, Lexical, LexFault, Profile, Game, Item, Pair, Next, going, whole, Progress, progress_with, read, refusal, next, Follows, StandsAfter, first, Scans, Standing, more, fault, HasRead, IsSound, Keeps, Answers, Accepted, More, Finished, CountsWrites, TakesToken, part_after, unused}
 use Rattle.pgn_game.specs.state.ReaderState as reader_state
 use Rattle.pgn_game.specs.declared.item.Item.{Item as CodeItem}
 use Rattle.pgn_game.specs.calls.Given.{Given, Shown, given_of, given_of_game, given_of_games, given_of_next, given_of_part, given_with, item, shown, shown_with}
-use Rattle.pgn_game.specs.calls.ItemsCalls.{Current, IsHeld, given_as, given_next}
+use Rattle.pgn_game.specs.calls.ItemsCalls.{Current, IsHeld, given_as, given_next, has_read_marker, is_marker_item}
 use Rattle.pgn_game.specs.state.ItemsSteps.{AfterToken, GivesFor, IsAnswer, ReadsToken, Rejects, TakesItem, games_added, marker_given, reads_as}
 use Rattle.pgn_game.proofs.tokens.AcceptedToConverter.{follows_own, has_read_game, has_read_more, lexical-refusal, next_in_piece, read_as, read_at, still_none}
 use Rattle.pgn_game.proofs.tokens.OneMoreToken.{read-passes, read-refuses}
@@ -131,6 +131,11 @@ rejected_text p given f passes =
     let ends = read-refuses p given (refusal_token f) [] (Lexical f.reason) passes (lexical-refusal p (part_after p given) f) in
     record { fault = ap (λ r. r.fault) ends; progress = ap (λ r. r.progress) ends }
 
+-- no marker was read
+pub no_marker : (c : Current) → c.last ≡ None → c.pending ≡ None → IsTrue (has_read_marker c) → ⊥
+no_marker c last pending is =
+    false≢true (sym (ap (λ (o : Option CodeItem). is_marker_item o || is_marker_item c.pending) last ∙ ap is_marker_item pending) ∙ is)
+
 -- What is read of a piece.
 module _ (old_lexer lexer : Standing) (old new : Current) (piece : List ℕ) (used : ℕ) (some : 0 < length piece) (short : old_lexer.count + length piece ≤ 2 ^ 62)
     (sound : IsSound old_lexer old.reading old.games false false None) (within : used ≤ length piece) where
@@ -145,6 +150,7 @@ module _ (old_lexer lexer : Standing) (old new : Current) (piece : List ℕ) (us
           rw (front, rest) (subst (λ k. StandsAfter lexer (u ++ piece) k given) (still_none (first piece) piece some) scan.1),
           rw (front, rest) (inl (scan.2 some)),
           record { has_read = read_at p (reads_as old_lexer old) given lexer false has_read; gives = sym (append-nil (given_of (read p given).progress)) },
+          λ is. absurd (no_marker old last pending is),
         );
     within = within;
     last = (last, pending);
@@ -170,8 +176,13 @@ module _ (old_lexer lexer : Standing) (old new : Current) (piece : List ℕ) (us
     pub reads_item : (i : Option CodeItem) → TakesItem old t.kind new (Ok i) → ReadsToken old_lexer old piece lexer new used (Ok i)
     reads_item i takes = record {
       after = λ p u given stands has_read.
-          let scan = scans.carries u (first piece) given stands (follows_own piece) in
-          (given ++ t ∷ [], scan.0, scan.1, after_item p old_lexer lexer old new given t has_read i takes);
+          let scan = scans.carries u (first piece) given stands (follows_own piece) in (
+            given ++ t ∷ [],
+            scan.0,
+            scan.1,
+            after_item p old_lexer lexer old new given t has_read i takes,
+            λ is. record { before = given; last = t; is_last = refl; is_marker = takes.is_marker is; ends = scans.ends },
+          );
       within = within;
       last = takes.last;
       writing = takes.takes.keeps.writing;

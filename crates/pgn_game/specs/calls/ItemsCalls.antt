@@ -3,12 +3,13 @@
 -- those that it gives during it. `given` is what was given before a call, and g what is given by
 -- it. `left` are the bytes that the source has left, if it reports them; `left_old` and `left_new`
 -- are these before a call and after it. f is a fault.
-use Rattle.std.specs.Prelude.{◌≡◌, ℕ, ◌+◌, ◌-◌, ◌*◌, ◌^◌, ◌<◌, ◌≤◌, ◌⊎◌, Bool, true, false, IsTrue, is_some, List, [], ◌∷◌, ◌++◌, length, Option, None, Some, IsSomeAnd, unwrap_or, option_map, Result, Ok, Err}
+use Rattle.std.specs.Prelude.{◌≡◌, ℕ, ◌+◌, ◌-◌, ◌*◌, ◌^◌, ◌<◌, ◌≤◌, ◌⊎◌, Bool, true, false, ◌||◌, IsTrue, is_some, List, [], ◌∷◌, ◌++◌, length, Option, None, Some, IsSomeAnd, unwrap_or, option_map, Result, Ok, Err}
 use Rattle.std.specs.Io.KnownBytes.{Consumes, IsAtEnd}
 use Rattle.chess_rules.specs.declared.position.Move.{Move}
 use Rattle.chess_rules.specs.declared.position.Parts.{Parts}
+use Rattle.chess_rules.specs.Legal.{legal}
 use Rattle.pgn_layout.specs.Device.{Device, one_more}
-use Rattle.pgn_lexer.specs.Tokens.{Token}
+use Rattle.pgn_lexer.specs.Tokens.{EndsAt, Token}
 use Rattle.pgn_lexer.specs.TokensOf.{tokens_of}
 use Rattle.pgn_lexer.specs.Decided.{decided}
 use Rattle.pgn_lexer.specs.Standing.{Standing, waiting}
@@ -17,6 +18,7 @@ use Rattle.pgn_game.specs.declared.item.Item.{Item as CodeItem}
 use Rattle.pgn_game.specs.declared.item.Item.TheVariants as items
 use Rattle.pgn_game.specs.declared.reason.Fault.{Fault}
 use Rattle.pgn_game.specs.declared.reason.Reason.TheVariants.{ReadFault, InputTooLong}
+use Rattle.pgn_game.specs.games.FaultTable.{marker_of}
 use Rattle.pgn_game.specs.games.Game as games
 use Rattle.pgn_game.specs.games.Levels.{here, levels_of, start_of}
 use Rattle.pgn_game.specs.games.Markers.{marker_text}
@@ -33,6 +35,11 @@ use Rattle.pgn_game.specs.state.Movetext.{HoldsItems}
 use Rattle.pgn_game.specs.state.ReaderState.{ReaderState}
 
 -- ---- what was given so far
+
+-- a marker
+abbrev pub is_marker_item : Option CodeItem → Bool
+is_marker_item (Some (items.Marker m)) = true
+is_marker_item _ = false
 
 -- The game whose items are given: its reader, of which nothing is written, the number of games that
 -- were finished, the word that was read last, the item given last, if the last call gave one, and
@@ -59,6 +66,18 @@ given_as c (items.Marker m) = marker (marker_text m)
 abbrev pub given_if : Current → Option CodeItem → List Given
 given_if c None = []
 given_if c (Some i) = given_as c i ∷ []
+
+-- a marker was given last, or is given next
+abbrev pub has_read_marker : Current → Bool
+has_read_marker c = is_marker_item c.last || is_marker_item c.pending
+
+-- The last of the tokens is a marker, and ends at this place.
+pub record EndsWithMarker (tokens : List Token) (place : ℕ) : Type 0 where
+  pub before : List Token
+  pub last : Token
+  pub is_last : tokens ≡ before ++ last ∷ []
+  pub is_marker : IsTrue (is_some (marker_of last.kind))
+  pub ends : EndsAt last.kind last.at place
 
 -- what was read and is given next
 abbrev pub given_next : Current → List Given
@@ -88,10 +107,12 @@ converter_of i = record {
 abbrev pub games_of_items : Items → Games
 games_of_items i = record { converter = converter_of i; unused = i.unused }
 
--- The source is at its end, so u is the whole text. The lexer still gives the rest of its tokens.
+-- The source is at its end, so u is the whole text, and all its bytes are used. The lexer still
+-- gives the rest of its tokens.
 pub record HasRest (p : Profile) (left : Option (List ℕ)) (u : List ℕ) (i : Items) (tokens : List Token) : Type 0 where
   pub at_end : IsAtEnd left
   pub short : length u ≤ 2 ^ 62
+  pub place : i.lexer.count ≡ length u
   pub rest : HasLeft i.lexer u tokens
   pub has_read : HasRead p (converter_of i) tokens
   pub not_finished : i.is_finished ≡ false
@@ -147,11 +168,44 @@ shown_san c = elim (shown_move c.last) [ None ↦ None | Some m ↦ option_map (
 abbrev pub shown_uci : Current → Option (List ℕ)
 shown_uci c = option_map uci (shown_move c.last)
 
+-- The number of open variations after the items given. Something is given next only behind the
+-- tags, where none is open. Without a game there is none.
+abbrev pub depth_behind : (last next : Option CodeItem) → ReaderState → ℕ
+depth_behind None next reading = 0
+depth_behind (Some i) None reading = length reading.text.levels.around
+depth_behind (Some i) (Some next) reading = 0
+
+abbrev pub shown_depth : Current → ℕ
+shown_depth c = depth_behind c.last c.pending c.reading
+
+-- the text of the word that was given last, if a word was
+abbrev pub word_behind : Option CodeItem → List ℕ → List ℕ
+word_behind (Some items.Word) word = word
+word_behind _ word = []
+
+abbrev pub shown_word : Current → List ℕ
+shown_word c = word_behind c.last c.word
+
+-- the number of games whose marker was given
+abbrev pub games_before_next : Option CodeItem → ℕ → ℕ
+games_before_next (Some (items.Marker m)) games = games - 1
+games_before_next _ games = games
+
+abbrev pub shown_games : Current → ℕ
+shown_games c = games_before_next c.pending c.games
+
+-- A move that was given last is legal in the position before it, and leads to the current one.
+abbrev pub IsLegalIfMove : Current → Type 0
+IsLegalIfMove c =
+    (m : Move) → shown_move c.last ≡ Some m
+    → IsSomeAnd (position_before_move c) (λ before. legal before m ≡ Some c.reading.text.levels.current.position)
+
 -- The current game is the one of which something was given last, with its pairs, and at the place
 -- after its items.
 pub record IsShown (c : Current) (s : Shown) : Type 0 where
   pub pairs : c.reading.tags.held ≡ s.pairs
   pub position : current_position c ≡ here (start_of s.pairs) (levels_of s.items)
+  pub depth : shown_depth c ≡ length (levels_of s.items).around
 
 -- The same with the item that was read and is given next: the reader holds all these items.
 pub record IsHeld (c : Current) (s : Shown) : Type 0 where
@@ -164,7 +218,8 @@ IsBehindTags None last = Unit {0}
 IsBehindTags (Some i) last = last ≡ Some items.Tags
 
 -- The source has given the bytes u, and of the text so far this was given: what its tokens are
--- read into, but for an item that is given next.
+-- read into, but for an item that is given next. A marker that was given last ends where the next
+-- byte is, unless the text ends with it.
 pub record HaveGiven (p : Profile) (left : Option (List ℕ)) (u : List ℕ) (i : Items) (given : List Given) : Type 0 where
   pub tokens : List Token
   pub reads : ItemsRead p left u i tokens
@@ -172,14 +227,18 @@ pub record HaveGiven (p : Profile) (left : Option (List ℕ)) (u : List ℕ) (i 
   pub behind : IsBehindTags i.current.pending i.current.last
   pub shows : IsTrue (is_some i.current.last) → IsSomeAnd (shown given) (IsShown i.current)
   pub holds : IsTrue (is_some i.current.last) → IsSomeAnd (shown (given ++ given_next i.current)) (IsHeld i.current)
+  pub marker_ends : IsTrue (has_read_marker i.current) → i.has_read_all ≡ false → EndsWithMarker tokens i.lexer.count
 
 -- ---- what a call of `next` does
 
--- If the call read bytes, those known before some of them decide nothing more: no item is held back
--- that the bytes read before the call decide.
+-- If the call read bytes, those known before the last read, of 4,096 bytes at most, decide nothing
+-- more. So no item is held back that the bytes read before the call decide, and the source is not
+-- read ahead.
 abbrev pub ReadsNoSooner : Profile → List ℕ → List ℕ → List Given → Type 0
 ReadsNoSooner p u more given =
-    (more ≡ []) ⊎ ((front : List ℕ) × (back : List ℕ) × (more ≡ front ++ back) × (given_of (read p (decided (u ++ front))).progress ≡ given))
+    (more ≡ [])
+    ⊎ ((front : List ℕ) × (back : List ℕ) × (more ≡ front ++ back) × (length back ≤ 4096)
+    × (given_of (read p (decided (u ++ front))).progress ≡ given))
 
 -- An item more was given. If the source has not ended, the bytes before place 2^62 decide it.
 pub record GivesItem (p : Profile) (u : List ℕ) (given : List Given) (left_old left_new : Option (List ℕ)) (new : Items) (i : CodeItem) : Type 0 where

@@ -17,6 +17,7 @@ use Rattle.pgn_game.specs.declared.item.Item.TheVariants as items
 use Rattle.pgn_game.specs.declared.reason.Fault.{Fault}
 use Rattle.pgn_game.specs.declared.reason.Reason.{Reason}
 use Rattle.pgn_game.specs.declared.reason.Reason.TheVariants.{InputTooLong, ReadFault}
+use Rattle.pgn_game.specs.games.FaultTable.{marker_of}
 use Rattle.pgn_game.specs.games.Game.{Item, Part}
 use Rattle.pgn_game.specs.games.Levels.{start_of}
 use Rattle.pgn_game.specs.games.Profile.{Profile}
@@ -25,7 +26,7 @@ use Rattle.pgn_game.specs.export.Text.{text_of}
 use Rattle.pgn_game.specs.calls.ConverterCalls.{AreNext, Converter, HasRead, IsSound, within_limit}
 use Rattle.pgn_game.specs.calls.Given.{Given, given_of, given_of_next, given_of_part, given_with, marker, shown}
 use Rattle.pgn_game.specs.calls.GamesCalls.{ReadsOn}
-use Rattle.pgn_game.specs.calls.ItemsCalls.{Current, GivesFault, GivesItem, GivesNoItem, HasRest, HaveGiven, IsBehindTags, IsHeld, Items, LowersAhead, ReadsItem, ReadsNoSooner, games_of_items, given_as, given_next}
+use Rattle.pgn_game.specs.calls.ItemsCalls.{Current, EndsWithMarker, GivesFault, GivesItem, GivesNoItem, HasRest, HaveGiven, IsBehindTags, IsHeld, Items, LowersAhead, ReadsItem, ReadsNoSooner, games_of_items, given_as, given_next, has_read_marker}
 use Rattle.pgn_game.specs.state.Judged.{IsPlayed}
 use Rattle.pgn_game.specs.state.Movetext.{HoldsItems}
 use Rattle.pgn_game.specs.state.TokenInMovetext.{has_whole_pairs}
@@ -104,6 +105,10 @@ IsAnswer (Ok item) (Ok accepted) = Unit {0}
 IsAnswer (Err reason) answer = answer ≡ Err reason
 IsAnswer _ _ = ⊥
 
+-- a marker was read if the token is one
+abbrev pub IsMarkerIfRead : Kind → Current → Type 0
+IsMarkerIfRead k new = IsTrue (has_read_marker new) → IsTrue (is_some (marker_of k))
+
 -- What taking a token does to the current game.
 pub record TakesItem (old : Current) (k : Kind) (new : Current) (result : Result (Option CodeItem) Reason) : Type 0 where
   pub answer : Result Accepted Reason
@@ -112,6 +117,7 @@ pub record TakesItem (old : Current) (k : Kind) (new : Current) (result : Result
   pub games : new.games ≡ old.games + games_added answer
   pub gives : (part : Part) → Agrees old.reading part → GivesFor part k new result
   pub last : LastIs new result
+  pub is_marker : IsMarkerIfRead k new
 
 -- ---- a token of a piece, or behind the last one
 
@@ -146,11 +152,16 @@ pub record Rejects (p : Profile) (given : List Token) (token : Token) (f : Fault
   pub fault : (read p (given ++ token ∷ [])).fault ≡ Some f
   pub progress : (read p (given ++ token ∷ [])).progress ≡ (read p given).progress
 
+-- a marker that was read is the last of the tokens
+abbrev pub EndsIfMarker : List Token → Standing → Current → Type 0
+EndsIfMarker tokens lexer new = IsTrue (has_read_marker new) → EndsWithMarker tokens lexer.count
+
 -- What reading a token of a piece results in.
 abbrev pub AfterTokenOf : Profile → List ℕ → List Token → List ℕ → Standing → Current → ℕ → Result (Option CodeItem) Fault → Type 0
 AfterTokenOf p u given piece lexer new used (Ok item) =
     (tokens : List Token) × StandsAfter lexer (u ++ take used piece) (first (drop used piece)) tokens
     × IsDecided (u ++ take used piece) (drop used piece) tokens × AfterToken p given tokens lexer new item
+    × EndsIfMarker tokens lexer new
 AfterTokenOf p u given piece lexer new used (Err f) =
     (token : Token) × Rejects p given token f × AreNext (u ++ piece) (given ++ token ∷ [])
 
@@ -210,6 +221,7 @@ pub data StopsInBuffer (p : Profile) (u : List ℕ) (given : List Token) : Fault
 abbrev pub AfterBuffered : Profile → List ℕ → List Token → Items → Result (Option CodeItem) Fault → Type 0
 AfterBuffered p u given new (Ok item) =
     (tokens : List Token) × ReadsOn p u (games_of_items new) tokens × AfterToken p given tokens new.lexer new.current item
+    × EndsIfMarker tokens new.lexer new.current
 AfterBuffered p u given new (Err f) = StopsInBuffer p u given f
 
 -- What taking a token of the bytes that were read does.
@@ -227,6 +239,7 @@ pub record FillsItems (left_old left_new : Option (List ℕ)) (old new : Items) 
   pub consumed : Consumes left_old left_new more
   pub new_is : new ≡ record old { unused = old.unused ++ more }
   pub some : 0 < length new.unused
+  pub few : length more ≤ 4096
   pub empty : (more ≡ []) ⊎ (old.unused ≡ [])
 
 -- What filling the buffer does to them: there are bytes, or the source has ended, or a read failed.

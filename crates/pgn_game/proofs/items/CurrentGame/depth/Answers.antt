@@ -1,4 +1,4 @@
-use Rattle.pgn_game.proofs.giving.CurrentFitsInMemory.{current_fits_reader, items_fit_current}
+use Rattle.pgn_game.proofs.giving.CurrentFitsInMemory.{current_fits_reader}
 use Rattle.pgn_game.proofs.items.CurrentGame.depth.Goals as goal
 
 pub depth-requires : goal.depth-requires

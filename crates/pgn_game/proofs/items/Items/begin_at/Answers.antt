@@ -41,4 +41,5 @@ returns-clause-begins g c = λ left. rw (c.new.ensures, c.new-2.ensures) (record
   behind = tt;
   shows = λ some. absurd (false≢true some);
   holds = λ some. absurd (false≢true some);
+  marker_ends = λ read. absurd (false≢true read);
 })

@@ -1,4 +1,4 @@
-use Rattle.pgn_game.proofs.giving.CurrentFitsInMemory.{current_fits_reader, items_fit_current}
+use Rattle.pgn_game.proofs.giving.CurrentFitsInMemory.{items_fit_current}
 use Rattle.pgn_game.proofs.items.Items.games.Goals as goal
 
 pub games-requires : goal.games-requires

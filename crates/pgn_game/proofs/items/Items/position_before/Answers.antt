@@ -1,4 +1,4 @@
-use Rattle.pgn_game.proofs.giving.CurrentFitsInMemory.{current_fits_reader, items_fit_current}
+use Rattle.pgn_game.proofs.giving.CurrentFitsInMemory.{items_fit_current}
 use Rattle.pgn_game.proofs.items.Items.position_before.Goals as goal
 
 pub position_before-requires : goal.position_before-requires
