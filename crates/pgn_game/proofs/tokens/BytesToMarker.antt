@@ -63,7 +63,7 @@ module _ (p : Profile) (u : List ℕ) (given : List Token) (old : Games) (a : Op
       )
     ]
 
-    reads_all : (new : Converter) → new.reading ≡ now.reading → ReadsAllOf start text new c
+    reads_all : (new : Converter) → new.reading ≡ now.reading → ReadsAllOf p given text new a c
     reads_all new same =
         record {
           now = now;

@@ -21,10 +21,6 @@ pub shown_begins : (s : List ℕ) (ts : List Token) → AreShown s ts → (rest 
 shown_begins s ts (so_far front rest is short next) = ((next rest).0, ap tokens_of is ∙ (next rest).1)
 shown_begins s ts (at_end short rest cut) = (rest, cut)
 
--- no token at all
-pub shown_none : (s : List ℕ) → AreShown s []
-shown_none s = so_far [] s refl (omega arith) (λ x. (tokens_of x, refl))
-
 -- a source decides the tokens that the bytes decide which it has given
 pub decides_by : (left_old left_new : Option (List ℕ)) (u : List ℕ) (ts : List Token)
     → Consumes left_old left_new u → AreNext (within_limit u) ts → Decides left_old left_new ts

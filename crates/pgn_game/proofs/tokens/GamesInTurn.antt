@@ -117,7 +117,7 @@ module _ (p : Profile) (silent : Bool) (known : silent ≡ false → IsKnown p) 
           counts = to.counts;
         })
 
-  none_in : {v : List ℕ} {new : Converter} {c : Option (List ℕ)} → ReadsAllOf start v new c → ReadsNoGame p given v a c
+  none_in : {v : List ℕ} {new : Converter} {c : Option (List ℕ)} → ReadsAllOf p given v new a c → ReadsNoGame p given v a c
   none_in {v} {new} {c} all =
       record {
         reads = record {

@@ -2,12 +2,12 @@
 -- token at which reading stops.
 use Rattle.pgn_lexer.specs.Tokens as tokens
 use Rattle.pgn_game.specs.declared.marker.PlacedMarker.{PlacedMarker as CodePlacedMarker}
-use Rattle.pgn_game.proofs.Words.{Kind, Token, Reason, Changed, WriteFault, Fault, Profile, takes_the_marker, Game, Part, no_part, ◌≡◌, ℕ, ◌+◌, ◌^◌, ◌<◌, ◌≤◌, ◌||◌, ◌&&◌, ◌==◌, not, is_some, bytes_eq, Bool, true, false, List, [], ◌∷◌, ◌++◌, length, take, drop, Option, None, Some, Ok, Err, IfSome, refl, sym, ap, subst, ◌∙◌, append_assoc, append-nil, drop-length, arith, and_parts, not-false, bytes_eq-Decides, Appends-nil, Appends-trans, Appends, Device, TokensRise, tokens_of, coming, Stage, Between, InMovetext, HoldsText, Marker, counting, refusal, is_end, marker_of, torn, gain, text_next, Next, going, whole, next, read, IsLastGame, game_in_reader, ReaderState, with_announced, as_written, IsStopped, Converter, marker_text, game_of, PlacedMarker, is_other, is_changed, HasMarkers, HasMatched, Reading, model_marker, changed_reason, OneGame, ReadsMore, EndsGame, part_after, append_cancel_left, IfSome_then, game_text, AllRead, ComesNext, EndComes, FirstFails, GameRead, GameWritten, HasCome, HasGiven, MarkerComes, ReadingStops, SecondFails, StandsBetween, StandsIn, at_read, as_changed, announcing, AreShown, writing_nothing, common_steps}
+use Rattle.pgn_game.proofs.Words.{Kind, Token, Reason, Changed, WriteFault, Fault, Profile, takes_the_marker, Game, Part, no_part, ◌≡◌, ℕ, ◌+◌, ◌^◌, ◌<◌, ◌≤◌, ◌||◌, ◌&&◌, ◌==◌, not, is_some, bytes_eq, Bool, true, false, List, [], ◌∷◌, ◌++◌, length, take, drop, Option, None, Some, Ok, Err, IfSome, refl, sym, ap, subst, ◌∙◌, append_assoc, append-nil, drop-length, arith, and_parts, not-false, bytes_eq-Decides, Appends-nil, Appends-trans, Appends, Device, TokensRise, tokens_of, Stage, Between, InMovetext, HoldsText, Marker, counting, refusal, is_end, marker_of, torn, gain, text_next, Next, going, whole, next, read, IsLastGame, game_in_reader, ReaderState, with_announced, as_written, IsStopped, Converter, marker_text, game_of, PlacedMarker, is_other, is_changed, HasMarkers, HasMatched, Reading, model_marker, changed_reason, OneGame, ReadsMore, EndsGame, part_after, append_cancel_left, IfSome_then, game_text, AllRead, ComesNext, EndComes, FirstFails, GameRead, GameWritten, HasCome, HasGiven, MarkerComes, ReadingStops, Known, AreNextIn, first_bytes, all_bytes, decided, SecondFails, StandsBetween, at_read, as_changed, announcing, AreShown, writing_nothing, common_steps}
 use Rattle.pgn_game.specs.state.ReaderState as reader_state
 use Rattle.pgn_game.specs.state.Readings.{at_token}
 use Rattle.pgn_game.specs.state.Readings as readings
 use Rattle.pgn_game.specs.calls.ConverterCalls.{at_end}
-use Rattle.pgn_game.proofs.tokens.AcceptedToConverter.{follows_own, read_as}
+use Rattle.pgn_game.proofs.tokens.AcceptedToConverter.{read_as}
 use Rattle.pgn_game.proofs.tokens.BytesWithinLimit.{shown_begins}
 use Rattle.pgn_game.proofs.tokens.MarkerToGame.{game_accepted, has_read_marker, takes, written_at_fault, written_at_marker}
 use Rattle.pgn_game.proofs.tokens.MissingCountsAs.{reads_silently}
@@ -15,6 +15,7 @@ use Rattle.pgn_game.proofs.tokens.NextGrows.{next_is}
 use Rattle.pgn_game.proofs.tokens.OneMoreToken.{read-passes, torn-none}
 use Rattle.pgn_game.proofs.tokens.StepsAtEnd.{end_at, is_the_end}
 use Rattle.pgn_game.proofs.twice.MarkerCounts.{changes, marker_finishes, no_marker_goes, refusals_are_inside, same_game_text}
+use Rattle.pgn_game.proofs.twice.MarkerToReading.{come_text, of_whole, some_coming}
 use Rattle.pgn_game.proofs.twice.MarkersInTurn.{marked_game, marked_more, marked_on, matched_next, matched_on, no_end_before}
 
 -- The end adds nothing, and is no marker.
@@ -30,14 +31,10 @@ end_gains_nothing : (q w : Profile) (part : Part) (k : Kind) → is_end k ≡ tr
 end_gains_nothing q w part k is free =
     ap (λ n. drop (length (torn w part)) (text_next w n)) (end_leads q part k is free) ∙ drop-length (torn w part)
 
--- The source has given a text that begins with these tokens.
-come_cut : (left_old left_now : Option (List ℕ)) (r : Reading) (ts : List Token) (h : HasCome left_old left_now r ts)
-    → (rest : List Token) × (tokens_of h.bytes ≡ ts ++ rest)
-come_cut left_old left_now r ts h = by_end r.has_ended h.stands
-  where
-    by_end : (e : Bool) → StandsIn e r h.bytes ts left_old → (rest : List Token) × (tokens_of h.bytes ≡ ts ++ rest)
-    by_end false (stands, next) = (coming r.converter.lexer r.unused, ap tokens_of stands.bytes ∙ stands.lexer.tokens r.unused (follows_own r.unused))
-    by_end true (left, count, short, text_is) = (coming r.converter.lexer [], left)
+-- a text that begins with tokens which are known to be its first
+begins_known : (text : Known) (ts : List Token) → AreNextIn text ts → (s : List ℕ) × (rest : List Token) × (tokens_of s ≡ ts ++ rest)
+begins_known (first_bytes s) ts next = (s ++ [], (next []).0, (next []).1)
+begins_known (all_bytes s) ts next = (s, next.0, next.1)
 
 -- ---- the first reading
 
@@ -48,10 +45,12 @@ module _ (q : Profile) (left_old left_new : Option (List ℕ)) (given : List Tok
   still_marked ts now a c reads ms h = grind (arith, common_steps, marked_on, read)
 
   pub all_read : (new : Reading) (a c : Option (List ℕ)) → EndComes q left_old given new a c → AllRead q left_old given new
-  all_read new a c h =
+  all_read new a c comes =
+      let h = comes.ends in
+      let ts = h.tokens ++ h.token ∷ [] in
       record {
-        tokens = h.tokens ++ h.token ∷ [];
-        whole = h.whole;
+        tokens = ts;
+        whole = of_whole left_old comes.text comes.whole (λ s. (length s ≤ 2 ^ 62) × (tokens_of s ≡ ts)) (comes.short, h.whole);
         has_read = h.has_read;
         marked = λ ms so.
             marked_more q h.tokens h.token ms (part_after q h.tokens) h.reads.has_read.passes h.passes
@@ -74,20 +73,20 @@ module _ (q : Profile) (left_old left_new : Option (List ℕ)) (given : List Tok
 
   pub first_fails : (new : Reading) (f : Fault) (a c : Option (List ℕ)) → (f.reason ≡ WriteFault → ⊥)
       → ReadingStops q left_old left_new given f new a c → FirstFails q left_old left_new given f
-  first_fails new f a c no_write (at_token h) =
+  first_fails new f a c no_write (at_token text h comes) =
       let n = h.fails in
       record {
         tokens = h.tokens;
         passes = n.reads.has_read.passes;
         marked = still_marked h.tokens n.now a n.mid n.reads;
-        why = refused_first h.tokens h.token f n.now.reading new.converter.reading n.mid c n.reads.has_read.profile n.place no_write h.comes n.stopped;
+        why = refused_first h.tokens h.token f n.now.reading new.converter.reading n.mid c n.reads.has_read.profile n.place no_write comes n.stopped;
       }
-  first_fails new f a c no_write (at_read h) =
+  first_fails new f a c no_write (at_read u fails h) =
       record {
-        tokens = h.tokens;
+        tokens = decided u;
         passes = h.reads.has_read.passes;
-        marked = still_marked h.tokens h.now a c h.reads;
-        why = readings.unread f h.fails;
+        marked = still_marked (decided u) h.now a c h.reads;
+        why = readings.unread f fails;
       }
 
 -- ---- the marker
@@ -97,7 +96,7 @@ module _ (left_old left_now : Option (List ℕ)) (r : Reading) where
   pub begins : (ts : List Token) → HasCome left_old left_now r ts → IfSome left_old (λ s. (rest : List Token) × (tokens_of s ≡ ts ++ rest))
   begins ts h =
       IfSome_then left_old {P = λ s. AreShown s ts} {Q = λ s. (rest : List Token) × (tokens_of s ≡ ts ++ rest)}
-      h.shown (λ s shown. shown_begins s ts shown)
+      (come_text left_old left_now r ts h).1 (λ s shown. shown_begins s ts shown)
 
   -- What a reading has come to is not moved by the marker that its converter takes.
   come_still : (s : Reading) (ts : List Token) → s.converter.lexer ≡ r.converter.lexer → s.unused ≡ r.unused → s.has_ended ≡ r.has_ended
@@ -127,7 +126,7 @@ module _ (q : Profile) (left_old left_new : Option (List ℕ)) (given : List Tok
   passes = h.meets.reads.has_read.passes
 
   pub comes : ComesNext left_old h.tokens h.token
-  comes = h.come.shown
+  comes = (come_text left_old left_new mid (ts ++ t ∷ []) h.come).1
 
   pub met_marked : (ms : List PlacedMarker) → HasMarkers q given ms → HasMarkers q h.tokens ms
   met_marked = still_marked q left_old left_new given so ts (record mid.converter { reading = reader }) a sink.before h.meets.reads
@@ -300,12 +299,13 @@ module _ (q : Profile) (left_old left_new : Option (List ℕ)) (given : List Tok
   -- Reading stops before a marker.
   pub second_fails : (new : Reading) (f : Fault) (a d : Option (List ℕ)) → as_written new.converter.reading ≡ w
       → ReadingStops q left_old left_new given f new a d → SecondFails q left_old left_new given announced (as_changed f) a d
-  second_fails new f a d by (at_token h) =
+  second_fails new f a d by (at_token text h comes) =
       let n = h.fails in
+      let some = begins_known text (h.tokens ++ h.token ∷ []) h.next in
       let by_now : as_written n.now.reading ≡ w = written_at_fault n ∙ by in
       let part : Part = part_after q h.tokens in
-      fails_behind h.tokens n.now (as_changed f) a n.mid d by_now n.reads h.text h.token h.rest h.cut
-      (why_token h.tokens h.token f n.now.reading new.converter.reading n.mid d n.reads.has_read.profile by_now n.place h.comes
+      fails_behind h.tokens n.now (as_changed f) a n.mid d by_now n.reads some.0 h.token some.1 (some.2 ∙ append_assoc h.tokens (h.token ∷ []) some.1)
+      (why_token h.tokens h.token f n.now.reading new.converter.reading n.mid d n.reads.has_read.profile by_now n.place comes
       (λ k free short is. by_end (is_end h.token.kind) refl k free short (n.no_marker is)) n.stopped)
     where
       by_end : (e : Bool) → is_end h.token.kind ≡ e → (k : ℕ) → refusal q (part_after q h.tokens) h.token.kind ≡ None
@@ -315,20 +315,21 @@ module _ (q : Profile) (left_old left_new : Option (List ℕ)) (given : List Tok
           absurd (omega (arith, short, ap (length {A = ℕ}) (end_gains_nothing q w (part_after q h.tokens) h.token.kind is free)))
       by_end false is k free short none =
           ap (λ (n : Next). is_other expected n h.token) (no_marker_goes (part_after q h.tokens) h.token.kind none).1 ∙ is
-  second_fails new f a d by (at_read h) =
-      fails_behind h.tokens h.now (as_changed f) a d d (ap as_written (sym h.same) ∙ by) h.reads h.text h.token h.rest h.cut
-      (readings.unread f h.fails (Appends-nil d))
+  second_fails new f a d by (at_read u fails h) =
+      let behind = some_coming h.now.lexer in
+      fails_behind (decided u) h.now (as_changed f) a d d (ap as_written (sym h.same) ∙ by) h.reads u behind.0 behind.1
+      (h.left ∙ ap (λ (ts : List Token). decided u ++ ts) behind.2) (readings.unread f fails (Appends-nil d))
 
   -- It has ended before a marker.
   pub ends_before : (new : Reading) (a d : Option (List ℕ)) → as_written new.converter.reading ≡ w → EndComes q left_old given new a d
       → SecondFails q left_old left_new given announced (record { at = new.converter.lexer.count; reason = Changed }) a d
-  ends_before new a d by h =
-      fails_behind h.tokens new.converter (record { at = new.converter.lexer.count; reason = Changed }) a d d by h.reads h.text h.token [] h.cut
-      (subst (λ n. readings.WhySecond q left_old left_new h.tokens announced d d (record { at = n; reason = Changed })) h.place
+  ends_before new a d by comes =
+      let h = comes.ends in
+      let ts = h.tokens ++ h.token ∷ [] in
+      fails_behind h.tokens new.converter (record { at = new.converter.lexer.count; reason = Changed }) a d d by h.reads comes.text h.token [] h.whole
+      (subst (λ n. readings.WhySecond q left_old left_new h.tokens announced d d (record { at = n; reason = Changed })) (h.place ∙ sym comes.count)
       (readings.differs h.token
-      (IfSome_then left_old {P = λ s. (length s ≤ 2 ^ 62) × (tokens_of s ≡ h.tokens ++ h.token ∷ [])}
-      {Q = λ s. AreShown s (h.tokens ++ h.token ∷ [])} h.whole
-      (λ s whole. at_end whole.0 [] (whole.1 ∙ sym (append-nil (h.tokens ++ h.token ∷ [])))))
+      (of_whole left_old comes.text comes.whole (λ s. AreShown s ts) (at_end comes.short [] (h.whole ∙ sym (append-nil ts))))
       (differs_if q expected (part_after q h.tokens) h.token true h.passes
       (ap (λ (n : Next). is_other expected n h.token) (end_leads q (part_after q h.tokens) h.token.kind h.is_end h.passes) ∙ h.is_end))
       (Appends-nil d)))
@@ -341,7 +342,7 @@ module _ (q : Profile) (left_old left_new : Option (List ℕ)) (given : List Tok
 
     text_before : (rest : List Token) × (tokens_of h.come.bytes ≡ h.tokens ++ h.token ∷ rest)
     text_before =
-        let cut = come_cut left_old left_new mid (h.tokens ++ h.token ∷ []) h.come in
+        let cut = (come_text left_old left_new mid (h.tokens ++ h.token ∷ []) h.come).0 in
         (cut.0, cut.1 ∙ append_assoc h.tokens (h.token ∷ []) cut.0)
 
     -- it is another one

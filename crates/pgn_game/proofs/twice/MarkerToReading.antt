@@ -3,12 +3,13 @@
 use Rattle.pgn_lexer.specs.declared.partial_token.LexMode.{LexMode}
 use Rattle.pgn_game.specs.declared.marker.PlacedMarker.{PlacedMarker as CodePlacedMarker}
 use Rattle.pgn_game.specs.state.ConverterSteps.{IsReady, start_of}
-use Rattle.pgn_game.proofs.Words.{Start, ReachedAtEnd, ReadsMore, last_step, Token, InputTooLong, Fault, Profile, ◌≡◌, ℕ, ◌^◌, ◌≤◌, arith, false, true, List, [], ◌∷◌, ◌++◌, length, Option, None, Some, Result, Ok, Err, IfSome, IsStill, CountsFault, refl, sym, ap, subst, ◌∙◌, append_assoc, Consumes-trans, Consumes, Stands, takes_the_marker, with_missing, Device, tokens_of, decided, Standing, coming, HasLeft, first, Converter, ReadsMore, StandsWithin, Reading, games_of, AreShown, EndsToMarker, taking_announced_marker, Games, MeetsNext, MarkerComes, within_limit, CountsReading, StopsBefore, ReadsAllOf, IsAtEnd, UsesAll, AfterMarker, HasGiven, ReadingStops, ReadFails, at_read, StandsIn, common_steps, IsReadyAfter, IfOk}
+use Rattle.pgn_game.proofs.Words.{Start, ReachedAtEnd, all_bytes, first_bytes, last_step, Token, InputTooLong, Fault, Profile, ◌≡◌, ℕ, ◌^◌, ◌≤◌, arith, Bool, false, true, List, [], ◌∷◌, ◌++◌, length, Option, None, Some, Result, Ok, Err, IfSome, IsStill, CountsFault, refl, sym, ap, subst, ◌∙◌, Consumes-trans, Consumes, Stands, takes_the_marker, with_missing, Device, tokens_of, decided, Standing, coming, HasLeft, first, Converter, ReadsMore, StandsWithin, Reading, games_of, AreShown, EndsToMarker, taking_announced_marker, Games, MeetsNext, MarkerComes, within_limit, CountsReading, StopsBefore, IsAtEnd, UsesAll, AfterMarker, HasCome, HasGiven, ReadingStops, ReadFails, at_read, StandsIn, common_steps, IsReadyAfter, IfOk}
 use Rattle.pgn_game.specs.calls.ConverterCalls.{at_end}
 use Rattle.pgn_game.specs.state.GamesSteps as games_steps
 use Rattle.pgn_game.specs.state.Readings.{at_token}
+use Rattle.pgn_game.proofs.tokens.AcceptedToConverter.{follows_own}
 use Rattle.pgn_game.proofs.tokens.StepsAtEnd.{left_of}
-use Rattle.pgn_game.proofs.tokens.BytesWithinLimit.{all_shown, none_next, shown_begins, shown_by, shown_none}
+use Rattle.pgn_game.proofs.tokens.BytesWithinLimit.{none_next, shown_by}
 use Rattle.pgn_game.proofs.tokens.ReadsInText.{next_of, stands_within}
 use Rattle.pgn_game.proofs.tokens.LastTokens.{IsLeft, glyph, left_in, none, symbol}
 use Rattle.pgn_game.proofs.tokens.MissingCountsAs.{reads_taking}
@@ -22,18 +23,13 @@ some_left _ (none (t ∷ us) quiet last) = (t, us, refl)
 some_left _ (glyph n) = (_, _, refl)
 some_left _ (symbol is) = (_, _, refl)
 
-some_coming : (l : Standing) → (t : Token) × (us : List Token) × (coming l [] ≡ t ∷ us)
+pub some_coming : (l : Standing) → (t : Token) × (us : List Token) × (coming l [] ≡ t ∷ us)
 some_coming l = some_left (coming l []) (left_in l.held.mode)
-
--- nothing at all is shown by any text
-all_shown_none : (o : Option (List ℕ)) → IfSome o (λ s. AreShown s [])
-all_shown_none None = tt
-all_shown_none (Some s) = shown_none s
 
 -- before the first byte
 pub given_none : (p : Profile) (c d : Converter) (unused : List ℕ) (left : Option (List ℕ)) → Stands p c [] None [] → d ≡ taking_announced_marker c → unused ≡ []
     → HasGiven (with_missing p takes_the_marker) left left (record { converter = d; unused = unused; has_ended = false }) []
-given_none p c d unused left stands is empty = grind (arith, common_steps, none_next, all_shown_none, reads_taking)
+given_none p c d unused left stands is empty = grind (arith, common_steps, none_next, reads_taking)
 
 -- where a reading stands, by whether its source has ended
 module _ (q : Profile) (left_old left : Option (List ℕ)) (r : Reading) (given : List Token) (h : HasGiven q left_old left r given) where
@@ -44,15 +40,29 @@ module _ (q : Profile) (left_old left : Option (List ℕ)) (r : Reading) (given 
       → HasLeft r.converter.lexer h.come.bytes given × (r.converter.lexer.count ≡ length h.come.bytes) × (length h.come.bytes ≤ 2 ^ 62) × IfSome left_old (λ s. s ≡ h.come.bytes)
   behind_source is = subst (λ e. StandsIn e r h.come.bytes given left_old) is h.come.stands
 
+-- what holds of the whole text
+pub of_whole : (left_old : Option (List ℕ)) (u : List ℕ) → IfSome left_old (λ s. s ≡ u) → (P : List ℕ → Type 0) → P u → IfSome left_old P
+of_whole left_old u whole P h = grind (arith, common_steps)
+
+-- A text of the source begins with the tokens that have come, and its own text shows them.
+pub come_text : (left_old left_now : Option (List ℕ)) (r : Reading) (ts : List Token) (h : HasCome left_old left_now r ts)
+    → ((rest : List Token) × (tokens_of h.bytes ≡ ts ++ rest)) × IfSome left_old (λ s. AreShown s ts)
+come_text left_old left_now r ts h = by_end r.has_ended h.stands
+  where
+    by_end : (e : Bool) → StandsIn e r h.bytes ts left_old → ((rest : List Token) × (tokens_of h.bytes ≡ ts ++ rest)) × IfSome left_old (λ s. AreShown s ts)
+    by_end false (stands, next) = (
+      (coming r.converter.lexer r.unused, ap tokens_of stands.bytes ∙ stands.lexer.tokens r.unused (follows_own r.unused)),
+      known_left left_old left_now h.bytes (λ s. AreShown s ts) h.consumed (λ rest. shown_by _ h.bytes rest ts refl next),
+    )
+    by_end true (left, count, short, is) =
+        ((coming r.converter.lexer [], left), of_whole left_old h.bytes is (λ s. AreShown s ts) (at_end short (coming r.converter.lexer []) left))
+
 -- Where the source has ended: u is the whole text.
 module _ (left_old left_new : Option (List ℕ)) (start : Start) (u : List ℕ) (new : Converter) (c : Option (List ℕ))
     (consumed : Consumes left_old left_new u) (whole : IfSome left_old (λ s. s ≡ u)) (count : new.lexer.count ≡ length u) (short : length u ≤ 2 ^ 62)
     (unused : List ℕ) where
   abbrev reading : Reading
   reading = record { converter = new; unused = unused; has_ended = true }
-
-  of_whole : (P : List ℕ → Type 0) → P u → IfSome left_old P
-  of_whole P h = grind (arith, common_steps)
 
   pub met_at_end : (r : Result (Option CodePlacedMarker) Fault) → ReachedAtEnd start u new (last_step r) c
       → AfterMarker start.profile left_old left_new start.given reading r start.before c
@@ -64,33 +74,12 @@ module _ (left_old left_new : Option (List ℕ)) (start : Start) (u : List ℕ) 
           bytes = u;
           consumed = consumed;
           stands = (h.lexer, count, short, whole);
-          shown = of_whole (λ s. AreShown s (h.tokens ++ h.token ∷ [])) (at_end short (coming new.lexer []) h.lexer);
         };
         meets = h.meets;
       }
-  met_at_end (Ok None) (h, between) =
-      record {
-        tokens = h.tokens;
-        token = h.token;
-        whole = of_whole (λ s. (length s ≤ 2 ^ 62) × (tokens_of s ≡ h.tokens ++ h.token ∷ [])) (short, h.whole);
-        is_end = h.is_end;
-        place = h.place ∙ sym count;
-        passes = h.passes;
-        reads = h.reads;
-        has_read = h.has_read;
-        text = u;
-        cut = h.whole;
-      }
+  met_at_end (Ok None) (h, between) = record { text = u; whole = whole; short = short; count = count; ends = h }
   met_at_end (Err f) h =
-      at_token (record {
-        tokens = h.tokens;
-        token = h.token;
-        comes = of_whole (λ s. AreShown s (h.tokens ++ h.token ∷ [])) (at_end short h.next.0 h.next.1);
-        fails = h.fails;
-        text = u;
-        rest = h.next.0;
-        cut = h.next.1 ∙ append_assoc h.tokens (h.token ∷ []) h.next.0;
-      })
+      at_token (all_bytes u) h (of_whole left_old u whole (λ s. AreShown s (h.tokens ++ h.token ∷ [])) (at_end short h.next.0 h.next.1))
 
 -- In the bytes of the source.
 module _ (q : Profile) (left_old left left_new : Option (List ℕ)) (given : List Token) (u more : List ℕ) (consumed : Consumes left_old left u) (taken : Consumes left left_new more)
@@ -104,40 +93,14 @@ module _ (q : Profile) (left_old left left_new : Option (List ℕ)) (given : Lis
   all : Consumes left_old left_new bytes
   all = Consumes-trans left_old left left_new u more consumed taken
 
-  -- no token is at fault
-  fails_at_read : (f : Fault) (new : Reading) (c : Option (List ℕ)) (s : List ℕ) → ReadFails left_old left_new (decided s) f → ReadsAllOf start s new.converter c
-      → ReadingStops q left_old left_new given f new before c
-  fails_at_read f new c s fails reads =
-      let behind = some_coming reads.now.lexer in
-      at_read (record {
-        tokens = decided s;
-        now = reads.now;
-        same = reads.same;
-        fails = fails;
-        reads = reads.reads;
-        text = s;
-        token = behind.0;
-        rest = behind.1;
-        cut = reads.left ∙ ap (λ (ts : List Token). decided s ++ ts) behind.2;
-      })
-
   pub stops_in_source : (f : Fault) (new : Reading) (c : Option (List ℕ)) → StopsBefore start bytes new.converter c f
       → ReadingStops q left_old left_new given f new before c
   stops_in_source f new c (games_steps.at_token g h) =
-      let ts = h.tokens ++ h.token ∷ [] in
-      let here = shown_begins bytes ts (all_shown bytes ts h.next) in
-      at_token (record {
-        tokens = h.tokens;
-        token = h.token;
-        comes = known_left left_old left_new bytes (λ s. AreShown s ts) all (λ rest. shown_by _ bytes rest ts refl h.next);
-        fails = h.fails;
-        text = bytes;
-        rest = here.0;
-        cut = here.1 ∙ append_assoc h.tokens (h.token ∷ []) here.0;
-      })
-  stops_in_source f new c (games_steps.unread short reads) = fails_at_read f new c bytes (ReadFails.unread bytes all short refl) reads
+      at_token (first_bytes (within_limit bytes)) h (known_left left_old left_new bytes (λ s. AreShown s (h.tokens ++ h.token ∷ [])) all
+      (λ rest. shown_by _ bytes rest (h.tokens ++ h.token ∷ []) refl h.next))
+  stops_in_source f new c (games_steps.unread short reads) = at_read bytes (ReadFails.unread bytes all short refl) reads
   stops_in_source f new c (games_steps.too_long front rest cut place some reads) =
-      fails_at_read f new c front (subst (λ n. ReadFails left_old left_new (decided front) (record { at = n; reason = InputTooLong })) place
+      at_read front (subst (λ n. ReadFails left_old left_new (decided front) (record { at = n; reason = InputTooLong })) place
       (ReadFails.too_long front rest (subst (Consumes left_old left_new) cut all) place some refl)) reads
 
   -- a marker was met
@@ -145,15 +108,13 @@ module _ (q : Profile) (left_old left left_new : Option (List ℕ)) (given : Lis
       → MarkerComes q left_old left_new given m (record { converter = c; unused = unused; has_ended = false }) before after
   met_in_source c unused m after h =
       let ts = h.met.tokens ++ h.met.token ∷ [] in
-      let next = next_of (within_limit bytes) c.lexer ts h.met.lexer.0 in
       record {
         tokens = h.met.tokens;
         token = h.met.token;
         come = record {
           bytes = bytes;
           consumed = all;
-          stands = (stands_within bytes (games_of c unused) ts h.met.lexer.0 h.unused, next);
-          shown = known_left left_old left_new bytes (λ s. AreShown s ts) all (λ rest. shown_by _ bytes rest ts refl next);
+          stands = (stands_within bytes (games_of c unused) ts h.met.lexer.0 h.unused, next_of (within_limit bytes) c.lexer ts h.met.lexer.0);
         };
         meets = h.met.meets;
       }

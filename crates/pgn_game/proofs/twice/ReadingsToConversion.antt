@@ -9,6 +9,7 @@ use Rattle.pgn_game.proofs.tokens.NextGrows.{next_is}
 use Rattle.pgn_game.proofs.tokens.OneMoreToken.{read-refuses, text_of-snoc}
 use Rattle.pgn_game.proofs.tokens.AcceptedToConverter.{in_games}
 use Rattle.pgn_game.proofs.tokens.BytesWithinLimit.{decides_by, shown_begins}
+use Rattle.pgn_game.proofs.twice.MarkerToReading.{come_text}
 use Rattle.pgn_game.proofs.twice.GamesOfReadings.{begins}
 use Rattle.pgn_game.proofs.twice.MarkersInTurn.{matched_marker, not_changed, both_read}
 
@@ -117,7 +118,7 @@ module _ (q : Profile) (first second sink : Device) (first_now : Option (List �
       ap (λ n. totals (record { games = n; plies = sum (map plies_of c.games) })) (sym (games ∙ h.games))
       ∙ ap (λ n. totals (record { games = t.games; plies = n })) (sym (plies ∙ h.plies)) in
       both_known first.before second.before (λ s. (length s ≤ 2 ^ 62) × (tokens_of s ≡ tokens))
-      (λ r. AreShown r so.second_tokens) (λ s r. AreTotalled q s r t sink) reads.whole so.second_stands.has_given.come.shown
+      (λ r. AreShown r so.second_tokens) (λ s r. AreTotalled q s r t sink) reads.whole (come_text _ _ _ _ so.second_stands.has_given.come).1
       (λ s r whole second_shown.
       let x = whole.1 in
       let y = shown_begins r so.second_tokens second_shown in
@@ -190,7 +191,7 @@ module _ (q : Profile) (first second sink : Device) (first_now : Option (List �
       TwoReadingsFail.refused f
       (both_known first.before second.before (λ s. AreShown s (tokens ++ t ∷ []))
       (λ r. AreShown r so.second_tokens) (λ s r. AreRefused q s r f × AreConverted q s r (is_refused f) sink)
-      comes so.second_stands.has_given.come.shown
+      comes (come_text _ _ _ _ so.second_stands.has_given.come).1
       (λ s r first_shown second_shown.
       let x = shown_begins s (tokens ++ t ∷ []) first_shown in
       let y = shown_begins r so.second_tokens second_shown in
@@ -322,7 +323,7 @@ module _ (q : Profile) (first second sink : Device) (first_now second_now mid : 
       ∙ ap (after_change q marker (behind vs) c t ws) changed in
       TwoReadingsFail.refused f
       (both_known first.before second.before (λ s. AreShown s first_tokens) (λ r. AreShown r (tokens ++ t ∷ []))
-      (λ s r. AreRefused q s r f × AreConverted q s r (is_refused f) sink) reads.stands.has_given.come.shown comes
+      (λ s r. AreRefused q s r f × AreConverted q s r (is_refused f) sink) (come_text _ _ _ _ reads.stands.has_given.come).1 comes
       (λ s r first_shown second_shown.
       let x = shown_begins s first_tokens first_shown in
       let y = shown_begins r (tokens ++ t ∷ []) second_shown in

@@ -71,11 +71,11 @@ pub record UsesAll (start : Start) (s : List ℕ) (new : Converter) (after : Opt
   pub reads : ReadsMore start.profile start.given tokens new start.before after
 
 -- All tokens that the bytes u decide were read, by the converter `now`. `new` still has its reader.
-pub record ReadsAllOf (start : Start) (u : List ℕ) (new : Converter) (after : Option (List ℕ)) : Type 0 where
+pub record ReadsAllOf (p : Profile) (given : List Token) (u : List ℕ) (new : Converter) (before after : Option (List ℕ)) : Type 0 where
   pub now : Converter
   pub same : new.reading ≡ now.reading
   pub left : HasLeft now.lexer u (decided u)
-  pub reads : ReadsMore start.profile start.given (decided u) now start.before after
+  pub reads : ReadsMore p given (decided u) now before after
 
 -- How reading stops before a marker.
 -- - `at_token`: at a token that the bytes before place 2^62 decide.
@@ -83,8 +83,8 @@ pub record ReadsAllOf (start : Start) (u : List ℕ) (new : Converter) (after : 
 -- - `too_long`: the source has given the byte at place 2^62.
 pub data StopsBefore (start : Start) (s : List ℕ) (new : Converter) (after : Option (List ℕ)) : Fault → Type 0 where
   at_token : (f : Fault) → FailsIn start.profile (first_bytes (within_limit s)) start.given f new.reading start.before after → StopsBefore start s new after f
-  unread : length s ≤ 2 ^ 62 → ReadsAllOf start s new after → StopsBefore start s new after (record { at = length s; reason = ReadFault })
-  too_long : (front rest : List ℕ) → s ≡ front ++ rest → length front ≡ 2 ^ 62 → 0 < length rest → ReadsAllOf start front new after
+  unread : length s ≤ 2 ^ 62 → ReadsAllOf start.profile start.given s new start.before after → StopsBefore start s new after (record { at = length s; reason = ReadFault })
+  too_long : (front rest : List ℕ) → s ≡ front ++ rest → length front ≡ 2 ^ 62 → 0 < length rest → ReadsAllOf start.profile start.given front new start.before after
       → StopsBefore start s new after (record { at = 2 ^ 62; reason = InputTooLong })
 
 -- What `next_marker` results in: a marker was met, the source has ended, or reading stopped.

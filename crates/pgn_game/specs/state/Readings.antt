@@ -20,15 +20,15 @@ use Rattle.pgn_game.specs.declared.reason.Fault.{Fault}
 use Rattle.pgn_game.specs.games.Markers.{marker_text}
 use Rattle.pgn_game.specs.games.Profile.{Profile, takes_the_marker}
 use Rattle.pgn_game.specs.games.Game.{Game, no_part}
-use Rattle.pgn_game.specs.games.FaultTable.{refusal, is_end}
+use Rattle.pgn_game.specs.games.FaultTable.{refusal}
 use Rattle.pgn_game.specs.export.Text.{game_text, text_of, torn}
 use Rattle.pgn_game.specs.games.Progress.{no_progress, read}
 use Rattle.pgn_game.specs.export.Due.{gain}
 use Rattle.pgn_game.specs.calls.ConverterCalls.{Converter, AreNext, AreShown, within_limit, HasRead}
-use Rattle.pgn_game.specs.state.ConverterSteps.{NotTaken, IsGoing, IsReady, Meets, OneGame, ReadsMore, SameGames, part_after}
+use Rattle.pgn_game.specs.state.ConverterSteps.{FailsIn, IsGoing, IsReady, Known, Meets, OneGame, ReadsToEnd, SameGames, part_after}
 use Rattle.pgn_game.specs.calls.GamesCalls.{games_of}
 use Rattle.pgn_game.specs.state.ReaderState.{as_written}
-use Rattle.pgn_game.specs.state.GamesSteps.{CountsReading, StandsWithin}
+use Rattle.pgn_game.specs.state.GamesSteps.{CountsReading, ReadsAllOf, StandsWithin}
 use Rattle.pgn_game.specs.calls.Checked.{PlacedMarker, markers, markers_from, is_changed, compared_from, with_marker}
 
 -- a reading: its converter, the bytes that were read and are not used yet, and whether the source
@@ -51,13 +51,11 @@ abbrev pub StandsIn : Bool → Reading → List ℕ → List Token → Option (L
 StandsIn false r u given left_old = StandsWithin u (games_of r.converter r.unused) given × AreNext (within_limit u) given
 StandsIn true r u given left_old = HasLeft r.converter.lexer u given × (r.converter.lexer.count ≡ length u) × (length u ≤ 2 ^ 62) × IfSome left_old (λ s. s ≡ u)
 
--- The source has given some bytes so far, and the lexer has given these tokens. The bytes of the
--- text before place 2^62 show them (`AreShown`).
+-- The source has given some bytes so far, and the lexer has given these tokens.
 pub record HasCome (left_old left_now : Option (List ℕ)) (r : Reading) (given : List Token) : Type 0 where
   pub bytes : List ℕ
   pub consumed : Consumes left_old left_now bytes
   pub stands : StandsIn r.has_ended r bytes given left_old
-  pub shown : IfSome left_old (λ s. AreShown s given)
 
 -- The reading has read these tokens by the profile q, in which a missing Result takes the marker.
 -- None of them is rejected.
@@ -108,49 +106,24 @@ pub record MarkerComes (q : Profile) (left_old left_new : Option (List ℕ)) (gi
   pub come : HasCome left_old left_new new (tokens ++ token ∷ [])
   pub meets : Meets q given tokens token m new.converter before after
 
--- The end of the text was read: it is `token`, after the tokens read. It is not rejected, and the
--- text has at most 2^62 bytes. Even if the source does not report its text, there is a text with
--- these tokens.
+-- The end of the text was read, which has at most 2^62 bytes. Even if the source does not report
+-- it, there is such a text.
 pub record EndComes (q : Profile) (left_old : Option (List ℕ)) (given : List Token) (new : Reading) (before after : Option (List ℕ)) : Type 0 where
-  pub tokens : List Token
-  pub token : Token
-  pub whole : IfSome left_old (λ s. (length s ≤ 2 ^ 62) × (tokens_of s ≡ tokens ++ token ∷ []))
-  pub is_end : is_end token.kind ≡ true
-  pub place : token.at ≡ new.converter.lexer.count
-  pub passes : refusal q (part_after q tokens) token.kind ≡ None
-  pub reads : ReadsMore q given tokens new.converter before after
-  pub has_read : HasRead q new.converter (tokens ++ token ∷ [])
   pub text : List ℕ
-  pub cut : tokens_of text ≡ tokens ++ token ∷ []
+  pub whole : IfSome left_old (λ s. s ≡ text)
+  pub short : length text ≤ 2 ^ 62
+  pub count : new.converter.lexer.count ≡ length text
+  pub ends : ReadsToEnd q text given new.converter before after
 
--- A token was not taken: it is `token`, the next one after the tokens read. Even if the source does
--- not report its text, there is a text whose tokens begin with these.
-pub record TokenFails (q : Profile) (left_old : Option (List ℕ)) (given : List Token) (f : Fault) (new : Reading) (before after : Option (List ℕ)) : Type 0 where
-  pub tokens : List Token
-  pub token : Token
-  pub comes : ComesNext left_old tokens token
-  pub fails : NotTaken q given tokens token f new.converter.reading before after
-  pub text : List ℕ
-  pub rest : List Token
-  pub cut : tokens_of text ≡ tokens ++ token ∷ rest
-
--- Reading ended with no token at fault. The converter `now` has read the tokens, and `new` still
--- has its reader. There is a text whose tokens begin with these and one more.
-pub record SourceFails (q : Profile) (left_old left_new : Option (List ℕ)) (given : List Token) (f : Fault) (new : Reading) (before after : Option (List ℕ)) : Type 0 where
-  pub tokens : List Token
-  pub now : Converter
-  pub same : new.converter.reading ≡ now.reading
-  pub fails : ReadFails left_old left_new tokens f
-  pub reads : ReadsMore q given tokens now before after
-  pub text : List ℕ
-  pub token : Token
-  pub rest : List Token
-  pub cut : tokens_of text ≡ tokens ++ token ∷ rest
-
--- how a reading stops before a marker: at a token that was not taken, or with no token at fault
+-- How a reading stops before a marker.
+-- - `at_token`: a token was not taken, which comes next in the text.
+-- - `at_read`: all tokens that the bytes u decide were read, and none is at fault.
+-- Even if the source does not report its text, there is one with these tokens.
 pub data ReadingStops (q : Profile) (left_old left_new : Option (List ℕ)) (given : List Token) (f : Fault) (new : Reading) (before after : Option (List ℕ)) : Type 0 where
-  at_token : TokenFails q left_old given f new before after → ReadingStops q left_old left_new given f new before after
-  at_read : SourceFails q left_old left_new given f new before after → ReadingStops q left_old left_new given f new before after
+  at_token : (text : Known) (h : FailsIn q text given f new.converter.reading before after) → ComesNext left_old h.tokens h.token
+      → ReadingStops q left_old left_new given f new before after
+  at_read : (u : List ℕ) → ReadFails left_old left_new (decided u) f → ReadsAllOf q given u new.converter before after
+      → ReadingStops q left_old left_new given f new before after
 
 -- What `read_to_marker` results in: a marker was met, the end of the text was read, or reading
 -- stopped.
