@@ -24,8 +24,8 @@ pub(crate) enum Begins {
     Refused(LexReason),
 }
 
-/// What the byte begins outside strings and comments. In the first column a percent sign is looked
-/// for before.
+/// What the byte begins outside strings and comments. A percent sign in the first column begins an
+/// escape line, which `take` sees before.
 #[inline(always)]
 pub(crate) fn begins_outside(byte: u8) -> Begins
     ensures { result ≡ spec.begins_outside (spelling.class byte) }
