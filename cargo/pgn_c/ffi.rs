@@ -8,11 +8,12 @@
 
 use crate::explanation::no_explanation;
 use crate::game_result::no_game;
+use crate::items::plain_result;
 use crate::line_of_play::no_line_in_format;
 use crate::pgn_result::{no_mode, NO_MODE};
 use crate::san::no_notation;
 use crate::{
-    PgnBadGame, PgnExplanation, PgnGame, PgnMove, PgnPlies, PgnResult, PgnSection, PgnTag, PgnText,
+    PgnBadGame, PgnExplanation, PgnGame, PgnItems, PgnMove, PgnPlies, PgnResult, PgnSection, PgnTag, PgnText,
 };
 use std::slice;
 
@@ -190,6 +191,25 @@ unsafe extern "C" fn pgn_read_game(
             crate::pgn_read_game(text, from, mode, missing_result, buffer)
         }
         _ => no_game(NO_MODE),
+    }
+}
+
+/// # Safety
+///
+/// The conditions of `pgn.h` hold.
+#[no_mangle]
+unsafe extern "C" fn pgn_items(
+    text: *const u8,
+    length: usize,
+    from: usize,
+    first_item: u64,
+    fields: u32,
+    buffer: *mut u8,
+    capacity: usize,
+) -> PgnItems {
+    match unsafe { (text_of(text, length), buffer_of(buffer, capacity)) } {
+        (Some(text), Some(buffer)) => crate::pgn_items(text, from, first_item, fields, buffer),
+        _ => plain_result(NO_MODE, 0, 0),
     }
 }
 

@@ -11,3 +11,6 @@ pub mod SectionStructs
 pub mod ZerosBehind
 pub mod Words
 pub mod TagSections
+pub mod GivenLists
+pub mod ItemsWritten
+pub mod ItemTexts

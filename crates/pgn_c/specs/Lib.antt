@@ -9,3 +9,5 @@ pub mod NextGame
 pub mod NextGameSteps
 pub mod NextSection
 pub mod NextLine
+pub mod ItemLines
+pub mod ItemSteps

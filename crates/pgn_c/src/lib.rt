@@ -15,6 +15,7 @@ ghost use Rattle.std.specs.Prelude.{◌≡◌};
 ghost use Rattle.chess_text.specs.Fen.{read};
 ghost use Rattle.pgn_c.specs.Explanation.{explanation};
 ghost use Rattle.pgn_c.specs.Positions.{Normalizes, WritesKey, notation_of, san_result_in};
+ghost use Rattle.pgn_c.specs.ItemLines.{WritesItemsIn, fields_of};
 ghost use Rattle.pgn_c.specs.LinesOfPlay.{WritesLineIn, format_of};
 ghost use Rattle.pgn_c.specs.NextGame.{NextGameIn, ReadGameIn};
 ghost use Rattle.pgn_c.specs.NextSection.{NextSection, ends_with_number, is_set};
@@ -25,12 +26,14 @@ mod buffer_sink;
 mod explanation;
 mod fen;
 mod game_result;
+mod items;
 mod line_of_play;
 mod next_game;
 mod next_section;
 mod pgn_result;
 mod read_game;
 mod san;
+mod slice_source;
 mod tag;
 
 use crate::buffer_sink::{BufferBefore, BufferSink, Room};
@@ -39,13 +42,15 @@ use crate::explanation::{explain, no_explanation};
 pub use crate::fen::PgnText;
 use crate::fen::{bad_text, put_fen, put_key};
 pub use crate::game_result::PgnGame;
+pub use crate::items::PgnItems;
+use crate::items::{fields_with_number, plain_result, write_items};
 pub use crate::line_of_play::PgnPlies;
 use crate::line_of_play::{format_with_number, no_first_position, no_line_in_format, write_line};
 use crate::next_game::next_game;
 use crate::next_section::next_section;
 pub use crate::next_section::{PgnBadGame, PgnSection};
 pub use crate::pgn_result::PgnResult;
-use crate::pgn_result::{fault_result, no_mode, totals_result};
+use crate::pgn_result::{NO_MODE, fault_result, no_mode, totals_result};
 use crate::read_game::read_game;
 pub use crate::san::PgnMove;
 use crate::san::{name_move, no_notation, no_position, notation_with_number};
@@ -243,6 +248,45 @@ pub extern "C" fn pgn_read_game(
     ensures { ReadGameIn (mode_of mode) missing_result text.now from buffer.old buffer.new result }
 {
     read_game(text, from, mode_with_number(mode), missing_result, buffer)
+}
+
+/// Writes the items of the next game of a text, from the byte at `from` on, a line each, into the
+/// front of a buffer.
+///
+/// Fields are between tabs, and LF ends a line. `M` is a move: its number, as `12.` or `12...`, and
+/// the fields that were asked for, in this order: SAN, UCI, the FEN of the position after it, and
+/// the key of that position (`pgn_key`). `G` is a NAG, with its number. `C` is a comment, with a
+/// field for each of its words. `(` and `)` begin and end a variation. `R` is the game's marker,
+/// and the last line. `fields` is the sum of 1 for the SAN, 2 for the UCI, 4 for the FEN and 8 for
+/// the key.
+///
+/// Items are counted from 0. The lines begin with that of the item `first_item`: 0, or `next_item`
+/// of a call whose buffer was full. `from` and the places are as for `pgn_next_game`, a missing
+/// Result counts as `*`, and the text ends where it ends: no more comes.
+///
+/// - Status 0: the buffer has the lines of all items.
+/// - Status 1: the text has a fault before the game's marker. The buffer has the lines of the items
+///   before it. The last one has no LF if a comment is open there.
+/// - Status 2: the buffer is full. It has as many whole lines as there is room for, and `next_item`
+///   is the number of the next one. The other bytes of the buffer may have changed.
+/// - Status 3: there are no such fields. Nothing was read or written.
+/// - Status 4: no game is left.
+/// - Status 6: `from` is behind the text, or the text has more than 2^62 bytes. Nothing was read or
+///   written.
+#[unsafe(no_mangle)]
+pub extern "C" fn pgn_items(
+    text: &[u8],
+    from: usize,
+    first_item: u64,
+    fields: u32,
+    buffer: &mut [u8],
+) -> PgnItems
+    ensures { WritesItemsIn (fields_of fields) text.now from first_item buffer.old buffer.new result }
+{
+    match fields_with_number(fields) {
+        Some(fields) => write_items(text, from, first_item, fields, buffer),
+        None => plain_result(NO_MODE, 0, 0),
+    }
 }
 
 /// Finds the tag pair on the line of an export text that begins at a place (PGN 8.1).

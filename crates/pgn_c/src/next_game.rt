@@ -226,8 +226,8 @@ fn run_next<W: Sink>(
     }
 }
 
-// Whether the place is in the first column.
-fn is_first_column(text: &[u8], from: usize) -> bool
+/// Whether the place is in the first column.
+pub fn is_first_column(text: &[u8], from: usize) -> bool
     requires { from ≤ length text.now }
     ensures { result ≡ spec.in_first_column text.now from }
 {
