@@ -1,5 +1,5 @@
 /*
- * Reads a text in one of seven ways, and writes what is written to standard output:
+ * Reads a text in one of eight ways, and writes what is written to standard output:
  *
  *   calls whole          pgn_convert for the whole text
  *   calls games          pgn_next_game for each game
@@ -9,6 +9,7 @@
  *   calls lines          pgn_next_game for each game, in reduced format, and pgn_line for its moves:
  *                        SAN, UCI and FEN of each ply
  *   calls moves          the same, but pgn_san for each move
+ *   calls items          pgn_items for each game: each item, with SAN, UCI and FEN of each ply
  */
 #include <stdio.h>
 #include <string.h>
@@ -72,6 +73,17 @@ int main(int count, char **words) {
         } while (game.status == PGN_OK);
         fwrite(buffer, 1, used, stdout);
         return game.status != PGN_NO_GAME;
+    }
+    if (!strcmp(way, "items")) {
+        pgn_item_lines lines = {0};
+        do {
+            lines = pgn_items(text, length, lines.end, 0,
+                              PGN_ITEM_SAN | PGN_ITEM_UCI | PGN_ITEM_FEN,
+                              buffer + used, sizeof buffer - used);
+            used += lines.written;
+        } while (lines.status == PGN_OK);
+        fwrite(buffer, 1, used, stdout);
+        return lines.status != PGN_NO_GAME;
     }
     do {
         if (!strcmp(way, "sections"))

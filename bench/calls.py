@@ -10,10 +10,12 @@
     pgn_line                 pgn_next_game for each game in reduced format, and one call for its
                              moves: SAN, UCI and FEN of each ply
     pgn_san                  the same, but one call for each move
+    pgn_items                one for each game: a line for each move, with its SAN, its UCI and the
+                             FEN after it, and for each NAG, comment and variation
 
 The calls of pgn_next_game must write what pgn_convert writes, and pgn_read_game the tag sections
-of that. pgn_line must write what pgn_san says of each move. The library is the one that
-bin/build_program --library names, or Cargo's.
+of that. pgn_line and pgn_items must write what pgn_san says of each move. The library is the one
+that bin/build_program --library names, or Cargo's.
 
 The C library clears and copies much memory by string instructions. Callgrind counts one of these
 once for each byte, and a processor once. So the C library is told here to do without them.
@@ -21,6 +23,7 @@ once for each byte, and a processor once. So the C library is told here to do wi
 import os
 import subprocess
 
+import library
 import measure
 import tables
 from measure import HERE, OUT, ROOT, same
@@ -49,22 +52,52 @@ def plies(text):
     return subprocess.run([PROGRAM, "moves"], input=text, stdout=subprocess.PIPE, check=True).stdout
 
 
+def items(text):
+    """A line for each item of an export text, by a call of pgn_san for each move."""
+    gillspoon, lines = library.load(), []
+    for movetext in text.decode().split("\n\n")[1::2]:
+        fen = before = gillspoon.Line().fen
+        opened, words = [], iter(movetext.split())
+        for word in words:
+            if word == "(":
+                opened.append((before, fen))
+                fen = before
+                lines.append(word)
+            elif word == ")":
+                before, fen = opened.pop()
+                lines.append(word)
+            elif word == "{":
+                lines.append("\t".join(["C", *iter(words.__next__, "}")]))
+            elif word[0] == "$":
+                lines.append("G\t" + word[1:])
+            elif word in ("1-0", "0-1", "1/2-1/2", "*"):
+                lines.append("R\t" + word)
+            elif word[-1] != ".":
+                side, number = fen.split()[1], fen.split()[5]
+                move = gillspoon.san(fen, word)
+                number += "." if side == "w" else "..."
+                lines.append("\t".join(("M", number, move.san, move.uci, move.fen)))
+                before, fen = fen, move.fen
+    return "".join(it + "\n" for it in lines).encode()
+
+
 WAYS = {"`pgn_convert`": ("whole", same, same), "`pgn_next_game`": ("games", same, same),
         "`pgn_next_game`, result from marker": ("from-marker", same, same),
         "`pgn_next_game`, no Result tags": ("from-marker", without_results, same),
         "`pgn_read_game`": ("sections", same, sections),
         "`pgn_check`": ("check", same, lambda text: b""),
         "`pgn_next_game`, then `pgn_line`": ("lines", same, plies),
-        "`pgn_next_game`, then `pgn_san` for each move": ("moves", same, plies)}
+        "`pgn_next_game`, then `pgn_san` for each move": ("moves", same, plies),
+        "`pgn_items`": ("items", same, items)}
 
 
 def figures(given):
-    library = measure.built("--library", *(["--cargo"] if given.cargo else []))
-    words = ["cc", "-O2", "-I", ROOT + "/crates/pgn_c", HERE + "/calls.c", library, "-o", PROGRAM]
+    static = measure.built("--library", *(["--cargo"] if given.cargo else []))
+    words = ["cc", "-O2", "-I", ROOT + "/crates/pgn_c", HERE + "/calls.c", static, "-o", PROGRAM]
     subprocess.run(words, check=True)
     os.environ["GLIBC_TUNABLES"] = NO_STRING_INSTRUCTIONS
     calls = {name: ([PROGRAM, way], *others) for name, (way, *others) in WAYS.items()}
-    return {"kind": "of Cargo" if "/cargo/" in library else "of rt",
+    return {"kind": "of Cargo" if "/cargo/" in static else "of rt",
             "table": tables.instructions(measure.instructions(calls, STYLES))}
 
 

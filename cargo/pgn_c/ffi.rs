@@ -13,7 +13,8 @@ use crate::line_of_play::no_line_in_format;
 use crate::pgn_result::{no_mode, NO_MODE};
 use crate::san::no_notation;
 use crate::{
-    PgnBadGame, PgnExplanation, PgnGame, PgnItems, PgnMove, PgnPlies, PgnResult, PgnSection, PgnTag, PgnText,
+    PgnBadGame, PgnExplanation, PgnGame, PgnItems, PgnMove, PgnPlies, PgnResult, PgnSection, PgnTag,
+    PgnText,
 };
 use std::slice;
 

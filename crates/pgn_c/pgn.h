@@ -66,6 +66,14 @@ enum { PGN_SAN_FEN = 2, PGN_UCI_FEN = 3 };
 /* The same, where the line of a ply is the key of the position, as pgn_key writes it. */
 enum { PGN_SAN_KEY = 4, PGN_UCI_KEY = 5 };
 
+/* The fields of a move's line, for pgn_items, which takes their sum. */
+enum {
+    PGN_ITEM_SAN = 1, /* its SAN */
+    PGN_ITEM_UCI = 2, /* its UCI */
+    PGN_ITEM_FEN = 4, /* the FEN of the position after it */
+    PGN_ITEM_KEY = 8  /* the key of that position, as pgn_key writes it */
+};
+
 /* What a missing Result counts as, for pgn_next_game and pgn_read_game. */
 enum {
     PGN_RESULT_UNKNOWN = 0,   /* as *, like pgn_convert and `export` */
@@ -130,6 +138,18 @@ typedef struct pgn_game {
     uint8_t fen[96];      /* PGN_OK: the game's last position. With fault 34, 35 or 36: the position
                              in which the move was rejected. Ended by a zero; "" otherwise */
 } pgn_game;
+
+/* The result of pgn_items. */
+typedef struct pgn_item_lines {
+    uint32_t status;      /* PGN_OK: a whole game; PGN_FAULT, PGN_FULL, PGN_NO_GAME, ... */
+    uint32_t fault;       /* the fault's number with PGN_FAULT, 51 with PGN_FULL; else 0 */
+    uint64_t place;       /* PGN_FAULT: the byte offset of the fault in the text; else 0 */
+    size_t written;       /* how many bytes of the buffer were written, from its front */
+    uint64_t next_item;   /* the number of the item after those that were written */
+    size_t end;           /* PGN_OK: the place after the game, from where the next begins; else 0 */
+    size_t reason_at;     /* where the reason begins in the message */
+    uint8_t message[104]; /* "byte 77: move is not legal", ended by a zero; "" without a fault */
+} pgn_item_lines;
 
 /* The result of pgn_tag_at. */
 typedef struct pgn_tag {
@@ -345,6 +365,42 @@ pgn_game pgn_next_game(const void *text, size_t length, size_t from, uint32_t mo
  */
 pgn_game pgn_read_game(const void *text, size_t length, size_t from, uint32_t mode,
                        uint32_t missing_result, uint8_t *buffer, size_t capacity);
+
+/*
+ * Writes the items of the next game of a text, from the byte at `from` on, a line each, into the
+ * front of a buffer. Tag pairs have no line: pgn_read_game writes them.
+ *
+ * Between the fields of a line are tabs, and a line feed ends it. The first field says what it is:
+ *
+ * M   a move; its number, as 12. or 12..., and those of its SAN, its UCI, the FEN of the position
+ *     after it and the key of that position that `fields` has
+ * G   a NAG; its number, 0 to 255
+ * C   a comment; a field for each of its words
+ * (   a variation begins, which replaces the move before it
+ * )   the variation ends
+ * R   the termination marker, with which the game ends; the marker
+ *
+ * `fields` is the sum of those of PGN_ITEM_SAN to PGN_ITEM_KEY that are wanted, from 0 to 15. The
+ * lines begin with that of the item `first_item`: 0, or the `next_item` of a call whose buffer was
+ * full. `from` is as for pgn_next_game, and places count from the first byte of the text. The text
+ * is whole: a caller who reads in chunks finds the game by pgn_next_game or pgn_read_game before.
+ *
+ * PGN_OK: the buffer has the lines of all items from `first_item` on.
+ * PGN_FAULT: the text has a fault before the game ends. The buffer has the lines of the items
+ *     before it. The last one has no line feed if a comment is open there.
+ * PGN_FULL: the buffer has as many whole lines as there is room for. `fault` is 51. Call again with
+ *     the same `from` and with `next_item` as `first_item`, or, if that is the same, with a larger
+ *     buffer.
+ * PGN_NO_MODE: `fields` is above 15.
+ * PGN_NO_GAME: no game is left; there may be white space, comments and escape lines.
+ * PGN_BAD_PLACE: `from` is greater than `length`, or `length` than 2^62, and the status is not
+ *     PGN_NO_MODE.
+ *
+ * With the last three nothing is written. With the others the bytes of the buffer after the first
+ * `written` may have changed.
+ */
+pgn_item_lines pgn_items(const void *text, size_t length, size_t from, uint64_t first_item,
+                         uint32_t fields, uint8_t *buffer, size_t capacity);
 
 /*
  * Finds the tag pair on the line of an export text that begins at `at`.

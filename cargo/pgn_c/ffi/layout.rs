@@ -1,7 +1,8 @@
 //! The structs as the C compiler has them. The test calls it: `CC`, or `cc`.
 
 use crate::{
-    PgnBadGame, PgnExplanation, PgnGame, PgnMove, PgnPlies, PgnResult, PgnSection, PgnTag, PgnText,
+    PgnBadGame, PgnExplanation, PgnGame, PgnItems, PgnMove, PgnPlies, PgnResult, PgnSection, PgnTag,
+    PgnText,
 };
 use std::mem::{align_of, align_of_val, size_of, size_of_val};
 use std::path::Path;
@@ -46,7 +47,7 @@ const NO_GAME: PgnBadGame = PgnBadGame {
     has_escapes: 0,
 };
 
-fn structs() -> [Struct; 9] {
+fn structs() -> [Struct; 10] {
     [
         layout!(
             "pgn_result",
@@ -74,6 +75,11 @@ fn structs() -> [Struct; 9] {
                 status, fault, place, written, end, marker_at, plies, reason_at, marker, message, fen
             },
             crate::pgn_next_game(b"", 0, 0, 0, &mut [])
+        ),
+        layout!(
+            "pgn_item_lines",
+            PgnItems { status, fault, place, written, next_item, end, reason_at, message },
+            crate::pgn_items(b"", 0, 0, 0, &mut [])
         ),
         layout!(
             "pgn_tag",
@@ -138,5 +144,5 @@ fn the_structs_are_those_of_the_header() {
     let of_c = lines_of_c(&program(&structs), &folder);
     fs::remove_dir_all(&folder).unwrap();
     assert_eq!(lines, of_c);
-    assert_eq!(lines.lines().count(), 9 + 8 + 3 + 6 + 6 + 11 + 6 + 11 + 2 + 7);
+    assert_eq!(lines.lines().count(), 10 + 8 + 3 + 6 + 6 + 11 + 8 + 6 + 11 + 2 + 7);
 }
