@@ -12,6 +12,9 @@ from programs import (ROOT, archive, need, need_library, need_program, need_prov
 
 OK, FAULT, FULL, NO_MODE, NO_GAME, MORE, BAD_PLACE = range(7)
 SAN, UCI, SAN_FEN, UCI_FEN, SAN_KEY, UCI_KEY = range(6)
+# The fields of a line of a move, for pgn_items, and all of them.
+ITEM_SAN, ITEM_UCI, ITEM_FEN, ITEM_KEY = 1, 2, 4, 8
+ALL_FIELDS = 15
 MARKERS = {1: b"1-0", 2: b"0-1", 3: b"1/2-1/2", 4: b"*"}
 # As 1. e4 e5 leave it.
 OPEN_GAME = b"rnbqkbnr/pppp1ppp/8/4p3/4P3/8/PPPP1PPP/RNBQKBNR w KQkq e6 0 2"
@@ -75,6 +78,15 @@ class Library:
         assert text.count(b"\n") == result.plies
         return result, text
 
+    def items(self, data, at=0, first=0, fields=ALL_FIELDS, capacity=None):
+        """The result for the items of the game behind a place, and the lines that were written."""
+        capacity = 999 * (len(data) + 1) if capacity is None else capacity
+        buffer = ctypes.create_string_buffer(b"\xAA" * (capacity + 8), capacity + 8)
+        result = self.calls.pgn_items(data, len(data), at, first, fields, buffer, capacity)
+        assert buffer.raw[capacity:] == b"\xAA" * 8
+        assert result.written <= capacity
+        return result, buffer.raw[: result.written]
+
     def games(self, data, mode=0, missing=0):
         """The results for the games of a text in turn, each with what was written."""
         at = 0
@@ -116,6 +128,74 @@ def tag_section(library, text):
                       text[tag.value_at : tag.value_at + tag.value_length]))
         assert tag.next > at
         at = tag.next
+
+
+def lines_that_fit(texts, first, capacity):
+    """What a buffer holds of the lines of items from a number on, and the number of the next item.
+
+    The texts are those of the items in turn. All of it is there if its end is, whole lines or not.
+    """
+    written = b"".join(texts[first:])
+    if len(written) <= capacity:
+        return written, len(texts)
+    line, count = b"", 0
+    for number, text in enumerate(texts[first:], 1):
+        line += text
+        if len(line) <= capacity and (not line or line.endswith(b"\n")):
+            written, count = line, number
+    return written[: len(written) if count else 0], first + count
+
+
+class Replay:
+    """The items of an export text, by a call of pgn_san for each of its moves."""
+
+    def __init__(self, library):
+        self.library, self.calls, self.moves = library, library.calls, {}
+
+    def first_fen(self, pairs):
+        """The canonical text of the position that a game begins from, by its tag pairs."""
+        fen, room = dict(pairs).get(b"FEN", INITIAL), ctypes.create_string_buffer(96)
+        found = self.calls.pgn_fen_normalize(fen, len(fen), room, 96)
+        return room.raw[: found.length]
+
+    def move(self, fen, word):
+        """The UCI of the move that a SAN names, the position after it, and its key."""
+        if (fen, word) not in self.moves:
+            move = self.calls.pgn_san(fen, len(fen), word, len(word), SAN)
+            assert (move.status, move.san) == (OK, word), (fen, word)
+            room = ctypes.create_string_buffer(96)
+            key = self.calls.pgn_key(move.fen, len(move.fen), room, 96)
+            self.moves[fen, word] = move.uci, move.fen, room.raw[: key.length]
+        return self.moves[fen, word]
+
+    def texts(self, export, fields=ALL_FIELDS):
+        """The texts of the items in turn. The first one is that of the tags."""
+        pairs, behind = tag_section(self.library, export)
+        fen = before = self.first_fen(pairs)
+        texts, opened, words = [b""], [], iter(export[behind:].split())
+        for word in words:
+            if word == b"(":
+                opened.append((before, fen))
+                fen = before
+                texts.append(b"(\n")
+            elif word == b")":
+                before, fen = opened.pop()
+                texts.append(b")\n")
+            elif word == b"{":
+                texts += [b"C", *(b"\t" + it for it in iter(words.__next__, b"}")), b"\n"]
+            elif word.startswith(b"$"):
+                texts.append(b"G\t%s\n" % word[1:])
+            elif word in MARKERS.values():
+                texts.append(b"R\t%s\n" % word)
+            elif not word.endswith(b"."):
+                _, side, _, _, _, number = fen.split()
+                uci, after, key = self.move(fen, word)
+                before, fen = fen, after
+                shown = [it for at, it in enumerate((word, uci, after, key)) if fields >> at & 1]
+                number += b"." if side == b"w" else b"..."
+                texts.append(b"\t".join([b"M", number, *shown]) + b"\n")
+        assert not opened
+        return texts
 
 
 class Installed:
@@ -213,9 +293,11 @@ class Installed:
         self.assertEqual((ran.returncode, ran.stderr), (0, b""))
         data = archive(10, "annotated")
         _, wanted = self.library.convert(data)
-        for way in ("whole", "games", "from-marker"):
+        items = b"".join(it for _, it in self.items_of_games(data, ITEM_SAN + ITEM_UCI + ITEM_FEN))
+        for way, text in (("whole", wanted), ("games", wanted), ("from-marker", wanted),
+                          ("items", items)):
             ran = run(["sh", "-c", 'ulimit -s 128 && exec "$@"', "sh", program, way], input=data)
-            self.assertEqual((ran.returncode, ran.stdout, ran.stderr), (0, wanted, b""), way)
+            self.assertEqual((ran.returncode, ran.stdout, ran.stderr), (0, text, b""), way)
 
     # ---- the worked inputs
 
@@ -591,6 +673,199 @@ class Installed:
                 result, text = self.library.line(INITIAL, data, line_format, capacity)
                 self.assertEqual((fields(result), text), ((OK, 0, 0, 0, len(whole), 3), whole))
 
+    # ---- items
+
+    def items_of_games(self, data, fields):
+        """The results for the games of a text in turn, each with its lines."""
+        at = 0
+        while True:
+            found = self.library.items(data, at, 0, fields)
+            yield found
+            if found[0].status != OK:
+                return
+            at = found[0].end
+
+    def texts_with_items(self):
+        """Inputs of vectors and examples, archives, and games from positions."""
+        for vector in vectors():
+            yield vector["file"], vector["input"].encode()
+        for style in ("plain", "annotated"):
+            yield style, archive(20, style)
+        for name in sorted(os.listdir(ROOT + "/examples")):
+            if name.endswith(".pgn"):
+                with open(ROOT + "/examples/" + name, "rb") as file:
+                    yield name, file.read()
+        for name in ("puzzles", "queens"):
+            with open("%s/bench/%s.txt" % (ROOT, name), "rb") as file:
+                rows = [it.split(b" ", 4) for it in file.read().splitlines()[:100]]
+            yield name, b"\n".join(b'[FEN "%s 0 1"]\n%s *' % (b" ".join(it[:4]), it[4])
+                                   for it in rows)
+
+    def test_items_of_each_text(self):
+        """The lines are what pgn_san says of each move of the export text, with all fields."""
+        replay, games, faults = Replay(self.library), 0, 0
+        for name, data in self.texts_with_items():
+            with self.subTest(name):
+                exports = self.library.games(data)
+                for (lines, text), (game, export) in zip(self.items_of_games(data, 15), exports):
+                    self.assertEqual((lines.fault, lines.place, lines.message, lines.reason_at),
+                                     (game.fault, game.place, game.message, game.reason_at))
+                    self.assertEqual(lines.status, FAULT if game.status == MORE else game.status)
+                    self.assertEqual((lines.end, lines.written), (game.end, len(text)))
+                    texts = self.wanted(replay, data, game, export)
+                    self.assertEqual(text, b"".join(texts))
+                    # tags without movetext may be an item or not
+                    if text or game.status == NO_GAME:
+                        self.assertEqual(lines.next_item, len(texts))
+                    games += game.status == OK
+                    faults += game.fault > 0 and text > b""
+                self.assertIsNone(next(exports, None))
+        self.assertGreater(games, 350)
+        self.assertGreater(faults, 50)
+
+    def wanted(self, replay, data, game, export, fields=ALL_FIELDS):
+        """The texts of the items of a game, by what pgn_next_game says of it."""
+        if game.status in (OK, NO_GAME):
+            return replay.texts(export, fields) if export else []
+        mended = self.mended(data[: game.place], game.place == len(data))
+        return mended and replay.texts(mended[0], fields)[: mended[1]]
+
+    def mended(self, front, is_all):
+        """The export of a game that begins with a text, and where in its items the text ends.
+
+        If that is all, a comment of a line ends with it.
+        """
+        at = max([0] + [game.end for game, _ in self.library.games(front)])
+        for comment_end in (b"", b"}", b"\n"):
+            for depth in range(33):
+                for marker in MARKERS.values():
+                    end = comment_end + b" " + b")" * depth + b" " + marker
+                    game, export = self.library.next_game(front + end, at)
+                    if game.status == OK and game.end == len(front + end):
+                        is_closed = is_all and comment_end == b"\n"
+                        return export, -1 - depth - (len(comment_end) if not is_closed else 0)
+        # no item of movetext
+        return []
+
+    def test_items_of_each_field(self):
+        """Each sum of fields, and others."""
+        replay = Replay(self.library)
+        king = b'[FEN "4k3/8/8/8/8/8/4P3/4K3 b - - 7 30"] Kd7 *'
+        for data in (TEXT, archive(3, "annotated"), king):
+            _, export = self.library.next_game(data)
+            for sum_of_fields in range(16):
+                result, text = self.library.items(data, 0, 0, sum_of_fields)
+                self.assertEqual(result.status, OK)
+                self.assertEqual(text, b"".join(replay.texts(export, sum_of_fields)))
+            for sum_of_fields in (16, 17, 31, 1 << 16, (1 << 32) - 1):
+                for at in (0, len(data) + 1):
+                    self.check_no_items(self.library.items(data, at, 0, sum_of_fields), NO_MODE)
+
+    def check_no_items(self, found, status):
+        """The status, and nothing else."""
+        result, text = found
+        self.assertEqual((fields(result), text),
+                         ((status, *fields(STRUCTS["pgn_item_lines"]())[1:]), b""))
+
+    def test_literal_items(self):
+        """A game from a position, nested variations, a comment over two lines, an empty one."""
+        start = b'[FEN "4k3/8/8/8/8/8/4P3/4K3 w - - 0 30"]\n'
+        moves = (b"e4 {keeps\n the pawn}{} Kd7 $1 (30... Kf7 ; (not one\n (Ke7) 31. Kf2?) "
+                 b"Kd2 1/2-1/2")
+        items = [b"", b"M\t30.\te4\te2e4\t4k3/8/8/8/4P3/8/8/4K3 b - e3 0 30\n",
+                 b"C", b"\tkeeps", b"\tthe", b"\tpawn", b"\n", b"C", b"\n",
+                 b"M\t30...\tKd7\te8d7\t8/3k4/8/8/4P3/8/8/4K3 w - - 1 31\n", b"G\t1\n",
+                 b"(\n", b"M\t30...\tKf7\te8f7\t8/5k2/8/8/4P3/8/8/4K3 w - - 1 31\n",
+                 b"C", b"\t(not", b"\tone", b"\n",
+                 b"(\n", b"M\t30...\tKe7\te8e7\t8/4k3/8/8/4P3/8/8/4K3 w - - 1 31\n", b")\n",
+                 b"M\t31.\tKf2\te1f2\t8/5k2/8/8/4P3/8/5K2/8 b - - 2 31\n", b"G\t2\n", b")\n",
+                 b"M\t31.\tKd2\te1d2\t8/3k4/8/8/4P3/8/3K4/8 b - - 2 31\n", b"R\t1/2-1/2\n"]
+        whole = b"".join(items)
+        for before in (b"", b"*\n"):
+            data = before + start + b'[Result "1/2-1/2"]' + moves + b" e4"
+            result, text = self.library.items(data, len(before), 0, 7)
+            self.assertEqual((fields(result), text),
+                             ((OK, 0, 0, len(whole), len(items), len(data) - 3, 0, b""), whole))
+
+    def test_items_in_buffers_of_each_size(self):
+        """Whole lines are written, and the next call goes on behind them."""
+        replay = Replay(self.library)
+        for data in (TEXT, archive(1, "annotated")[:1600] + b"\n* ", b"1. e4 {one two} (1. d4 {a b"):
+            result, whole = self.library.items(data, 0, 0, ITEM_SAN)
+            texts = self.wanted(replay, data, *self.library.next_game(data), ITEM_SAN)
+            self.assertEqual((whole, result.next_item), (b"".join(texts), len(texts)))
+            for capacity in range(len(whole) + 2):
+                first, joined, last = 0, b"", None
+                while first != last:
+                    last = first
+                    part, text = self.library.items(data, 0, first, ITEM_SAN, capacity)
+                    wanted, next_item = lines_that_fit(texts, first, capacity)
+                    self.assertEqual((text, part.next_item), (wanted, next_item))
+                    joined, first = joined + text, next_item
+                    if part.status != FULL:
+                        self.assertEqual((part.status, part.fault, part.place, part.end),
+                                         (result.status, result.fault, result.place, result.end))
+                        self.assertEqual(joined, whole)
+                        break
+                    self.assertEqual((part.fault, part.place, part.end, part.message),
+                                     (51, 0, 0, b""))
+                else:
+                    self.assertLess(capacity, max(map(len, whole.splitlines(keepends=True))))
+
+    def test_items_from_each_number(self):
+        replay = Replay(self.library)
+        for data in (TEXT, archive(1, "annotated"), b"e4 (d4 {a word} d5 (c5)) e5 {one two"):
+            result, whole = self.library.items(data)
+            texts = self.wanted(replay, data, *self.library.next_game(data))
+            for first in (*range(len(texts) + 3), 1 << 32, (1 << 64) - 1):
+                same, text = self.library.items(data, 0, first)
+                self.assertEqual(text, b"".join(texts[first:]))
+                result.written = len(text)
+                self.assertEqual(fields(same), fields(result))
+            self.assertEqual(b"".join(texts), whole)
+
+    def test_places_of_items(self):
+        """As for pgn_next_game: all bytes before the place count as white space."""
+        length = len(TEXT)
+        self.check_no_items(self.library.items(TEXT, length), NO_GAME)
+        self.check_no_items(self.library.items(b"", 0), NO_GAME)
+        self.check_no_items(self.library.items(b" {a} ; b\n", 0), NO_GAME)
+        for place in (length + 1, 1 << 62, (1 << 62) + 1, (1 << 64) - 1):
+            self.check_no_items(self.library.items(TEXT, place), BAD_PLACE)
+        for place in range(length + 1):
+            game, export = self.library.next_game(TEXT, place)
+            lines, text = self.library.items(TEXT, place)
+            self.assertEqual((lines.fault, lines.place, lines.message, lines.end),
+                             (game.fault, game.place, game.message, game.end), place)
+            if game.status == OK:
+                self.assertEqual(text, b"".join(Replay(self.library).texts(export)))
+        for before in (b"*\n", b"*\r", b"*\r\n", b"", b"\xEF\xBB\xBF", b"\n\n"):
+            lines, text = self.library.items(before + b"% 1-0\n*", len(before))
+            self.assertEqual((lines.status, text), (OK, b"R\t*\n"), before)
+        for before in (b"* ", b"*", b"*\n ", b"\xBB\xBF", b"*\xEF\xBB\xBF"):
+            lines, text = self.library.items(before + b"% 1-0\n*", len(before))
+            self.assertEqual((lines.status, lines.fault, lines.place, text),
+                             (FAULT, 1, len(before), b""), before)
+
+    def test_items_before_a_fault(self):
+        """The lines before it, and where it is. A comment that is open has no line feed."""
+        e4 = b"M\t1.\te4\n"
+        for data, fault, place, text in (
+                (b"e4 Ke3 *", 34, 3, e4), (b"e4 (d4 d5 Bd9) *", 33, 10,
+                                          e4 + b"(\nM\t1.\td4\nM\t1...\td5\n"),
+                (b"e4 (() *", 37, 4, e4 + b"(\n"), (b"e4 {a b", 12, 7, e4 + b"C\ta\tb"),
+                (b"e4 {", 12, 4, e4 + b"C"), (b"e4 {a b} $1", 42, 11, e4 + b"C\ta\tb\nG\t1\n"),
+                (b"e4", 42, 2, e4), (b"e4 ) *", 39, 3, e4), (b"(e4) *", 37, 0, b""),
+                (b'[Result "1-0"] e4 0-1', 41, 18, e4), (b'[White "a"] [White "b"] e4 *', 22, 13, b""),
+                (b'[FEN "x"] e4 *', 26, 5, b""), (b"e4 [White \"a\"] *", 32, 3, e4)):
+            lines, written = self.library.items(data, 0, 0, ITEM_SAN)
+            self.assertEqual((lines.status, lines.fault, lines.place, written),
+                             (FAULT, fault, place, text), data)
+            game, _ = self.library.next_game(data)
+            self.assertEqual((game.fault, game.place, game.message, game.reason_at),
+                             (fault, place, lines.message, lines.reason_at), data)
+            self.assertEqual((lines.end, lines.written), (0, len(text)))
+
     def explained(self, fen, text):
         result = self.library.calls.pgn_explain(fen, len(fen), text, len(text))
         return result, {at: it for at, it in enumerate(result.origins) if it}
@@ -627,6 +902,8 @@ class InstalledByCargo(Installed, unittest.TestCase):
         self.assertEqual(calls.pgn_convert(None, 0, None, 0, 0).status, OK)
         self.assertEqual(calls.pgn_next_game(None, 0, 0, 0, 0, None, 0).status, NO_GAME)
         self.assertEqual(calls.pgn_next_game(b"*", 1, 0, 0, 0, None, 0).status, FULL)
+        self.assertEqual(calls.pgn_items(None, 0, 0, 0, 0, None, 0).status, NO_GAME)
+        self.assertEqual(calls.pgn_items(b"*", 1, 0, 0, 0, None, 0).status, FULL)
         self.assertEqual(calls.pgn_tag_at(None, 0, 0).status, FAULT)
         self.assertEqual(calls.pgn_san(None, 0, None, 0, 0).fault, 26)
         self.assertEqual(calls.pgn_line(None, 0, None, 0, 0, None, 0).fault, 26)
@@ -652,6 +929,7 @@ class InstalledByCargo(Installed, unittest.TestCase):
                  "pgn_san": (*fen, *move, 0),
                  "pgn_line": (*fen, *move, 0, *room), "pgn_next_game": (*text, 0, 0, 0, *room),
                  "pgn_read_game": (*text, 0, 0, 0, *room), "pgn_tag_at": (*text, 0),
+                 "pgn_items": (*text, 0, 0, 1, *room),
                  "pgn_explain": fen + move, "pgn_next_section": (game, *text, 1)}
         self.assertEqual({*calls, "pgn_version"}, set(test_library.declared()))
         before, tried = (buffer.raw, bytes(bad)), 0
@@ -666,7 +944,7 @@ class InstalledByCargo(Installed, unittest.TestCase):
                                  (name, at, others))
                 tried += 1
         self.assertEqual((buffer.raw, bytes(bad)), before)
-        self.assertEqual(tried, 21)
+        self.assertEqual(tried, 23)
         for name, words in calls.items():
             self.assertEqual(getattr(self.library.calls, name)(*words).status, OK, name)
 
