@@ -1,4 +1,4 @@
-"""What is said of a bad game beside its fault: its players, and the move at the fault.
+"""What is said of a bad game beside its fault: its players, its moves, and the move at the fault.
 
 All of it comes from the library: the names are those that it reads, and the text of a move is what
 it took for one.
@@ -7,8 +7,9 @@ import re
 from itertools import islice
 from typing import Iterable, Optional, Tuple
 
-from . import _library
+from . import _calls, _library
 from ._faults import MOVE_FAULTS
+from ._moves import INITIAL_FEN, Habit, Line, read_items
 from ._reading import GameReader
 from ._tags import read_tags
 from ._texts import text_of
@@ -28,6 +29,18 @@ def move_at(data: bytes, at: int, number: int) -> Optional[str]:
     """
     symbol = SYMBOL.match(data, at) if number in MOVE_FAULTS else None
     return symbol[0].decode("ascii") if symbol else None
+
+
+def moves_of(before: bytes) -> Optional[Line]:
+    """The moves of a bad game, by its text up to the fault, or None if it has none there.
+
+    >>> moves_of(b"1. e4 (1. d4 d5 ")
+    Line(e4)
+    """
+    _, text = GameReader().read(before + b"\n*", 0, _library.RESULT_UNKNOWN)
+    fen = read_tags(text_of(text).partition("\n\n")[0]).get("FEN")
+    line = read_items(before, INITIAL_FEN if fen is None else _calls.normalize_fen(fen), Habit())
+    return line if line.plies or line.notes else None
 
 
 def players_of(reader: GameReader, before: bytes, lines: Iterable[bytes],

@@ -1,4 +1,4 @@
-"""The calls on a single position: FEN and SAN."""
+"""The calls on a single position, FEN and SAN, and on the moves of a game."""
 import ctypes
 from typing import Callable, List, NamedTuple, Tuple
 
@@ -127,11 +127,7 @@ def texts_of_plies(fen: str, sans: List[str]) -> List[str]:
 def _lines_of_plies(fen: str, moves: str, line_format: int, size: int) -> str:
     """Plays moves in SAN: a line for each, of at most `size` bytes together."""
     position, text = fen.encode(), moves.encode()
-    # a new buffer takes as long as a call, so one is kept; other threads make their own meanwhile
-    try:
-        buffer = _buffers.pop()
-    except IndexError:
-        buffer = ctypes.create_string_buffer(_CAPACITY)
+    buffer = _kept_buffer()
     if len(buffer) < size:
         buffer = ctypes.create_string_buffer(size)
     played = _line(position, len(position), text, len(text), line_format, buffer, len(buffer))
@@ -140,6 +136,30 @@ def _lines_of_plies(fen: str, moves: str, line_format: int, size: int) -> str:
     lines = _library.front_of(buffer, played.written).decode()
     _buffers.append(buffer)
     return lines
+
+
+def items_of(game: bytes) -> bytes:
+    """The items of a game, or those before its fault: a line each, with SAN and FEN of each move."""
+    fields, buffer = _library.ITEM_SAN + _library.ITEM_FEN, _kept_buffer()
+    while True:
+        found = _library.items(game, len(game), 0, 0, fields, buffer, len(buffer))
+        if found.status != _library.FULL:
+            break
+        buffer = ctypes.create_string_buffer(2 * len(buffer))
+    items = _library.front_of(buffer, found.written)
+    _buffers.append(buffer)
+    return items
+
+
+def _kept_buffer() -> _library.Buffer:
+    """A buffer of an earlier call, since a new one takes as long as a call.
+
+    Threads that call meanwhile have others.
+    """
+    try:
+        return _buffers.pop()
+    except IndexError:
+        return ctypes.create_string_buffer(_CAPACITY)
 
 
 def explain(fen: str, move: str) -> Explanation:

@@ -1,7 +1,10 @@
 """Why a text is rejected."""
-from typing import Dict, Optional, Tuple, Type
+from typing import TYPE_CHECKING, Dict, Optional, Tuple, Type
 
 from ._texts import in_a_line, printable
+
+if TYPE_CHECKING:
+    from ._moves import Line
 
 # The words of the faults that a single move can have, by their numbers in docs/PROFILE.md.
 MOVE_FAULTS = {
@@ -39,6 +42,8 @@ class PgnFault(ValueError):
         "black": "Black of the game at fault, by its tags; `?` if they have none.",
         "file": "The path that was given, or the name of the open file; None without one.",
         "text": "With `on_fault` the bytes that are skipped, from `begin` to `end`; else None.",
+        "_before": None,
+        "_moves": None,
     }
 
     def __init__(self, number: int, reason: str, offset: int, line: int, column: int, game: int,
@@ -51,6 +56,31 @@ class PgnFault(ValueError):
         self.game, self.fen, self.begin, self.end = game, fen, begin, end
         self.move, self.white, self.black = move, white, black
         self.file, self.text = file, text
+        # where no text is skipped, the game up to the fault
+        self._before: Optional[bytes] = None
+        self._moves: "Optional[Line]" = None
+
+    @property
+    def moves_before(self) -> "Optional[Line]":
+        """The moves of the game up to the fault, with their notes; None if there are none.
+
+        A variation or a comment that is open there ends at the fault.
+
+        >>> from gillspoon import games
+        >>> bad = []
+        >>> list(games(b"1. e4 {best} (1. d4 d5) e5 2. Ke3 *", on_fault=bad.append))
+        []
+        >>> bad[0].moves_before, bad[0].moves_before.plies[0].notes
+        (Line(e4 e5), ['best', Line(d4 d5)])
+        """
+        if self._moves is None:
+            text = self._before
+            if self.text is not None:
+                text = self.text[:self.offset - self.begin]
+            if text is not None:
+                from ._bad_games import moves_of
+                self._moves = moves_of(text)
+        return self._moves
 
     def __reduce__(self) -> "Tuple[Type[PgnFault], Tuple[object, ...], Dict[str, object]]":
         attributes = {name: getattr(self, name) for name in PgnFault.__slots__}

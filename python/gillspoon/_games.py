@@ -181,7 +181,7 @@ class Game:
             section, _, movetext = text_of(text).partition("\n\n")
             # most games have no such tag, and then no tag is read for it
             fen = self._first_fen() if '[FEN "' in section else INITIAL_FEN
-            self._moves = read_moves(movetext, fen, self._habit or Habit())
+            self._moves = read_moves(movetext, fen, self._habit or Habit(), text)
         return self._moves
 
     def position_at(self, ply: int) -> str:
@@ -309,9 +309,10 @@ class Reader:
 
     def _go_on(self, fault: PgnFault, on_fault: Optional[OnFault]) -> None:
         """Goes on behind the game at fault, or raises the fault."""
-        if on_fault is None:
-            raise fault
         window, begin = self.window, fault.begin - self.window.base
+        if on_fault is None:
+            fault._before = window.data[begin:fault.offset - window.base]
+            raise fault
         head = window.data[begin:begin + 4]
         bad = _library.BadGame(begin=self.at, fault=fault.offset, at=self.at)
         end = end_of(bad, window, fault.begin if self._keeps_text else None)

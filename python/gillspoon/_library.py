@@ -28,6 +28,8 @@ RESULT_UNKNOWN, RESULT_FROM_MARKER = range(2)
 SAN, UCI = range(2)
 # moves in SAN for pgn_line, which writes the FEN or the key of each ply alone
 SAN_FEN, SAN_KEY = 2, 4
+# what pgn_items writes of a move
+ITEM_SAN, ITEM_FEN = 1, 4
 # the result that each termination marker is, by its number
 RESULTS = ("", "1-0", "0-1", "1/2-1/2", "*")
 # which lines can show where a game ends
@@ -139,6 +141,29 @@ class NextGame(ctypes.Structure):
     ]
 
 
+class ItemLines(ctypes.Structure):
+    """struct pgn_item_lines"""
+
+    status: int
+    fault: int
+    place: int
+    written: int
+    next_item: int
+    end: int
+    reason_at: int
+    message: bytes
+    _fields_ = [
+        ("status", ctypes.c_uint32),
+        ("fault", ctypes.c_uint32),
+        ("place", ctypes.c_uint64),
+        ("written", ctypes.c_size_t),
+        ("next_item", ctypes.c_uint64),
+        ("end", ctypes.c_size_t),
+        ("reason_at", ctypes.c_size_t),
+        ("message", ctypes.c_char * 104),
+    ]
+
+
 class Explanation(ctypes.Structure):
     """struct pgn_explanation"""
 
@@ -218,6 +243,7 @@ _CALLS = {
                                  *_TEXT)),
     "pgn_read_game": (NextGame, (*_TEXT, ctypes.c_size_t, ctypes.c_uint32, ctypes.c_uint32,
                                  *_TEXT)),
+    "pgn_items": (ItemLines, (*_TEXT, ctypes.c_size_t, ctypes.c_uint64, ctypes.c_uint32, *_TEXT)),
     "pgn_next_section": (Section, (ctypes.POINTER(BadGame), *_TEXT, ctypes.c_uint32)),
     "pgn_explain": (Explanation, (*_TEXT, *_TEXT)),
 }
@@ -265,6 +291,7 @@ next_game: Callable[[_Bytes, _Size, _Size, _Number, _Number, _Room, _Size],
                     NextGame] = _library.pgn_next_game
 read_game: Callable[[_Bytes, _Size, _Size, _Number, _Number, _Room, _Size],
                     NextGame] = _library.pgn_read_game
+items: Callable[[bytes, int, int, int, int, Buffer, int], ItemLines] = _library.pgn_items
 next_section: Callable[[BadGame, bytes, int, bool], Section] = _library.pgn_next_section
 explain: Callable[[bytes, int, bytes, int], Explanation] = _library.pgn_explain
 

@@ -1,4 +1,4 @@
-"""The moves of a game: read from its export text, built move by move, and written again.
+"""The moves of a game: read from its export text or its items, built, and written again.
 
 Export text is a normal form, and what is read here is that form alone: docs/PROFILE.md has its
 grammar. The library has checked every move, so nothing is checked again.
@@ -11,6 +11,7 @@ from . import _calls
 from ._commands import (CLOCK, ELAPSED, Arrow, Evaluation, MarkedSquare, arrows_of, evaluation_of,
                         seconds_of, squares_of)
 from ._tags import type_of
+from ._texts import is_utf_8
 from ._views import ViewList, view
 
 INITIAL_FEN = "rnbqkbnr/pppppppp/8/8/8/8/PPPPPPPP/RNBQKBNR w KQkq - 0 1"
@@ -22,12 +23,12 @@ _WORD = re.compile("[^\t-\r ]+")
 class Habit:
     """What was asked of the plies of a source so far, by which those of its next game are made."""
 
-    __slots__ = ("fens", "ucis", "sans")
+    __slots__ = ("fens", "ucis", "sans", "trees")
 
     def __init__(self) -> None:
         # whether positions were asked for since plies were made with them, UCI behind positions,
-        # and SANs of plies that were made with their positions
-        self.fens = self.ucis = self.sans = False
+        # SANs of plies that were made with their positions, and positions in variations
+        self.fens = self.ucis = self.sans = self.trees = False
 
 
 class _Played:
@@ -68,6 +69,8 @@ class _Played:
             self.find_ucis()
             return self.fens
         self.habit.fens = True
+        if isinstance(self.start, Ply):
+            self.habit.trees = True
         if hasattr(self, "foreseen"):
             self.fens = self.foreseen
         else:
@@ -483,9 +486,11 @@ def _unpacked_notes(notes: List[Any], before: Union[Ply, str]) -> List[Note]:
 # ---- export text
 
 
-def read_moves(movetext: str, fen: str, habit: Habit) -> Line:
-    """The moves of the movetext of a game in export format."""
+def read_moves(movetext: str, fen: str, habit: Habit, export: bytes) -> Line:
+    """The moves of a game: its movetext in export format, its first position, all of its export."""
     if "{" in movetext or "$" in movetext or "(" in movetext:
+        if habit.trees:
+            return read_items(export, fen, habit)
         return _read_noted_moves(movetext, fen, habit)
     line = _line(fen)
     if habit.fens:
@@ -557,17 +562,71 @@ def _read_noted_moves(movetext: str, fen: str, habit: Habit) -> Line:
             at = end + 1
         elif first == "(":
             opened.append((line, played, sans))
-            start = line.plies[-2] if len(line.plies) > 1 else line.start
-            variation = _line(start)
-            line.plies[-1].notes.append(variation)
-            noted = line = variation
-            number, sans = played.first + len(sans) - 1, []
-            played = _Played(start, number, sans, habit)
+            noted, number = _variation(line), played.first + len(sans) - 1
+            line, sans = noted, []
+            played = _Played(line.start, number, sans, habit)
         elif first == ")":
             line, played, sans = opened.pop()
             noted = line.plies[-1]
         else:
             return line
+
+
+def read_items(game: bytes, fen: str, habit: Habit) -> Line:
+    """The moves of a game, or those before its fault, with their notes and positions.
+
+    The first ply has no position, and that of one variation: if these are asked for, so may be
+    those of the next game.
+    """
+    rows = _calls.items_of(game).decode("utf-8" if is_utf_8(game) else "latin-1").split("\n")
+    fens: List[str] = []
+    sans: List[str] = []
+    line, played = _line(fen), _Played(fen, 1, sans, habit)
+    played.foreseen, habit.fens = fens, False
+    noted: Any = line
+    plies, at, is_placed = line.plies, 0, False
+    opened: List[Tuple[Line, _Played, List[str], List[str]]] = []
+    # without a line feed at its end a comment is open there
+    for row in rows if rows[-1] else rows[:-1]:
+        kind = row[0]
+        if kind == "M":
+            _, _, san, after = row.split("\t")
+            if is_placed:
+                noted = _PlacedPly()
+                noted.fen = after
+            else:
+                noted, is_placed = _ReadPly(), True
+            noted._at = at
+            noted.san = san
+            noted._played = played
+            at += 1
+            sans.append(san)
+            fens.append(after)
+            plies.append(noted)
+        elif kind == "C":
+            noted.notes.append(row[2:].replace("\t", " "))
+        elif kind == "G":
+            noted.notes.append(int(row[2:]))
+        elif kind == "(":
+            opened.append((line, played, sans, fens))
+            line, sans, fens = _variation(line), [], []
+            played = _Played(line.start, played.first + at - 1, sans, habit)
+            played.foreseen = fens
+            noted, plies, at = line, line.plies, 0
+            if habit.trees and isinstance(line.start, Ply):
+                is_placed = habit.trees = False
+        elif kind == ")":
+            line, played, sans, fens = opened.pop()
+            plies, at = line.plies, len(sans)
+            noted = plies[-1]
+    return opened[0][0] if opened else line
+
+
+def _variation(line: Line) -> Line:
+    """A new variation, which replaces the last move of a line."""
+    variation = _line(line.plies[-2] if len(line.plies) > 1 else line.start)
+    line.plies[-1].notes.append(variation)
+    return variation
 
 
 def write_moves(line: Line) -> str:

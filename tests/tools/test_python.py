@@ -109,6 +109,17 @@ def ever(value):
         yield value
 
 
+def tree(line):
+    """What is known of a line: its first position, and of each ply its text, position and notes."""
+    return line.fen, notes_of(line), [
+        (ply.number, ply.san, ply.fen, notes_of(ply)) for ply in line]
+
+
+def notes_of(noted):
+    """The notes of a line or a ply, with trees in place of lines."""
+    return [tree(it) if isinstance(it, gillspoon.Line) else it for it in noted.notes]
+
+
 def damaged(source, data):
     """The data with some bytes taken out, and others put in."""
     data = bytearray(data)
@@ -602,6 +613,68 @@ class Positions(unittest.TestCase):
                 self.assertTrue([it.san for it in it.mainline()])
 
         self.assertEqual(self.formats(of=read), [gillspoon._library.SAN_FEN] * 2)
+
+    def test_positions_in_variations_are_foreseen(self):
+        """Where these were asked for, the next game with notes is read by its items."""
+        one = ('{first} e4 {\xfc} $1 (e3 {a  b} (d3 d5 $2) e5) (c4) {} e5 *'.encode(encoding)
+               for encoding in ("utf-8", "latin-1"))
+        start = b'[FEN "4k3/8/8/8/8/8/4P3/4K3 w - - 5 99"] e4 (e3 Kd7 (Ke7)) Kd7 Kd2 *'
+        library = gillspoon._library
+        for data in (archive(20, "annotated"), b"\n".join([*one, start, start]), b"\n".join(
+                RandomGames(9).source(200))):
+            wanted = []
+            for game in gillspoon.games(data):
+                game._habit = None
+                wanted.append((tree(game.moves()), game.text))
+            with mock.patch.object(library, "items", wraps=library.items) as items:
+                for game, (its_tree, text) in zip(gillspoon.games(data), wanted):
+                    line = game.moves()
+                    self.assertEqual(tree(line), its_tree)
+                    for make in (copies.copy, lambda it: pickle.loads(pickle.dumps(it))):
+                        self.assertEqual(tree(make(line)), its_tree)
+                    self.assertEqual(line.plies[-1].fen if line.plies else line.fen, game.fen)
+                    self.assertEqual(gillspoon.write_game(game.tags, line, encoding=game.encoding),
+                                     text)
+            self.assertGreater(items.call_count, 0)
+
+    def test_a_call_for_all_lines(self):
+        """Of a game with notes, where positions in variations are asked for; else there is none."""
+        data = b"e4 (d4 d5 (e5)) e5 * e4 (d4) e5 (c5 Nf3 (c3) Nc6) Nf3 * c4 c5 (e5) * Nf3 (d4 d5) *"
+        calls, library = gillspoon._calls, gillspoon._library
+        first, rest = [], gillspoon.games(data)
+        with mock.patch.object(calls, "_line", wraps=calls._line) as line, \
+                mock.patch.object(library, "items", wraps=library.items) as items:
+            self.check_fens(next(rest).moves())
+            self.assertEqual((line.call_count, items.call_count), (3, 0))
+            self.check_fens(next(rest).moves())
+            self.assertEqual((line.call_count, items.call_count), (3, 1))
+            # not asked for here, but found
+            first.append(next(rest).moves())
+            self.assertEqual((line.call_count, items.call_count), (3, 2))
+            first.append(next(rest).moves())
+            self.assertEqual((line.call_count, items.call_count), (3, 2))
+            for game in gillspoon.games(data):
+                self.assertTrue([it.fen for it in game.mainline()])
+            self.assertEqual((line.call_count, items.call_count), (7, 2))
+        for it in first:
+            self.check(it)
+
+    def check_fens(self, line):
+        """Each is that after the move."""
+        fen = line.fen
+        for ply in line:
+            for variation in ply.variations:
+                self.assertEqual(variation.fen, fen)
+                self.check_fens(variation)
+            self.assertEqual(ply.fen, gillspoon.san(fen, ply.san).fen)
+            fen = ply.fen
+
+    def test_long_games_by_their_items(self):
+        """They may be longer than the buffer that is kept."""
+        data = b"e4 (d4 {" + b"a word " * 3000 + b"}) " + b"e5 Nf3 Nf6 Ng1 Ng8 Nc3 Nc6 Nb1 Nb8 *"
+        trees = [tree(it.moves()) for it in gillspoon.games(data * 2)]
+        self.assertEqual(trees[0], trees[1])
+        self.assertEqual(trees[0][2][0][3][0][2][0][3], [" ".join(["a word"] * 3000)])
 
     def test_sans_beside_foreseen_positions(self):
         """They are found where one is asked for, and then for all games behind that."""
@@ -1163,6 +1236,67 @@ class Faults(Folder):
             fault = fault_of(error, call)
             copy = pickle.loads(pickle.dumps(fault))
             self.assertEqual((str(copy), copy.fen), (str(fault), fault.fen))
+
+    def test_moves_before(self):
+        """Those of games from a position, with a fault in notes, in variations, and between."""
+        start = "4k3/8/8/8/8/8/4P3/4K3 w - - 0 30"
+        after = ["4k3/8/8/8/4P3/8/8/4K3 b - e3 0 30", "8/3k4/8/8/4P3/8/8/4K3 w - - 1 31",
+                 "8/4k3/8/8/4P3/8/8/4K3 w - - 1 31", "4k3/8/8/8/8/4P3/8/4K3 b - - 0 30"]
+        e4, kd7 = (1, "e4", after[0]), (2, "Kd7", after[1])
+        ke7, e3 = (2, "Ke7", after[2]), (1, "e3", after[3])
+        for movetext, notes, plies in (
+                ("{first} e4 Kd7 Kf9 *", ["first"], [(*e4, []), (*kd7, [])]),
+                ("{first} $7 e4 {a\n b} Kf9 *", ["first", 7], [(*e4, ["a b"])]),
+                ("e4 (e3! Kf9) Kd7 *", [], [(*e4, [(start, [], [(*e3, [1])])])]),
+                ("e4 (e3) Kd7 {one} (Ke7 {two} $2 (Kf9)) *", [], [
+                    (*e4, [(start, [], [(*e3, [])])]),
+                    (*kd7, ["one", (after[0], [], [(*ke7, ["two", 2, (after[0], [], [])])])])]),
+                ("e4 $256 Kd7 *", [], [(*e4, [])]),
+                ("e4 Kd7 {open", [], [(*e4, []), (*kd7, ["open"])]),
+                ("e4 ({open", [], [(*e4, [(start, ["open"], [])])]),
+                ("e4 Kd7 1-0", [], [(*e4, []), (*kd7, [])]), ("{first} *)", ["first"], []),
+                ("e4", [], [(*e4, [])]), ("e4 ; a\x01b\n *", [], [(*e4, ["a"])])):
+            data = ('[White "Ada"] [FEN "%s"] [Result "%s"] %s' % (
+                start, "0-1" if "*)" in movetext else "*", movetext)).encode()
+            for before in (b"", b"*\n\n"):
+                bad = []
+                list(gillspoon.games(before + data, on_fault=bad.append))
+                raised = fault_of(gillspoon.PgnFault, list, gillspoon.games(before + data))
+                for fault in (bad[0], raised, pickle.loads(pickle.dumps(bad[0])),
+                              pickle.loads(pickle.dumps(raised))):
+                    self.assertEqual(tree(fault.moves_before), (start, notes, plies), data)
+        for data in (b'[White "Ada"] Kf9 *', b"1. (e4) *", b'[White "a', b'[FEN "x"] e4 *', b"&"):
+            fault = fault_of(gillspoon.PgnFault, list, gillspoon.games(data))
+            self.assertIsNone(fault.moves_before, data)
+
+    def test_moves_before_in_damaged_games(self):
+        """They are those of the game that ends at the fault."""
+        source, count = random.Random(8), 0
+        for text in RandomGames(3).source(3000):
+            bad = []
+            list(gillspoon.games(damaged(source, text), on_fault=bad.append))
+            for fault in bad:
+                game = self.ended_at(fault.text[:fault.offset - fault.begin])
+                line = game.moves() if game else None
+                if line is not None and (line.plies or line.notes):
+                    self.assertEqual(tree(fault.moves_before), tree(line), fault.text)
+                    count += 1
+                else:
+                    self.assertIsNone(fault.moves_before, fault.text)
+        self.assertGreater(count, 20)
+
+    def ended_at(self, front):
+        """The game that a text becomes where all that is open at its end is closed."""
+        for comment_end in (b"", b"}", b"\n"):
+            for depth in range(7):
+                for result in (b"*", b"1-0", b"0-1", b"1/2-1/2"):
+                    text = front + comment_end + b" " + b")" * depth + b" " + result
+                    try:
+                        game, = gillspoon.games(text)
+                    except ValueError:
+                        continue
+                    return game
+        return None
 
     def test_position_only_of_a_refused_move(self):
         for text, fen in ((b"1. e4 e5 (1... e6 2. Ke3) *",
@@ -2296,6 +2430,11 @@ class Documents(Folder):
                     if said is not None:
                         self.assertEqual(shown, said)
         self.assertGreater(count, 1)
+
+    def test_moves_before_a_fault(self):
+        text, said = next((text, said) for _, text, said in samples("python")
+                          if "moves_before" in text)
+        self.assertEqual(self.run_sample(text), said)
 
     def test_there_are_ten_recipes(self):
         lines = lines_of("docs/PYTHON.md")
