@@ -14,7 +14,7 @@ OK, FAULT, FULL, NO_MODE, NO_GAME, MORE, BAD_PLACE = range(7)
 SAN, UCI, SAN_FEN, UCI_FEN, SAN_KEY, UCI_KEY = range(6)
 # The fields of a line of a move, for pgn_items, and all of them.
 ITEM_SAN, ITEM_UCI, ITEM_FEN, ITEM_KEY = 1, 2, 4, 8
-ALL_FIELDS = 15
+ALL_FIELDS = ITEM_SAN + ITEM_UCI + ITEM_FEN + ITEM_KEY
 MARKERS = {1: b"1-0", 2: b"0-1", 3: b"1/2-1/2", 4: b"*"}
 # As 1. e4 e5 leave it.
 OPEN_GAME = b"rnbqkbnr/pppp1ppp/8/4p3/4P3/8/PPPP1PPP/RNBQKBNR w KQkq e6 0 2"

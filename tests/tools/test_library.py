@@ -184,6 +184,8 @@ class HeaderTest(unittest.TestCase):
         names = dict(re.findall(r"PGN_(\w+) = (\d+)", bare_header()))
         self.assertEqual({name: names.get(name) for name in consts}, consts)
         self.assertEqual((names["FULL_FORMAT"], names["REDUCED_FORMAT"]), ("0", "1"))
+        self.assertEqual([names["ITEM_" + it] for it in ("SAN", "UCI", "FEN", "KEY")],
+                         ["1", "2", "4", "8"])
 
     def test_symbols_of_the_shared_library(self):
         need("nm", "readelf")
