@@ -1,7 +1,7 @@
 -- The text of the item given last is that of the definitions.
-use Rattle.std.proofs.Common.{◌≡◌, ℕ, Bool, List, [], ◌∷◌, ◌++◌, codes, Option, None, Some, IsTrue, refl, sym, ap, ap₂, subst, ◌∙◌, append-nil}
+use Rattle.std.proofs.Common.{◌≡◌, ℕ, Bool, true, false, List, [], ◌∷◌, ◌++◌, codes, Option, None, Some, IsTrue, refl, sym, ap, ap₂, subst, ◌∙◌, append-nil}
 use Rattle.std.specs.Prelude.{IsSomeAnd, decimal, fold, is_some, option_map}
-use Rattle.std.proofs.lemmas.List.{fold-append}
+use Rattle.std.proofs.lemmas.List.Sums.{fold-append}
 use Rattle.chess_rules.specs.declared.position.Move.{Move}
 use Rattle.chess_rules.specs.declared.position.Parts.{Parts}
 use Rattle.chess_text.specs.San.{san}
@@ -15,7 +15,7 @@ use Rattle.pgn_game.specs.games.Levels.{Levels, first_level, here, levels_after,
 use Rattle.pgn_game.specs.games.Markers.{marker_text}
 use Rattle.pgn_game.specs.games.Pairs.{Pair}
 use Rattle.pgn_game.specs.state.Movetext.{StoredLevels, before_last}
-use Rattle.pgn_c.specs.ItemLines.{ends_line, field, field_if, given_text, has_marker, move_line}
+use Rattle.pgn_c.specs.ItemLines.{ends_line, field, field_if, first_game, given_text, has_marker, move_line}
 use Rattle.pgn_c.specs.ItemSteps.{code_ends, code_move, field_of, front_text, is_marker, number_if, position_fields, word_of}
 use Rattle.pgn_c.specs.declared.items.MoveFields.{MoveFields}
 
@@ -23,7 +23,7 @@ tags_text : (f : MoveFields) (o : Option Shown) (ps : List Pair) → given_text 
 tags_text f None ps = refl
 tags_text f (Some s) ps = refl
 
-marker_line : (f : MoveFields) (o : Option Shown) (m : List ℕ) → given_text f o (marker m) ≡ (codes "R" ++ field m ++ 10 ∷ []) ++ []
+marker_line : (f : MoveFields) (o : Option Shown) (m : List ℕ) → given_text f o (marker m) ≡ codes "R" ++ field m ++ 10 ∷ []
 marker_line f None m = refl
 marker_line f (Some s) m = refl
 
@@ -83,7 +83,8 @@ module _ (f : MoveFields) (c : Current) (given : List Given) where
   text_behind : (i : CodeItem) (o : Option Shown) → c.last ≡ Some i → IsBehindTags c.pending c.last → IsSomeAnd (shown_with o (given_as c i)) (IsShown c)
       → (c.pending ≡ None → IsSomeAnd (shown_with o (given_as c i)) (IsHeld c)) → given_text f o (given_as c i) ≡ front_text f c i ++ word_of c i
   text_behind items.Tags o last at shows held = tags_text f o c.reading.tags.held
-  text_behind (items.Marker m) o last at shows held = marker_line f o (marker_text m)
+  text_behind (items.Marker m) o last at shows held =
+      marker_line f o (marker_text m) ∙ sym (append-nil (codes "R" ++ field (marker_text m) ++ 10 ∷ []))
   text_behind i None last at shows held = none i shows
     where
       none : (x : CodeItem) → IsSomeAnd (shown_with None (given_as c x)) (IsShown c) → given_text f None (given_as c x) ≡ front_text f c x ++ word_of c x
@@ -99,7 +100,7 @@ module _ (f : MoveFields) (c : Current) (given : List Given) where
   text_behind (items.Move m) (Some s) last at shows held =
       let none = none_next m c.pending at last in
       move_text f c m s last none (held none) ∙ sym (append-nil (code_move f c))
-  text_behind (items.Glyph n) (Some s) last at shows held = refl
+  text_behind (items.Glyph n) (Some s) last at shows held = sym (append-nil (codes "G" ++ field (decimal n) ++ 10 ∷ []))
   text_behind items.CommentOpen (Some s) last at shows held = refl
   text_behind items.Word (Some s) last at shows held = refl
   text_behind items.CommentClose (Some s) last at shows held = refl
@@ -137,3 +138,15 @@ marks c items.CommentClose = refl
 marks c items.Open = refl
 marks c items.Close = refl
 marks c (items.Marker m) = refl
+
+-- a marker ends the first game
+pub marker_only : (c : Current) (i : CodeItem) (more : List Given) → is_marker i ≡ true → first_game (given_as c i ∷ more) ≡ given_as c i ∷ []
+marker_only c (items.Marker m) more is = refl
+marker_only c items.Tags more is = cc
+marker_only c (items.Move m) more is = cc
+marker_only c (items.Glyph n) more is = cc
+marker_only c items.CommentOpen more is = cc
+marker_only c items.Word more is = cc
+marker_only c items.CommentClose more is = cc
+marker_only c items.Open more is = cc
+marker_only c items.Close more is = cc

@@ -1,5 +1,5 @@
 -- The lines of items in a buffer, one item after another.
-use Rattle.std.proofs.Common.{◌≡◌, ℕ, ◌+◌, ◌<◌, ◌≤◌, ◌⊎◌, inl, inr, Bool, true, false, IsTrue, List, [], ◌∷◌, ◌++◌, length, min, take, drop, Option, None, Some, refl, sym, ap, ap₂, subst, ◌∙◌, arith, append-nil, append_assoc, length-append, take_at, drop_at, drop-drop, take_all}
+use Rattle.std.proofs.Common.{◌≡◌, ℕ, ◌+◌, ◌^◌, ◌<◌, ◌≤◌, ◌⊎◌, inl, inr, Bool, true, false, IsTrue, List, [], ◌∷◌, ◌++◌, length, min, take, drop, Option, None, Some, refl, sym, ap, ap₂, subst, ◌∙◌, arith, append-nil, append_assoc, length-append, take_at, drop_at, drop-drop, take_all}
 use Rattle.std.proofs.lemmas.List.{drop_all, length-drop, take-append-drop}
 use Rattle.pgn_game.specs.calls.Given.{Given, shown}
 use Rattle.pgn_game.specs.declared.reason.Fault.{Fault}
@@ -188,39 +188,40 @@ module _ (f : MoveFields) (first : ℕ) (given : List Given) (before now : List 
 
   module _ (s : List ℕ) (small : first < 2 ^ 64) where
     -- all items of the game were given
-    pub all_items : game_items (profile_in Full) s ≡ given → (has_end : Bool) → has_marker given ≡ has_end → (fault : Option Fault)
+    pub all_items : game_items (profile_in Full) s ≡ given → (has_end : Bool) → has_marker given ≡ has_end → (fault : Option Fault) (end : ℕ)
         → (has_end ≡ true) ⊎ ((read (profile_in Full) (tokens_of s)).fault ≡ fault) → (result : PgnItems)
-        → result ≡ all_result has_end fault l.used l.items → WritesItems f s first before now result
-    all_items game has_end end fault told result is =
+        → result ≡ all_result has_end fault end l.used l.items → WritesItems f s first before now result
+    all_items game has_end is_end fault end told result is =
         let parts = passed_all small [] (inl refl) in
         let same : given ++ [] ≡ game_items (profile_in Full) s = append-nil given ∙ sym game in
         record {
           passed = so.passed;
           put = behind_passed;
           left = [];
+          end = end;
           is_passed = parts.0 ∙ ap (take first) same;
           is_put = ap (drop first) (sym same) ∙ parts.1;
           written = so.begun;
           is_result = is
               ∙ by told
-              ∙ ap₂ (λ (n k : ℕ). all_result (has_marker (game_items (profile_in Full) s)) (read (profile_in Full) (tokens_of s)).fault n k) so.used
+              ∙ ap₂ (λ (n k : ℕ). all_result (has_marker (game_items (profile_in Full) s)) (read (profile_in Full) (tokens_of s)).fault end n k) so.used
               (so.count ∙ ap (λ (xs : List Given). counted (length xs)) so.parts);
         }
       where
         end_is : has_end ≡ has_marker (game_items (profile_in Full) s)
-        end_is = sym end ∙ ap has_marker (sym game)
+        end_is = sym is_end ∙ ap has_marker (sym game)
 
-        marked : (has : Bool) → has ≡ true → (a b : Option Fault) → all_result has a l.used l.items ≡ all_result has b l.used l.items
+        marked : (has : Bool) → has ≡ true → (a b : Option Fault) → all_result has a end l.used l.items ≡ all_result has b end l.used l.items
         marked true h a b = refl
         marked false h a b = cc
 
         by : (has_end ≡ true) ⊎ ((read (profile_in Full) (tokens_of s)).fault ≡ fault)
-            → all_result has_end fault l.used l.items
-            ≡ all_result (has_marker (game_items (profile_in Full) s)) (read (profile_in Full) (tokens_of s)).fault l.used l.items
-        by (inl yes) =
-            marked has_end yes fault (read (profile_in Full) (tokens_of s)).fault
-            ∙ ap (λ (b : Bool). all_result b (read (profile_in Full) (tokens_of s)).fault l.used l.items) end_is
-        by (inr is_fault) = ap₂ (λ (b : Bool) (o : Option Fault). all_result b o l.used l.items) end_is (sym is_fault)
+            → all_result has_end fault end l.used l.items
+            ≡ all_result (has_marker (game_items (profile_in Full) s)) (read (profile_in Full) (tokens_of s)).fault end l.used l.items
+        by (inl marked_end) =
+            marked has_end marked_end fault (read (profile_in Full) (tokens_of s)).fault
+            ∙ ap (λ (b : Bool). all_result b (read (profile_in Full) (tokens_of s)).fault end l.used l.items) end_is
+        by (inr is_fault) = ap₂ (λ (b : Bool) (o : Option Fault). all_result b o end l.used l.items) end_is (sym is_fault)
 
     -- the text of the next item does not fit
     pub full_buffer : (g : Given) (more : List Given) → game_items (profile_in Full) s ≡ given ++ first_game (g ∷ more) → (text : List ℕ)
@@ -238,6 +239,7 @@ module _ (f : MoveFields) (first : ℕ) (given : List Given) (before now : List 
           passed = so.passed;
           put = so.put;
           left = so.pending ++ behind;
+          end = 0;
           is_passed = parts.0 ∙ ap (take first) is_game;
           is_put = ap (drop first) (sym is_game) ∙ parts.1 ∙ sym left;
           written = record {
@@ -280,7 +282,7 @@ module _ (f : MoveFields) (first : ℕ) (given : List Given) (before now : List 
         is_full = same ∙ ap₂ (λ (n k : ℕ). record (plain_result 2 n k) { fault = 51 }) so.whole so.whole_count
 
         left_items : (pending tail : List Given) → pending ≡ so.pending
-            → IsLeft f so.passed so.put (pending ++ g ∷ tail) (has_marker (game_items (profile_in Full) s)) (read (profile_in Full) (tokens_of s)).fault (length before) result
+            → IsLeft f so.passed so.put (pending ++ g ∷ tail) (has_marker (game_items (profile_in Full) s)) (read (profile_in Full) (tokens_of s)).fault 0 (length before) result
         left_items [] tail same_pending =
             (so.lines, subst (λ (xs : List Given). length before < length (texts_behind f so.passed so.put) + length (texts_behind f (so.passed ++ so.put) (first_line (xs ++ g ∷ tail)))) (sym same_pending) (line_long tail), is_full)
         left_items (x ∷ xs) tail same_pending =

@@ -14,3 +14,6 @@ pub mod TagSections
 pub mod GivenLists
 pub mod ItemsWritten
 pub mod ItemTexts
+pub mod ItemsGiven
+pub mod PutTwice
+pub mod TextAhead

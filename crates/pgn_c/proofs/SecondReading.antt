@@ -1,14 +1,13 @@
 -- A game that is found where a missing Result takes the marker is found again where a missing
 -- Result counts as this marker, unless the buffer is full.
 use Rattle.pgn_c.proofs.Words.{◌≡◌, ◌⊎◌, inl, inr, ℕ, zero, suc, ◌^◌, ◌≤◌, ◌&&◌, Bool, true, IsTrue, List, [], ◌∷◌, ◌++◌, length, drop, Option, None, Some, refl, sym, ap, subst, ◌∙◌, append-nil, length-append, length-drop, take_all, arith, bytes_eq-Decides, Token, tokens_of, Marker, Mode, marker_text, Read, read, games_read, PgnGame, AreKnown, ConvertsNext, IsGame, NextOf, profile_counting, profile_taking, text_from}
-use Rattle.std.proofs.lemmas.List.{length-replicate}
-use Rattle.pgn_lexer.specs.WhiteSpace.{white_space}
 use Rattle.pgn_game.specs.calls.ConverterCalls.{AreShown, so_far, at_end}
 use Rattle.pgn_game.specs.games.Game.{Game}
 use Rattle.pgn_game.specs.laws.MissingResults.{IsReadAlike, MissingResults, all_end_with}
 use Rattle.pgn_c.specs.NextGame.{ReadsNext, in_first_column, marker_number}
 use Rattle.pgn_c.proofs.MarkerTaken.{is_fault}
 use Rattle.pgn_c.proofs.ReadingGoesOn.{fault_ends, games_stay}
+use Rattle.pgn_c.proofs.TextAhead.{length_from}
 
 -- only a game has the status 0
 pub game_of : (mode : Mode) (s piece : List ℕ) (found : PgnGame) → NextOf (profile_taking mode) s piece found None None
@@ -28,19 +27,7 @@ begin_with s ts (so_far front rest cut short next) = let after = next rest in (a
 begin_with s ts (at_end short rest are) = (rest, are)
 
 length_of : (text : List ℕ) (from : ℕ) → from ≤ length text → length (text_from text from) ≡ length text
-length_of text zero within = refl
-length_of text (suc n) within =
-    omega (
-      arith,
-      within,
-      length-append (white_space (suc n) (in_first_column text (suc n))) (drop (suc n) text),
-      length_of_white (suc n) (in_first_column text (suc n)),
-      length-drop (suc n) text,
-    )
-  where
-    length_of_white : (n : ℕ) (first : Bool) → length (white_space n first) ≡ n
-    length_of_white zero first = refl
-    length_of_white (suc n) first = grind (arith, length-append, length-replicate)
+length_of text from within = length_from text from (in_first_column text from) within
 
 module _ (law : MissingResults) (mode : Mode) (s : List ℕ) (found : PgnGame) (is : IsGame (profile_taking mode) s found None None) where
   abbrev ts : List Token

@@ -1,9 +1,9 @@
 -- **Definition**: the items of the next game of a text, as C gets them: a line each.
 -- Letters: f are the fields of a move's line, g is what is given, m a move, p the profile, and s
 -- the text of a call with white space in place of the bytes before the place that it is read from.
--- `before` and `after` are the bytes of the buffer before a call and after it. `first` is the number
--- of the first item whose line is written.
-use Rattle.std.specs.Prelude.{◌≡◌, ℕ, ◌+◌, ◌^◌, ◌<◌, ◌≤◌, ◌==◌, ◌/◌, ◌%◌, ◌⊎◌, if◌then◌else◌, Bool, true, false, IsTrue, IsFalse, List, [], ◌∷◌, ◌++◌, fold, length, min, take, drop, decimal, codes, Option, Some, None}
+-- `before` and `after` are the bytes of the buffer before a call and after it. `first` is the
+-- number of the first item whose line is written.
+use Rattle.std.specs.Prelude.{◌≡◌, ℕ, ◌+◌, ◌-◌, ◌^◌, ◌<◌, ◌≤◌, ◌==◌, ◌/◌, ◌%◌, ◌⊎◌, if◌then◌else◌, Bool, true, false, IsTrue, IsFalse, List, [], ◌∷◌, ◌++◌, fold, length, min, take, drop, decimal, codes, Option, Some, None}
 use Rattle.chess_rules.specs.declared.position.Move.{Move}
 use Rattle.chess_rules.specs.declared.position.Parts.{Parts}
 use Rattle.chess_rules.specs.declared.piece.Colour.{Colour}
@@ -135,11 +135,11 @@ fault_result f written next =
     record { status = 1; fault = number_of f.reason; place = f.at; written = written; next_item = next; end = 0; reason_at = 7 + length (decimal f.at); message = padded 104 (line_of f) }
 
 -- The result if all is written that is given of a game: 0 if its marker is, 1 for the fault of the
--- text, and 4 if no game is left.
-abbrev pub all_result : Bool → Option Fault → ℕ → ℕ → PgnItems
-all_result true fault written next = plain_result 0 written next
-all_result false (Some f) written next = fault_result f written next
-all_result false None written next = plain_result 4 written next
+-- text, and 4 if no game is left. `end` is the place behind the marker.
+abbrev pub all_result : Bool → Option Fault → ℕ → ℕ → ℕ → PgnItems
+all_result true fault end written next = record (plain_result 0 written next) { end = end }
+all_result false (Some f) end written next = fault_result f written next
+all_result false None end written next = plain_result 4 written next
 
 -- ---- the call
 
@@ -150,10 +150,10 @@ pub record IsBegun (before after written : List ℕ) : Type 0 where
   pub long : length after ≡ length before
 
 -- What is left behind the lines that were written: nothing, or items whose first line does not fit.
-abbrev pub IsLeft : MoveFields → List Given → List Given → List Given → Bool → Option Fault → ℕ → PgnItems → Type 0
-IsLeft f passed put [] has_end fault capacity result =
-    result ≡ all_result has_end fault (length (texts_behind f passed put)) (counted (length (passed ++ put)))
-IsLeft f passed put (g ∷ gs) has_end fault capacity result =
+abbrev pub IsLeft : MoveFields → List Given → List Given → List Given → Bool → Option Fault → ℕ → ℕ → PgnItems → Type 0
+IsLeft f passed put [] has_end fault end capacity result =
+    result ≡ all_result has_end fault end (length (texts_behind f passed put)) (counted (length (passed ++ put)))
+IsLeft f passed put (g ∷ gs) has_end fault end capacity result =
     IsTrue (are_lines put) × (capacity < length (texts_behind f passed put) + length (texts_behind f (passed ++ put) (first_line (g ∷ gs))))
     × (result ≡ record (plain_result 2 (length (texts_behind f passed put)) (counted (length (passed ++ put)))) { fault = 51 })
 
@@ -164,11 +164,12 @@ pub record WritesItems (f : MoveFields) (s : List ℕ) (first : ℕ) (before aft
   pub passed : List Given
   pub put : List Given
   pub left : List Given
+  pub end : ℕ
   pub is_passed : passed ≡ take first (game_items (profile_in Full) s)
   pub is_put : drop first (game_items (profile_in Full) s) ≡ put ++ left
   pub written : IsBegun before after (texts_behind f passed put)
   pub is_result : IsLeft f passed put left (has_marker (game_items (profile_in Full) s))
-      (read (profile_in Full) (tokens_of s)).fault (length before) result
+      (read (profile_in Full) (tokens_of s)).fault end (length before) result
 
 -- With a place after the end of the text, or a text of more than 2^62 bytes, the status is 6, and
 -- nothing is written.

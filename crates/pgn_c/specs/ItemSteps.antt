@@ -1,7 +1,7 @@
 -- **Bookkeeping**: how the lines of items are put into a buffer, one item after another.
 -- Letters: f are the fields of a move's line, g is what is given, i an item of the code, c the
 -- current game. `before` and `now` are the bytes of the buffer before the call and now.
-use Rattle.std.specs.Prelude.{◌≡◌, ℕ, ◌+◌, ◌<◌, ◌≤◌, ◌⊎◌, Bool, true, false, List, [], ◌∷◌, ◌++◌, length, take, drop, codes, decimal, Option, Some, None}
+use Rattle.std.specs.Prelude.{◌≡◌, ℕ, ◌+◌, ◌^◌, ◌<◌, ◌≤◌, ◌⊎◌, Bool, true, false, List, [], ◌∷◌, ◌++◌, length, take, drop, codes, decimal, Option, Some, None}
 use Rattle.chess_rules.specs.declared.position.Parts.{Parts}
 use Rattle.pgn_game.specs.declared.mode.Mode.TheVariants.{Full}
 use Rattle.pgn_game.specs.declared.item.Item.{Item as CodeItem}
@@ -84,6 +84,11 @@ PutsText old new text ends before now true =
 PutsText old new text ends before now false =
     (length before < old.used + length text) × (new ≡ old) × (now ≡ before)
 
+-- What putting an item does: one before the first that is written is passed.
+pub record PutsItem (f : MoveFields) (first : ℕ) (c : Current) (i : CodeItem) (old new : Lines) (before now : List ℕ) (result : Bool) : Type 0 where
+  pub passes : old.items < first → (result ≡ true) × (new ≡ passed_one old) × (now ≡ before)
+  pub puts : first ≤ old.items → PutsText old new (front_text f c i ++ word_of c i) (code_ends i) before now result
+
 -- ---- what was written so far
 
 -- No line ends with one of these items.
@@ -116,3 +121,9 @@ pub record GivenSoFar (f : MoveFields) (s : List ℕ) (first : ℕ) (before now 
   pub have : HaveGiven (profile_in Full) (Some rest) u i given
   pub no_marker : has_marker given ≡ false
   pub lines : LinesSoFar f first given before now l
+
+-- Of a source that had these bytes left, so much was given and written since the call began.
+pub record WritesSoFar (f : MoveFields) (first : ℕ) (old : Items) (left : List ℕ) (before now : List ℕ) (i : Items) (rest : List ℕ) (l : Lines) : Type 0 where
+  pub room : l.used ≤ length now
+  pub given : (u : List ℕ) → HaveGiven (profile_in Full) (Some left) u old [] → length (u ++ left) ≤ 2 ^ 62
+      → GivenSoFar f (u ++ left) first before now i rest l

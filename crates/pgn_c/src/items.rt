@@ -1,13 +1,15 @@
 //! The items of the next game of a text, as C gets them: a line each.
 ghost use Rattle.std.specs.Prelude.{◌≡◌, ℕ, ◌+◌, ◌^◌, ◌<◌, ◌≤◌, List, [], ◌++◌, length, take, drop, Some};
 ghost use Rattle.std.specs.Option.{option_copied};
+ghost use Rattle.chess_text.specs.Fen.{fen_text};
+ghost use Rattle.chess_text.specs.Key.{position_key};
 ghost use Rattle.pgn_game.specs.calls.ItemsCalls.{HaveGiven, shown_san, shown_uci};
 ghost use Rattle.pgn_game.specs.declared.mode.Mode.TheVariants.{Full};
 ghost use Rattle.pgn_c.specs.Results.{profile_in};
 ghost use Rattle.pgn_c.specs.ItemLines as spec;
-ghost use Rattle.pgn_c.specs.ItemLines.{WritesItems, WritesItemsAt};
+ghost use Rattle.pgn_c.specs.ItemLines.{WritesItems, WritesItemsAt, field_if};
 ghost use Rattle.pgn_c.specs.ItemSteps as steps;
-ghost use Rattle.pgn_c.specs.ItemSteps.{PutsText, code_ends, code_move, field_of, front_text};
+ghost use Rattle.pgn_c.specs.ItemSteps.{PutsItem, PutsText, code_ends, code_move, field_of, front_text};
 ghost use Rattle.pgn_c.specs.ItemSteps.{number_if, passed_one, position_fields};
 
 use crate::game_result::{BAD_PLACE, NO_GAME};
@@ -19,6 +21,7 @@ use arrayvec::ArrayVec;
 use chess_rules::{Colour, Position, Probes};
 use chess_text::{FenWriter, write_position_key};
 use itoa::Buffer;
+use pgn_game::laws::items_join;
 use pgn_game::{Fault, Item, Items, Reason};
 
 /// The most bytes of an item's text.
@@ -52,7 +55,7 @@ pub fn fields_with_number(number: u32) -> Option<MoveFields>
     })
 }
 
-/// How the items of a game were written, `struct pgn_items` in C.
+/// How the items of a game were written, `struct pgn_item_lines` in C.
 #[repr(C)]
 #[derive(Clone, Copy)]
 pub struct PgnItems {
@@ -88,6 +91,35 @@ struct Lines {
 }
 
 impl Lines {
+    // Puts the text of the item just given into the buffer, unless the item is before the first that
+    // is written. Returns whether it fits.
+    fn put_item(
+        &mut self,
+        items: &Items<TAGS, LEVELS>,
+        item: &Item,
+        first: u64,
+        fields: MoveFields,
+        fens: &mut FenWriter,
+        buffer: &mut [u8],
+    ) -> bool
+        requires { self.old.used ≤ length buffer.old }
+        ensures { PutsItem fields first items.now.current item.now self.old self.new buffer.old
+            buffer.new result }
+    {
+        if self.items < first {
+            self.pass();
+            return true;
+        }
+        let mut front = ArrayVec::new();
+        push_item(&mut front, items, item, fields, fens);
+        self.put(
+            front.as_slice(),
+            word_of(items, item),
+            ends_line(item),
+            buffer,
+        )
+    }
+
     // Passes an item: nothing is written.
     fn pass(&mut self)
         requires { self.old.items + 1 < 2 ^ 64 }
@@ -162,6 +194,7 @@ fn write_game(
         → length (u ++ source.old.left.now) ≤ 2 ^ 62
         → WritesItems fields (u ++ source.old.left.now) first buffer.old buffer.new result }
 {
+    items_join();
     let mut fens = FenWriter::new();
     let mut lines = Lines {
         items: 0,
@@ -171,21 +204,14 @@ fn write_game(
     };
     loop {
         match items.next(source) {
-            Err(fault) => return refused_items(fault, lines),
+            Err(fault) => return refused_items(fault, &lines),
             Ok(None) => return plain_result(NO_GAME, lines.used, lines.items),
             Ok(Some(item)) => {
-                if lines.items < first {
-                    lines.pass();
-                } else {
-                    let mut front = ArrayVec::new();
-                    push_item(&mut front, items, item, fields, &mut fens);
-                    let word = word_of(items, item);
-                    if !lines.put(front.as_slice(), word, ends_line(item), buffer) {
-                        return full_items(lines);
-                    }
+                if !lines.put_item(items, &item, first, fields, &mut fens, buffer) {
+                    return full_items(&lines);
                 }
-                if is_marker(item) {
-                    return whole_game(lines, items.place() as usize);
+                if is_marker(&item) {
+                    return whole_game(&lines, items.place() as usize);
                 }
             }
         }
@@ -193,23 +219,23 @@ fn write_game(
 }
 
 // Whether a line ends with the item.
-fn ends_line(item: Item) -> bool
-    ensures { result ≡ code_ends item }
+fn ends_line(item: &Item) -> bool
+    ensures { result ≡ code_ends item.now }
 {
-    !matches!(item, Item::CommentOpen | Item::Word)
+    !matches!(*item, Item::CommentOpen | Item::Word)
 }
 
-fn is_marker(item: Item) -> bool
-    ensures { result ≡ steps.is_marker item }
+fn is_marker(item: &Item) -> bool
+    ensures { result ≡ steps.is_marker item.now }
 {
-    matches!(item, Item::Marker(_))
+    matches!(*item, Item::Marker(_))
 }
 
 // The word just given, if the item is one.
-fn word_of(items: &Items<TAGS, LEVELS>, item: Item) -> &[u8]
-    ensures { result.now ≡ steps.word_of items.now.current item }
+fn word_of<'a>(items: &'a Items<TAGS, LEVELS>, item: &Item) -> &'a [u8]
+    ensures { result.now ≡ steps.word_of items.now.current item.now }
 {
-    match item {
+    match *item {
         Item::Word => items.word(),
         _ => &[],
     }
@@ -219,14 +245,14 @@ fn word_of(items: &Items<TAGS, LEVELS>, item: Item) -> &[u8]
 fn push_item(
     text: &mut ArrayVec<u8, TEXT_LENGTH>,
     items: &Items<TAGS, LEVELS>,
-    item: Item,
+    item: &Item,
     fields: MoveFields,
     fens: &mut FenWriter,
 )
     requires { text.old.items ≡ [] }
-    ensures { text.new.items ≡ front_text fields items.now.current item }
+    ensures { text.new.items ≡ front_text fields items.now.current item.now }
 {
-    match item {
+    match *item {
         Item::Tags => {}
         Item::Move(_) => push_move(text, items, fields, fens),
         Item::Glyph(glyph) => {
@@ -274,7 +300,7 @@ fn push_move(
 // Adds the number of the move that is played in a position.
 fn push_number(text: &mut ArrayVec<u8, TEXT_LENGTH>, before: Option<&Position>)
     requires { length text.old.items ≤ 1 }
-    ensures text { text.new.items ≡ text.old.items ++ number_if (option_copied before) }
+    ensures text { text.new.items ≡ text.old.items ++ number_if (option_copied before.entry) }
     ensures short { length text.new.items ≤ length text.old.items + 14 }
 {
     let Some(position) = before else {
@@ -291,7 +317,8 @@ fn push_number(text: &mut ArrayVec<u8, TEXT_LENGTH>, before: Option<&Position>)
 // Adds the SAN of the move just given, if it was asked for.
 fn push_san(text: &mut ArrayVec<u8, TEXT_LENGTH>, items: &Items<TAGS, LEVELS>, is_wanted: bool)
     requires { length text.old.items ≤ 15 }
-    ensures text { text.new.items ≡ text.old.items ++ field_of is_wanted (shown_san items.now.current) }
+    ensures text { text.new.items
+        ≡ text.old.items ++ field_of is_wanted (shown_san items.now.current) }
     ensures short { length text.new.items ≤ length text.old.items + 8 }
 {
     if !is_wanted {
@@ -305,7 +332,8 @@ fn push_san(text: &mut ArrayVec<u8, TEXT_LENGTH>, items: &Items<TAGS, LEVELS>, i
 // Adds the UCI of the move just given, if it was asked for.
 fn push_uci(text: &mut ArrayVec<u8, TEXT_LENGTH>, items: &Items<TAGS, LEVELS>, is_wanted: bool)
     requires { length text.old.items ≤ 23 }
-    ensures text { text.new.items ≡ text.old.items ++ field_of is_wanted (shown_uci items.now.current) }
+    ensures text { text.new.items
+        ≡ text.old.items ++ field_of is_wanted (shown_uci items.now.current) }
     ensures short { length text.new.items ≤ length text.old.items + 6 }
 {
     if !is_wanted {
@@ -325,19 +353,46 @@ fn push_position(
 )
     requires { length text.old.items ≤ 29 }
     ensures text { text.new.items
-        ≡ text.old.items ++ position_fields fields (option_copied position) }
+        ≡ text.old.items ++ position_fields fields (option_copied position.entry) }
     ensures short { length text.new.items ≤ length text.old.items + 176 }
 {
     let Some(position) = position else {
         return;
     };
-    if fields.fen {
-        push_field(text, fens.write(position).as_slice());
+    push_fen(text, position, fields.fen, fens);
+    push_key(text, position, fields.key);
+}
+
+// Adds the FEN of a position, if it was asked for.
+fn push_fen(
+    text: &mut ArrayVec<u8, TEXT_LENGTH>,
+    position: &Position,
+    is_wanted: bool,
+    fens: &mut FenWriter,
+)
+    requires { length text.old.items ≤ 29 }
+    ensures text { text.new.items
+        ≡ text.old.items ++ field_if is_wanted (fen_text position.now) }
+    ensures short { length text.new.items ≤ length text.old.items + 94 }
+{
+    if !is_wanted {
+        return;
     }
-    if fields.key {
-        let key = write_position_key(position, &mut Probes::new());
-        push_field(text, key.as_slice());
+    push_field(text, fens.write(position).as_slice());
+}
+
+// Adds the key of a position, if it was asked for.
+fn push_key(text: &mut ArrayVec<u8, TEXT_LENGTH>, position: &Position, is_wanted: bool)
+    requires { length text.old.items ≤ 123 }
+    ensures text { text.new.items
+        ≡ text.old.items ++ field_if is_wanted (position_key position.now) }
+    ensures short { length text.new.items ≤ length text.old.items + 82 }
+{
+    if !is_wanted {
+        return;
     }
+    let key = write_position_key(position, &mut Probes::new());
+    push_field(text, key.as_slice());
 }
 
 // Adds a tab and a field.
@@ -366,8 +421,8 @@ pub fn plain_result(status: u32, written: usize, next_item: u64) -> PgnItems
 }
 
 // The result for a game whose items were all written, and whose marker ends at this place.
-fn whole_game(lines: Lines, end: usize) -> PgnItems
-    ensures { result ≡ record (spec.plain_result 0 lines.used lines.items) { end = end } }
+fn whole_game(lines: &Lines, end: usize) -> PgnItems
+    ensures { result ≡ record (spec.plain_result 0 lines.now.used lines.now.items) { end = end } }
 {
     PgnItems {
         end,
@@ -376,8 +431,8 @@ fn whole_game(lines: Lines, end: usize) -> PgnItems
 }
 
 // The result for a fault.
-fn refused_items(fault: Fault, lines: Lines) -> PgnItems
-    ensures { result ≡ spec.fault_result fault lines.used lines.items }
+fn refused_items(fault: Fault, lines: &Lines) -> PgnItems
+    ensures { result ≡ spec.fault_result fault lines.now.used lines.now.items }
 {
     PgnItems {
         status: FAULT,
@@ -392,8 +447,8 @@ fn refused_items(fault: Fault, lines: Lines) -> PgnItems
 }
 
 // The result for a full buffer.
-fn full_items(lines: Lines) -> PgnItems
-    ensures { result ≡ record (spec.plain_result 2 lines.whole lines.whole_items) { fault = 51 } }
+fn full_items(lines: &Lines) -> PgnItems
+    ensures { result ≡ record (spec.plain_result 2 lines.now.whole lines.now.whole_items) { fault = 51 } }
 {
     PgnItems {
         fault: Reason::WriteFault.number() as u32,

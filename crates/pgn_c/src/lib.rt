@@ -281,7 +281,8 @@ pub extern "C" fn pgn_items(
     fields: u32,
     buffer: &mut [u8],
 ) -> PgnItems
-    ensures { WritesItemsIn (fields_of fields) text.now from first_item buffer.old buffer.new result }
+    ensures { WritesItemsIn (fields_of fields) text.now from first_item buffer.old buffer.new
+        result }
 {
     match fields_with_number(fields) {
         Some(fields) => write_items(text, from, first_item, fields, buffer),
