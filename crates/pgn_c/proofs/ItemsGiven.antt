@@ -18,7 +18,7 @@ use Rattle.pgn_c.specs.declared.items.MoveFields.{MoveFields}
 use Rattle.pgn_c.specs.declared.items.PgnItems.{PgnItems}
 use Rattle.pgn_c.proofs.GivenLists.{game_goes_on, marker_later, whole_game}
 use Rattle.pgn_c.proofs.ItemTexts.{line_ends, marker_only, marks, text_is}
-use Rattle.pgn_c.proofs.ItemsWritten.{all_items, full_buffer, none_written, pass_one, put_in_line, put_line}
+use Rattle.pgn_c.proofs.ItemsWritten.{all_items, full_buffer, pass_one, put_in_line, put_line}
 
 -- The bytes of a source that were consumed, and those that are left.
 left_text : (s u rest more left : List ℕ) → s ≡ u ++ rest → rest ≡ more ++ left → s ≡ (u ++ more) ++ left

@@ -14,25 +14,6 @@ use Rattle.pgn_c.specs.declared.items.PgnItems.{PgnItems}
 use Rattle.pgn_game.specs.declared.mode.Mode.TheVariants.{Full}
 use Rattle.pgn_c.proofs.GivenLists.{game_begins, game_goes_on, line_begins, line_goes_on, lines_end, none_more, one_more_text, texts_of_both}
 
--- no item was given yet
-pub none_written : (f : MoveFields) (first : ℕ) (buffer : List ℕ)
-    → LinesSoFar f first [] buffer buffer (record { items = 0; used = 0; whole_items = 0; whole = 0 })
-none_written f first buffer = record {
-  passed = [];
-  put = [];
-  pending = [];
-  parts = refl;
-  few = omega arith;
-  all = inl refl;
-  lines = refl;
-  none_ends = tt;
-  count = refl;
-  used = refl;
-  whole_count = refl;
-  whole = refl;
-  begun = record { behind = buffer; now = refl; long = refl };
-}
-
 module _ (f : MoveFields) (first : ℕ) (given : List Given) (before now : List ℕ) (l : Lines) (so : LinesSoFar f first given before now l) where
   abbrev behind_passed : List Given
   behind_passed = so.put ++ so.pending

@@ -91,8 +91,8 @@ struct Lines {
 }
 
 impl Lines {
-    // Puts the text of the item just given into the buffer, unless the item is before the first that
-    // is written. Returns whether it fits.
+    // Puts the text of the item just given into the buffer, unless the item is before the first
+    // that is written. Returns whether it fits.
     fn put_item(
         &mut self,
         items: &Items<TAGS, LEVELS>,
@@ -448,7 +448,8 @@ fn refused_items(fault: Fault, lines: &Lines) -> PgnItems
 
 // The result for a full buffer.
 fn full_items(lines: &Lines) -> PgnItems
-    ensures { result ≡ record (spec.plain_result 2 lines.now.whole lines.now.whole_items) { fault = 51 } }
+    ensures { result
+        ≡ record (spec.plain_result 2 lines.now.whole lines.now.whole_items) { fault = 51 } }
 {
     PgnItems {
         fault: Reason::WriteFault.number() as u32,

@@ -85,11 +85,11 @@ pub use Rattle.pgn_game.specs.state.Readings.{BothSoFar, HasMarkers, HasMatched,
 pub use Rattle.pgn_game.specs.calls.MostTried.{CostsIf, CostsToAdd, CostsToFind, CostsToWrite, MostFrom, MostTried, Raises, Tries, CostsUnlessRefused, is_sought, TriesUnwritten, added, is_written, none}
 pub use Rattle.pgn_game.specs.calls.GamesCalls.{AfterNext, CountsNext, Games, HasReadAll, HaveRead, NextFault, NextGame, NextStops, NoGame, ReadSoFar, at_end, ReadsNext, ReadsNoGame, games_of, most_left, within}
 pub use Rattle.pgn_game.specs.export.Due.{Gains, gain, text_next}
-pub use Rattle.pgn_game.specs.state.ConverterSteps.{AllSoFar, AtEndSoFar, EndsGame, FaultAtEnd, FeedsAllSoFar, FinishesSoFar, GainsAs, IsGoing, Meets, NotTaken, OneGame, ReadsMore, SameGames, due_as, ended_by, fault_of, outcome_at, part_after, CountsGame, EndsToMarker, FailsIn, GoesToMarker, IsBeforePiece, IsBeforeToken, IsReadyAfter, KeepsRest, ReadsToEnd, StepAdvances, StepAtEndAdvances, StepGoes, StepsInPiece, StepsAtEnd, announcing, is_ended, taking_announced_marker, At, MeetsAt, Reached, ReadsOn, StandsAtStart, StandsInText, Start, Reaches, ReadsPiece, ReadsToMarker, step_marker, Known, first_bytes, all_bytes, AreNextIn, HasGivenSince, IsGivenLast, ReachedAtEnd, ReadsLeft, last_step}
+pub use Rattle.pgn_game.specs.state.ConverterSteps.{AllSoFar, AtEndSoFar, EndsGame, FaultAtEnd, FeedsAllSoFar, FinishesSoFar, GainsAs, IsGoing, Meets, NotTaken, OneGame, ReadsMore, SameGames, due_as, ended_by, fault_of, outcome_at, part_after, CountsGame, EndsToMarker, FailsIn, GoesToMarker, IsBeforePiece, IsBeforeToken, IsReadyAfter, KeepsRest, ReadsToEnd, StepAdvances, StepAtEndAdvances, StepGoes, StepsInPiece, StepsAtEnd, announcing, is_ended, taking_announced_marker, At, MeetsAt, Reached, ReadsOn, StandsAtStart, StandsInText, Start, ReadsPiece, ReadsToMarker, step_marker, Known, first_bytes, all_bytes, AreNextIn, HasGivenSince, IsGivenLast, ReachedAtEnd, ReadsLeft, last_step}
 pub use Rattle.pgn_game.specs.calls.Checked.{Comparison, PlacedMarker, checked_profile, compared, compared_from, earlier_fault, is_changed, is_other, marker_at, markers, markers_after, markers_from, torn_before, with_marker, written_by}
 pub use Rattle.pgn_lexer.specs.Decided.{decided}
 pub use Rattle.pgn_game.specs.calls.Conversion.{AfterConversion, AfterEnd, AfterSlice, CountsDevices, Fails, FailsOn, IsConverted, IsTotalled, MostProbes, CountsResult, CountsSink, CountsWriting, Decides, IsTokenPrefix, ReadsNoMore, verdict_in}
-pub use Rattle.pgn_game.specs.state.GamesSteps.{FillResult, MoreResult, MoreSoFar, ReadsSoFar, StandsWithin, AfterToMarker, CountsReading, FeedsRest, MeetsNext, ReadsAllOf, StopsBefore, UsesAll}
+pub use Rattle.pgn_game.specs.state.GamesSteps.{FillResult, MoreResult, MoreSoFar, ReadsSoFar, StandsWithin, CountsReading, FeedsRest, MeetsNext, ReadsAllOf, StopsBefore, UsesAll}
 pub use Rattle.pgn_game.specs.laws.GamesRestart.{FinishesGame, GamesRestart, counting_also, games_read}
 pub use Rattle.pgn_game.specs.declared.conversion.Totals.{Totals}
 pub use Rattle.pgn_lexer.specs.declared.token.LexFault.{LexFault}

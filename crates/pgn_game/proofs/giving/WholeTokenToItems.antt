@@ -15,7 +15,8 @@ follows_one : (xs : List ℕ) → Follows (first xs) (take 1 xs)
 follows_one [] = tt
 follows_one (x ∷ xs) = refl
 
--- Behind white space the lexer stands after the same tokens. If there is any, its bytes decide them.
+-- Behind white space the lexer stands after the same tokens. If there is any, its bytes decide
+-- them.
 pub record Past (l : Standing) (u piece : List ℕ) (m : ℕ) (given : List Token) : Type 0 where
   pub stands : StandsAfter l (u ++ take m piece) (first (drop m piece)) given
   pub decided : (m ≡ 0) ⊎ (given ≡ decided (u ++ take m piece))

@@ -337,7 +337,7 @@ fed_marker (Err f) = Err f
 
 -- The text reaches past place 2^62: its bytes before that were all read, up to no marker.
 -- `now` has read them, and `new` still has its reader.
-pub record Reaches (start : Start) (s front : List ℕ) (given : List Token) (new : Converter) (after : Option (List ℕ)) (f : Fault) : Type 0 where
+pub record PassesLimit (start : Start) (s front : List ℕ) (given : List Token) (new : Converter) (after : Option (List ℕ)) (f : Fault) : Type 0 where
   pub fault : f ≡ record { at = 2 ^ 62; reason = InputTooLong }
   pub long : 2 ^ 62 < length s
   pub now : Converter
@@ -351,7 +351,7 @@ pub record Reaches (start : Start) (s front : List ℕ) (given : List Token) (ne
 abbrev pub ReadsPiece : Start → List ℕ → List ℕ → List Token → Converter → Result (Option PlacedMarker) Fault → Option (List ℕ) → Type 0
 ReadsPiece start s front given new (Ok met) after = Reached start (within_limit s) front given new (Ok met) after
 ReadsPiece start s front given new (Err f) after =
-    FailsIn start.profile (first_bytes (within_limit s)) start.given f new.reading start.before after ⊎ Reaches start s front given new after f
+    FailsIn start.profile (first_bytes (within_limit s)) start.given f new.reading start.before after ⊎ PassesLimit start s front given new after f
 
 -- What each call does that reads a piece of any length: from wherever it stands since any start.
 abbrev pub ReadsToMarker : Converter → List ℕ → Converter → Result (Option PlacedMarker) Fault → Device → Type 0
