@@ -402,7 +402,9 @@ impl<const T: usize, const L: usize> Items<T, L> {
     /// let mut source = Inlet::new(&text[7..]);
     /// let mut items = Items::<64, 33>::begin_at(7, false);
     /// assert_eq!(items.next(&mut source).unwrap(), Some(Item::Tags));
+    /// assert_eq!(items.games(), 0);
     /// assert_eq!(items.next(&mut source).unwrap(), Some(Item::Marker(Marker::Unknown)));
+    /// assert_eq!(items.games(), 1);
     /// assert_eq!(items.place(), 9);
     /// ```
     pub fn begin_at(place: u64, in_first_column: bool) -> Self

@@ -216,6 +216,7 @@ module _ (p : Profile) (u : List ℕ) (given : List Given) (left_old left_now : 
       more = so.more;
       consumed = so.consumed;
       stops = by f (takes.after p (u ++ so.more) so.tokens so.reads);
+      no_sooner = so.no_sooner;
       kept = takes.goes.0;
       last = takes.goes.1;
       none_next = takes.goes.2;
@@ -242,6 +243,7 @@ module _ (p : Profile) (u : List ℕ) (given : List Given) (left_old left_now : 
           consumed = Consumes-kept left_old left_now left_new so.more so.consumed keeps;
           stops = subst (λ (g : Fault). ItemsStop p (u ++ so.more) given (record { before = left_old; after = left_new; failures = failures; failures_after = one_more failures }) g) (sym (is ∙ ap (λ (n : ℕ). record { at = n; reason = ReadFault }) place))
               (unread refl (omega (arith, place, short)) (passes_now none) (decided_now none));
+          no_sooner = so.no_sooner;
           kept = kept;
           last = ap (λ (c : Current). c.last) same ∙ at.last;
           none_next = ap (λ (c : Current). c.pending) same ∙ at.pending;
@@ -319,6 +321,7 @@ module _ (p : Profile) (u : List ℕ) (given : List Given) (left_old left_now : 
       consumed = consumed_on ended gives.more gives.consumed;
       stops = stops_on f (u ++ (so.more ++ gives.more))
           (subst (λ (v : List ℕ). ItemsStop p v given (still_at left_new failures failures_after) f) (append_assoc u so.more gives.more) gives.stops);
+      no_sooner = sooner gives.more gives.no_sooner;
       kept = gives.kept;
       last = gives.last;
       none_next = gives.none_next;
@@ -427,6 +430,7 @@ module _ (p : Profile) (u : List ℕ) (given : List Given) (left : Option (List 
         consumed = Consumes-nil left;
         stops = subst (λ (v : List ℕ). ItemsStop p v given (still_at left failures failures_after) f) (sym (append-nil u))
             (at_end f so.rest.at_end so.rest.short (ap (λ r. r.fault) same ∙ h.3.fault) (ap (λ r. given_of r.progress) same ∙ ap given_of h.3.progress ∙ so.whole));
+        no_sooner = inl refl;
         kept = refl;
         last = reads.last.0;
         none_next = reads.last.1;

@@ -279,6 +279,7 @@ pub record GivesFault (p : Profile) (u : List ℕ) (given : List Given) (source 
   pub more : List ℕ
   pub consumed : Consumes source.before source.after more
   pub stops : ItemsStop p (u ++ more) given source f
+  pub no_sooner : ReadsNoSooner p u more given
   pub kept : new.fault ≡ Some f
   pub last : new.current.last ≡ None
   pub none_next : new.current.pending ≡ None
