@@ -9,14 +9,14 @@ use Rattle.chess_text.specs.Uci.{uci}
 use Rattle.pgn_game.specs.declared.item.Item.{Item as CodeItem}
 use Rattle.pgn_game.specs.declared.item.Item.TheVariants as items
 use Rattle.pgn_game.specs.calls.Given.{Given, Shown, item, marker, shown, shown_with, tags}
-use Rattle.pgn_game.specs.calls.ItemsCalls.{Current, IsBehindTags, IsHeld, IsShown, given_as, given_if, given_next, position_before_move, position_without, shown_move, shown_position, shown_san, shown_uci}
+use Rattle.pgn_game.specs.calls.ItemsCalls.{Current, IsBehindTags, IsHeld, IsShown, given_as, given_if, given_next, position_before_move, position_without, shown_move, shown_position, shown_san, shown_uci, shown_word}
 use Rattle.pgn_game.specs.games.Game as games
 use Rattle.pgn_game.specs.games.Levels.{Levels, first_level, here, levels_after, levels_of, start_of}
 use Rattle.pgn_game.specs.games.Markers.{marker_text}
 use Rattle.pgn_game.specs.games.Pairs.{Pair}
 use Rattle.pgn_game.specs.state.Movetext.{StoredLevels, before_last}
 use Rattle.pgn_c.specs.ItemLines.{ends_line, field, field_if, first_game, given_text, has_marker, move_line}
-use Rattle.pgn_c.specs.ItemSteps.{code_ends, code_move, field_of, front_text, is_marker, number_if, position_fields, word_of}
+use Rattle.pgn_c.specs.ItemSteps.{code_ends, code_move, field_of, front_text, is_marker, number_if, position_fields}
 use Rattle.pgn_c.specs.declared.items.MoveFields.{MoveFields}
 
 tags_text : (f : MoveFields) (o : Option Shown) (ps : List Pair) → given_text f o (tags ps) ≡ []
@@ -71,6 +71,22 @@ module _ (f : MoveFields) (c : Current) (m : Move) (s : Shown) (last : c.last �
 
 -- ---- any item
 
+-- the word that an item is
+abbrev word_of : Current → CodeItem → List ℕ
+word_of c items.Word = c.word
+word_of c _ = []
+
+word_is : (c : Current) (i : CodeItem) → c.last ≡ Some i → shown_word c ≡ word_of c i
+word_is c items.Word last = rw last refl
+word_is c items.Tags last = rw last refl
+word_is c (items.Move m) last = rw last refl
+word_is c (items.Glyph n) last = rw last refl
+word_is c items.CommentOpen last = rw last refl
+word_is c items.CommentClose last = rw last refl
+word_is c items.Open last = rw last refl
+word_is c items.Close last = rw last refl
+word_is c (items.Marker m) last = rw last refl
+
 module _ (f : MoveFields) (c : Current) (given : List Given) where
   shown_more : (gs : List Given) (g : Given) → shown (gs ++ g ∷ []) ≡ shown_with (shown gs) g
   shown_more gs g = fold-append shown_with None gs (g ∷ [])
@@ -109,12 +125,13 @@ module _ (f : MoveFields) (c : Current) (given : List Given) where
 
   pub text_is : (i : CodeItem) → c.last ≡ Some i → IsBehindTags c.pending c.last
       → IsSomeAnd (shown (given ++ given_as c i ∷ [])) (IsShown c) → IsSomeAnd (shown ((given ++ given_as c i ∷ []) ++ given_next c)) (IsHeld c)
-      → given_text f (shown given) (given_as c i) ≡ front_text f c i ++ word_of c i
+      → given_text f (shown given) (given_as c i) ≡ front_text f c i ++ shown_word c
   text_is i last at shows held =
       text_behind i (shown given) last at (subst (λ (o : Option Shown). IsSomeAnd o (IsShown c)) (shown_more given (given_as c i)) shows)
       (λ none. subst (λ (o : Option Shown). IsSomeAnd o (IsHeld c)) (shown_more given (given_as c i))
       (subst (λ (gs : List Given). IsSomeAnd (shown gs) (IsHeld c))
       (ap (λ (o : Option CodeItem). (given ++ given_as c i ∷ []) ++ given_if c o) none ∙ append-nil (given ++ given_as c i ∷ [])) held))
+      ∙ ap (λ (w : List ℕ). front_text f c i ++ w) (sym (word_is c i last))
 
 -- whether a line ends with the item, and whether it is a marker
 pub line_ends : (c : Current) (i : CodeItem) → ends_line (given_as c i) ≡ code_ends i

@@ -4,14 +4,14 @@ use Rattle.std.specs.Prelude.{is_some}
 use Rattle.pgn_layout.specs.Device.{Device, one_more}
 use Rattle.pgn_lexer.specs.TokensOf.{tokens_of}
 use Rattle.pgn_game.specs.calls.Given.{Given, given_of, shown}
-use Rattle.pgn_game.specs.calls.ItemsCalls.{Current, GivesItem, Items, given_as, given_next}
+use Rattle.pgn_game.specs.calls.ItemsCalls.{Current, GivesItem, Items, given_as, given_next, shown_word}
 use Rattle.pgn_game.specs.declared.item.Item.{Item as CodeItem}
 use Rattle.pgn_game.specs.declared.mode.Mode.TheVariants.{Full}
 use Rattle.pgn_game.specs.declared.reason.Fault.{Fault}
 use Rattle.pgn_game.specs.games.Progress.{read}
 use Rattle.pgn_game.specs.laws.ItemsJoined.{GivenAll, IsFront, ReadHasFailed, all_given}
 use Rattle.pgn_c.specs.ItemLines.{WritesItems, all_result, fault_result, first_game, game_items, given_text, has_marker, plain_result}
-use Rattle.pgn_c.specs.ItemSteps.{GivenSoFar, LinesSoFar, PutsItem, PutsText, code_ends, front_text, is_marker, passed_one, put_one, word_of}
+use Rattle.pgn_c.specs.ItemSteps.{GivenSoFar, LinesSoFar, PutsItem, PutsText, code_ends, front_text, is_marker, passed_one, put_one}
 use Rattle.pgn_c.specs.Results.{profile_in}
 use Rattle.pgn_c.specs.declared.items.Lines.{Lines}
 use Rattle.pgn_c.specs.declared.items.MoveFields.{MoveFields}
@@ -46,7 +46,7 @@ module _ (f : MoveFields) (s : List ℕ) (first : ℕ) (before now : List ℕ) (
     text_now : s ≡ (so.u ++ gives.more) ++ left
     text_now = left_text s so.u rest gives.more left so.text gives.consumed
 
-    text_given : given_text f (shown so.given) g ≡ front_text f new.current i ++ word_of new.current i
+    text_given : given_text f (shown so.given) g ≡ front_text f new.current i ++ shown_word new.current
     text_given =
         let some : is_some new.current.last ≡ true = ap is_some gives.last in
         text_is f new.current so.given i gives.last gives.have_given.behind (gives.have_given.shows some) (gives.have_given.holds some)
@@ -66,7 +66,7 @@ module _ (f : MoveFields) (s : List ℕ) (first : ℕ) (before now : List ℕ) (
     passes : l.items < first → LinesSoFar f first (so.given ++ g ∷ []) before now (passed_one l)
     passes early = pass_one f first so.given before now l so.lines g early small
 
-    module _ (text after : List ℕ) (is : text ≡ front_text f new.current i ++ word_of new.current i) (from : first ≤ l.items) where
+    module _ (text after : List ℕ) (is : text ≡ front_text f new.current i ++ shown_word new.current) (from : first ≤ l.items) where
       is_text : text ≡ given_text f (shown so.given) g
       is_text = is ∙ sym text_given
 
@@ -95,7 +95,7 @@ module _ (f : MoveFields) (s : List ℕ) (first : ℕ) (before now : List ℕ) (
           ap first_game all ∙ game_goes_on so.given (g ∷ (given_next new.current ++ front.0)) so.no_marker
 
       -- the buffer is full
-      full : (text after : List ℕ) (lines : Lines) → text ≡ front_text f new.current i ++ word_of new.current i → first ≤ l.items
+      full : (text after : List ℕ) (lines : Lines) → text ≡ front_text f new.current i ++ shown_word new.current → first ≤ l.items
           → PutsText l lines text (code_ends i) now after false → (result : PgnItems)
           → result ≡ record (plain_result 2 lines.whole lines.whole_items) { fault = 51 } → WritesItems f s first before after result
       full text after lines is from puts result same =
@@ -119,8 +119,8 @@ module _ (f : MoveFields) (s : List ℕ) (first : ℕ) (before now : List ℕ) (
           subst (λ (x : Lines). LinesSoFar f first (so.given ++ g ∷ []) before after x) (sym passed.1)
           (subst (λ (xs : List ℕ). LinesSoFar f first (so.given ++ g ∷ []) before xs (passed_one l)) (sym passed.2) (passes early))
       lines_by (inr from) yes_fits =
-          puts_text (front_text f new.current i ++ word_of new.current i) after refl from lines
-          (subst (λ (b : Bool). PutsText l lines (front_text f new.current i ++ word_of new.current i) (code_ends i) now after b) yes_fits (puts.puts from))
+          puts_text (front_text f new.current i ++ shown_word new.current) after refl from lines
+          (subst (λ (b : Bool). PutsText l lines (front_text f new.current i ++ shown_word new.current) (code_ends i) now after b) yes_fits (puts.puts from))
 
       lines_now : fits ≡ true → LinesSoFar f first (so.given ++ g ∷ []) before after lines
       lines_now yes_fits = lines_by (below_or_not l.items first) yes_fits
@@ -140,8 +140,8 @@ module _ (f : MoveFields) (s : List ℕ) (first : ℕ) (before now : List ℕ) (
             by : (l.items < first) ⊎ (first ≤ l.items) → WritesItems f s first before after result
             by (inl early) = absurd (not_both fits none_fits (puts.passes early).0)
             by (inr from) =
-                full front (front_text f new.current i ++ word_of new.current i) after lines refl from
-                (subst (λ (b : Bool). PutsText l lines (front_text f new.current i ++ word_of new.current i) (code_ends i) now after b) none_fits (puts.puts from)) result is
+                full front (front_text f new.current i ++ shown_word new.current) after lines refl from
+                (subst (λ (b : Bool). PutsText l lines (front_text f new.current i ++ shown_word new.current) (code_ends i) now after b) none_fits (puts.puts from)) result is
 
   -- ---- nothing more is given
   module _ (fault : Option Fault) (all : GivenAll (profile_in Full) (so.u ++ rest) so.given fault) (result : PgnItems)
@@ -166,7 +166,7 @@ pub room_after : (f : MoveFields) (first : ℕ) (c : Current) (i : CodeItem) (l 
 room_after f first c i l lines now after room puts = by (below_or_not l.items first)
   where
     text : List ℕ
-    text = front_text f c i ++ word_of c i
+    text = front_text f c i ++ shown_word c
 
     used_by : (ends : Bool) → (put_one l (length text) ends).used ≡ l.used + length text
     used_by true = refl

@@ -7,7 +7,7 @@ use Rattle.pgn_game.specs.declared.mode.Mode.TheVariants.{Full}
 use Rattle.pgn_game.specs.declared.item.Item.{Item as CodeItem}
 use Rattle.pgn_game.specs.declared.item.Item.TheVariants as items
 use Rattle.pgn_game.specs.calls.Given.{Given}
-use Rattle.pgn_game.specs.calls.ItemsCalls.{Current, HaveGiven, Items, position_before_move, shown_position, shown_san, shown_uci}
+use Rattle.pgn_game.specs.calls.ItemsCalls.{Current, HaveGiven, Items, position_before_move, shown_position, shown_san, shown_uci, shown_word}
 use Rattle.pgn_game.specs.games.Markers.{marker_text}
 use Rattle.chess_text.specs.Fen.{fen_text}
 use Rattle.chess_text.specs.Key.{position_key}
@@ -50,10 +50,6 @@ front_text f c items.Open = codes "(" ++ 10 ∷ []
 front_text f c items.Close = codes ")" ++ 10 ∷ []
 front_text f c (items.Marker m) = codes "R" ++ field (marker_text m) ++ 10 ∷ []
 
-abbrev pub word_of : Current → CodeItem → List ℕ
-word_of c items.Word = c.word
-word_of c _ = []
-
 -- whether a line ends with an item of the code, and whether that is a marker
 abbrev pub code_ends : CodeItem → Bool
 code_ends items.CommentOpen = false
@@ -87,7 +83,7 @@ PutsText old new text ends before now false =
 -- What putting an item does: one before the first that is written is passed.
 pub record PutsItem (f : MoveFields) (first : ℕ) (c : Current) (i : CodeItem) (old new : Lines) (before now : List ℕ) (result : Bool) : Type 0 where
   pub passes : old.items < first → (result ≡ true) × (new ≡ passed_one old) × (now ≡ before)
-  pub puts : first ≤ old.items → PutsText old new (front_text f c i ++ word_of c i) (code_ends i) before now result
+  pub puts : first ≤ old.items → PutsText old new (front_text f c i ++ shown_word c) (code_ends i) before now result
 
 -- ---- what was written so far
 

@@ -112,12 +112,7 @@ impl Lines {
         }
         let mut front = ArrayVec::new();
         push_item(&mut front, items, item, fields, fens);
-        self.put(
-            front.as_slice(),
-            word_of(items, item),
-            ends_line(item),
-            buffer,
-        )
+        self.put(front.as_slice(), items.word(), ends_line(item), buffer)
     }
 
     // Passes an item: nothing is written.
@@ -229,16 +224,6 @@ fn is_marker(item: &Item) -> bool
     ensures { result ≡ steps.is_marker item.now }
 {
     matches!(*item, Item::Marker(_))
-}
-
-// The word just given, if the item is one.
-fn word_of<'a>(items: &'a Items<TAGS, LEVELS>, item: &Item) -> &'a [u8]
-    ensures { result.now ≡ steps.word_of items.now.current item.now }
-{
-    match *item {
-        Item::Word => items.word(),
-        _ => &[],
-    }
 }
 
 // Adds the text of the item just given to an empty one, without its word.
