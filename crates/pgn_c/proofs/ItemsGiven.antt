@@ -1,16 +1,16 @@
 -- The items of a text, given call by call, and what is written of them.
-use Rattle.std.proofs.Common.{◌≡◌, ℕ, zero, suc, take, drop, length-append, length-take-le, ◌+◌, ◌<◌, ◌≤◌, ◌^◌, ◌⊎◌, inl, inr, Bool, true, false, List, [], ◌∷◌, ◌++◌, length, Option, None, Some, refl, sym, ap, subst, ◌∙◌, arith, append-nil, append_assoc}
+use Rattle.std.proofs.Common.{◌≡◌, ℕ, zero, suc, take, drop, length-append, length-take-le, ◌+◌, ◌<◌, ◌≤◌, ◌^◌, ◌⊎◌, inl, inr, Bool, true, false, List, [], ◌∷◌, ◌++◌, length, Option, None, Some, refl, sym, ap, subst, ◌∙◌, arith, append_assoc}
 use Rattle.std.specs.Prelude.{is_some}
-use Rattle.pgn_layout.specs.Device.{Device, one_more}
+use Rattle.pgn_layout.specs.Device.{Device}
 use Rattle.pgn_lexer.specs.TokensOf.{tokens_of}
-use Rattle.pgn_game.specs.calls.Given.{Given, given_of, shown}
+use Rattle.pgn_game.specs.calls.Given.{Given, shown}
 use Rattle.pgn_game.specs.calls.ItemsCalls.{Current, GivesItem, Items, given_as, given_next, shown_word}
 use Rattle.pgn_game.specs.declared.item.Item.{Item as CodeItem}
 use Rattle.pgn_game.specs.declared.mode.Mode.TheVariants.{Full}
 use Rattle.pgn_game.specs.declared.reason.Fault.{Fault}
 use Rattle.pgn_game.specs.games.Progress.{read}
 use Rattle.pgn_game.specs.laws.ItemsJoined.{GivenAll, IsFront, ReadHasFailed, all_given}
-use Rattle.pgn_c.specs.ItemLines.{WritesItems, all_result, fault_result, first_game, game_items, given_text, has_marker, plain_result}
+use Rattle.pgn_c.specs.ItemLines.{WritesItems, all_result, fault_result, first_game, game_items, given_text, plain_result}
 use Rattle.pgn_c.specs.ItemSteps.{GivenSoFar, LinesSoFar, PutsItem, PutsText, code_ends, front_text, is_marker, passed_one, put_one}
 use Rattle.pgn_c.specs.Results.{profile_in}
 use Rattle.pgn_c.specs.declared.items.Lines.{Lines}

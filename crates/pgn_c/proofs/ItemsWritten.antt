@@ -1,18 +1,18 @@
 -- The lines of items in a buffer, one item after another.
-use Rattle.std.proofs.Common.{◌≡◌, ℕ, ◌+◌, ◌^◌, ◌<◌, ◌≤◌, ◌⊎◌, inl, inr, Bool, true, false, IsTrue, List, [], ◌∷◌, ◌++◌, length, min, take, drop, Option, None, Some, refl, sym, ap, ap₂, subst, ◌∙◌, arith, append-nil, append_assoc, length-append, take_at, drop_at, drop-drop, take_all}
-use Rattle.std.proofs.lemmas.List.{drop_all, length-drop, take-append-drop}
+use Rattle.std.proofs.Common.{◌≡◌, ℕ, ◌+◌, ◌^◌, ◌<◌, ◌≤◌, ◌⊎◌, inl, inr, Bool, true, false, List, [], ◌∷◌, ◌++◌, length, take, drop, Option, refl, sym, ap, ap₂, subst, ◌∙◌, arith, append-nil, append_assoc, length-append, take_at, drop_at, take_all}
+use Rattle.std.proofs.lemmas.List.{drop_all, length-drop}
 use Rattle.pgn_game.specs.calls.Given.{Given, shown}
 use Rattle.pgn_game.specs.declared.reason.Fault.{Fault}
 use Rattle.pgn_game.specs.games.Progress.{read}
 use Rattle.pgn_lexer.specs.TokensOf.{tokens_of}
-use Rattle.pgn_c.specs.ItemLines.{IsBegun, IsLeft, WritesItems, all_result, are_lines, counted, ends_line, first_game, first_line, game_items, given_text, has_marker, plain_result, texts_behind}
-use Rattle.pgn_c.specs.ItemSteps.{LinesSoFar, NoneEnds, PutsText, passed_one, put_one}
+use Rattle.pgn_c.specs.ItemLines.{IsBegun, IsLeft, WritesItems, all_result, counted, ends_line, first_game, first_line, game_items, given_text, has_marker, plain_result, texts_behind}
+use Rattle.pgn_c.specs.ItemSteps.{LinesSoFar, passed_one}
 use Rattle.pgn_c.specs.Results.{profile_in}
 use Rattle.pgn_c.specs.declared.items.Lines.{Lines}
 use Rattle.pgn_c.specs.declared.items.MoveFields.{MoveFields}
 use Rattle.pgn_c.specs.declared.items.PgnItems.{PgnItems}
 use Rattle.pgn_game.specs.declared.mode.Mode.TheVariants.{Full}
-use Rattle.pgn_c.proofs.GivenLists.{game_begins, game_goes_on, line_begins, line_goes_on, lines_end, none_more, one_more_text, texts_of_both}
+use Rattle.pgn_c.proofs.GivenLists.{game_begins, line_begins, line_goes_on, lines_end, none_more, one_more_text, texts_of_both}
 
 module _ (f : MoveFields) (first : ℕ) (given : List Given) (before now : List ℕ) (l : Lines) (so : LinesSoFar f first given before now l) where
   abbrev behind_passed : List Given

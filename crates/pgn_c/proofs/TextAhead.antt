@@ -1,5 +1,5 @@
 -- The length of a text that is read from a place on.
-use Rattle.std.proofs.Common.{◌≡◌, ℕ, zero, suc, ◌+◌, ◌≤◌, Bool, List, ◌++◌, length, drop, refl, arith, length-append}
+use Rattle.std.proofs.Common.{◌≡◌, ℕ, zero, suc, ◌≤◌, Bool, List, ◌++◌, length, drop, refl, arith, length-append}
 use Rattle.std.proofs.lemmas.List.{length-drop, length-replicate}
 use Rattle.pgn_lexer.specs.WhiteSpace.{white_space}
 
