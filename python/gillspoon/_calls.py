@@ -139,7 +139,7 @@ def _lines_of_plies(fen: str, moves: str, line_format: int, size: int) -> str:
 
 
 def items_of(game: bytes) -> bytes:
-    """The items of a game, or those before its fault: a line each, with SAN and FEN of each move."""
+    """The items of a game, or those before its fault: a line each, of a move with SAN and FEN."""
     fields, buffer = _library.ITEM_SAN + _library.ITEM_FEN, _kept_buffer()
     while True:
         found = _library.items(game, len(game), 0, 0, fields, buffer, len(buffer))

@@ -13,7 +13,8 @@ def pytest_sessionfinish(session):
     """The tests that were skipped are listed at the end, by what they lack, and fail the run."""
     reporter = session.config.pluginmanager.get_plugin("terminalreporter")
     is_skipped = session.config.getoption("all") and reporter and reporter.stats.get("skipped")
-    if is_skipped and session.exitstatus in (pytest.ExitCode.OK, pytest.ExitCode.NO_TESTS_COLLECTED):
+    passes = (pytest.ExitCode.OK, pytest.ExitCode.NO_TESTS_COLLECTED)
+    if is_skipped and session.exitstatus in passes:
         session.exitstatus = pytest.ExitCode.TESTS_FAILED
 
 

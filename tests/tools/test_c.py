@@ -790,7 +790,8 @@ class Installed:
     def test_items_in_buffers_of_each_size(self):
         """Whole lines are written, and the next call goes on behind them."""
         replay = Replay(self.library)
-        for data in (TEXT, archive(1, "annotated")[:1600] + b"\n* ", b"1. e4 {one two} (1. d4 {a b"):
+        for data in (TEXT, archive(1, "annotated")[:1600] + b"\n* ",
+                     b"1. e4 {one two} (1. d4 {a b"):
             result, whole = self.library.items(data, 0, 0, ITEM_SAN)
             texts = self.wanted(replay, data, *self.library.next_game(data), ITEM_SAN)
             self.assertEqual((whole, result.next_item), (b"".join(texts), len(texts)))
@@ -856,7 +857,8 @@ class Installed:
                 (b"e4 (() *", 37, 4, e4 + b"(\n"), (b"e4 {a b", 12, 7, e4 + b"C\ta\tb"),
                 (b"e4 {", 12, 4, e4 + b"C"), (b"e4 {a b} $1", 42, 11, e4 + b"C\ta\tb\nG\t1\n"),
                 (b"e4", 42, 2, e4), (b"e4 ) *", 39, 3, e4), (b"(e4) *", 37, 0, b""),
-                (b'[Result "1-0"] e4 0-1', 41, 18, e4), (b'[White "a"] [White "b"] e4 *', 22, 13, b""),
+                (b'[Result "1-0"] e4 0-1', 41, 18, e4),
+                (b'[White "a"] [White "b"] e4 *', 22, 13, b""),
                 (b'[FEN "x"] e4 *', 26, 5, b""), (b"e4 [White \"a\"] *", 32, 3, e4)):
             lines, written = self.library.items(data, 0, 0, ITEM_SAN)
             self.assertEqual((lines.status, lines.fault, lines.place, written),
