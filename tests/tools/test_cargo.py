@@ -190,8 +190,27 @@ def read(path):
         return lines.read()
 
 
-# A line that is another for Cargo.
-INDEX = "        self.index as usize"
+# Changes that bin/to_cargo does not understand: the file, the text, what stands for it, and why.
+CLAUSE = "        ensures done { result ≡ Ok tt }\n"
+COUNT = "    ghost failures = { λ _. 0 };"
+VERSION = "        .version(VERSION)\n"
+INDEX = "        self.index as usize\n"
+CONDITION = '    // Cargo: assert!(u32::MAX - probes.count() >= 8, "'
+NOT_ONCE = ": not there once: self.index as usize"
+NOT_UNDERSTOOD = [(file, old, new, why) for file, why, rows in (
+    ("crates/pgn_layout/src/nowhere.rt", ":", (
+        (CLAUSE, CLAUSE.replace(" }", "")), (CLAUSE, CLAUSE.replace("}", "} more")),
+        (COUNT, "    /// A count.\n" + COUNT), (COUNT, COUNT + " fn f() {}"),
+        (CLAUSE, CLAUSE.replace("ensures", "promises")))),
+    ("crates/pgn_arguments/src/arguments.rt", ":", (
+        (VERSION, VERSION + "        .author(rt; VERSION)\n"),
+        (VERSION, VERSION + "        .author(std::alloc::NAME)\n"),
+        ('matches.get_str("file") {', "matches.get_str(\n"))),
+    ("crates/chess_rules/src/square.rt", NOT_ONCE, (
+        (INDEX, INDEX.replace("usize", "usize + 0")), (INDEX, INDEX * 2))),
+    ("crates/pgn_game/src/find.rt", ":", (
+        (CONDITION, CONDITION.replace(', "', ": ")), (CONDITION, CONDITION.replace("assert", "is")))),
+) for old, new in rows]
 # The heads of the table of these lines.
 OTHER_LINES = ("Function", "In", "The source has", "Cargo has")
 
@@ -555,7 +574,7 @@ class Workspace(unittest.TestCase):
         for path, lines, source in self.pairs((*LIBRARIES, "pgn_tool", "pgn_c")):
             is_renamed = "/pgn_tool/" in path or "/pgn_c/" in path
             left = source.split("\n")
-            lines = without_added(path, lines)
+            lines = without_added(path, lines, source)
             for line in lines:
                 at = [n for n, it in enumerate(left) if is_made(line, it)]
                 if not at and is_renamed and (OF_STANDARD.search(line) or not line):
@@ -696,43 +715,11 @@ class Written(Folder, unittest.TestCase):
         self.assertFalse(os.path.exists(extra))
 
     def test_source_that_is_not_understood_stops_it(self):
-        clause = "        ensures done { result ≡ Ok tt }\n"
-        self.check_stops("crates/pgn_layout/src/nowhere.rt", [
-            (clause, "        ensures done { result ≡ Ok tt\n"),
-            (clause, "        ensures done { result ≡ Ok tt } more\n"),
-            (clause, clause.replace("ensures", "promises")),
-            ("    ghost failures", "    /// A count.\n    ghost failures"),
-            ("    ghost failures = { λ _. 0 };", "    ghost failures = { λ _. 0 }; fn f() {}"),
-        ])
-
-    def test_a_line_that_is_not_there_once_stops_it(self):
-        shift = INDEX.replace("index as usize", "index as usize + 0")
-        for new in (shift + "\n", (INDEX + "\n") * 2):
-            copy = self.copied("crates/chess_rules/src/square.rt", INDEX + "\n", new)
-            _, status, said = self.write(copy + "/bin/to_cargo")
-            self.assertEqual(status, 1, said)
-            self.assertIn("square.rt: not there once: self.index as usize", said)
-
-    def test_a_call_with_a_condition_that_is_not_there_once_stops_it(self):
-        copy = self.copied("crates/pgn_game/src/find.rt", "pub fn find_move(", "pub fn find(")
-        _, status, said = self.write(copy + "/bin/to_cargo")
-        self.assertEqual(status, 1, said)
-        self.assertIn("find.rt: not there once: fn find_move", said)
-
-    def test_a_call_of_the_toolchain_that_is_not_understood_stops_it(self):
-        version, text = "        .version(VERSION)\n", 'matches.get_str("file") {'
-        self.check_stops("crates/pgn_arguments/src/arguments.rt", [
-            (version, version + "        .author(rt; VERSION)\n"),
-            (version, version + "        .author(std::alloc::NAME)\n"),
-            (text, "matches.get_str(\n"),
-        ])
-
-    def check_stops(self, file, changes):
-        for old, new in changes:
+        for file, old, new, why in NOT_UNDERSTOOD:
             copy = self.copied(file, old, new)
             _, status, said = self.write(copy + "/bin/to_cargo")
             self.assertEqual(status, 1, (new, said))
-            self.assertIn("not understood: " + file, said)
+            self.assertIn("not understood: " + file + why, said)
             self.assertFalse(os.path.exists(self.folder + "/out"))
 
     def copied(self, file, old, new):
@@ -753,17 +740,19 @@ class Written(Folder, unittest.TestCase):
         return copy
 
 
-def without_added(path, lines):
+def without_added(path, lines, source):
     """The lines of a file without those that bin/to_cargo adds, each of which has to be there."""
     script = programs.load("bin/to_cargo")
     file = "crates/%s.rt" % path.split("/crates/")[1][:-3]
-    added = []
-    for conditions in script.ASSERTED.get(file, {}).values():
-        added += [line for words in conditions for line in script.assertion(*words)]
+    joined = re.sub(r"\n *// (?!Cargo: )", " ", source)
+    conditions = re.findall(r'// Cargo: (\w+)!\((.*), "(.*)"\)', joined)
+    added = [line for words in conditions for line in script.assertion(*words)]
     for line, others in script.OTHER_LINES.get(file, {}).values():
         added += [script.SOURCE_HAS % line, *others]
     modules = ("traits", "text", "played_moves", "ffi", "conditions", "own_pair")
-    for module in (it for it in modules if "mod %s;" % it in lines):
+    of_source = source.split("\n")
+    for module in (it for it in modules
+                   if "mod %s;" % it in lines and "mod %s;" % it not in of_source):
         is_test = module in ("conditions", "own_pair")
         added += ["#[cfg(test)]"] if is_test else ["// Written for Cargo, not proved."]
         added += ["mod %s;" % module]
@@ -794,7 +783,7 @@ def added_to_root(crate, lines, script):
     if crate in script.COPIED:
         added += ["// What reads and writes a FEN is also in chess_text."]
         added += ["mod %s;" % it for it in script.COPIED[crate][1]]
-    if "mod text;" in lines:
+    if crate == "chess_rules":
         added += ["pub use text::TextFault;"]
     if "mod played_moves;" in lines:
         added += ["pub use played_moves::PlayedMoves;"]

@@ -275,6 +275,9 @@ impl Board {
     /// `rank_words` has them, and says what each bit means.
     #[inline(always)]
     pub fn push_rank(&mut self, lanes: u32)
+        // Cargo: debug_assert!(!(lanes | lanes >> 8 | lanes >> 16) & lanes >> 24 == 0
+        // && lanes & lanes >> 8 & lanes >> 16 & 255 == 0,
+        // "push_rank takes the word of a rank")
         requires { words.AreLanes lanes }
         ensures { (row : spec.Board) → length row ≡ 8 → lanes ≡ words.lanes row
             → self.new ≡ row ++ take 56 self.old }

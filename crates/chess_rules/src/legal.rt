@@ -36,6 +36,7 @@ use crate::step::{
 #[tactic(auto, using(crate::proofs::moves::PlainStepAttacks::none_when_not))]
 #[inline(always)]
 pub fn try_pair(position: &Position, mv: Move, probes: &mut Probes) -> Option<Position>
+    // Cargo: assert!(u32::MAX - probes.count() >= 1, "the count of Probes has room for 1 more")
     requires { probes.old + 1 < 2 ^ 32 }
     ensures after { result ≡ spec.legal position.now mv }
     ensures count { probes.new ≡ probes.old + 1 }
@@ -53,6 +54,7 @@ pub fn try_pair(position: &Position, mv: Move, probes: &mut Probes) -> Option<Po
 /// The move must be legal: this does not test it, and counts no pair.
 #[inline(always)]
 pub fn position_after(position: &Position, mv: &Move) -> Position
+    // Cargo: debug_assert!(is_legal(position, mv), "position_after takes a legal move")
     requires { IsTrue (spec.is_legal position.now mv.now) }
     ensures { spec.legal position.now mv.now ≡ Some result }
 {
@@ -136,6 +138,8 @@ pub fn in_check(position: &Position) -> bool
 /// assert!(probes.count() <= 1024);
 /// ```
 pub fn has_legal_move(position: &Position, probes: &mut Probes) -> bool
+    // Cargo: assert!(u32::MAX - probes.count() >= 1024,
+    // "the count of Probes has room for 1,024 more")
     requires { probes.old + 1024 < 2 ^ 32 }
     ensures found { result ≡ spec.has_legal_move position.now }
     ensures most { probes.new ≤ probes.old + 1024 }

@@ -91,6 +91,8 @@ impl<'a> LegalMoves<'a> {
     /// have room for as many. Each is a call of [`try_pair`], so that a pair with the four
     /// promotions counts four. How many it tries depends on the order, which may change.
     pub fn next(&mut self, probes: &mut Probes) -> Option<Played>
+        // Cargo: assert!(u32::MAX - probes.count() >= 4096,
+        // "the count of Probes has room for 4,096 more")
         requires { probes.old + 4096 < 2 ^ 32 }
         ensures next { MatchOption result ((self.old ≡ []) × (self.new ≡ []))
             (λ played. self.old ≡ played ∷ self.new) }

@@ -192,6 +192,10 @@ impl Position {
         half: u32,
         full: u32,
     ) -> Result<Position, PositionFault>
+        // No square in all three sets of kinds, and none that is black and empty.
+        // Cargo: assert!((board.of_kind(Kind::King) & board.of_kind(Kind::Knight)).is_empty()
+        // && (board.of_colour(Colour::Black) & !board.occupied()).is_empty(),
+        // "each word of push_rank was that of a rank")
         ensures value { result ≡ spec.built (record {
           board = board;
           side = side;
@@ -275,6 +279,7 @@ impl Position {
     /// in a row end with it. So a rank is written as text without a branch for each square.
     #[inline(always)]
     pub fn rank_numbers(&self, rank: u8) -> u64
+        // Cargo: assert!(rank < 8, "a rank is from 0 to 7")
         requires { rank < 8 }
         ensures { result ≡ rank_numbers self.now.board rank }
     {

@@ -269,6 +269,8 @@ fn is_plain_step(position: &Position, mv: &Move) -> bool
 /// assert!(is_step(&position, &a6));
 /// ```
 pub fn is_step(position: &Position, mv: &Move) -> bool
+    // Cargo: assert!(crate::try_pair(position, *mv, &mut crate::Probes::new()).is_none(),
+    // "is_step takes a move that is not legal")
     requires { legal position.now mv.now ≡ None }
     ensures { result ≡ is_some (spec.step position.now mv.now) }
 {

@@ -73,6 +73,7 @@ impl Form {
 /// assert_eq!(kinds[4], OriginKind::NoStep);
 /// ```
 pub fn origins_of_form(position: &Position, form: &Form, probes: &mut Probes) -> [OriginKind; 64]
+    // Cargo: assert!(u32::MAX - probes.count() >= 8, "the count of Probes has room for 8 more")
     requires { probes.old + 8 < 2 ^ 32 }
     ensures kinds { result ≡ spec.origins_of_form position.now form.now }
     ensures count { probes.new ≡ probes.old + form_pairs position.now form.now }

@@ -40,6 +40,7 @@ use chess_rules::{Colour, Kind, Move, Piece, Position, Probes, Rights, Square, t
 /// assert_eq!(probes.count(), 0);
 /// ```
 pub fn write_position_key(position: &Position, probes: &mut Probes) -> ArrayVec<u8, 81>
+    // Cargo: assert!(u32::MAX - probes.count() >= 2, "the count of Probes has room for 2 more")
     requires { probes.old + 2 < 2 ^ 32 }
     ensures key { result.items ≡ spec.position_key position.now }
     ensures short { length result.items ≤ 81 }

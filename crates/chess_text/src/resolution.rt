@@ -55,6 +55,7 @@ pub enum SanFault {
 /// assert_eq!(resolve(&position, &form, &mut probes).err(), Some(SanFault::NoMove));
 /// ```
 pub fn resolve(position: &Position, form: &Form, probes: &mut Probes) -> Result<Played, SanFault>
+    // Cargo: asserted in resolve_move
     requires { probes.old + 8 < 2 ^ 32 }
     ensures answer { result ≡ spec.move_of_form position.now form.now }
     ensures pairs { spec.CountsPairs (spec.form_pairs position.now form.now) result probes.old
@@ -75,6 +76,7 @@ pub fn resolve(position: &Position, form: &Form, probes: &mut Probes) -> Result<
 ///
 /// Those of `resolve`.
 pub fn resolve_move(position: &Position, form: &Form, probes: &mut Probes) -> Result<Move, SanFault>
+    // Cargo: assert!(u32::MAX - probes.count() >= 8, "the count of Probes has room for 8 more")
     requires { probes.old + 8 < 2 ^ 32 }
     ensures answer { spec.with_next_position position.now result
         ≡ spec.move_of_form position.now form.now }

@@ -47,6 +47,8 @@ use chess_rules::{
 /// assert_eq!(write_san(&position, &played, &mut probes).as_slice(), b"Qh4#");
 /// ```
 pub fn write_san(position: &Position, played: &Played, probes: &mut Probes) -> ArrayVec<u8, 7>
+    // Cargo: debug_assert!(crate::traits::is_played(position, played),
+    // "write_san takes a legal move and the position after it")
     requires legal { legal position.now played.now.mv ≡ Some played.now.next }
     requires room { probes.old + 1032 < 2 ^ 32 }
     ensures text { result.items ≡ spec.san position.now played.now.mv }
@@ -67,6 +69,8 @@ pub fn write_san_of(
     next: &Position,
     probes: &mut Probes,
 ) -> ArrayVec<u8, 7>
+    // Cargo: assert!(u32::MAX - probes.count() >= 1032,
+    // "the count of Probes has room for 1,032 more")
     requires legal { legal position.now mv.now ≡ Some next.now }
     requires room { probes.old + 1032 < 2 ^ 32 }
     ensures text { result.items ≡ spec.san position.now mv.now }

@@ -101,6 +101,7 @@ fn small_letter(promotion: Promotion) -> u8
 /// assert_eq!(fault(b"Nf3"), Some(UciFault::NotAMove));
 /// ```
 pub fn read_uci(position: &Position, text: &[u8], probes: &mut Probes) -> Result<Played, UciFault>
+    // Cargo: assert!(u32::MAX - probes.count() >= 1, "the count of Probes has room for 1 more")
     requires { probes.old + 1 < 2 ^ 32 }
     ensures answer { result ≡ spec.move_of_uci position.now text.now }
     ensures legal { IfOk result (λ played. legal position.now played.mv ≡ Some played.next) }

@@ -71,6 +71,8 @@ impl CurrentLine {
     /// [`WriteFault`], as for each call of a [`CurrentLine`].
     #[inline(always)]
     pub fn put<W: Sink>(&mut self, token: &[u8], out: &mut W) -> Result<(), WriteFault>
+        // Cargo: assert!(matches!(token.len(), 1..=LINE_LENGTH),
+        // "a token on a line has 1 to 79 bytes")
         requires { IsToken token.now }
         ensures text { Writes (W.taken out.old) (W.taken out.new) result
             (text_at self.old (Put token.now)) }
@@ -93,6 +95,8 @@ impl CurrentLine {
         second: &[u8],
         out: &mut W,
     ) -> Result<(), WriteFault>
+        // Cargo: assert!(matches!(first.len() + second.len(), 1..=LINE_LENGTH),
+        // "a token on a line has 1 to 79 bytes")
         requires { IsToken (first.now ++ second.now) }
         ensures text { Writes (W.taken out.old) (W.taken out.new) result
             (text_at self.old (Put (first.now ++ second.now))) }

@@ -68,6 +68,8 @@ impl Layout {
     ///
     /// [`WriteFault`], as for each call of a [`Layout`].
     pub fn tag<W: Sink>(&mut self, name: &[u8], value: &[u8], out: &mut W) -> Result<(), WriteFault>
+        // Cargo: assert!(crate::fits_tag_line(name, value),
+        // "a tag pair fits on a line of 255 bytes (fits_tag_line)")
         requires { length name.now + length (escaped value.now) ≤ 249 }
         ensures text { self.old.has_failed ≡ false
             → Writes (W.taken out.old) (W.taken out.new) result
@@ -113,6 +115,7 @@ impl Layout {
     /// [`WriteFault`], as for each call of a [`Layout`].
     #[inline(always)]
     pub fn put<W: Sink>(&mut self, token: &[u8], out: &mut W) -> Result<(), WriteFault>
+        // Cargo: assert!(matches!(token.len(), 1..=79), "a token on a line has 1 to 79 bytes")
         requires { IsToken token.now }
         ensures text { self.old.has_failed ≡ false
             → Writes (W.taken out.old) (W.taken out.new) result

@@ -13,6 +13,7 @@ impl Sink for Nowhere {
     ghost failures = { λ _. 0 };
 
     fn write_some(&mut self, bytes: &[u8]) -> Result<usize, WriteFault>
+        // Cargo: assert!(!bytes.is_empty(), "write_some takes at least one byte")
         ensures all { result ≡ Ok (length bytes.now) }
     {
         Ok(bytes.len())

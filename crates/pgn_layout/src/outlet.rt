@@ -58,6 +58,7 @@ impl<W: Write> Sink for Outlet<W> {
     ghost failures = { λ o. o.failures };
 
     fn write_some(&mut self, bytes: &[u8]) -> Result<usize, WriteFault> {
+        // Cargo: assert!(!bytes.is_empty(), "write_some takes at least one byte")
         match self.writer.write(bytes) {
             Ok(n) if n > 0 => Ok(n),
             _ => Err(self.fail()),

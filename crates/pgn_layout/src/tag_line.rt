@@ -47,6 +47,10 @@ pub fn fits_tag_line(name: &[u8], value: &[u8]) -> bool
 ///
 /// [`WriteFault`] if the sink fails. A prefix of the line was written, and not all of it.
 pub fn write_tag<W: Sink>(name: &[u8], value: &[u8], out: &mut W) -> Result<(), WriteFault>
+    // The whole test only where the value may be too long with all its bytes escaped.
+    // Cargo: assert!(name.len() + 2 * value.len() <= NAME_AND_VALUE_LENGTH
+    // || fits_tag_line(name, value),
+    // "a tag pair fits on a line of 255 bytes (fits_tag_line)")
     requires { length name.now + length (escaped value.now) ≤ 249 }
     ensures text { Writes (W.taken out.old) (W.taken out.new) result
         (line_of_tag name.now value.now) }
