@@ -6,69 +6,52 @@ ghost use Rattle.pgn_lexer.specs.Lexes as lexes;
 ghost use Rattle.pgn_lexer.specs.Runs as runs;
 ghost use Rattle.pgn_lexer.specs.Sets as sets;
 
-/// A set of bytes.
+/// A set of bytes, as its bit in the table below. White space has two.
 #[derive(Clone, Copy)]
 pub(crate) enum Set {
     /// A symbol begins with these: letters and digits.
-    SymbolStart,
+    SymbolStart = 1,
     /// A symbol continues with these.
-    Symbol,
-    Digit,
+    Symbol = 2,
+    Digit = 4,
     /// The bytes `!` and `?`.
-    Suffix,
+    Suffix = 8,
     /// The data of a string that are no escape.
-    Data,
+    Data = 16,
     /// The bytes of a word of a comment.
-    Word,
+    Word = 32,
     /// White space within a line.
-    Blank,
-    LineEnd,
+    Blank = 64,
+    LineEnd = 128,
     /// White space.
-    Space,
+    Space = 192,
 }
-
-// A bit for each set, but for white space, which is the blanks and the ends of lines.
-const SYMBOL_START: u8 = 1;
-
-const SYMBOL: u8 = 2;
-
-const DIGIT: u8 = 4;
-
-const SUFFIX: u8 = 8;
-
-const DATA: u8 = 16;
-
-const WORD: u8 = 32;
-
-const BLANK: u8 = 64;
-
-const LINE_END: u8 = 128;
 
 // The table below has names of three letters: LET is a letter, DIG a digit, JOI another byte with
 // which a symbol continues, SUF is `!` or `?`, ESC is `"` or a backslash, CLO is `}`, SPA is the
 // space, TAB is other white space within a line, END is the end of a line, CTL is a control byte,
 // and OTH is any other byte.
-const LET: u8 = SYMBOL_START | SYMBOL | DATA | WORD;
+const LET: u8 = Set::SymbolStart as u8 | JOI;
 
-const DIG: u8 = LET | DIGIT;
+const DIG: u8 = Set::Digit as u8 | LET;
 
-const JOI: u8 = SYMBOL | DATA | WORD;
+const JOI: u8 = Set::Symbol as u8 | OTH;
 
-const SUF: u8 = SUFFIX | DATA | WORD;
+const SUF: u8 = Set::Suffix as u8 | OTH;
 
-const ESC: u8 = WORD;
+const ESC: u8 = Set::Word as u8;
 
-const CLO: u8 = DATA;
+const CLO: u8 = Set::Data as u8;
 
-const SPA: u8 = BLANK | DATA;
+const SPA: u8 = Set::Blank as u8 | Set::Data as u8;
 
-const TAB: u8 = BLANK;
+const TAB: u8 = Set::Blank as u8;
 
-const END: u8 = LINE_END;
+const END: u8 = Set::LineEnd as u8;
 
 const CTL: u8 = 0;
 
-const OTH: u8 = DATA | WORD;
+const OTH: u8 = Set::Data as u8 | Set::Word as u8;
 
 /// The sets of each byte, from byte 0 on.
 static SETS: [u8; 256] = [
@@ -88,30 +71,12 @@ static SETS: [u8; 256] = [
     OTH, OTH, OTH, OTH, OTH, OTH, OTH, OTH, OTH,
 ];
 
-/// The bits of a set.
-#[inline(always)]
-pub(crate) fn bits_of(set: Set) -> u8
-    ensures { result ≡ sets.bits_of set }
-{
-    match set {
-        Set::SymbolStart => SYMBOL_START,
-        Set::Symbol => SYMBOL,
-        Set::Digit => DIGIT,
-        Set::Suffix => SUFFIX,
-        Set::Data => DATA,
-        Set::Word => WORD,
-        Set::Blank => BLANK,
-        Set::LineEnd => LINE_END,
-        Set::Space => BLANK | LINE_END,
-    }
-}
-
 /// Whether the byte is in the set.
 #[inline(always)]
 pub(crate) fn is_in(byte: u8, set: Set) -> bool
     ensures { result ≡ sets.is_in set byte }
 {
-    SETS[byte as usize] & bits_of(set) != 0
+    SETS[byte as usize] & set as u8 != 0
 }
 
 /// Whether the byte ends a line: a line feed (PGN 3.2.2), or a carriage return.

@@ -102,6 +102,8 @@ impl Lexer {
     /// same and uses no byte.
     #[inline(always)]
     pub fn next(&mut self, piece: &[u8]) -> Scan<'_>
+        // Cargo: debug_assert!(self.count + piece.len() as u64 <= 1 << 62,
+        // "a text has at most 2^62 bytes")
         requires { self.old.count + length piece.now ≤ 2 ^ 62 }
         ensures used { result.used ≤ length piece.now }
         ensures* after { sem 𝓛 (Leaves self.entry
@@ -162,6 +164,8 @@ impl Lexer {
         piece: &'a [u8],
         skips_numbers: bool,
     ) -> (usize, Option<Token<'a>>)
+        // Cargo: debug_assert!(self.count + piece.len() as u64 <= 1 << 62,
+        // "a text has at most 2^62 bytes")
         requires { self.old.count + length piece.now ≤ 2 ^ 62 }
         ensures used { result.0 ≤ length piece.now }
         ensures reads { ReadsWhole skips_numbers self.old piece.now self.new result.0 result.1 }

@@ -7,7 +7,6 @@ ghost use Rattle.pgn_lexer.specs.Texts as texts;
 
 mod begins;
 mod byte;
-mod end;
 mod run;
 mod whole;
 
@@ -179,10 +178,7 @@ impl Text {
     pub(crate) fn has_escape(self, bytes: &[u8]) -> bool
         ensures { IsTrue result → BeginsWithEscape self bytes.now }
     {
-        match self {
-            Text::Str => bytes.len() > 1 && bytes[0] == b'\\' && is_escaped(bytes[1]),
-            _ => false,
-        }
+        matches!(self, Text::Str) && bytes.len() > 1 && bytes[0] == b'\\' && is_escaped(bytes[1])
     }
 }
 
@@ -250,14 +246,12 @@ fn glyph_of(suffix: &[u8]) -> u8
     ensures { result ≡ texts.glyph_of suffix.now }
 {
     match suffix {
-        [first] => if *first == b'!' { 1 } else { 2 },
-        [first, second, ..] => match (*first == b'!', *second == b'!') {
-            (true, true) => 3,
-            (true, false) => 5,
-            (false, true) => 6,
-            (false, false) => 4,
-        },
-        [] => 4,
+        [b'!'] => 1,
+        [_] => 2,
+        [b'!', b'!', ..] => 3,
+        [b'!', ..] => 5,
+        [_, b'!', ..] => 6,
+        _ => 4,
     }
 }
 

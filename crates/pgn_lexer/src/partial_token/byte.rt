@@ -1,4 +1,4 @@
-//! What one byte does to the current token, mode by mode.
+//! What one byte, or the end of the text, does to the current token, mode by mode.
 
 ghost use Rattle.std.specs.Prelude.{◌≡◌, ◌<◌, [], ◌∷◌, ◌++◌, length};
 ghost use Rattle.pgn_lexer.specs.ByteResult as byte_result;
@@ -7,7 +7,7 @@ ghost use Rattle.pgn_lexer.specs.StringClass as string_classes;
 use crate::class::{Set, is_escaped, is_in};
 use crate::partial_token::begins::{Begins, begins_in_comment, begins_outside};
 use crate::partial_token::{
-    ByteResult, LexMode, PartialToken, Text, TokenForm, clear, longer_number,
+    ByteResult, Close, LexMode, PartialToken, Text, TokenForm, clear, longer_number,
 };
 use crate::token::{LexReason, TokenKind};
 
@@ -48,7 +48,21 @@ impl PartialToken {
         }
     }
 
-    pub(crate) fn fail(&mut self, at: u64, reason: LexReason) -> ByteResult
+    /// Ends the text at the place: gives a token that is left, after which there may be more, or
+    /// the end. It ends a token as a line feed does.
+    #[tactic(auto, unfolding(crate::specs::ByteResult::after_end))]
+    pub(crate) fn close(&mut self, place: u64) -> ByteResult
+        ensures { IsAfterByte (byte_result.after_end place self.old) self.new result }
+    {
+        match self.mode {
+            LexMode::Start | LexMode::LineStart | LexMode::Outside | LexMode::EscapeLine =>
+                ByteResult::Used,
+            LexMode::Comment(Close::Brace) => self.fail(place, LexReason::UnclosedComment),
+            _ => self.take(b'\n', place),
+        }
+    }
+
+    fn fail(&mut self, at: u64, reason: LexReason) -> ByteResult
         ensures { IsAfterByte (byte_result.fails self.old at reason) self.new result }
     {
         self.at = at;
@@ -75,7 +89,12 @@ impl PartialToken {
         self.at = place;
         match begins {
             Begins::Gap(mode) => self.go(mode),
-            Begins::Text(text) => self.begin_text(text, byte),
+            Begins::Text(text) => {
+                clear(&mut self.buffer);
+                self.buffer.push(byte);
+                self.mode = LexMode::Text(text);
+                ByteResult::Used
+            }
             Begins::Str => {
                 clear(&mut self.buffer);
                 self.mode = LexMode::Text(Text::Str);
@@ -99,7 +118,8 @@ impl PartialToken {
         if let Text::Str = text {
             return self.end_string(byte, place);
         }
-        self.end_before(text.mode_behind(), TokenForm::Text(text))
+        self.mode = text.mode_behind();
+        ByteResult::EndsBefore(TokenForm::Text(text))
     }
 
     /// Stores one byte more of the text, and goes on in the mode.
@@ -132,7 +152,8 @@ impl PartialToken {
         ensures { IsAfterByte (byte_result.glyph self.old number byte) self.new result }
     {
         if !is_in(byte, Set::Digit) {
-            return self.end_before(LexMode::Outside, TokenForm::Other(TokenKind::Glyph(number)));
+            self.mode = LexMode::Outside;
+            return ByteResult::EndsBefore(TokenForm::Other(TokenKind::Glyph(number)));
         }
         match longer_number(number, byte) {
             Some(longer) => self.go(LexMode::Glyph(longer)),
@@ -184,27 +205,5 @@ impl PartialToken {
     {
         self.mode = mode;
         ByteResult::Ends(form)
-    }
-
-    /// A token ends before the byte.
-    pub(crate) fn end_before(&mut self, mode: LexMode, form: TokenForm) -> ByteResult
-        requires { HasMore mode self.old.text }
-        ensures { IsAfterByte (byte_result.into self.old mode (ByteResult.EndsBefore form)) self.new
-            result }
-    {
-        self.mode = mode;
-        ByteResult::EndsBefore(form)
-    }
-
-    fn begin_text(&mut self, text: Text, byte: u8) -> ByteResult
-        requires { HasMore (LexMode.Text text) (byte ∷ []) }
-        ensures { IsAfterByte
-            (byte_result.set_at (LexMode.Text text) self.old.at (byte ∷ []) ByteResult.Used)
-            self.new result }
-    {
-        clear(&mut self.buffer);
-        self.buffer.push(byte);
-        self.mode = LexMode::Text(text);
-        ByteResult::Used
     }
 }
