@@ -1,4 +1,10 @@
-mod LastWords
+mod Fronts
+mod LineOfBytes
 mod LinesInPieces
+mod LinesOfReader
+mod MarkOfLine
+mod PairsOfLine
 mod SectionRows
 mod ShapeOfText
+mod TagOfLine
+mod TextOfLine

@@ -107,7 +107,7 @@ feed_at_end before (b ∷ u) end e none =
     grind (arith, common_steps, feed_at_once, feed_behind_return, feed_further before b end u, above_front (before + 1) end u, feed_at_end (before + 1) u end)
 
 -- a text with a byte has a line
-a_line : (b : ℕ) (s : List ℕ) → lines_of (b ∷ s) ≡ [] → ⊥
+pub a_line : (b : ℕ) (s : List ℕ) → lines_of (b ∷ s) ≡ [] → ⊥
 a_line b s e = some_of (ends_line b s) b (lines_of s) (lines_of s) e where
   some_of : (is_end : Bool) (b : ℕ) (more lines : List (List ℕ)) → (if is_end then (b ∷ []) ∷ more else with_first b lines) ≡ [] → ⊥
   some_of true b more lines e = absurd cc
@@ -115,7 +115,7 @@ a_line b s e = some_of (ends_line b s) b (lines_of s) (lines_of s) e where
   some_of false b more (line ∷ lines) e = absurd cc
 
 -- the whole lines behind a first one
-whole_behind : (is_last : Bool) (line : List ℕ) (lines : List (List ℕ)) → (lines ≡ [] → (is_last || ends_with_line_feed line) ≡ true)
+pub whole_behind : (is_last : Bool) (line : List ℕ) (lines : List (List ℕ)) → (lines ≡ [] → (is_last || ends_with_line_feed line) ≡ true)
     → whole_lines is_last (line ∷ lines) ≡ line ∷ whole_lines is_last lines
 whole_behind is_last line [] h = rw (h refl) refl
 whole_behind is_last line (next ∷ lines) h = refl

@@ -1,14 +1,13 @@
 //! What the lines of a bad game had so far, and what ends it.
-ghost use Rattle.std.specs.Prelude.{◌≡◌, ◌+◌, ◌<◌, ◌^◌, IfSome, length};
-ghost use Rattle.std.specs.List.{list_all};
-ghost use Rattle.pgn_lexer.specs.Bytes.{is_space as is_space_byte};
+ghost use Rattle.std.specs.Prelude.{◌≡◌, ◌+◌, ◌<◌, ◌≤◌, ◌^◌, IfSome, length};
 ghost use Rattle.pgn_sections.specs.BadGame as spec;
+ghost use Rattle.pgn_sections.specs.Line as line_spec;
+ghost use Rattle.pgn_sections.specs.Line.{line_begun, line_over};
 ghost use Rattle.pgn_sections.specs.declared.bad_game.Ends.TheVariants.{Anywhere};
 
-use crate::bytes::{begins_with, has_mark_at};
-use crate::outside::{Comment, OutsideText, ends_with_tag, open_comment, outside_text};
-use crate::tag_line::{TagLine, behind_pair, behind_pairs, behind_stray, tag_line};
-use pgn_lexer::is_space;
+use crate::line::Line;
+use crate::outside::{OutsideText, is_byte};
+use crate::tag_line::TagLine;
 
 /// Which lines can show where a game ends.
 #[derive(Clone, Copy, PartialEq, Eq, Debug)]
@@ -64,16 +63,38 @@ impl BadGame {
         }
     }
 
+    // The next line, which has these bytes.
+    pub(crate) fn line_of(&self, bytes: &[u8]) -> Line
+        requires { self.now.at + length bytes.now < 2 ^ 64 }
+        ensures line { result ≡ line_over (line_begun self.now) bytes.now }
+        ensures length { result.length ≡ length bytes.now }
+        ensures tag { result.tag.at ≤ result.length }
+    {
+        let mut line = self.next_line();
+        for byte in bytes {
+            line = line.with(*byte);
+        }
+        line
+    }
+
+    // The next line, before its first byte.
+    pub(crate) fn next_line(&self) -> Line
+        ensures { result ≡ line_begun self.now }
+    {
+        let mark_at = self.before_escapes(self.at).saturating_sub(self.at);
+        Line::begin_at(self.at, mark_at, self.comment_at)
+    }
+
     // Where the game ends, if the line shows it.
-    fn end_at(&self, line: &[u8]) -> Option<usize>
-        requires { self.now.at + length line.now < 2 ^ 64 }
-        ensures { result ≡ spec.end_at self.now line.now }
+    fn end_at(&self, line: &Line) -> Option<usize>
+        requires { self.now.at + line.now.tag.at < 2 ^ 64 }
+        ensures { result ≡ line_spec.end_at self.now line.now }
     {
         match self.ends {
             Ends::Anywhere => self.end_in_or_outside(line),
             Ends::InComments => {
                 if self.comment_at.is_some() {
-                    self.end_in_comment(tag_line(line))
+                    self.end_in_comment(line.tag.found())
                 } else {
                     None
                 }
@@ -82,14 +103,14 @@ impl BadGame {
         }
     }
 
-    fn end_in_or_outside(&self, line: &[u8]) -> Option<usize>
-        requires { self.now.at + length line.now < 2 ^ 64 }
-        ensures { result ≡ spec.end_by Anywhere self.now line.now }
+    fn end_in_or_outside(&self, line: &Line) -> Option<usize>
+        requires { self.now.at + line.now.tag.at < 2 ^ 64 }
+        ensures { result ≡ line_spec.end_by Anywhere self.now line.now }
     {
         if self.comment_at.is_some() {
-            self.end_in_comment(tag_line(line))
+            self.end_in_comment(line.tag.found())
         } else {
-            self.end_outside(line, tag_line(line))
+            self.end_outside(is_byte(line.last, b']'), line.tag.found())
         }
     }
 
@@ -109,13 +130,14 @@ impl BadGame {
         }
     }
 
-    fn end_outside(&self, line: &[u8], found: Option<TagLine>) -> Option<usize>
+    // The line is the rest of a tag pair if it ends with a bracket.
+    fn end_outside(&self, is_rest: bool, found: Option<TagLine>) -> Option<usize>
         requires { IfSome found (λ tag. self.now.at + tag.at < 2 ^ 64) }
-        ensures { result ≡ spec.end_outside self.now line.now found }
+        ensures { result ≡ line_spec.end_outside self.now is_rest found }
     {
         match found {
             None => {
-                if self.has_movetext && self.is_behind_empty_line && ends_with_tag(line) {
+                if self.has_movetext && self.is_behind_empty_line && is_rest {
                     Some(self.before_escapes(self.at))
                 } else {
                     None
@@ -153,11 +175,11 @@ impl BadGame {
     }
 
     // Where reading goes on behind the end: also behind a byte order mark that stands there.
-    fn behind_mark(&self, line: &[u8], end: usize) -> usize
-        requires { self.now.at + length line.now < 2 ^ 64 }
-        ensures { result ≡ spec.behind_mark self.now line.now end }
+    fn behind_mark(&self, line: &Line, end: usize) -> usize
+        requires { self.now.at + line.now.length < 2 ^ 64 }
+        ensures { result ≡ line_spec.behind_mark self.now line.now end }
     {
-        if self.at <= end && has_mark_at(line, end - self.at) {
+        if self.at <= end && line.has_mark_at(end - self.at) {
             end + 3
         } else {
             end
@@ -165,9 +187,10 @@ impl BadGame {
     }
 
     // Where reading goes on, if the line shows it.
-    pub(crate) fn place_on(&self, line: &[u8]) -> Option<usize>
-        requires { self.now.at + length line.now < 2 ^ 64 }
-        ensures place { result ≡ spec.place_on self.now line.now }
+    pub(crate) fn place_on(&self, line: &Line) -> Option<usize>
+        requires fits { self.now.at + line.now.length < 2 ^ 64 }
+        requires tag { line.now.tag.at ≤ line.now.length }
+        ensures place { result ≡ line_spec.place_on self.now line.now }
         ensures above { IfSome result (λ place. self.now.begin < place) }
     {
         match self.end_at(line) {
@@ -184,18 +207,19 @@ impl BadGame {
     }
 
     // Takes a line of the game.
-    pub(crate) fn read_line(&mut self, line: &[u8])
-        requires { self.old.at + length line.now < 2 ^ 64 }
-        ensures { self.new ≡ spec.behind_line self.old line.now }
+    pub(crate) fn read_line(&mut self, line: &Line)
+        requires { self.old.at + line.now.length < 2 ^ 64 }
+        ensures { self.new ≡ line_spec.behind_line self.old line.now }
     {
-        if is_empty_line(line) {
+        if line.last.is_none() {
             self.is_behind_empty_line = true;
-        } else if self.comment_at.is_none() && begins_with(line, b'%') {
+        } else if self.comment_at.is_none() && is_byte(line.first, b'%') {
             self.escapes_at = Some(self.first_escape());
         } else {
-            self.read_text(line);
+            let text = &line.front.text;
+            self.take(line.front.has_pair, text.open_comment(), text.outside());
         }
-        self.at += line.len();
+        self.at += line.length;
     }
 
     fn first_escape(&self) -> usize
@@ -204,23 +228,6 @@ impl BadGame {
         match self.escapes_at {
             None => self.at,
             Some(escapes) => escapes,
-        }
-    }
-
-    fn read_text(&mut self, line: &[u8])
-        requires { self.old.at + length line.now < 2 ^ 64 }
-        ensures { self.new ≡ spec.with_text_line self.old line.now }
-    {
-        if self.comment_at.is_some() {
-            let comment_at = open_comment(Comment::Braces, self.comment_at, self.at, line);
-            self.take(false, comment_at, outside_text(Comment::Braces, line));
-        } else {
-            let text = behind_stray(line);
-            let rest = behind_pairs(text);
-            let place = self.at + (line.len() - rest.len());
-            let comment_at = open_comment(Comment::Closed, None, place, rest);
-            let has_pair = behind_pair(text).is_some();
-            self.take(has_pair, comment_at, outside_text(Comment::Closed, rest));
         }
     }
 
@@ -234,16 +241,4 @@ impl BadGame {
         self.comment_at = comment_at;
         self.escapes_at = None;
     }
-}
-
-// Whether the line has white space alone.
-fn is_empty_line(line: &[u8]) -> bool
-    ensures { result ≡ list_all is_space_byte line.now }
-{
-    for byte in line {
-        if !is_space(*byte) {
-            return false;
-        }
-    }
-    true
 }

@@ -1,8 +1,9 @@
 //! Where reading goes on behind a bad game.
 //!
 //! A bad game says nothing sure of its end, so its end is a guess: before the next line that begins
-//! a tag section. [`next_section`] reads a whole text, and a [`BadGame`] a text in pieces. Both
-//! never allocate, and claim nothing of what stands at the place that they return.
+//! a tag section. [`next_section`] reads a whole text, a [`BadGame`] the whole lines of a text in
+//! pieces, and a [`SectionSearch`] pieces that are cut anywhere. They never allocate, and claim
+//! nothing of what stands at the place that they return.
 #![tactic(auto)]
 
 ghost use Rattle.std.specs.Prelude.{◌≡◌, ◌<◌, IfSome};
@@ -10,11 +11,16 @@ ghost use Rattle.pgn_sections.specs.Lines.{next_place};
 
 mod bad_game;
 mod bytes;
+mod line;
 mod lines;
 mod outside;
+mod pair;
+mod search;
 mod tag_line;
+mod text;
 
 pub use crate::bad_game::{BadGame, Ends};
+pub use crate::search::SectionSearch;
 
 /// Returns where reading goes on behind a bad game, by guess.
 ///

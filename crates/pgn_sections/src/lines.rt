@@ -1,10 +1,9 @@
 //! The lines of a text, and where reading goes on in them behind a bad game.
-ghost use Rattle.std.specs.Prelude.{◌≡◌, ◌+◌, ◌-◌, ◌<◌, ◌≤◌, ◌^◌, IfSome, Some, None, length};
+ghost use Rattle.std.specs.Prelude.{◌≡◌, ◌+◌, ◌-◌, ◌<◌, ◌≤◌, ◌^◌, IfSome, Some, None, drop, length, take};
 ghost use Rattle.pgn_sections.specs.FirstLine.{line_from, line_to_return as line_to_return_of};
 ghost use Rattle.pgn_sections.specs.Pieces.{FindsPlace, IsSameGame};
 
 use crate::bad_game::BadGame;
-use crate::bytes::{text_from, text_to};
 
 impl BadGame {
     /// Reads the next piece of the text, and returns where reading goes on behind the game.
@@ -30,6 +29,8 @@ impl BadGame {
     /// assert_eq!(game.next_section(&text[12..], true), Some(12));
     /// ```
     pub fn next_section(&mut self, piece: &[u8], is_last: bool) -> Option<usize>
+        // Cargo: assert!(piece.len() <= usize::MAX - self.at,
+        // "the pieces of a text have less than 2^64 bytes")
         requires { self.old.at + length piece.now < 2 ^ 64 }
         ensures same { IsSameGame self.old self.new }
         ensures place { FindsPlace self.old piece.now is_last result self.new }
@@ -37,12 +38,12 @@ impl BadGame {
     {
         let mut rest = piece;
         while let Some(length) = line_length(rest, is_last) {
-            let line = text_to(rest, length);
-            if let Some(place) = self.place_on(line) {
+            let line = self.line_of(text_to(rest, length));
+            if let Some(place) = self.place_on(&line) {
                 self.at = place;
                 return Some(place);
             }
-            self.read_line(line);
+            self.read_line(&line);
             rest = text_from(rest, length);
         }
         None
@@ -83,4 +84,20 @@ fn line_to_return(before: usize, text: &[u8], is_last: bool) -> Option<usize>
             before + 1
         }),
     }
+}
+
+// The text from this place on.
+fn text_from(text: &[u8], at: usize) -> &[u8]
+    requires { at ≤ length text.now }
+    ensures { result.now ≡ drop at text.now }
+{
+    &text[at..]
+}
+
+// The text up to this place.
+fn text_to(text: &[u8], end: usize) -> &[u8]
+    requires { end ≤ length text.now }
+    ensures { result.now ≡ take end text.now }
+{
+    &text[..end]
 }

@@ -1,8 +1,9 @@
 //! What a line of a bad game has outside tag pairs and comments.
-ghost use Rattle.std.specs.Prelude.{◌≡◌, ◌+◌, ◌<◌, ◌^◌, [], true, length};
+ghost use Rattle.std.specs.Prelude.{◌≡◌};
 ghost use Rattle.pgn_sections.specs.Outside as spec;
 ghost use Rattle.pgn_sections.specs.declared.outside.Number.TheVariants.{Blank};
-ghost use Rattle.pgn_sections.specs.Shape.{begun, shape_has_number, shape_has_text, shape_over, shape_with, text_of_shape};
+ghost use Rattle.pgn_sections.specs.Shape.{begun, shape_has_number, shape_has_text, shape_with, text_of_shape};
+ghost use Rattle.pgn_sections.specs.Text.{shape_with_seen};
 
 use pgn_lexer::{is_digit, is_space};
 
@@ -44,7 +45,7 @@ pub(crate) struct Shape {
     pub number_behind_bracket: Number,
 }
 
-fn comment_after(comment: Comment, byte: u8) -> Comment
+pub(crate) fn comment_after(comment: Comment, byte: u8) -> Comment
     ensures { result ≡ spec.comment_after comment byte }
 {
     match comment {
@@ -69,7 +70,7 @@ fn comment_after(comment: Comment, byte: u8) -> Comment
 }
 
 // The byte that the line has outside comments. A comment counts as a space.
-fn outside_byte(comment: Comment, byte: u8) -> Option<u8>
+pub(crate) fn outside_byte(comment: Comment, byte: u8) -> Option<u8>
     ensures { result ≡ spec.outside_byte comment byte }
 {
     match comment {
@@ -82,31 +83,7 @@ fn outside_byte(comment: Comment, byte: u8) -> Option<u8>
     }
 }
 
-/// Where the comment in braces begins that is open at the end of the line, if one is.
-///
-/// The text is at a place, and a comment from a line before begins at `comment_at`.
-pub(crate) fn open_comment(
-    mut comment: Comment,
-    mut comment_at: Option<usize>,
-    place: usize,
-    text: &[u8],
-) -> Option<usize>
-    requires { place + length text.now < 2 ^ 64 }
-    ensures { result ≡ spec.open_comment comment comment_at place text.now }
-{
-    for (index, byte) in text.iter().enumerate() {
-        if is_closed(comment) && *byte == b'{' {
-            comment_at = Some(place + index);
-        }
-        comment = comment_after(comment, *byte);
-    }
-    match comment {
-        Comment::Braces => comment_at,
-        Comment::Closed | Comment::RestOfLine => None,
-    }
-}
-
-fn is_closed(comment: Comment) -> bool
+pub(crate) fn is_closed(comment: Comment) -> bool
     ensures { result ≡ spec.is_closed comment }
 {
     match comment {
@@ -115,7 +92,7 @@ fn is_closed(comment: Comment) -> bool
     }
 }
 
-fn is_byte(found: Option<u8>, byte: u8) -> bool
+pub(crate) fn is_byte(found: Option<u8>, byte: u8) -> bool
     ensures { result ≡ spec.is_byte byte found }
 {
     match found {
@@ -172,7 +149,7 @@ fn is_found(number: Number) -> bool
 }
 
 impl Shape {
-    fn new() -> Shape
+    pub(crate) fn new() -> Shape
         ensures { result ≡ begun }
     {
         Shape {
@@ -207,6 +184,16 @@ impl Shape {
         }
     }
 
+    // What they have with one more, if it is outside comments.
+    pub(crate) fn with_seen(self, seen: Option<u8>) -> Shape
+        ensures { result ≡ shape_with_seen self seen }
+    {
+        match seen {
+            None => self,
+            Some(byte) => self.with(byte),
+        }
+    }
+
     fn begins_with_tag(&self) -> bool
         ensures { result ≡ spec.is_byte 91 self.now.first }
     {
@@ -238,7 +225,7 @@ impl Shape {
     }
 
     // What is seen of the text, if its last word ends with a termination marker or not.
-    fn text(self, is_marked: bool) -> OutsideText
+    pub(crate) fn text(self, is_marked: bool) -> OutsideText
         ensures { result ≡ text_of_shape self is_marked }
     {
         OutsideText {
@@ -247,70 +234,4 @@ impl Shape {
             is_movetext: self.begins_with_number() || is_marked,
         }
     }
-}
-
-// The shape of the line outside comments.
-fn shape_of(mut comment: Comment, line: &[u8]) -> Shape
-    ensures { result ≡ shape_over begun (spec.without_comments comment line.now) }
-{
-    let mut shape = Shape::new();
-    for byte in line {
-        shape = match outside_byte(comment, *byte) {
-            None => shape,
-            Some(seen) => shape.with(seen),
-        };
-        comment = comment_after(comment, *byte);
-    }
-    shape
-}
-
-// The last word of the line outside comments.
-fn last_word(mut comment: Comment, line: &[u8]) -> &[u8]
-    ensures { result.now ≡ spec.last_word [] true (spec.without_comments comment line.now) }
-{
-    let mut begin = 0;
-    let mut end = 0;
-    let mut is_ended = true;
-    for (index, byte) in line.iter().enumerate() {
-        if let Some(seen) = outside_byte(comment, *byte) {
-            if is_space(seen) {
-                is_ended = true;
-            } else {
-                begin = if is_ended { index } else { begin };
-                end = index + 1;
-                is_ended = false;
-            }
-        }
-        comment = comment_after(comment, *byte);
-    }
-    &line[begin..end]
-}
-
-fn ends_with_marker(word: &[u8]) -> bool
-    ensures { result ≡ spec.ends_with_marker word.now }
-{
-    word.ends_with(b"1-0")
-        || word.ends_with(b"0-1")
-        || word.ends_with(b"1/2-1/2")
-        || word.ends_with(b"*")
-}
-
-/// What is seen of the line outside comments.
-pub(crate) fn outside_text(comment: Comment, line: &[u8]) -> OutsideText
-    ensures { result ≡ spec.outside_text (spec.without_comments comment line.now) }
-{
-    shape_of(comment, line).text(ends_with_marker(last_word(comment, line)))
-}
-
-/// Whether the last byte of the text that is no white space is a right bracket.
-pub(crate) fn ends_with_tag(text: &[u8]) -> bool
-    ensures { result ≡ spec.ends_with_tag text.now }
-{
-    let mut last = None;
-    for byte in text {
-        if !is_space(*byte) {
-            last = Some(*byte);
-        }
-    }
-    is_byte(last, b']')
 }

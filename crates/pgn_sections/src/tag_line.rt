@@ -1,15 +1,11 @@
-//! A line that begins a tag section, and tag pairs at the front of a line.
-ghost use Rattle.std.specs.Prelude.{◌≡◌, ◌+◌, ◌<◌, ◌≤◌, IfSome, false, length};
-ghost use Rattle.std.specs.List.{prefix_len};
-ghost use Rattle.std.specs.Option.{option_copied};
-ghost use Rattle.pgn_sections.specs.declared.tag_line.MarkProgress.TheVariants.{Outside};
-ghost use Rattle.pgn_sections.specs.TagLine as spec;
+//! A line that begins a tag section.
+ghost use Rattle.std.specs.Prelude.{◌≡◌, ◌≤◌, IfSome};
+ghost use Rattle.pgn_sections.specs.TagLine as line;
+ghost use Rattle.pgn_sections.specs.TagProgress as spec;
+ghost use Rattle.pgn_sections.specs.declared.tag_line.TagProgress.TheVariants.{BehindBracket};
 
-use crate::bytes::{
-    begins_with, behind_byte, behind_name, behind_space, has_mark_at, is_stray, name_length,
-    text_from,
-};
-use pgn_lexer::is_line_end;
+use crate::bytes::{is_name_byte, is_stray};
+use pgn_lexer::is_space;
 
 /// How many bytes of a byte order mark are read.
 #[derive(Clone, Copy)]
@@ -17,6 +13,47 @@ pub(crate) enum MarkProgress {
     Outside,
     BehindFirst,
     BehindSecond,
+}
+
+/// How much of the name Event the bytes of a name so far are.
+#[derive(Clone, Copy)]
+pub(crate) enum EventName {
+    Empty,
+    E,
+    Ev,
+    Eve,
+    Even,
+    Event,
+    Other,
+}
+
+/// What is read of a tag at the front of a line.
+#[derive(Clone, Copy)]
+pub(crate) enum TagProgress {
+    /// Stray bytes and byte order marks alone.
+    Front(MarkProgress),
+    /// The bracket, and white space.
+    BehindBracket,
+    /// The bracket and bytes of a name.
+    InName(EventName),
+    /// The name, and white space.
+    BehindName(EventName),
+    /// The name, and the quote of its value.
+    Quoted(EventName),
+    /// A bracket without a name and a quote.
+    Unquoted,
+    /// The line begins with no tag.
+    Missing,
+}
+
+/// A tag at the front of a line that is read byte by byte.
+#[derive(Clone, Copy)]
+pub(crate) struct TagSearch {
+    pub progress: TagProgress,
+    /// How many bytes of the line are before the bracket, if it is read.
+    pub at: usize,
+    /// Whether a byte order mark is just before the bracket.
+    pub is_marked: bool,
 }
 
 /// A line that begins a tag section.
@@ -30,41 +67,8 @@ pub(crate) struct TagLine {
     pub is_event: bool,
 }
 
-// What begins a tag section on the line, if anything does.
-pub(crate) fn tag_line(line: &[u8]) -> Option<TagLine>
-    ensures tag { result ≡ spec.tag_line line.now }
-    ensures within { IfSome result (λ tag. tag.at < length line.now) }
-{
-    match bytes_before_bracket(line) {
-        None => None,
-        Some(before) => {
-            let at = tag_begin(before, line);
-            tag_line_behind(at, behind_space(text_from(line, before + 1)))
-        }
-    }
-}
-
-// How many bytes are before a bracket that only stray bytes and byte order marks are before.
-fn bytes_before_bracket(line: &[u8]) -> Option<usize>
-    ensures bytes { result ≡ spec.bytes_before_bracket Outside line.now }
-    ensures within { IfSome result (λ n. n < length line.now) }
-{
-    let mut progress = MarkProgress::Outside;
-    for (index, byte) in line.iter().enumerate() {
-        match mark_after(progress, *byte) {
-            Some(next) => progress = next,
-            None => return if is_at_bracket(progress, *byte) {
-                Some(index)
-            } else {
-                None
-            },
-        }
-    }
-    None
-}
-
 fn mark_after(progress: MarkProgress, byte: u8) -> Option<MarkProgress>
-    ensures { result ≡ spec.mark_after progress byte }
+    ensures { result ≡ line.mark_after progress byte }
 {
     match progress {
         MarkProgress::Outside => {
@@ -94,7 +98,7 @@ fn mark_after(progress: MarkProgress, byte: u8) -> Option<MarkProgress>
 }
 
 fn is_at_bracket(progress: MarkProgress, byte: u8) -> bool
-    ensures { result ≡ spec.is_at_bracket progress byte }
+    ensures { result ≡ line.is_at_bracket progress byte }
 {
     match progress {
         MarkProgress::Outside => byte == b'[',
@@ -102,159 +106,170 @@ fn is_at_bracket(progress: MarkProgress, byte: u8) -> bool
     }
 }
 
-// A byte order mark just before the bracket is of the tag.
-fn tag_begin(before: usize, line: &[u8]) -> usize
-    requires { before ≤ length line.now }
-    ensures place { result ≡ spec.tag_begin before line.now }
-    ensures within { result ≤ before }
+fn name_with(name: EventName, byte: u8) -> EventName
+    ensures { result ≡ spec.name_with name byte }
 {
-    if 3 <= before && has_mark_at(line, before - 3) {
-        before - 3
-    } else {
-        before
-    }
-}
-
-fn tag_line_behind(at: usize, text: &[u8]) -> Option<TagLine>
-    ensures tag { result ≡ spec.tag_line_behind at text.now }
-    ensures at { IfSome result (λ tag. tag.at ≡ at) }
-{
-    if begins_with(text, b'%') {
-        None
-    } else {
-        Some(TagLine {
-            at,
-            is_quoted: has_quoted_value(text),
-            is_event: is_event(text),
-        })
-    }
-}
-
-// Whether the text begins with a name and the quote behind it.
-fn has_quoted_value(text: &[u8]) -> bool
-    ensures { result ≡ spec.has_quoted_value text.now }
-{
-    match behind_name(text) {
-        None => false,
-        Some(rest) => behind_byte(behind_space(rest), b'"').is_some(),
-    }
-}
-
-fn is_event(text: &[u8]) -> bool
-    ensures { result ≡ spec.is_event text.now }
-{
-    has_quoted_value(text) && &text[..name_length(text)] == b"Event".as_slice()
-}
-
-// The text behind the quote that ends a value, if one does on the line.
-fn behind_value(text: &[u8]) -> Option<&[u8]>
-    ensures text { option_copied result ≡ spec.behind_value false text.now }
-    ensures shorter { IfSome result (λ rest. length rest.now ≤ length text.now) }
-{
-    let mut is_behind_backslash = false;
-    for (index, byte) in text.iter().enumerate() {
-        if is_behind_backslash && (*byte == b'"' || *byte == b'\\') {
-            is_behind_backslash = false;
-        } else if *byte == b'"' {
-            return Some(text_from(text, index + 1));
-        } else if is_line_end(*byte) {
-            return None;
+    match name {
+        EventName::Empty => if byte == b'E' {
+            EventName::E
         } else {
-            is_behind_backslash = *byte == b'\\';
+            EventName::Other
+        },
+        EventName::E => if byte == b'v' {
+            EventName::Ev
+        } else {
+            EventName::Other
+        },
+        EventName::Ev => if byte == b'e' {
+            EventName::Eve
+        } else {
+            EventName::Other
+        },
+        EventName::Eve => if byte == b'n' {
+            EventName::Even
+        } else {
+            EventName::Other
+        },
+        EventName::Even => if byte == b't' {
+            EventName::Event
+        } else {
+            EventName::Other
+        },
+        EventName::Event => EventName::Other,
+        EventName::Other => EventName::Other,
+    }
+}
+
+fn is_event_name(name: EventName) -> bool
+    ensures { result ≡ spec.is_event_name name }
+{
+    match name {
+        EventName::Event => true,
+        _ => false,
+    }
+}
+
+fn front_after(mark: MarkProgress, byte: u8) -> TagProgress
+    ensures { result ≡ spec.at_front mark byte (line.mark_after mark byte) }
+{
+    match mark_after(mark, byte) {
+        Some(next) => TagProgress::Front(next),
+        None => {
+            if is_at_bracket(mark, byte) {
+                TagProgress::BehindBracket
+            } else {
+                TagProgress::Missing
+            }
         }
     }
-    None
 }
 
-// The text behind the bracket that ends a tag pair, and white space.
-fn behind_right_bracket(text: &[u8]) -> Option<&[u8]>
-    ensures text { option_copied result ≡ spec.behind_right_bracket text.now }
-    ensures shorter { IfSome result (λ rest. length rest.now ≤ length text.now) }
+fn behind_name(name: EventName, byte: u8) -> TagProgress
+    ensures { result ≡ spec.behind_name name byte }
 {
-    match behind_byte(behind_space(text), b']') {
-        None => None,
-        Some(rest) => Some(behind_space(rest)),
+    if is_space(byte) {
+        TagProgress::BehindName(name)
+    } else if byte == b'"' {
+        TagProgress::Quoted(name)
+    } else {
+        TagProgress::Unquoted
     }
 }
 
-fn behind_quote(text: &[u8]) -> Option<&[u8]>
-    ensures text { option_copied result ≡ spec.behind_quote text.now }
-    ensures shorter { IfSome result (λ rest. length rest.now ≤ length text.now) }
+// A percent sign behind the bracket is that of a word such as `[%clk` in a comment.
+fn behind_bracket(byte: u8) -> TagProgress
+    ensures { result ≡ spec.tag_after BehindBracket byte }
 {
-    match behind_value(text) {
-        None => None,
-        Some(rest) => behind_right_bracket(rest),
+    if is_space(byte) {
+        TagProgress::BehindBracket
+    } else if byte == b'%' {
+        TagProgress::Missing
+    } else if is_name_byte(byte) {
+        TagProgress::InName(name_with(EventName::Empty, byte))
+    } else {
+        TagProgress::Unquoted
     }
 }
 
-fn behind_tag_name(text: &[u8]) -> Option<&[u8]>
-    ensures text { option_copied result ≡ spec.behind_tag_name text.now }
-    ensures shorter { IfSome result (λ rest. length rest.now ≤ length text.now) }
+fn tag_after(progress: TagProgress, byte: u8) -> TagProgress
+    ensures { result ≡ spec.tag_after progress byte }
 {
-    match behind_byte(behind_space(text), b'"') {
-        None => None,
-        Some(rest) => behind_quote(rest),
+    match progress {
+        TagProgress::Front(mark) => front_after(mark, byte),
+        TagProgress::BehindBracket => behind_bracket(byte),
+        TagProgress::InName(name) => {
+            if is_name_byte(byte) {
+                TagProgress::InName(name_with(name, byte))
+            } else {
+                behind_name(name, byte)
+            }
+        }
+        TagProgress::BehindName(name) => behind_name(name, byte),
+        TagProgress::Quoted(name) => TagProgress::Quoted(name),
+        TagProgress::Unquoted => TagProgress::Unquoted,
+        TagProgress::Missing => TagProgress::Missing,
     }
 }
 
-fn behind_left_bracket(text: &[u8]) -> Option<&[u8]>
-    ensures text { option_copied result ≡ spec.behind_left_bracket text.now }
-    ensures shorter { IfSome result (λ rest. length rest.now ≤ length text.now) }
+fn is_marked_after(mark: MarkProgress, is_marked: bool, byte: u8) -> bool
+    ensures { result ≡ spec.is_marked_after mark is_marked byte }
 {
-    match behind_name(behind_space(text)) {
-        None => None,
-        Some(rest) => behind_tag_name(rest),
+    match mark {
+        MarkProgress::Outside => is_marked && byte == b'[',
+        MarkProgress::BehindFirst => false,
+        MarkProgress::BehindSecond => byte == 0xbf,
     }
 }
 
-/// The text behind a whole tag pair and white space, if it begins with one.
-pub(crate) fn behind_pair(text: &[u8]) -> Option<&[u8]>
-    ensures text { option_copied result ≡ spec.behind_pair text.now }
-    ensures shorter { IfSome result (λ rest. length rest.now ≤ length text.now) }
-{
-    match behind_byte(text, b'[') {
-        None => None,
-        Some(rest) => behind_left_bracket(rest),
-    }
-}
-
-/// The text behind the tag pairs that it begins with.
-pub(crate) fn behind_pairs(text: &[u8]) -> &[u8]
-    ensures text { result.now ≡ spec.behind_pairs text.now }
-    ensures shorter { length result.now ≤ length text.now }
-{
-    let mut rest = text;
-    for _count in 0..text.len() {
-        match behind_pair(rest) {
-            None => return rest,
-            Some(behind) => rest = behind,
+impl TagSearch {
+    pub(crate) fn new() -> TagSearch
+        ensures { result ≡ spec.no_tag_read }
+    {
+        TagSearch {
+            progress: TagProgress::Front(MarkProgress::Outside),
+            at: 0,
+            is_marked: false,
         }
     }
-    rest
-}
 
-/// The line behind what is stray at its front.
-pub(crate) fn behind_stray(line: &[u8]) -> &[u8]
-    ensures text { result.now ≡ spec.behind_stray line.now }
-    ensures shorter { length result.now ≤ length line.now }
-{
-    text_from(line, stray_length(line))
-}
-
-fn stray_length(line: &[u8]) -> usize
-    ensures value { result ≡ prefix_len spec.is_stray_or_mark line.now }
-    ensures within { result ≤ length line.now }
-{
-    for (index, byte) in line.iter().enumerate() {
-        if !is_stray_or_mark(*byte) {
-            return index;
+    // With the byte at this place of the line.
+    pub(crate) fn with(self, at: usize, byte: u8) -> TagSearch
+        ensures { result ≡ spec.tag_with self at byte }
+    {
+        let progress = tag_after(self.progress, byte);
+        match self.progress {
+            TagProgress::Front(mark) => TagSearch {
+                progress,
+                at,
+                is_marked: is_marked_after(mark, self.is_marked, byte),
+            },
+            _ => TagSearch { progress, ..self },
         }
     }
-    line.len()
-}
 
-fn is_stray_or_mark(byte: u8) -> bool
-    ensures { result ≡ spec.is_stray_or_mark byte }
-{
-    is_stray(byte) || byte == 0xef || byte == 0xbb || byte == 0xbf
+    // The tag, if the line ends here. A byte order mark just before the bracket is of the tag.
+    pub(crate) fn found(&self) -> Option<TagLine>
+        ensures tag { result ≡ spec.tag_found self.now }
+        ensures within { IfSome result (λ tag. tag.at ≤ self.now.at) }
+    {
+        let at = if self.is_marked {
+            self.at.saturating_sub(3)
+        } else {
+            self.at
+        };
+        match self.progress {
+            TagProgress::Front(_) => None,
+            TagProgress::Missing => None,
+            TagProgress::Quoted(name) => Some(TagLine {
+                at,
+                is_quoted: true,
+                is_event: is_event_name(name),
+            }),
+            _ => Some(TagLine {
+                at,
+                is_quoted: false,
+                is_event: false,
+            }),
+        }
+    }
 }

@@ -1,0 +1,93 @@
+-- A byte order mark that is looked for at a place of a line is found if it is there.
+use Rattle.std.proofs.Common.{◌≡◌, ℕ, ◌+◌, ◌-◌, ◌<◌, ◌≤◌, Bool, true, false, List, [], ◌∷◌, drop, refl, sym, ◌∙◌, ap, arith}
+use Rattle.std.proofs.lemmas.Grind.{common_steps}
+use Rattle.std.specs.Prelude.{◌&&◌, ◌==◌, nat_lt, suc, if◌then◌else◌}
+use Rattle.pgn_lexer.specs.TokensOf.{has_mark}
+use Rattle.pgn_sections.specs.Line.{is_whole_mark, mark_with}
+use Rattle.pgn_sections.specs.declared.line.MarkSearch.{MarkSearch}
+use Rattle.pgn_sections.specs.declared.line.MarkSearch.TheVariants.{Begin, BehindFirst, BehindSecond, Whole, Missing}
+
+abbrev third : List ℕ → Bool
+third [] = false
+third (c ∷ s) = c == 191
+
+abbrev second : List ℕ → Bool
+second [] = false
+second (b ∷ s) = (b == 187) && third s
+
+-- the rest of a mark, of which this is read
+abbrev has_rest : MarkSearch → List ℕ → Bool
+has_rest Begin s = has_mark s
+has_rest BehindFirst s = second s
+has_rest BehindSecond s = third s
+has_rest Whole s = true
+has_rest Missing s = false
+
+if_and : (m n : MarkSearch) (t u : Bool) (s : List ℕ) → has_rest m s ≡ u → has_rest n s ≡ false → has_rest (if t then m else n) s ≡ (t && u)
+if_and m n true u s e h = e
+if_and m n false u s e h = h
+
+first_byte : (b : ℕ) (s : List ℕ) → has_mark (b ∷ s) ≡ ((b == 239) && second s)
+first_byte b [] = sym (and_false (b == 239)) where
+  and_false : (t : Bool) → (t && false) ≡ false
+  and_false true = refl
+  and_false false = refl
+first_byte b (c ∷ []) = sym (and_falses (b == 239) (c == 187)) where
+  and_falses : (t u : Bool) → (t && (u && false)) ≡ false
+  and_falses true true = refl
+  and_falses true false = refl
+  and_falses false u = refl
+first_byte b (c ∷ d ∷ s) = and_and (b == 239) (c == 187) (d == 191) where
+  and_and : (t u v : Bool) → (t && u && v) ≡ (t && (u && v))
+  and_and true true v = refl
+  and_and true false v = refl
+  and_and false u v = refl
+
+and_true : (t : Bool) → (t && true) ≡ t
+and_true true = refl
+and_true false = refl
+
+one_byte : (m : MarkSearch) (b : ℕ) (s : List ℕ) → has_rest (mark_with m b) s ≡ has_rest m (b ∷ s)
+one_byte Begin b s = if_and BehindFirst Missing (b == 239) (second s) s refl refl ∙ sym (first_byte b s)
+one_byte BehindFirst b s = if_and BehindSecond Missing (b == 187) (third s) s refl refl
+one_byte BehindSecond b s = if_and Whole Missing (b == 191) true s refl refl ∙ and_true (b == 191)
+one_byte Whole b s = refl
+one_byte Missing b s = refl
+
+no_byte : (m : MarkSearch) → is_whole_mark m ≡ has_rest m []
+no_byte Begin = refl
+no_byte BehindFirst = refl
+no_byte BehindSecond = refl
+no_byte Whole = refl
+no_byte Missing = refl
+
+-- the mark behind the bytes of a text, so many of the line before it
+abbrev pub mark_over : ℕ → MarkSearch → ℕ → List ℕ → MarkSearch
+mark_over n m i [] = m
+mark_over n m i (b ∷ s) = mark_over n (if nat_lt i n then m else mark_with m b) (i + 1) s
+
+at_mark : (n : ℕ) (m : MarkSearch) (i : ℕ) (s : List ℕ) → n ≤ i → is_whole_mark (mark_over n m i s) ≡ has_rest m s
+at_mark n m i [] h = no_byte m
+at_mark n m i (b ∷ s) h =
+    let behind : nat_lt i n ≡ false = grind (arith, common_steps) in
+    ap (λ (t : Bool). is_whole_mark (mark_over n (if t then m else mark_with m b) (i + 1) s)) behind
+    ∙ at_mark n (mark_with m b) (i + 1) s (omega arith)
+    ∙ one_byte m b s
+
+pub mark_is : (n i : ℕ) (s : List ℕ) → i ≤ n → is_whole_mark (mark_over n Begin i s) ≡ has_mark (drop (n - i) s)
+mark_is n i [] h = no_mark (n - i) where
+  no_mark : (k : ℕ) → false ≡ has_mark (drop k [])
+  no_mark k = grind (arith, common_steps)
+mark_is n i (b ∷ s) h = by_place (nat_lt i n) refl (λ k. mark_is n (i + 1) s k) where
+  by_place : (t : Bool) → nat_lt i n ≡ t → (i + 1 ≤ n → is_whole_mark (mark_over n Begin (i + 1) s) ≡ has_mark (drop (n - (i + 1)) s))
+      → is_whole_mark (mark_over n Begin i (b ∷ s)) ≡ has_mark (drop (n - i) (b ∷ s))
+  by_place true e rest =
+      let before : i < n = grind (arith, common_steps) in
+      let k : n - i ≡ suc (n - (i + 1)) = omega arith in
+      ap (λ (t : Bool). is_whole_mark (mark_over n (if t then Begin else mark_with Begin b) (i + 1) s)) e
+      ∙ rest (omega arith)
+      ∙ sym (ap (λ (k : ℕ). has_mark (drop k (b ∷ s))) k)
+  by_place false e rest =
+      let behind : n ≤ i = grind (arith, common_steps) in
+      let k : n - i ≡ 0 = omega arith in
+      at_mark n Begin i (b ∷ s) behind ∙ sym (ap (λ (k : ℕ). has_mark (drop k (b ∷ s))) k)

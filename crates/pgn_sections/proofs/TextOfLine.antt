@@ -1,0 +1,181 @@
+-- What the code keeps of a text has what is seen of the text.
+use Rattle.std.proofs.lemmas.Grind.{common_steps}
+use Rattle.std.proofs.Common.{◌≡◌, ℕ, ◌+◌, ◌-◌, ◌≤◌, Bool, true, false, List, [], ◌∷◌, ◌++◌, Option, None, Some, length, drop, refl, sym, ◌∙◌, ap, ap₂, arith}
+use Rattle.std.proofs.lemmas.List.{drop_all, length-append}
+use Rattle.std.specs.Prelude.{◌&&◌, ◌==◌, if◌then◌else◌, codes}
+use Rattle.std.specs.List.{cons_option, ends_with}
+use lib.Pointwise.{pointwise}
+use Rattle.pgn_lexer.specs.Bytes.{is_space}
+use Rattle.pgn_sections.proofs.ShapeOfText.{text_is}
+use Rattle.pgn_sections.specs.Outside.{comment_after, is_closed, last_word, open_comment, outside_byte, outside_text, without_comments}
+use Rattle.pgn_sections.specs.Shape.{begun, shape_over, text_of_shape}
+use Rattle.pgn_sections.specs.Text.{comment_in, comment_of, fronts_with, has_marker, no_fronts, outside_of, shape_with_seen, text_from, text_with, word_with, word_with_seen}
+use Rattle.pgn_sections.specs.declared.outside.Comment.{Comment}
+use Rattle.pgn_sections.specs.declared.outside.Comment.TheVariants.{Closed, Braces, RestOfLine}
+use Rattle.pgn_sections.specs.declared.outside.Shape.{Shape}
+use Rattle.pgn_sections.specs.declared.text.MarkerFronts.{MarkerFronts}
+use Rattle.pgn_sections.specs.declared.text.Text.{Text}
+use Rattle.pgn_sections.specs.declared.text.Word.{Word}
+
+-- with the bytes of a text, from a place on
+abbrev pub text_over : Text → ℕ → List ℕ → Text
+text_over t p [] = t
+text_over t p (b ∷ s) = text_over (text_with t p b) (p + 1) s
+
+comment_at_end : (c : Comment) (o : Option ℕ) (p : ℕ) → comment_in c o ≡ open_comment c o p []
+comment_at_end Closed o p = refl
+comment_at_end Braces o p = refl
+comment_at_end RestOfLine o p = refl
+
+comment_behind : (c : Comment) (o : Option ℕ) (p b : ℕ) (s : List ℕ)
+    → open_comment (comment_after c b) (if is_closed c && (b == 123) then Some p else o) (p + 1) s ≡ open_comment c o p (b ∷ s)
+comment_behind Closed o p b s = refl
+comment_behind Braces o p b s = refl
+comment_behind RestOfLine o p b s = refl
+
+pub comment_is : (t : Text) (p : ℕ) (s : List ℕ) → comment_of (text_over t p s) ≡ open_comment t.comment t.comment_at p s
+comment_is t p [] = comment_at_end t.comment t.comment_at p
+comment_is t p (b ∷ s) = comment_is (text_with t p b) (p + 1) s ∙ comment_behind t.comment t.comment_at p b s
+
+shape_behind : (a : Shape) (o : Option ℕ) (s : List ℕ) → shape_over (shape_with_seen a o) s ≡ shape_over a (cons_option o s)
+shape_behind a None s = refl
+shape_behind a (Some b) s = refl
+
+shape_is : (t : Text) (p : ℕ) (s : List ℕ) → (text_over t p s).shape ≡ shape_over t.shape (without_comments t.comment s)
+shape_is t p [] = refl
+shape_is t p (b ∷ s) =
+    shape_is (text_with t p b) (p + 1) s ∙ shape_behind t.shape (outside_byte t.comment b) (without_comments (comment_after t.comment b) s)
+
+abbrev word_over : Word → List ℕ → Word
+word_over w [] = w
+word_over w (b ∷ s) = word_over (word_with w b) s
+
+word_behind : (w : Word) (o : Option ℕ) (s : List ℕ) → word_over (word_with_seen w o) s ≡ word_over w (cons_option o s)
+word_behind w None s = refl
+word_behind w (Some b) s = refl
+
+word_is : (t : Text) (p : ℕ) (s : List ℕ) → (text_over t p s).word ≡ word_over t.word (without_comments t.comment s)
+word_is t p [] = refl
+word_is t p (b ∷ s) =
+    word_is (text_with t p b) (p + 1) s ∙ word_behind t.word (outside_byte t.comment b) (without_comments (comment_after t.comment b) s)
+
+-- A text with one byte more ends with another with one byte more, if it ends with this, and the
+-- bytes are the same.
+
+same_both : (a b : ℕ) → (a == b) ≡ (b == a)
+same_both a b = grind (arith, common_steps)
+
+and_true : (t : Bool) → (t && true) ≡ t
+and_true true = refl
+and_true false = refl
+
+and_false : (t : Bool) → (t && false) ≡ false
+and_false true = refl
+and_false false = refl
+
+and_and : (t u v : Bool) → (t && (u && v)) ≡ ((t && u) && v)
+and_and true u v = refl
+and_and false u v = refl
+
+both_longer : (p v : List ℕ) (c b : ℕ) → pointwise ◌==◌ (p ++ c ∷ []) (v ++ b ∷ []) ≡ (pointwise ◌==◌ p v && (b == c))
+both_longer [] [] c b = and_true (c == b) ∙ same_both c b
+both_longer [] (x ∷ []) c b = and_false (c == x)
+both_longer [] (x ∷ y ∷ v) c b = and_false (c == x)
+both_longer (x ∷ []) [] c b = and_false (x == b)
+both_longer (x ∷ y ∷ p) [] c b = and_false (x == b)
+both_longer (x ∷ p) (y ∷ v) c b = ap (λ (t : Bool). (x == y) && t) (both_longer p v c b) ∙ and_and (x == y) (pointwise ◌==◌ p v) (b == c)
+
+drop_longer : (n : ℕ) (v : List ℕ) (b : ℕ) → n ≤ length v → drop n (v ++ b ∷ []) ≡ drop n v ++ b ∷ []
+drop_longer n v b h = grind (arith, common_steps)
+
+ends_longer : (v p : List ℕ) (b c : ℕ) → ends_with ◌==◌ (v ++ b ∷ []) (p ++ c ∷ []) ≡ (ends_with ◌==◌ v p && (b == c))
+ends_longer v p b c =
+    let n : length (v ++ b ∷ []) - length (p ++ c ∷ []) ≡ length v - length p = omega (arith, length-append v (b ∷ []), length-append p (c ∷ [])) in
+    ap (λ (n : ℕ). pointwise ◌==◌ (p ++ c ∷ []) (drop n (v ++ b ∷ []))) n
+    ∙ ap (λ (u : List ℕ). pointwise ◌==◌ (p ++ c ∷ []) u) (drop_longer (length v - length p) v b (omega arith))
+    ∙ both_longer p (drop (length v - length p) v) c b
+
+ends_with_none : (v : List ℕ) → ends_with ◌==◌ v [] ≡ true
+ends_with_none v =
+    ap (λ (u : List ℕ). pointwise ◌==◌ [] u) (drop_all (length v - 0) v (omega arith))
+
+ends_with_byte : (v : List ℕ) (b c : ℕ) → ends_with ◌==◌ (v ++ b ∷ []) (c ∷ []) ≡ (b == c)
+ends_with_byte v b c = ends_longer v [] b c ∙ ap (λ (t : Bool). t && (b == c)) (ends_with_none v)
+
+-- with which fronts of termination markers a word ends
+abbrev fronts_of : List ℕ → MarkerFronts
+fronts_of v =
+    record {
+      one = ends_with ◌==◌ v (codes "1");
+      one_dash = ends_with ◌==◌ v (codes "1-");
+      white_wins = ends_with ◌==◌ v (codes "1-0");
+      zero = ends_with ◌==◌ v (codes "0");
+      zero_dash = ends_with ◌==◌ v (codes "0-");
+      black_wins = ends_with ◌==◌ v (codes "0-1");
+      one_slash = ends_with ◌==◌ v (codes "1/");
+      half = ends_with ◌==◌ v (codes "1/2");
+      half_dash = ends_with ◌==◌ v (codes "1/2-");
+      half_one = ends_with ◌==◌ v (codes "1/2-1");
+      half_slash = ends_with ◌==◌ v (codes "1/2-1/");
+      draw = ends_with ◌==◌ v (codes "1/2-1/2");
+      asterisk = ends_with ◌==◌ v (codes "*");
+    }
+
+fronts_longer : (v : List ℕ) (b : ℕ) → fronts_with (fronts_of v) b ≡ fronts_of (v ++ b ∷ [])
+fronts_longer v b =
+    let one = ends_with_byte v b 49 in
+    let one_dash = ends_longer v (codes "1") b 45 in
+    let white_wins = ends_longer v (codes "1-") b 48 in
+    let zero = ends_with_byte v b 48 in
+    let zero_dash = ends_longer v (codes "0") b 45 in
+    let black_wins = ends_longer v (codes "0-") b 49 in
+    let one_slash = ends_longer v (codes "1") b 47 in
+    let half = ends_longer v (codes "1/") b 50 in
+    let half_dash = ends_longer v (codes "1/2") b 45 in
+    let half_one = ends_longer v (codes "1/2-") b 49 in
+    let half_slash = ends_longer v (codes "1/2-1") b 47 in
+    let draw = ends_longer v (codes "1/2-1/") b 50 in
+    let asterisk = ends_with_byte v b 42 in
+    λ i. record {
+      one = sym one i;
+      one_dash = sym one_dash i;
+      white_wins = sym white_wins i;
+      zero = sym zero i;
+      zero_dash = sym zero_dash i;
+      black_wins = sym black_wins i;
+      one_slash = sym one_slash i;
+      half = sym half i;
+      half_dash = sym half_dash i;
+      half_one = sym half_one i;
+      half_slash = sym half_slash i;
+      draw = sym draw i;
+      asterisk = sym asterisk i;
+    }
+
+abbrev word_of : List ℕ → Bool → Word
+word_of v is_ended = record { fronts = fronts_of v; is_ended = is_ended }
+
+-- one byte more: white space, the first byte of a word, or a further one
+fronts_behind : (is_blank is_ended : Bool) (v : List ℕ) (b : ℕ) (s : List ℕ)
+    → (word_over (word_of v true) s).fronts ≡ fronts_of (last_word v true s)
+    → (word_over (word_of (b ∷ []) false) s).fronts ≡ fronts_of (last_word (b ∷ []) false s)
+    → (word_over (word_of (v ++ b ∷ []) false) s).fronts ≡ fronts_of (last_word (v ++ b ∷ []) false s)
+    → (word_over (if is_blank then word_of v true else record { fronts = fronts_with (if is_ended then no_fronts else fronts_of v) b; is_ended = false }) s).fronts
+    ≡ fronts_of (if is_blank then last_word v true s else last_word (if is_ended then b ∷ [] else v ++ b ∷ []) false s)
+fronts_behind true is_ended v b s blank first further = blank
+fronts_behind false true v b s blank first further =
+    ap (λ (f : MarkerFronts). (word_over (record { fronts = f; is_ended = false }) s).fronts) (fronts_longer [] b) ∙ first
+fronts_behind false false v b s blank first further =
+    ap (λ (f : MarkerFronts). (word_over (record { fronts = f; is_ended = false }) s).fronts) (fronts_longer v b) ∙ further
+
+fronts_are : (v : List ℕ) (is_ended : Bool) (s : List ℕ) → (word_over (word_of v is_ended) s).fronts ≡ fronts_of (last_word v is_ended s)
+fronts_are v is_ended [] = refl
+fronts_are v is_ended (b ∷ s) =
+    fronts_behind (is_space b) is_ended v b s (fronts_are v true s) (fronts_are (b ∷ []) false s) (fronts_are (v ++ b ∷ []) false s)
+
+pub outside_is : (c : Comment) (o : Option ℕ) (p : ℕ) (s : List ℕ)
+    → outside_of (text_over (text_from c o) p s) ≡ outside_text (without_comments c s)
+outside_is c o p s =
+    ap₂ (λ (a : Shape) (w : Word). text_of_shape a (has_marker w.fronts)) (shape_is (text_from c o) p s) (word_is (text_from c o) p s)
+    ∙ ap (λ (f : MarkerFronts). text_of_shape (shape_over begun (without_comments c s)) (has_marker f)) (fronts_are [] true (without_comments c s))
+    ∙ text_is (without_comments c s)

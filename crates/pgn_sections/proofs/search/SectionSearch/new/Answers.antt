@@ -1,0 +1,14 @@
+use Rattle.std.proofs.Common.{◌∙◌, ap}
+use Rattle.pgn_sections.proofs.LinesOfReader.{finds_place}
+use Rattle.pgn_sections.specs.BadGame.{unread}
+use Rattle.pgn_sections.specs.Search.{place_behind, reader_of}
+use Rattle.pgn_sections.specs.declared.bad_game.BadGame.{BadGame}
+use Rattle.pgn_sections.specs.declared.search.LineReader.{LineReader}
+use Rattle.pgn_sections.proofs.search.SectionSearch.new.Goals as goal
+
+pub returns-clause-found : goal.returns-clause-found
+returns-clause-found c =
+    λ is_last text.
+    ap (λ (r : LineReader). place_behind r is_last text) c.new-reader.ensures.reader
+    ∙ ap (λ (g : BadGame). place_behind (reader_of g) is_last text) c.new-game.ensures
+    ∙ finds_place (unread c.args.begin c.args.fault) is_last text
