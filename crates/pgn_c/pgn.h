@@ -385,7 +385,8 @@ pgn_game pgn_read_game(const void *text, size_t length, size_t from, uint32_t mo
  * full. `from` is as for pgn_next_game, and places count from the first byte of the text. The text
  * is whole: a caller who reads in chunks finds the game by pgn_next_game or pgn_read_game before.
  *
- * PGN_OK: the buffer has the lines of all items from `first_item` on.
+ * PGN_OK: the buffer has the lines of all items from `first_item` on. `end` is the place after the
+ *     game's marker, from where the next game begins.
  * PGN_FAULT: the text has a fault before the game ends. The buffer has the lines of the items
  *     before it. The last one has no line feed if a comment is open there.
  * PGN_FULL: the buffer has as many whole lines as there is room for. `fault` is 51. Call again with

@@ -3,9 +3,9 @@ use Rattle.pgn_c.proofs.Words.{◌≡◌, ℕ, ◌<◌, ◌≤◌, List, [], ◌
 use Rattle.pgn_lexer.specs.Decided.{decided}
 use Rattle.pgn_lexer.specs.Laws.{DecidedIsPrefix}
 use Rattle.pgn_game.specs.declared.conversion.Totals.{Totals}
-use Rattle.pgn_game.specs.calls.ConverterCalls.{AreShown, NoWriteFails, StopsWriting}
+use Rattle.pgn_game.specs.public.ConverterCalls.{AreShown, NoWriteFails, StopsWriting}
 use Rattle.pgn_game.specs.laws.Laws.{DueGrows, IsPrefix}
-use Rattle.pgn_game.specs.calls.Conversion.{AfterSlice, FailsOn, refused, unwritten, too_long, CountsSink, CountsWriting}
+use Rattle.pgn_game.specs.public.Conversion.{AfterSlice, FailsOn, refused, unwritten, too_long, CountsSink, CountsWriting}
 
 -- ---- what is written is a front of the export text
 

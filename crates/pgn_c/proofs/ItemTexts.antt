@@ -8,13 +8,13 @@ use Rattle.chess_text.specs.San.{san}
 use Rattle.chess_text.specs.Uci.{uci}
 use Rattle.pgn_game.specs.declared.item.Item.{Item as CodeItem}
 use Rattle.pgn_game.specs.declared.item.Item.TheVariants as items
-use Rattle.pgn_game.specs.calls.Given.{Given, Shown, marker, shown, shown_with, tags}
-use Rattle.pgn_game.specs.calls.ItemsCalls.{Current, IsBehindTags, IsHeld, IsShown, given_as, given_if, given_next, position_before_move, position_without, shown_move, shown_position, shown_san, shown_uci, shown_word}
+use Rattle.pgn_game.specs.public.Given.{Given, Shown, marker, shown, shown_with, tags}
+use Rattle.pgn_game.specs.public.ItemsCalls.{Current, IsBehindTags, IsHeld, IsShown, given_as, given_if, given_next, position_before_move, position_without, shown_move, shown_position, shown_san, shown_uci, shown_word}
 use Rattle.pgn_game.specs.games.Game as games
 use Rattle.pgn_game.specs.games.Levels.{Levels, first_level, here, levels_after, levels_of, start_of}
 use Rattle.pgn_game.specs.games.Markers.{marker_text}
 use Rattle.pgn_game.specs.games.Pairs.{Pair}
-use Rattle.pgn_game.specs.state.Movetext.{StoredLevels, before_last}
+use Rattle.pgn_game.specs.steps.Movetext.{StoredLevels, before_last}
 use Rattle.pgn_c.specs.ItemLines.{ends_line, field, first_game, given_text, has_marker, move_line}
 use Rattle.pgn_c.specs.ItemSteps.{code_ends, code_move, field_of, front_text, is_marker, number_if, position_fields}
 use Rattle.pgn_c.specs.declared.items.MoveFields.{MoveFields}

@@ -1,16 +1,18 @@
 -- The items of a text, given call by call, and what is written of them.
-use Rattle.std.proofs.Common.{◌≡◌, ℕ, zero, suc, take, drop, length-append, length-take-le, ◌+◌, ◌<◌, ◌≤◌, ◌^◌, ◌⊎◌, inl, inr, Bool, true, false, List, [], ◌∷◌, ◌++◌, length, Option, None, Some, refl, sym, ap, subst, ◌∙◌, arith, append_assoc}
+use Rattle.std.proofs.Common.{◌≡◌, ℕ, zero, suc, take, drop, length-append, length-take-le, append-nil, ◌+◌, ◌<◌, ◌≤◌, ◌^◌, ◌⊎◌, inl, inr, Bool, true, false, List, [], ◌∷◌, ◌++◌, length, Option, None, Some, refl, sym, ap, subst, ◌∙◌, arith, append_assoc}
 use Rattle.std.specs.Prelude.{is_some}
 use Rattle.pgn_layout.specs.Device.{Device}
+use Rattle.pgn_lexer.specs.Tokens.{Token}
 use Rattle.pgn_lexer.specs.TokensOf.{tokens_of}
-use Rattle.pgn_game.specs.calls.Given.{Given, shown}
-use Rattle.pgn_game.specs.calls.ItemsCalls.{Current, GivesItem, Items, given_as, given_next, shown_word}
+use Rattle.pgn_game.specs.public.Given.{Given, given_of, shown}
+use Rattle.pgn_game.specs.public.ItemsCalls.{Current, EndsWithMarker, GivesItem, IsBehindTags, Items, ItemsRead, at_end, behind, given_as, given_if, given_next, has_read_marker, shown_word, within}
 use Rattle.pgn_game.specs.declared.item.Item.{Item as CodeItem}
+use Rattle.pgn_game.specs.declared.item.Item.TheVariants as items
 use Rattle.pgn_game.specs.declared.mode.Mode.TheVariants.{Full}
 use Rattle.pgn_game.specs.declared.reason.Fault.{Fault}
 use Rattle.pgn_game.specs.games.Progress.{read}
 use Rattle.pgn_game.specs.laws.ItemsJoined.{GivenAll, IsFront, ReadHasFailed, all_given}
-use Rattle.pgn_c.specs.ItemLines.{WritesItems, all_result, fault_result, first_game, game_items, given_text, plain_result}
+use Rattle.pgn_c.specs.ItemLines.{GameEndsAt, WritesItems, all_result, fault_result, first_game, game_items, given_text, plain_result}
 use Rattle.pgn_c.specs.ItemSteps.{GivenSoFar, LinesSoFar, PutsItem, PutsText, code_ends, front_text, is_marker, passed_one, put_one}
 use Rattle.pgn_c.specs.Results.{profile_in}
 use Rattle.pgn_c.specs.declared.items.Lines.{Lines}
@@ -35,6 +37,39 @@ below_or_not (suc a) (suc b) = by (below_or_not a b)
     by : (a < b) ⊎ (b ≤ a) → (suc a < suc b) ⊎ (suc b ≤ suc a)
     by (inl h) = inl (omega (arith, h))
     by (inr h) = inr (omega (arith, h))
+
+-- a marker given last is one that was read, and nothing is given next behind it
+marker_read : (c : Current) (i : CodeItem) → c.last ≡ Some i → is_marker i ≡ true → has_read_marker c ≡ true
+marker_read c (items.Marker m) last mark = rw last refl
+marker_read c items.Tags last mark = cc
+marker_read c (items.Move m) last mark = cc
+marker_read c (items.Glyph n) last mark = cc
+marker_read c items.CommentOpen last mark = cc
+marker_read c items.Word last mark = cc
+marker_read c items.CommentClose last mark = cc
+marker_read c items.Open last mark = cc
+marker_read c items.Close last mark = cc
+
+none_behind : (c : Current) (i : CodeItem) → c.last ≡ Some i → is_marker i ≡ true → (next : Option CodeItem) → IsBehindTags next c.last → given_if c next ≡ []
+none_behind c i last mark None at = refl
+none_behind c i last mark (Some x) at = absurd (no_tags i (sym last ∙ at) mark)
+  where
+    no_tags : (y : CodeItem) → Some y ≡ Some items.Tags → is_marker y ≡ true → ⊥
+    no_tags items.Tags same is = cc
+    no_tags (items.Marker m) same is = cc
+    no_tags _ same is = cc
+
+-- none of the tokens that were read is rejected
+none_rejected : (left : Option (List ℕ)) (u : List ℕ) (i : Items) (tokens : List Token) → ItemsRead (profile_in Full) left u i tokens
+    → (read (profile_in Full) tokens).fault ≡ None
+none_rejected left u i tokens (within goes on) = on.stands.has_read.passes
+none_rejected left u i tokens (behind ended rest) = rest.has_read.passes
+none_rejected left u i tokens (at_end finished place all) = all.has_read.passes
+
+-- without a marker the status is not 0
+not_whole : (fault : Option Fault) (written next : ℕ) → (all_result false fault 0 written next).status ≡ 0 → ⊥
+not_whole None written next ok = cc
+not_whole (Some f) written next ok = cc
 
 module _ (f : MoveFields) (s : List ℕ) (first : ℕ) (before now : List ℕ) (old : Items) (rest : List ℕ) (l : Lines) (small : first < 2 ^ 64)
     (so : GivenSoFar f s first before now old rest l) where
@@ -102,14 +137,38 @@ module _ (f : MoveFields) (s : List ℕ) (first : ℕ) (before now : List ℕ) (
           full_buffer f first so.given before now l so.lines s small g (given_next new.current ++ front.0) items_are text
           (is ∙ sym text_given) from puts.0 result (same ∙ ap (λ (x : Lines). record (plain_result 2 x.whole x.whole_items) { fault = 51 }) puts.1) after puts.2
 
+      -- the marker ends where the next byte is
+      ends_at : is_marker i ≡ true → game_items (profile_in Full) s ≡ so.given ++ g ∷ []
+          → (later : List Token) × (tokens_of ((so.u ++ gives.more) ++ left) ≡ gives.have_given.tokens ++ later)
+          → GameEndsAt (profile_in Full) s new.lexer.count
+      ends_at mark game first_tokens =
+          let have = gives.have_given in
+          let marker_at : EndsWithMarker have.tokens new.lexer.count = have.marker_ends (marker_read new.current i gives.last mark) in
+          let next : given_next new.current ≡ [] = none_behind new.current i gives.last mark new.current.pending have.behind in
+          record {
+            tokens = marker_at.before;
+            at = marker_at.last;
+            later = first_tokens.0;
+            first = ap tokens_of text_now ∙ first_tokens.1 ∙ ap (λ (ts : List Token). ts ++ first_tokens.0) marker_at.is_last;
+            passes = subst (λ (ts : List Token). (read (profile_in Full) ts).fault ≡ None) marker_at.is_last
+                (none_rejected (Some left) (so.u ++ gives.more) new have.tokens have.reads);
+            items = ap (λ (ts : List Token). given_of (read (profile_in Full) ts).progress) (sym marker_at.is_last) ∙ have.whole
+                ∙ ap (λ (gs : List Given). (so.given ++ g ∷ []) ++ gs) next ∙ append-nil (so.given ++ g ∷ []) ∙ sym game;
+            is_marker = marker_at.is_marker;
+            ends = marker_at.ends;
+          }
+
       -- the marker was given
       whole : (buffer : List ℕ) (lines : Lines) → is_marker i ≡ true → LinesSoFar f first (so.given ++ g ∷ []) before buffer lines
-          → (result : PgnItems) (end : ℕ) → result ≡ record (plain_result 0 lines.used lines.items) { end = end } → WritesItems f s first before buffer result
-      whole buffer lines mark written result end is =
+          → (result : PgnItems) (end : ℕ) → result ≡ record (plain_result 0 lines.used lines.items) { end = end } → end ≡ new.lexer.count
+          → (first_tokens : (later : List Token) × (tokens_of ((so.u ++ gives.more) ++ left) ≡ gives.have_given.tokens ++ later))
+          → WritesItems f s first before buffer result
+      whole buffer lines mark written result end is at first_tokens =
           let game : game_items (profile_in Full) s ≡ so.given ++ g ∷ [] =
           items_are ∙ ap (λ (xs : List Given). so.given ++ xs) (marker_only new.current i (given_next new.current ++ front.0) mark) in
           all_items f first (so.given ++ g ∷ []) before buffer lines written s small game true
           (marker_later so.given (g ∷ []) so.no_marker ∙ marks new.current i ∙ mark) None end (inl refl) result is
+          (λ ok. subst (GameEndsAt (profile_in Full) s) (sym at ∙ sym (ap (λ (r : PgnItems). r.end) is)) (ends_at mark game first_tokens))
 
     -- what putting the item did
     module _ (lines : Lines) (after : List ℕ) (fits : Bool) (puts : PutsItem f first new.current i l lines now after fits) where
@@ -131,8 +190,10 @@ module _ (f : MoveFields) (s : List ℕ) (first : ℕ) (before now : List ℕ) (
 
       module _ (front : IsFront ((so.given ++ g ∷ []) ++ given_next new.current) (all_given (profile_in Full) ((so.u ++ gives.more) ++ left))) (result : PgnItems) where
         pub game_written : fits ≡ true → is_marker i ≡ true → (end : ℕ) → result ≡ record (plain_result 0 lines.used lines.items) { end = end }
+            → end ≡ new.lexer.count
+            → (first_tokens : (later : List Token) × (tokens_of ((so.u ++ gives.more) ++ left) ≡ gives.have_given.tokens ++ later))
             → WritesItems f s first before after result
-        game_written yes_fits mark end is = whole front after lines mark (lines_now yes_fits) result end is
+        game_written yes_fits mark end is at first_tokens = whole front after lines mark (lines_now yes_fits) result end is at first_tokens
 
         pub buffer_full : fits ≡ false → result ≡ record (plain_result 2 lines.whole lines.whole_items) { fault = 51 } → WritesItems f s first before after result
         buffer_full none_fits is = by (below_or_not l.items first)
@@ -152,6 +213,7 @@ module _ (f : MoveFields) (s : List ℕ) (first : ℕ) (before now : List ℕ) (
         (ap first_game (ap (all_given (profile_in Full)) so.text ∙ all.whole) ∙ whole_game so.given so.no_marker)
         false so.no_marker fault 0
         (inr (ap (λ (t : List ℕ). (read (profile_in Full) (tokens_of t)).fault) so.text ∙ all.fault_is)) result is
+        (λ ok. absurd (not_whole fault l.used l.items (sym (ap (λ (r : PgnItems). r.status) is) ∙ ok)))
 
   -- a fault, since no read fails
   pub fault_written : (source : Device) (fault : Fault) → source.failures ≡ 0 → source.failures_after ≡ 0

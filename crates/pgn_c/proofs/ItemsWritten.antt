@@ -1,11 +1,11 @@
 -- The lines of items in a buffer, one item after another.
 use Rattle.std.proofs.Common.{◌≡◌, ℕ, ◌+◌, ◌^◌, ◌<◌, ◌≤◌, ◌⊎◌, inl, inr, Bool, true, false, List, [], ◌∷◌, ◌++◌, length, take, drop, Option, refl, sym, ap, ap₂, subst, ◌∙◌, arith, append-nil, append_assoc, length-append, take_at, drop_at, take_all}
 use Rattle.std.proofs.lemmas.List.{drop_all, length-drop}
-use Rattle.pgn_game.specs.calls.Given.{Given, shown}
+use Rattle.pgn_game.specs.public.Given.{Given, shown}
 use Rattle.pgn_game.specs.declared.reason.Fault.{Fault}
 use Rattle.pgn_game.specs.games.Progress.{read}
 use Rattle.pgn_lexer.specs.TokensOf.{tokens_of}
-use Rattle.pgn_c.specs.ItemLines.{IsBegun, IsLeft, WritesItems, all_result, counted, ends_line, first_game, first_line, game_items, given_text, has_marker, plain_result, texts_behind}
+use Rattle.pgn_c.specs.ItemLines.{GameEndsAt, IsBegun, IsLeft, WritesItems, all_result, counted, ends_line, first_game, first_line, game_items, given_text, has_marker, plain_result, texts_behind}
 use Rattle.pgn_c.specs.ItemSteps.{LinesSoFar, passed_one}
 use Rattle.pgn_c.specs.Results.{profile_in}
 use Rattle.pgn_c.specs.declared.items.Lines.{Lines}
@@ -171,8 +171,9 @@ module _ (f : MoveFields) (first : ℕ) (given : List Given) (before now : List 
     -- all items of the game were given
     pub all_items : game_items (profile_in Full) s ≡ given → (has_end : Bool) → has_marker given ≡ has_end → (fault : Option Fault) (end : ℕ)
         → (has_end ≡ true) ⊎ ((read (profile_in Full) (tokens_of s)).fault ≡ fault) → (result : PgnItems)
-        → result ≡ all_result has_end fault end l.used l.items → WritesItems f s first before now result
-    all_items game has_end is_end fault end told result is =
+        → result ≡ all_result has_end fault end l.used l.items → (result.status ≡ 0 → GameEndsAt (profile_in Full) s result.end)
+        → WritesItems f s first before now result
+    all_items game has_end is_end fault end told result is ends =
         let parts = passed_all small [] (inl refl) in
         let same : given ++ [] ≡ game_items (profile_in Full) s = append-nil given ∙ sym game in
         record {
@@ -187,6 +188,7 @@ module _ (f : MoveFields) (first : ℕ) (given : List Given) (before now : List 
               ∙ by told
               ∙ ap₂ (λ (n k : ℕ). all_result (has_marker (game_items (profile_in Full) s)) (read (profile_in Full) (tokens_of s)).fault end n k) so.used
               (so.count ∙ ap (λ (xs : List Given). counted (length xs)) so.parts);
+          game_ends = ends;
         }
       where
         end_is : has_end ≡ has_marker (game_items (profile_in Full) s)
@@ -230,6 +232,7 @@ module _ (f : MoveFields) (first : ℕ) (given : List Given) (before now : List 
             long = ap length still ∙ so.begun.long;
           };
           is_result = left_items so.pending begins.0 refl;
+          game_ends = λ ok. absurd (omega (arith, ok, ap (λ (r : PgnItems). r.status) same));
         }
       where
         -- the line that does not fit

@@ -9,8 +9,8 @@ use Rattle.pgn_game.specs.games.Game.{Game, no_part}
 use Rattle.pgn_game.specs.games.Profile.{Missing, counts_as, takes_the_marker}
 use Rattle.pgn_game.specs.export.Text.{torn_for}
 use Rattle.pgn_game.specs.export.Due.{Gains}
-use Rattle.pgn_game.specs.calls.Written.{seen}
-use Rattle.pgn_game.specs.calls.ConverterCalls.{AreShown, Converter, Ends, finished_game_of, IsLast, Stands, StopsWriting, Stops, refused, unwritten, FedAll, FedGame, FedToFault, within_limit, StopsIn, at_token, too_long, Finishes, FinishesToFault, games_before, position_at_stop, refused_position, reported_position}
+use Rattle.pgn_game.specs.public.Written.{seen}
+use Rattle.pgn_game.specs.public.ConverterCalls.{AreShown, Converter, Ends, finished_game_of, IsLast, Stands, StopsWriting, Stops, refused, unwritten, FedAll, FedGame, FedToFault, within_limit, StopsIn, at_token, too_long, Finishes, FinishesToFault, games_before, position_at_stop, refused_position, reported_position}
 use Rattle.pgn_game.specs.laws.GameEnds.{GamesEndByMarker, TextsEndBehindMarker, TextsEndBetweenGames}
 
 -- ---- a marker

@@ -3,7 +3,7 @@ use Rattle.pgn_c.proofs.Words.{◌≡◌, ◌≢◌, ℕ, ◌<◌, ◌≤◌, �
 use Rattle.pgn_game.specs.games.FaultTable.{result_for}
 use Rattle.pgn_game.specs.export.TagSection.{tag_section}
 use Rattle.pgn_game.specs.games.Game.{Game}
-use Rattle.pgn_game.specs.calls.ConverterCalls.{Converter, FinishedGame, finished_game_of, finished_game_section}
+use Rattle.pgn_game.specs.public.ConverterCalls.{Converter, FinishedGame, finished_game_of, finished_game_section}
 use Rattle.pgn_c.specs.NextGame.{ReadsTags, WritesSection, WritesTags, section_of, section_full}
 use Rattle.pgn_c.proofs.MarkerTaken.{is_fault}
 

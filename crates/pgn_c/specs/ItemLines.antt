@@ -3,7 +3,7 @@
 -- the text of a call with white space in place of the bytes before the place that it is read from.
 -- `before` and `after` are the bytes of the buffer before a call and after it. `first` is the
 -- number of the first item whose line is written.
-use Rattle.std.specs.Prelude.{◌≡◌, ℕ, ◌+◌, ◌-◌, ◌^◌, ◌<◌, ◌≤◌, ◌==◌, ◌/◌, ◌%◌, ◌⊎◌, if◌then◌else◌, Bool, true, false, IsTrue, List, [], ◌∷◌, ◌++◌, fold, length, min, take, drop, decimal, codes, Option, Some, None}
+use Rattle.std.specs.Prelude.{◌≡◌, ℕ, ◌+◌, ◌-◌, ◌^◌, ◌<◌, ◌≤◌, ◌==◌, ◌/◌, ◌%◌, ◌⊎◌, if◌then◌else◌, Bool, true, false, IsTrue, is_some, List, [], ◌∷◌, ◌++◌, fold, length, min, take, drop, decimal, codes, Option, Some, None}
 use Rattle.chess_rules.specs.declared.position.Move.{Move}
 use Rattle.chess_rules.specs.declared.position.Parts.{Parts}
 use Rattle.chess_rules.specs.declared.piece.Colour.{Colour}
@@ -14,12 +14,14 @@ use Rattle.chess_text.specs.San.{san}
 use Rattle.chess_text.specs.Uci.{uci}
 use Rattle.pgn_game.specs.declared.mode.Mode.TheVariants.{Full}
 use Rattle.pgn_game.specs.declared.reason.Fault.{Fault}
-use Rattle.pgn_game.specs.calls.Given.{Given, Shown, given_of, item, marker, shown, tags}
+use Rattle.pgn_game.specs.public.Given.{Given, Shown, given_of, item, marker, shown, tags}
+use Rattle.pgn_game.specs.games.FaultTable.{marker_of}
 use Rattle.pgn_game.specs.games.Game as games
 use Rattle.pgn_game.specs.games.Levels.{here, levels_of, start_of}
 use Rattle.pgn_game.specs.games.Profile.{Profile}
 use Rattle.pgn_game.specs.games.Progress.{read}
 use Rattle.pgn_game.specs.games.Reason.{line_of, number_of}
+use Rattle.pgn_lexer.specs.Tokens.{EndsAt, Token}
 use Rattle.pgn_lexer.specs.TokensOf.{tokens_of}
 use Rattle.pgn_c.specs.NextGame.{text_from}
 use Rattle.pgn_c.specs.Results.{padded, profile_in}
@@ -117,6 +119,19 @@ has_marker (g ∷ gs) = has_marker gs
 abbrev pub game_items : Profile → List ℕ → List Given
 game_items p s = first_game (given_of (read p (tokens_of s)).progress)
 
+-- The next game of the text s ends at this place. The first tokens of the text, of which none is
+-- rejected, are read into the items of the game and into no others. The last of them, `at`, is the
+-- game's marker, and ends there.
+pub record GameEndsAt (p : Profile) (s : List ℕ) (place : ℕ) : Type 0 where
+  pub tokens : List Token
+  pub at : Token
+  pub later : List Token
+  pub first : tokens_of s ≡ (tokens ++ at ∷ []) ++ later
+  pub passes : (read p (tokens ++ at ∷ [])).fault ≡ None
+  pub items : given_of (read p (tokens ++ at ∷ [])).progress ≡ game_items p s
+  pub is_marker : IsTrue (is_some (marker_of at.kind))
+  pub ends : EndsAt at.kind at.at place
+
 -- ---- results
 
 -- the number of items in C, which is at most 2^64 - 1
@@ -159,7 +174,8 @@ IsLeft f passed put (g ∷ gs) has_end fault end capacity result =
 
 -- The lines of the next game's items, from the one with this number on, are written as far as the
 -- buffer has room. `put` are the items whose text was written. If all others were passed, that is
--- all that is given of the game, up to its marker or the text's first fault.
+-- all that is given of the game, up to its marker or the text's first fault. With status 0 the
+-- game ends at the place `end` of the result.
 pub record WritesItems (f : MoveFields) (s : List ℕ) (first : ℕ) (before after : List ℕ) (result : PgnItems) : Type 0 where
   pub passed : List Given
   pub put : List Given
@@ -170,6 +186,7 @@ pub record WritesItems (f : MoveFields) (s : List ℕ) (first : ℕ) (before aft
   pub written : IsBegun before after (texts_behind f passed put)
   pub is_result : IsLeft f passed put left (has_marker (game_items (profile_in Full) s))
       (read (profile_in Full) (tokens_of s)).fault end (length before) result
+  pub game_ends : result.status ≡ 0 → GameEndsAt (profile_in Full) s result.end
 
 -- With a place after the end of the text, or a text of more than 2^62 bytes, the status is 6, and
 -- nothing is written.

@@ -6,8 +6,8 @@ use Rattle.chess_rules.specs.declared.position.Parts.{Parts}
 use Rattle.pgn_game.specs.declared.mode.Mode.TheVariants.{Full}
 use Rattle.pgn_game.specs.declared.item.Item.{Item as CodeItem}
 use Rattle.pgn_game.specs.declared.item.Item.TheVariants as items
-use Rattle.pgn_game.specs.calls.Given.{Given}
-use Rattle.pgn_game.specs.calls.ItemsCalls.{Current, HaveGiven, Items, position_before_move, shown_position, shown_san, shown_uci, shown_word}
+use Rattle.pgn_game.specs.public.Given.{Given}
+use Rattle.pgn_game.specs.public.ItemsCalls.{Current, HaveGiven, Items, position_before_move, shown_position, shown_san, shown_uci, shown_word}
 use Rattle.pgn_game.specs.games.Markers.{marker_text}
 use Rattle.chess_text.specs.Fen.{fen_text}
 use Rattle.chess_text.specs.Key.{position_key}

@@ -9,7 +9,7 @@ use Rattle.chess_text.specs.Key.{position_key}
 use Rattle.chess_text.specs.Uci.{uci}
 use Rattle.pgn_game.specs.declared.notation.Notation.TheVariants.{San, Uci}
 use Rattle.pgn_game.specs.declared.reason.Fault.{Fault}
-use Rattle.pgn_game.specs.calls.LineOfPlay.{Line, Ply, line_of_text}
+use Rattle.pgn_game.specs.public.LineOfPlay.{Line, Ply, line_of_text}
 use Rattle.pgn_game.specs.games.Reason.{number_of}
 use Rattle.pgn_c.specs.declared.line_of_play.Format.{Format}
 use Rattle.pgn_c.specs.declared.line_of_play.PgnPlies.{PgnPlies}

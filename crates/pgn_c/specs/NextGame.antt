@@ -24,13 +24,13 @@ use Rattle.pgn_game.specs.games.Markers.{marker_text}
 use Rattle.pgn_game.specs.games.Profile.{Profile, counting}
 use Rattle.pgn_game.specs.games.FaultTable.{result_for}
 use Rattle.pgn_game.specs.export.TagSection.{tag_section}
-use Rattle.pgn_game.specs.calls.Checked.{checked_profile}
+use Rattle.pgn_game.specs.public.Checked.{checked_profile}
 use Rattle.pgn_game.specs.games.Reason.{number_of, line_of}
 use Rattle.pgn_game.specs.games.Game.{Game}
 use Rattle.pgn_game.specs.games.Levels.{plies_of, last_position}
 use Rattle.pgn_game.specs.export.Text.{game_text}
 use Rattle.pgn_game.specs.games.Progress.{read, due, position_at_fault}
-use Rattle.pgn_game.specs.calls.ConverterCalls.{AreShown, StopsWriting, within_limit}
+use Rattle.pgn_game.specs.public.ConverterCalls.{AreShown, StopsWriting, within_limit}
 use Rattle.pgn_game.specs.laws.GamesRestart.{games_read}
 use Rattle.pgn_c.specs.declared.game_result.PgnGame.{PgnGame}
 use Rattle.pgn_c.specs.Results.{IsFilled, padded, profile_in}

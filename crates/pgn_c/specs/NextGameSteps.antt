@@ -10,7 +10,7 @@ use Rattle.pgn_lexer.specs.WhiteSpace.{white_space}
 use Rattle.pgn_game.specs.declared.marker.Marker.TheVariants.{Unknown}
 use Rattle.pgn_game.specs.declared.mode.Mode.{Mode}
 use Rattle.pgn_game.specs.games.Profile.{Profile}
-use Rattle.pgn_game.specs.calls.ConverterCalls.{Converter, Stands, finished_game_of, reading_by_marker, writing_nothing}
+use Rattle.pgn_game.specs.public.ConverterCalls.{Converter, Stands, finished_game_of, reading_by_marker, writing_nothing}
 use Rattle.pgn_c.specs.declared.game_result.PgnGame.{PgnGame}
 use Rattle.pgn_c.specs.NextGame.{NextOf, in_first_column, profile_counting, profile_taking, text_from}
 

@@ -1,7 +1,7 @@
 -- **Bookkeeping**: the line of the next ply, as it is pushed.
 use Rattle.std.specs.Prelude.{◌≡◌, ℕ, ◌<◌, List, length, Option, Some, None, Result, Ok, Err}
 use Rattle.pgn_game.specs.declared.reason.Fault.{Fault}
-use Rattle.pgn_game.specs.calls.LineOfPlay.{Ahead, Ply, behind_ply, line_ahead, no_plies}
+use Rattle.pgn_game.specs.public.LineOfPlay.{Ahead, Ply, behind_ply, line_ahead, no_plies}
 use Rattle.pgn_c.specs.LinesOfPlay.{ply_line}
 use Rattle.pgn_c.specs.declared.line_of_play.PlyFields.{PlyFields}
 

@@ -11,7 +11,7 @@ use Rattle.chess_text.specs.Uci.{uci}
 use Rattle.pgn_game.specs.declared.notation.Notation.{Notation}
 use Rattle.pgn_game.specs.declared.notation.Notation.TheVariants.{San, Uci}
 use Rattle.pgn_game.specs.declared.reason.Reason.{Reason}
-use Rattle.pgn_game.specs.calls.Notations.{named_in}
+use Rattle.pgn_game.specs.public.Notations.{named_in}
 use Rattle.pgn_game.specs.games.Reason.{number_of}
 use Rattle.pgn_c.specs.declared.fen.PgnText.{PgnText}
 use Rattle.pgn_c.specs.declared.san.PgnMove.{PgnMove}

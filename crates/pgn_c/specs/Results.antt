@@ -11,8 +11,8 @@ use Rattle.pgn_game.specs.declared.conversion.Totals.{Totals}
 use Rattle.pgn_game.specs.games.Profile.{Profile}
 use Rattle.pgn_game.specs.games.Reason.{number_of, line_of}
 use Rattle.pgn_game.specs.games.Progress.{output}
-use Rattle.pgn_game.specs.calls.ConverterCalls.{profile_of}
-use Rattle.pgn_game.specs.calls.Conversion.{AfterSlice, ChecksSlice}
+use Rattle.pgn_game.specs.public.ConverterCalls.{profile_of}
+use Rattle.pgn_game.specs.public.Conversion.{AfterSlice, ChecksSlice}
 use Rattle.pgn_game.specs.laws.Laws.{IsPrefix}
 use Rattle.pgn_c.specs.declared.pgn_result.PgnResult.{PgnResult}
 

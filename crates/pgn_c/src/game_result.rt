@@ -3,7 +3,7 @@ ghost use Rattle.std.specs.Prelude.{◌≡◌, ◌-◌, None, Some, length};
 ghost use Rattle.std.specs.Option.{option_copied};
 ghost use Rattle.pgn_game.specs.games.Game.{Game};
 ghost use Rattle.pgn_game.specs.games.Markers.{marker_text};
-ghost use Rattle.pgn_game.specs.calls.ConverterCalls.{finished_game_of, refused_position};
+ghost use Rattle.pgn_game.specs.public.ConverterCalls.{finished_game_of, refused_position};
 ghost use Rattle.pgn_c.specs.NextGame.{fault_result, fen_bytes, game_result, nothing, marker_number};
 ghost use Rattle.pgn_c.specs.NextGame as spec;
 

@@ -3,7 +3,7 @@ ghost use Rattle.std.specs.Prelude.{◌≡◌, ℕ, ◌+◌, ◌^◌, ◌<◌, �
 ghost use Rattle.std.specs.Option.{option_copied};
 ghost use Rattle.chess_text.specs.Fen.{fen_text};
 ghost use Rattle.chess_text.specs.Key.{position_key};
-ghost use Rattle.pgn_game.specs.calls.ItemsCalls.{HaveGiven, shown_san, shown_uci};
+ghost use Rattle.pgn_game.specs.public.ItemsCalls.{HaveGiven, shown_san, shown_uci};
 ghost use Rattle.pgn_game.specs.declared.mode.Mode.TheVariants.{Full};
 ghost use Rattle.pgn_c.specs.Results.{profile_in};
 ghost use Rattle.pgn_c.specs.ItemLines as spec;

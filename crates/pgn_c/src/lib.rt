@@ -264,7 +264,7 @@ pub extern "C" fn pgn_read_game(
 /// of a call whose buffer was full. `from` and the places are as for `pgn_next_game`, a missing
 /// Result counts as `*`, and the text ends where it ends: no more comes.
 ///
-/// - Status 0: the buffer has the lines of all items.
+/// - Status 0: the buffer has the lines of all items. `end` is the place behind the game's marker.
 /// - Status 1: the text has a fault before the game's marker. The buffer has the lines of the items
 ///   before it. The last one has no LF if a comment is open there.
 /// - Status 2: the buffer is full. It has as many whole lines as there is room for, and `next_item`

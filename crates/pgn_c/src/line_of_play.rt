@@ -1,6 +1,6 @@
 //! A line of play, as C gets it.
 ghost use Rattle.std.specs.Prelude.{◌≡◌, ◌+◌, ◌<◌, ◌≤◌, [], ◌∷◌, ◌++◌, None, Some, drop, length, take};
-ghost use Rattle.pgn_game.specs.calls.LineOfPlay.{Ply, line_ahead, line_of_text};
+ghost use Rattle.pgn_game.specs.public.LineOfPlay.{Ply, line_ahead, line_of_text};
 ghost use Rattle.pgn_c.specs.NextLine.{PushesNext};
 ghost use Rattle.pgn_c.specs.LinesOfPlay as spec;
 ghost use Rattle.pgn_c.specs.LinesOfPlay.{WritesLine, line_result};

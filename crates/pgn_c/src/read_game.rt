@@ -1,6 +1,6 @@
 //! The next game of a text, of which the tag section alone is written.
 ghost use Rattle.std.specs.Prelude.{◌≡◌, ◌≢◌};
-ghost use Rattle.pgn_game.specs.calls.ConverterCalls.{finished_game_section};
+ghost use Rattle.pgn_game.specs.public.ConverterCalls.{finished_game_section};
 ghost use Rattle.pgn_c.specs.NextGame.{ReadGameIn, WritesSection, section_full};
 
 use crate::buffer_sink::{BufferBefore, BufferSink, Room};

@@ -1,7 +1,7 @@
 //! The move that a text names in a position, as C gets it.
-ghost use Rattle.std.specs.Prelude.{◌≡◌, Some, Ok};
+ghost use Rattle.std.specs.Prelude.{◌≡◌, ◌+◌, ◌<◌, ◌^◌, Some, Ok};
 ghost use Rattle.chess_rules.specs.Legal.{legal};
-ghost use Rattle.pgn_game.specs.calls.Notations.{named_in};
+ghost use Rattle.pgn_game.specs.public.Notations.{named_in};
 ghost use Rattle.pgn_c.specs.Positions.{failed_move, move_result, notation_of};
 
 use crate::pgn_result::{FAULT, NO_MODE, OK, padded};
@@ -31,18 +31,20 @@ pub struct PgnMove {
 pub fn name_move(position: &Position, text: &[u8], notation: Notation) -> PgnMove
     ensures { result ≡ move_result position.now (named_in notation position.now text.now) }
 {
-    match read_move(position, text, notation, &mut Probes::new()) {
-        Ok(played) => written_move(position, &played),
+    let mut probes = Probes::new();
+    match read_move(position, text, notation, &mut probes) {
+        Ok(played) => written_move(position, &played, &mut probes),
         Err(reason) => no_move(FAULT, reason.number() as u32, 0),
     }
 }
 
-// The result for a legal move.
-fn written_move(position: &Position, played: &Played) -> PgnMove
-    requires { legal position.now played.now.mv ≡ Some played.now.next }
+// The result for a legal move. This counts the pairs that its SAN tries.
+fn written_move(position: &Position, played: &Played, probes: &mut Probes) -> PgnMove
+    requires legal { legal position.now played.now.mv ≡ Some played.now.next }
+    requires room { probes.old + 1032 < 2 ^ 32 }
     ensures { result ≡ move_result position.now (Ok played.now) }
 {
-    let san = write_san(position, played, &mut Probes::new());
+    let san = write_san(position, played, probes);
     PgnMove {
         status: OK,
         fault: 0,

@@ -1,6 +1,6 @@
 -- Two equal readings: no token of the second shows a difference, also where one stops early.
 use Rattle.pgn_game.proofs.Words.{◌≡◌, ℕ, Bool, true, false, List, [], ◌∷◌, ◌++◌, inl, inr, Option, None, Some, refl, ap, ◌∙◌, append-nil, ◌==◌, bytes_eq-Decides, tokens_of, RisesTo, TokensRise, Token, Reason, Changed, Fault, Profile, takes_the_marker, Game, Part, refusal, is_end, Next, going, whole, next, Progress, no_progress, progress_after, read, read_from, eqb_tells, arith, rules, PlacedMarker, marker_at, markers_from, Comparison, compared_from, compared, written_by, is_other, is_changed, markers_after, written_so_far as written, verdict_of, sym, EqualReadings}
-use Rattle.pgn_game.proofs.tokens.OneMoreToken.{by_token}
+use Rattle.pgn_game.proofs.stepping.OneMoreToken.{by_token}
 use Rattle.pgn_game.proofs.reading.RunsToEnd.{not_end}
 
 -- how far the second reading is: its games, and no difference is seen

@@ -2,10 +2,10 @@
 use Rattle.pgn_game.proofs.Words.{◌≡◌, ℕ, max, Bool, true, false, List, [], ◌∷◌, ◌++◌, None, refl, sym, ap, subst, ◌∙◌, append-nil, arith, Token, TokensRise, RisesTo, tokens_of, Profile, takes_the_marker, Game, no_part, Next, going, whole, next, Progress, no_progress, progress_with, progress_after, Read, read, read_from, verdict, verdict_of, PlacedMarker, Comparison, compared, compared_from, markers_after, markers_from, is_changed, MostFrom, MostTried, Totals, Device, verdict_in, IsTotalled, IsTrue, play_moves, append_cancel_left, AreTotalled, HasTaken, MostOfBoth, EqualTotals, common_steps}
 use Rattle.pgn_game.proofs.EqualReadings.{equal_readings, after_change, change_test, compared_same, ends, Same}
 use Rattle.pgn_game.proofs.reading.RunsToEnd.{Runs, kinds, from_read}
-use Rattle.pgn_game.proofs.tokens.NoneBeforeFault.{reads_behind}
-use Rattle.pgn_game.proofs.tokens.PairsTriedBetweenGames.{none_tried}
-use Rattle.pgn_game.proofs.tokens.PairsTriedForToken.{most_then}
-use Rattle.pgn_game.proofs.tokens.PairsTriedSilently.{tries_fewer}
+use Rattle.pgn_game.proofs.stepping.NoneBeforeFault.{reads_behind}
+use Rattle.pgn_game.proofs.stepping.PairsTriedBetweenGames.{none_tried}
+use Rattle.pgn_game.proofs.stepping.PairsTriedForToken.{most_then}
+use Rattle.pgn_game.proofs.stepping.PairsTriedSilently.{tries_fewer}
 
 -- At the last marker no game is begun, if that was so before the first token.
 abbrev EndsBetween : Comparison → Type 0

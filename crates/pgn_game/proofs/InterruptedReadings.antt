@@ -1,7 +1,7 @@
 -- Two readings of one text, of which one stops early or a write fails: what is written is a prefix.
 use Rattle.pgn_game.proofs.Words.{◌≡◌, ℕ, List, [], ◌∷◌, ◌++◌, take, drop, ◌⊎◌, inl, inr, None, refl, sym, ap, subst, ◌∙◌, append_assoc, append-nil, take-append-drop, tokens_of, TokensRise, Token, Profile, takes_the_marker, game_text, torn, torn_for, Next, going, whole, next, Progress, no_progress, progress_with, progress_after, Read, read_from, IsPrefix, rules, PlacedMarker, marker_at, markers_from, Comparison, compared_from, compared, written_by, with_marker, decided, text_of_games as text_of, written_so_far as written, due, DecidedIsPrefix, AreWritten, AreWrittenWithin, InterruptedReadings}
-use Rattle.pgn_game.proofs.tokens.OneMoreToken.{by_token, goes_on, also, grows_from, due_grows, text_of-snoc}
-use Rattle.pgn_game.proofs.tokens.NextGrows.{behind, next_grows}
+use Rattle.pgn_game.proofs.stepping.OneMoreToken.{by_token, goes_on, also, grows_from, due_grows, text_of-snoc}
+use Rattle.pgn_game.proofs.stepping.NextGrows.{behind, next_grows}
 use Rattle.pgn_game.proofs.EqualReadings.{Ends, ends, rest_ends, after_markers, markers_test, SeesGames, same_token, rejected_token, compared_same, written_same}
 use Rattle.pgn_game.proofs.twice.MarkerCounts.{same_game_text}
 

@@ -15,5 +15,5 @@ mod pairs
 mod putting
 mod reading
 mod refusals
-mod tokens
+mod stepping
 mod twice

@@ -4,7 +4,7 @@ use Rattle.pgn_game.specs.declared.line_of_play.MoveOfLine.{MoveOfLine}
 use Rattle.pgn_game.specs.declared.line_of_play.Ply.{Ply as CodePly}
 use Rattle.pgn_game.specs.declared.line_of_play.Span.{Span}
 use Rattle.pgn_game.specs.declared.notation.Notation.{Notation}
-use Rattle.pgn_game.specs.calls.Notations.{named_in}
+use Rattle.pgn_game.specs.public.Notations.{named_in}
 
 -- what was seen before the call
 abbrev seen : Notation → Parts → List ℕ → ℕ → Ahead

@@ -43,21 +43,21 @@ pub use Rattle.pgn_game.specs.games.FaultTable.{Row, fen_fault_field, fen_field,
 unfoldable pub use Rattle.pgn_game.specs.games.FaultTable.{refusal}
 pub use Rattle.pgn_game.specs.laws.Filled.{exported_pairs, filled}
 pub use Rattle.pgn_game.specs.laws.FixedPoint.{AreExportable, ExportIsKept, ExportIsKeptOfSource, ExportingTwice, FewPairsHaveRoom, FixedPoint, IsExportable, IsWrittenAgain, SameOutput, SameText, SliceIsKept, SourceIsKept, TagSectionFits, TextSpells, counted, games_in}
-pub use Rattle.pgn_game.specs.state.ItemResult.{Adds, Annotates, ItemCall, LeadsLevels, Plays, PutsAnnotation, PutsMarker, PutsMove, PutsTokens, TriesItem, after_move_if, ending_if, line_behind, token_if, writes_annotations, item_text, plies_in, tokens_if, LeavesSink}
+pub use Rattle.pgn_game.specs.steps.ItemResult.{Adds, Annotates, ItemCall, LeadsLevels, Plays, PutsAnnotation, PutsMarker, PutsMove, PutsTokens, TriesItem, after_move_if, ending_if, line_behind, token_if, writes_annotations, item_text, plies_in, tokens_if, LeavesSink}
 pub use Rattle.pgn_game.specs.games.Levels.{Level, Levels, back_to, depth, first_level, here, last_position, levels_after, levels_of, main_moves, outermost, plies_of, replayed, start_of, without_last}
 pub use Rattle.pgn_game.specs.games.Markers.{marker_text, missing_of}
-pub use Rattle.pgn_game.specs.calls.Written.{bytes_seen, failures_seen, is_nothing, mode_of_written, mode_unless, seen}
-pub use Rattle.pgn_game.specs.state.Movetext.{HoldsLineOf, ClosesLevel, FitsLevelStore, HoldsItems, Movetext, StoredLevel, StoredLevels, before_last, code_levels, ends_in_move, inside, level_at, level_of, movetext_after_fen, movetext_from, nearest_first, places_of, stored_level, stored_levels}
+pub use Rattle.pgn_game.specs.public.Written.{bytes_seen, failures_seen, is_nothing, mode_of_written, mode_unless, seen}
+pub use Rattle.pgn_game.specs.steps.Movetext.{HoldsLineOf, ClosesLevel, FitsLevelStore, HoldsItems, Movetext, StoredLevel, StoredLevels, before_last, code_levels, ends_in_move, inside, level_at, level_of, movetext_after_fen, movetext_from, nearest_first, places_of, stored_level, stored_levels}
 pub use Rattle.pgn_game.specs.games.Progress.{Next, Progress, Read, at_stage, going, in_text, items_of, move_item, next, next_in, no_progress, output, progress_after, progress_with, read, read_from, refused, totals, verdict, whole, due, verdict_of, written as written_so_far, position_at_fault}
-pub use Rattle.pgn_game.specs.state.PutResult.{BeginsText, Goes, Keeps, PutResult, TakesOutside, TakesToken, at_game_start, gain_to, section_due, section_due_of, CountsMove, EntersMovetext, EntersPart, Finds, FinishesNone, GoesTo, Takes, TakesEntry, TakesUnwritten, counting_probes, unused, MeetsEntry, MeetsMarker, TakesMarker, TakesOther, TakesUnlessMarker, continued}
-pub use Rattle.pgn_game.specs.state.ReaderState.{KeepsSilence, Writing, mode_written, silenced, sink_of, with_announced, Accepted, More, Finished, Agrees, AreSound, CountsWrites, FinishesAtMarker, HoldsPairs, HoldsText, IsBehind, ReaderState, as_written, is_outside_the_table, known_of, known_text, plies_of_finished_games, Answers, IsAccepted, IsKnown, IsStopped, Leads, plies_added, ReaderCall}
-pub use Rattle.pgn_game.specs.state.SectionLines.{other_line, roster_line, text_by}
+pub use Rattle.pgn_game.specs.steps.PutResult.{BeginsText, Goes, Keeps, PutResult, TakesOutside, TakesToken, at_game_start, gain_to, section_due, section_due_of, CountsMove, EntersMovetext, EntersPart, Finds, FinishesNone, GoesTo, Takes, TakesEntry, TakesUnwritten, counting_probes, unused, MeetsEntry, MeetsMarker, TakesMarker, TakesOther, TakesUnlessMarker, continued}
+pub use Rattle.pgn_game.specs.steps.ReaderState.{KeepsSilence, Writing, mode_written, silenced, sink_of, with_announced, Accepted, More, Finished, Agrees, AreSound, CountsWrites, FinishesAtMarker, HoldsPairs, HoldsText, IsBehind, ReaderState, as_written, is_outside_the_table, known_of, known_text, plies_of_finished_games, Answers, IsAccepted, IsKnown, IsStopped, Leads, plies_added, ReaderCall}
+pub use Rattle.pgn_game.specs.steps.SectionLines.{other_line, roster_line, text_by}
 pub use Rattle.pgn_game.specs.games.Spells.{AreDistinct, AreDropped, BeginsBare, IsPair, IsResult, IsSetUp, KeepsTags, Names, Spells, SpellsGame, SpellsGames, SpellsPair, SpellsPairs, SpellsText, StandsFor, by_name, comment_close, comment_open, glyph, level_after_move, move, new_level, next_game, next_pair, no_game, no_more, no_pair, number, pair, period, token, variation, word}
-pub use Rattle.pgn_game.specs.state.StoredPairs.{AllAfter, AllBelow, AreInOrder, FitsPairStore, HasBegun, InOrder, TagPairs, index_of, pair_at, pairs_seen, placed}
+pub use Rattle.pgn_game.specs.steps.StoredPairs.{AllAfter, AllBelow, AreInOrder, FitsPairStore, HasBegun, InOrder, TagPairs, index_of, pair_at, pairs_seen, placed}
 pub use Rattle.pgn_game.specs.export.TagSection.{exported, in_roster, other_pairs, roster_pairs, tag_lines, tag_section, with_set_up}
 unfoldable pub use Rattle.pgn_game.specs.export.TagSection.{roster}
 pub use Rattle.pgn_game.specs.export.Text.{Placed, full_text, game_text, has_move, is_main_move, is_move, number_before, placed_from, tokens_at, tokens_from, tokens_out, torn, torn_at, torn_for, written_items, text_of as text_of_games}
-pub use Rattle.pgn_game.specs.state.TokenInMovetext.{IsEntry, IsOpen, fen_position, game_of, has_whole_pairs, may_have_movetext, or_else, text_refusal, with_items}
+pub use Rattle.pgn_game.specs.steps.TokenInMovetext.{IsEntry, IsOpen, fen_position, game_of, has_whole_pairs, may_have_movetext, or_else, text_refusal, with_items}
 pub use Rattle.pgn_game.specs.declared.marker.Marker.{Marker}
 pub use Rattle.pgn_game.specs.declared.marker.Marker.TheVariants.{BlackWins, Draw, Unknown, WhiteWins}
 pub use Rattle.pgn_layout.specs.Device.{AppendsFront, Counts, Device, Writes, WritesText, device, one_more, FailsOnce, IsStill, nowhere}
@@ -73,38 +73,38 @@ pub use Rattle.pgn_lexer.specs.Written.{AreEnded, IsEndedBy, IsPiece, IsReadable
 pub use Rattle.pgn_lexer.specs.declared.token.TokenKind.{TokenKind}
 pub use Rattle.chess_text.specs.MoveOfForm.{form_pairs, move_of_form, with_next}
 pub use Rattle.chess_text.specs.declared.form.Form.{Form}
-pub use Rattle.pgn_game.specs.calls.FoundMove.{found_in}
+pub use Rattle.pgn_game.specs.public.FoundMove.{found_in}
 pub use Rattle.pgn_game.specs.laws.Laws.{IsPrefix, DueGrows}
-unfoldable pub use Rattle.pgn_game.specs.calls.Tried.{Costs}
+unfoldable pub use Rattle.pgn_game.specs.public.Tried.{Costs}
 pub use Rattle.std.proofs.lemmas.Result.{err_from_is_err_and}
-pub use Rattle.pgn_game.specs.calls.Tried.{AddsPairs, CostsAnswer, CostsForm, Costs}
-pub use Rattle.pgn_game.specs.calls.ConverterCalls.{NoWriteFails, StillStands, writing_nothing, AreNext, within_limit, Converter, CountsFault, CountsMissingAs, CountsReason, FedAll, FedFault, FedGame, FedToFault, FedWhole, FinishedGame, HasRead, IsSound, ReadsUpTo, Stands, StopsIn, at_token, counting_missing_as, finished_game_of, finished_game_plies, game_in_reader_if, play_moves, profile_of, too_long, AfterFinish, Finishes, FinishesToFault, game_in_reader, Stops, unwritten, StopsWriting, games_before, position_at_stop, ProbesAtStop, has_played_move, reported_position, refused as refused_stop, IsLast as IsLastGame, AreShown, Ends, Feeds, IsRefused, ReadsByMarker, reading_by_marker, so_far}
+pub use Rattle.pgn_game.specs.public.Tried.{AddsPairs, CostsAnswer, CostsForm, Costs}
+pub use Rattle.pgn_game.specs.public.ConverterCalls.{NoWriteFails, StillStands, writing_nothing, AreNext, within_limit, Converter, CountsFault, CountsMissingAs, CountsReason, FedAll, FedFault, FedGame, FedToFault, FedWhole, FinishedGame, HasRead, IsSound, ReadsUpTo, Stands, StopsIn, at_token, counting_missing_as, finished_game_of, finished_game_plies, game_in_reader_if, play_moves, profile_of, too_long, AfterFinish, Finishes, FinishesToFault, game_in_reader, Stops, unwritten, StopsWriting, games_before, position_at_stop, ProbesAtStop, has_played_move, reported_position, refused as refused_stop, IsLast as IsLastGame, AreShown, Ends, Feeds, IsRefused, ReadsByMarker, reading_by_marker, so_far}
 pub use Rattle.pgn_lexer.specs.Standing.{Standing, coming, waiting}
 pub use Rattle.pgn_lexer.specs.Stands.{AfterScan, FinishGivesToken, Follows, HasLeft, IsDecided, IsNext, StandsAfter, first, still, Scans}
-pub use Rattle.pgn_game.specs.state.Readings.{BothSoFar, HasMarkers, HasMatched, Reading, changed_reason, model_marker, AfterMarker, AllRead, ComesNext, EndComes, FirstFails, GameRead, GameWritten, HasCome, HasGiven, MarkerComes, ReadFails, ReadingStops, ReadsUpToMarker, SecondFails, StandsBetween, StandsIn, WhyFirst, WhySecond, WritesGame, as_changed, at_read, no_sink}
-pub use Rattle.pgn_game.specs.calls.MostTried.{CostsIf, CostsToAdd, CostsToFind, CostsToWrite, MostFrom, MostTried, Raises, Tries, CostsUnlessRefused, is_sought, TriesUnwritten, added, is_written, none}
-pub use Rattle.pgn_game.specs.calls.GamesCalls.{AfterNext, CountsNext, Games, HasReadAll, HaveRead, NextFault, NextGame, NextStops, NoGame, ReadSoFar, at_end, ReadsNext, ReadsNoGame, games_of, most_left, within}
+pub use Rattle.pgn_game.specs.steps.Readings.{BothSoFar, HasMarkers, HasMatched, Reading, changed_reason, model_marker, AfterMarker, AllRead, ComesNext, FirstFails, GameRead, GameWritten, HasGiven, HasGivenIn, ReadFails, ReadingStops, ReadsUpToMarker, SecondFails, SourceGives, StandsBetween, Stores, WhyFirst, WhySecond, WritesGame, as_changed, at_read, known_by, no_sink}
+pub use Rattle.pgn_game.specs.public.MostTried.{CostsIf, CostsToAdd, CostsToFind, CostsToWrite, MostFrom, MostTried, Raises, Tries, CostsUnlessRefused, is_sought, TriesUnwritten, added, is_written, none}
+pub use Rattle.pgn_game.specs.public.GamesCalls.{AfterNext, CountsNext, Games, HasReadAll, HaveRead, NextFault, NextGame, NextStops, NoGame, ReadSoFar, at_end, ReadsNext, ReadsNoGame, games_of, most_left, within}
 pub use Rattle.pgn_game.specs.export.Due.{Gains, gain, text_next}
-pub use Rattle.pgn_game.specs.state.ConverterSteps.{AllSoFar, AtEndSoFar, EndsGame, FaultAtEnd, FeedsAllSoFar, FinishesSoFar, GainsAs, IsGoing, Meets, NotTaken, OneGame, ReadsMore, SameGames, due_as, ended_by, fault_of, outcome_at, part_after, CountsGame, EndsToMarker, FailsIn, GoesToMarker, IsBeforePiece, IsBeforeToken, IsReadyAfter, KeepsRest, ReadsToEnd, StepAdvances, StepAtEndAdvances, StepGoes, StepsInPiece, StepsAtEnd, announcing, is_ended, taking_announced_marker, At, MeetsAt, Reached, ReadsOn, StandsAtStart, StandsInText, Start, ReadsPiece, ReadsToMarker, step_marker, Known, first_bytes, all_bytes, AreNextIn, HasGivenSince, IsGivenLast, ReachedAtEnd, ReadsLeft, last_step}
-pub use Rattle.pgn_game.specs.calls.Checked.{Comparison, PlacedMarker, checked_profile, compared, compared_from, earlier_fault, is_changed, is_other, marker_at, markers, markers_after, markers_from, torn_before, with_marker, written_by}
+pub use Rattle.pgn_game.specs.steps.ConverterSteps.{AllSoFar, AtEndSoFar, EndsGame, FaultAtEnd, FeedsAllSoFar, FinishesSoFar, GainsAs, IsGoing, Meets, NotTaken, OneGame, ReadsMore, SameGames, due_as, ended_by, fault_of, outcome_at, part_after, CountsGame, EndsToMarker, FailsIn, GoesToMarker, IsBeforePiece, IsBeforeToken, IsReadyAfter, KeepsRest, ReadsToEnd, StepAdvances, StepAtEndAdvances, StepGoes, StepsInPiece, StepsAtEnd, announcing, is_ended, taking_announced_marker, At, MeetsAt, Reached, ReadsOn, StandsAtStart, StandsInText, Start, ReadsPiece, ReadsToMarker, step_marker, Known, first_bytes, all_bytes, AreNextIn, HasGivenSince, IsGivenLast, ReachedAtEnd, ReadsLeft, last_step}
+pub use Rattle.pgn_game.specs.public.Checked.{Comparison, PlacedMarker, checked_profile, compared, compared_from, earlier_fault, is_changed, is_other, marker_at, markers, markers_after, markers_from, torn_before, with_marker, written_by}
 pub use Rattle.pgn_lexer.specs.Decided.{decided}
-pub use Rattle.pgn_game.specs.calls.Conversion.{AfterConversion, AfterEnd, AfterSlice, CountsDevices, Fails, FailsOn, IsConverted, IsTotalled, MostProbes, CountsResult, CountsSink, CountsWriting, Decides, IsTokenPrefix, ReadsNoMore, verdict_in}
-pub use Rattle.pgn_game.specs.state.GamesSteps.{FillResult, MoreResult, MoreSoFar, ReadsSoFar, StandsWithin, CountsReading, FeedsRest, MeetsNext, ReadsAllOf, StopsBefore, UsesAll}
+pub use Rattle.pgn_game.specs.public.Conversion.{AfterConversion, AfterEnd, AfterSlice, CountsDevices, Fails, FailsOn, IsConverted, IsTotalled, MostProbes, CountsResult, CountsSink, CountsWriting, Decides, IsTokenPrefix, ReadsNoMore, verdict_in}
+pub use Rattle.pgn_game.specs.steps.GamesSteps.{FillResult, MoreResult, MoreSoFar, ReadsSoFar, StandsWithin, CountsReading, FeedsRest, MeetsNext, ReadsAllOf, StopsBefore, UsesAll}
 pub use Rattle.pgn_game.specs.laws.GamesRestart.{FinishesGame, GamesRestart, counting_also, games_read}
 pub use Rattle.pgn_game.specs.declared.conversion.Totals.{Totals}
 pub use Rattle.pgn_lexer.specs.declared.token.LexFault.{LexFault}
 pub use Rattle.pgn_game.specs.laws.GameEnds.{EndsByMarker, GamesEndByMarker, LastGame, TextsEndBehindMarker, TextsEndBetweenGames}
 pub use Rattle.pgn_game.specs.declared.event.Event.{Event}
 pub use Rattle.pgn_game.specs.declared.writer.Writer.{Writer}
-pub use Rattle.pgn_game.specs.state.Judged.{EndsAtMarker, IsAnnotation, IsPlayed, IsWritable, IsOutside, JudgesBefore, JudgesInPair, JudgesOutside, Means, MovesText, Refuses, RefusesMarker, TakesMeant, WritesMove, after_move_at, game_at, game_by, is_begun, items_meant, pairs_meant, section_unless, writing_of}
+pub use Rattle.pgn_game.specs.steps.Judged.{EndsAtMarker, IsAnnotation, IsPlayed, IsWritable, IsOutside, JudgesBefore, JudgesInPair, JudgesOutside, Means, MovesText, Refuses, RefusesMarker, TakesMeant, WritesMove, after_move_at, game_at, game_by, is_begun, items_meant, pairs_meant, section_unless, writing_of}
 pub use Rattle.pgn_lexer.specs.PartialToken.{tokens_to_come_in}
 pub use Rattle.pgn_lexer.specs.declared.token.LexReason.{LexReason}
 pub use Rattle.pgn_lexer.specs.declared.token.LexReason.TheVariants.{SymbolTooLong, WordTooLong, GlyphRange}
 pub use Rattle.pgn_lexer.specs.Spelling.{gives, stops, Found}
 pub use Rattle.chess_text.specs.Form.{form_of}
 pub use Rattle.chess_text.specs.San.{MarkPairs, disambiguation_pairs, san}
-pub use Rattle.pgn_game.specs.calls.CheckedConversion.{AreConverted, AreRefused, AreTotalled, CountsThree, FirstStops, HasTaken, MatchesAllMarkers, MostOfBoth, SecondStops, TwoReadingsConvert, TwoReadingsFail, WriteStops}
-pub use Rattle.pgn_game.specs.calls.LineOfPlay.{Ahead, NextMove, NextPly, words_behind}
+pub use Rattle.pgn_game.specs.public.CheckedConversion.{AreConverted, AreRefused, AreTotalled, CountsThree, FirstStops, HasTaken, MatchesAllMarkers, MostOfBoth, SecondStops, TwoReadingsConvert, TwoReadingsFail, WriteStops}
+pub use Rattle.pgn_game.specs.public.LineOfPlay.{Ahead, NextMove, NextPly, words_behind}
 pub use Rattle.pgn_game.specs.declared.event.Event.TheVariants.{Close, CommentClose, CommentOpen, Open}
 pub use Rattle.pgn_game.specs.declared.converter.FedUpTo.{FedUpTo}
 pub use Rattle.pgn_game.specs.declared.converter.StepEnd.{StepEnd}
@@ -112,7 +112,7 @@ pub use Rattle.pgn_game.specs.declared.mode.Written.{Written}
 pub use Rattle.pgn_game.specs.laws.EqualReadings.{AreWritten, AreWrittenWithin, EqualReadings, EqualTotals, InterruptedReadings}
 pub use Rattle.pgn_game.specs.laws.MissingResults.{IsReadAlike, MissingResults, all_end_with, is_about_result, rejects_marker}
 pub use Rattle.pgn_game.specs.laws.MovesAreLegal.{MovesAreLegal, is_legal_at, plays_legally}
-pub use Rattle.pgn_game.specs.state.LineWords.{bytes_between, moves_from, word_in, words_from}
+pub use Rattle.pgn_game.specs.steps.LineWords.{bytes_between, moves_from, word_in, words_from}
 pub use Rattle.pgn_layout.specs.Laws.{LinesOfKeepTokens, TokensDetermineLines}
 pub use Rattle.pgn_lexer.specs.WholeTokens.{Passes, ReadsBehind, is_passed, over_space, over_token}
 pub use Rattle.pgn_lexer.specs.declared.token.TokenKind.TheVariants.{Str}

@@ -6,6 +6,7 @@ pub mod ItemsAhead
 pub mod ItemsAtStart
 pub mod ItemsJoined
 pub mod LastTokenToItems
+pub mod MissingTakesMarker
 pub mod SilentEvents
 pub mod SourceToItems
 pub mod TokenToItems

@@ -3,6 +3,7 @@ pub mod EscapedLength
 pub mod ExportedValues
 pub mod NameOrder
 pub mod PairsToFirstPosition
+pub mod SectionByIndex
 pub mod SectionByLines
 pub mod SortedPairs
 pub mod StoredPlaces

@@ -2,5 +2,5 @@
 pub mod games
 pub mod export
 pub mod laws
-pub mod calls
-pub mod state
+pub mod public
+pub mod steps

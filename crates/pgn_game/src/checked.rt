@@ -3,16 +3,16 @@ ghost use Rattle.std.specs.Prelude.{◌≡◌, ◌-◌, ◌≤◌, ◌&&◌, ◌
 ghost use Rattle.std.specs.Prelude.{Option, OnOk};
 ghost use Rattle.pgn_layout.specs.Device.{device};
 ghost use Rattle.pgn_game.specs.declared.reason.Reason.TheVariants.{Changed};
-ghost use Rattle.pgn_game.specs.calls.Checked.{checked_profile};
-ghost use Rattle.pgn_game.specs.calls.CheckedConversion.{TwoReadingsConvert, TwoReadingsCount};
-ghost use Rattle.pgn_game.specs.state.ConverterSteps.{IsGoing};
-ghost use Rattle.pgn_game.specs.state.GamesSteps.{CountsReading};
+ghost use Rattle.pgn_game.specs.public.Checked.{checked_profile};
+ghost use Rattle.pgn_game.specs.public.CheckedConversion.{TwoReadingsConvert, TwoReadingsCount};
+ghost use Rattle.pgn_game.specs.steps.ConverterSteps.{IsGoing};
+ghost use Rattle.pgn_game.specs.steps.GamesSteps.{CountsReading};
 ghost use Rattle.pgn_game.specs.games.Markers.{marker_text};
-ghost use Rattle.pgn_game.specs.state.Readings.{GoesOnAfterGame, HasGiven, ReadsGame, StillGivenNone};
-ghost use Rattle.pgn_game.specs.state.Readings.{ReadsUpToMarker, WritesGame, as_changed, no_sink};
-ghost use Rattle.pgn_game.specs.state.ReaderState.{KeepsSilence, sink_of, plies_of_finished_games};
-ghost use Rattle.pgn_game.specs.calls.Written.{bytes_seen};
-ghost use Rattle.pgn_game.specs.calls.Size.{HoldsTwice};
+ghost use Rattle.pgn_game.specs.steps.Readings.{GoesOnAfterGame, HasGiven, ReadsGame, StillGivenNone};
+ghost use Rattle.pgn_game.specs.steps.Readings.{ReadsUpToMarker, WritesGame, as_changed, no_sink};
+ghost use Rattle.pgn_game.specs.steps.ReaderState.{KeepsSilence, sink_of, plies_of_finished_games};
+ghost use Rattle.pgn_game.specs.public.Written.{bytes_seen};
+ghost use Rattle.pgn_game.specs.public.Size.{HoldsTwice};
 
 use crate::conversion::Totals;
 use crate::converter::Converter;
@@ -69,6 +69,7 @@ pub fn convert_checked<const T: usize, const L: usize, Q: Source, R: Source, W: 
     writer: &mut W,
     mode: Mode,
 ) -> Result<Totals, Fault>
+    // Cargo: assert!(L >= 1, "the number of levels L is at least 1")
     requires levels { 1 ≤ L }
     requires memory { HoldsTwice T.row L.row }
     ensures converts { TwoReadingsConvert (checked_profile T (L - 1) mode)
@@ -98,7 +99,7 @@ struct Reading<const T: usize, const L: usize> {
 }
 
 impl<const T: usize, const L: usize> Model for Reading<T, L> {
-    ghost use Rattle.pgn_game.specs.state.Readings.{Reading as Seen};
+    ghost use Rattle.pgn_game.specs.steps.Readings.{Reading as Seen};
 
     ghost Value = { Seen };
 

@@ -1,15 +1,15 @@
 //! Converts a whole input.
 ghost use Rattle.std.specs.Prelude.{◌≡◌, ◌-◌, ◌≤◌, ◌^◌, [], length, None, OnOk, IfSome};
 ghost use Rattle.pgn_layout.specs.Device.{device, nowhere};
-ghost use Rattle.pgn_game.specs.calls.ConverterCalls.{CountsFault, Stands, profile_of};
-ghost use Rattle.pgn_game.specs.state.ConverterSteps.{IsGoing};
+ghost use Rattle.pgn_game.specs.public.ConverterCalls.{CountsFault, Stands, profile_of};
+ghost use Rattle.pgn_game.specs.steps.ConverterSteps.{IsGoing};
 ghost use Rattle.pgn_game.specs.games.Profile.{Profile};
-ghost use Rattle.pgn_game.specs.calls.Written.{bytes_seen};
-ghost use Rattle.pgn_game.specs.state.ReaderState.{sink_of, plies_of_finished_games};
-ghost use Rattle.pgn_game.specs.calls.Size.{Holds};
-ghost use Rattle.pgn_game.specs.calls.Conversion.{AfterConversion, AfterSlice, Concludes};
-ghost use Rattle.pgn_game.specs.calls.Conversion.{Checks, ChecksSlice, Converts, ConvertsSlice};
-ghost use Rattle.pgn_game.specs.calls.Conversion.{CountsResult, CountsSink};
+ghost use Rattle.pgn_game.specs.public.Written.{bytes_seen};
+ghost use Rattle.pgn_game.specs.steps.ReaderState.{sink_of, plies_of_finished_games};
+ghost use Rattle.pgn_game.specs.public.Size.{Holds};
+ghost use Rattle.pgn_game.specs.public.Conversion.{AfterConversion, AfterSlice, Concludes};
+ghost use Rattle.pgn_game.specs.public.Conversion.{Checks, ChecksSlice, Converts, ConvertsSlice};
+ghost use Rattle.pgn_game.specs.public.Conversion.{CountsResult, CountsSink};
 
 use crate::converter::Converter;
 use crate::games::next_game;
@@ -60,6 +60,7 @@ pub fn convert<const T: usize, const L: usize, R: Source, W: Sink>(
     writer: &mut W,
     mode: Mode,
 ) -> Result<Totals, Fault>
+    // Cargo: assert!(L >= 1, "the number of levels L is at least 1")
     requires levels { 1 ≤ L }
     requires memory { Holds T.row L.row }
     ensures converts { Converts (profile_of T (L - 1) mode)
@@ -94,6 +95,7 @@ pub fn check<const T: usize, const L: usize, R: Source>(
     reader: &mut R,
     mode: Mode,
 ) -> Result<Totals, Fault>
+    // Cargo: assert!(L >= 1, "the number of levels L is at least 1")
     requires levels { 1 ≤ L }
     requires memory { Holds T.row L.row }
     ensures checks { Checks (profile_of T (L - 1) mode)
@@ -147,6 +149,7 @@ pub fn convert_slice<const T: usize, const L: usize, W: Sink>(
     writer: &mut W,
     mode: Mode,
 ) -> Result<Totals, Fault>
+    // Cargo: assert!(L >= 1, "the number of levels L is at least 1")
     requires levels { 1 ≤ L }
     requires memory { Holds T.row L.row }
     ensures converts { ConvertsSlice (profile_of T (L - 1) mode) text.now result
@@ -175,6 +178,7 @@ pub fn convert_slice<const T: usize, const L: usize, W: Sink>(
 /// assert_eq!((fault.at, fault.reason), (6, Reason::IllegalMove));
 /// ```
 pub fn check_slice<const T: usize, const L: usize>(text: &[u8], mode: Mode) -> Result<Totals, Fault>
+    // Cargo: assert!(L >= 1, "the number of levels L is at least 1")
     requires levels { 1 ≤ L }
     requires memory { Holds T.row L.row }
     ensures checks { ChecksSlice (profile_of T (L - 1) mode) text.now result }

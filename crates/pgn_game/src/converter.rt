@@ -4,25 +4,25 @@ ghost use Rattle.std.specs.Prelude.{None, Some, Ok, Err, IsTrue, option_map, is_
 ghost use Rattle.std.specs.Option.{option_copied};
 ghost use Rattle.pgn_layout.specs.Device.{WritesText, device};
 ghost use Rattle.pgn_game.specs.games.Markers.{marker_text};
-ghost use Rattle.pgn_game.specs.calls.ConverterCalls.{finished_game_marker, finished_game_section};
+ghost use Rattle.pgn_game.specs.public.ConverterCalls.{finished_game_marker, finished_game_section};
 ghost use Rattle.pgn_lexer.specs.WhiteSpace.{white_space};
 ghost use Rattle.pgn_game.specs.declared.converter.Fed.TheVariants as fed;
 ghost use Rattle.pgn_game.specs.declared.reason.Reason.TheVariants.{InputTooLong, Lexical, ReadFault};
 ghost use Rattle.pgn_game.specs.declared.stage.Stage.TheVariants.{InMovetext};
-ghost use Rattle.pgn_game.specs.state.ConverterSteps.{IsBeforePiece, IsBeforeToken, IsGoing, IsReady};
-ghost use Rattle.pgn_game.specs.state.ConverterSteps.{StepsInPiece, StepsAtEnd, ReadsOn, ReadsToMarker, fed_marker};
-ghost use Rattle.pgn_game.specs.state.ConverterSteps.{GoesToMarker, GoesToEndOfPiece, EndsToMarker};
-ghost use Rattle.pgn_game.specs.state.ConverterSteps.{EndsGame, CountsGame, fault_of, outcome_at};
-ghost use Rattle.pgn_game.specs.state.ConverterSteps.{taking_announced_marker, announcing};
-ghost use Rattle.pgn_game.specs.calls.ConverterCalls.{Stands, Feeds, KeepsGames, FeedsAll, Ends};
-ghost use Rattle.pgn_game.specs.calls.ConverterCalls.{Again, KeepsFault, CountsFault, Advances, profile_of};
-ghost use Rattle.pgn_game.specs.calls.ConverterCalls.{used_of, finished_game_value};
-ghost use Rattle.pgn_game.specs.calls.ConverterCalls.{finished_game_plies, finished_game_position};
-ghost use Rattle.pgn_game.specs.calls.ConverterCalls.{refused_position};
-ghost use Rattle.pgn_game.specs.calls.ConverterCalls.{CountsMissingAs, counting_missing_as};
-ghost use Rattle.pgn_game.specs.state.ReaderState.{KeepsSilence, sink_of, plies_of_finished_games};
-ghost use Rattle.pgn_game.specs.calls.ConverterCalls.{NoWriteFails, StillStands, writing_nothing};
-ghost use Rattle.pgn_game.specs.calls.ConverterCalls.{ReadsByMarker, reading_by_marker};
+ghost use Rattle.pgn_game.specs.steps.ConverterSteps.{IsBeforePiece, IsBeforeToken, IsGoing, IsReady};
+ghost use Rattle.pgn_game.specs.steps.ConverterSteps.{StepsInPiece, StepsAtEnd, ReadsOn, ReadsToMarker, fed_marker};
+ghost use Rattle.pgn_game.specs.steps.ConverterSteps.{GoesToMarker, GoesToEndOfPiece, EndsToMarker};
+ghost use Rattle.pgn_game.specs.steps.ConverterSteps.{EndsGame, CountsGame, fault_of, outcome_at};
+ghost use Rattle.pgn_game.specs.steps.ConverterSteps.{taking_announced_marker, announcing};
+ghost use Rattle.pgn_game.specs.public.ConverterCalls.{Stands, Feeds, KeepsGames, FeedsAll, Ends};
+ghost use Rattle.pgn_game.specs.public.ConverterCalls.{Again, KeepsFault, CountsFault, Advances, profile_of};
+ghost use Rattle.pgn_game.specs.public.ConverterCalls.{used_of, finished_game_value};
+ghost use Rattle.pgn_game.specs.public.ConverterCalls.{finished_game_plies, finished_game_position};
+ghost use Rattle.pgn_game.specs.public.ConverterCalls.{refused_position};
+ghost use Rattle.pgn_game.specs.public.ConverterCalls.{CountsMissingAs, counting_missing_as};
+ghost use Rattle.pgn_game.specs.steps.ReaderState.{KeepsSilence, sink_of, plies_of_finished_games};
+ghost use Rattle.pgn_game.specs.public.ConverterCalls.{NoWriteFails, StillStands, writing_nothing};
+ghost use Rattle.pgn_game.specs.public.ConverterCalls.{ReadsByMarker, reading_by_marker};
 
 use crate::game::{Game, WHOLE};
 use crate::marker::{Marker, MissingResult, PlacedMarker};
@@ -106,8 +106,8 @@ pub struct Converter<const T: usize, const L: usize> {
 }
 
 impl<const T: usize, const L: usize> Model for Converter<T, L> {
-    ghost use Rattle.pgn_game.specs.calls.ConverterCalls.{Converter as Seen};
-    ghost use Rattle.pgn_game.specs.calls.ConverterCalls.{game_in_reader_if, IsSound};
+    ghost use Rattle.pgn_game.specs.public.ConverterCalls.{Converter as Seen};
+    ghost use Rattle.pgn_game.specs.public.ConverterCalls.{game_in_reader_if, IsSound};
 
     ghost Value = { Seen };
 
@@ -127,6 +127,7 @@ impl<const T: usize, const L: usize> Model for Converter<T, L> {
 impl<const T: usize, const L: usize> Converter<T, L> {
     /// Returns a converter that has read nothing.
     pub fn new(mode: Mode) -> Self
+        // Cargo: assert!(L >= 1, "the number of levels L is at least 1")
         requires { 1 ≤ L }
         ensures stands { Stands (profile_of T (L - 1) mode) result [] None [] }
         ensures not_finished { result.is_finished ≡ false }
@@ -158,6 +159,8 @@ impl<const T: usize, const L: usize> Converter<T, L> {
     /// assert_eq!(fault.at, 11);
     /// ```
     pub fn begin_at(mode: Mode, place: u64, in_first_column: bool) -> Self
+        // Cargo: assert!(L >= 1 && place <= MAX_INPUT_LENGTH,
+        // "the number of levels L is at least 1, and the place at most 2^62")
         requires levels { 1 ≤ L }
         requires place { place ≤ 2 ^ 62 }
         ensures stands { Stands (profile_of T (L - 1) mode) result
@@ -282,6 +285,7 @@ impl<const T: usize, const L: usize> Converter<T, L> {
     /// After the first two the output is complete up to the token before. Each later call reports
     /// the same fault and writes nothing.
     pub fn feed<W: Sink>(&mut self, piece: &[u8], out: &mut W) -> Result<Fed, Fault>
+        // Cargo: assert!(!self.is_finished, "feed comes before finish has returned Ok")
         requires not_finished { self.old.is_finished ≡ false }
         ensures used { IfOk result (λ fed. used_of fed piece.now ≤ length piece.now) }
         ensures feeds { Feeds self.old piece.now self.new result
@@ -403,6 +407,7 @@ impl<const T: usize, const L: usize> Converter<T, L> {
     /// one that ends inside a tag pair is `Reason::ExpectedName`, `Reason::ExpectedValue` or
     /// `Reason::ExpectedBracket`.
     pub fn finish<W: Sink>(&mut self, out: &mut W) -> Result<bool, Fault>
+        // Cargo: assert!(!self.is_finished, "finish returns Ok once")
         requires not_finished { self.old.is_finished ≡ false }
         ensures ends { Ends self.old self.new result (sink_of self.old.reading W.taken W.failures
             out.old out.new) }

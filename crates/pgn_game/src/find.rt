@@ -3,9 +3,9 @@ ghost use Rattle.std.specs.Prelude.{◌≡◌, ◌<◌, ◌≤◌, ◌+◌, ◌^
 ghost use Rattle.chess_rules.specs.Legal.{legal};
 ghost use Rattle.pgn_game.specs.games.Chess.{move_of};
 ghost use Rattle.pgn_game.specs.games.FaultTable as spec;
-ghost use Rattle.pgn_game.specs.calls.FoundMove.{found_in};
-ghost use Rattle.pgn_game.specs.calls.Tried.{AddsPairs, Costs};
-ghost use Rattle.pgn_game.specs.state.PutResult.{NamesMove};
+ghost use Rattle.pgn_game.specs.public.FoundMove.{found_in};
+ghost use Rattle.pgn_game.specs.public.Tried.{AddsPairs, Costs};
+ghost use Rattle.pgn_game.specs.steps.PutResult.{NamesMove};
 
 use crate::reason::Reason;
 use chess_rules::{Colour, Move, Position, Probes, position_after};
@@ -38,6 +38,7 @@ use chess_text::{Played, SanFault, read_form, resolve_move};
 /// assert_eq!(probes.count(), 2);
 /// ```
 pub fn find_move(position: &Position, text: &[u8], probes: &mut Probes) -> Result<Played, Reason>
+    // Cargo: assert!(u32::MAX - probes.count() >= 8, "the count of Probes has room for 8 more")
     requires { probes.old + 8 < 2 ^ 32 }
     ensures found { result ≡ found_in position.now (move_of position.now text.now) }
     ensures legal { IfOk result (λ played. legal position.now played.mv ≡ Some played.next) }

@@ -9,17 +9,17 @@ ghost use Rattle.pgn_game.specs.export.TagSection.{exported, tag_section};
 ghost use Rattle.pgn_game.specs.games.FaultTable.{result_for};
 ghost use Rattle.pgn_game.specs.games.Markers.{marker_text, missing_of};
 ghost use Rattle.pgn_game.specs.games.Pairs.{value_of};
-ghost use Rattle.pgn_game.specs.calls.MostTried.{is_written};
-ghost use Rattle.pgn_game.specs.calls.Written.{mode_of_written};
+ghost use Rattle.pgn_game.specs.public.MostTried.{is_written};
+ghost use Rattle.pgn_game.specs.public.Written.{mode_of_written};
 ghost use Rattle.chess_rules.specs.declared.position.Move.{Move as MoveSeen};
 ghost use Rattle.pgn_game.specs.games.Game as games;
-ghost use Rattle.pgn_game.specs.state.ItemResult.{ItemCall};
+ghost use Rattle.pgn_game.specs.steps.ItemResult.{ItemCall};
 ghost use Rattle.pgn_layout.specs.Lines.{IsToken};
 ghost use Rattle.pgn_game.specs.declared.event.Event.TheVariants as events;
-ghost use Rattle.pgn_game.specs.state.Judged.{IsAnnotation, IsPlayed, TakesMeant, WritesMove, after_move_at, game_by, section_unless};
-ghost use Rattle.pgn_game.specs.state.PutResult.{BeginsText, MeetsEntry, TakesMarker, TakesUnlessMarker};
-ghost use Rattle.pgn_game.specs.state.ReaderState.{ReaderCall, known_of, plies_of_finished_games, silenced, unread, with_announced};
-ghost use Rattle.pgn_game.specs.state.TokenInMovetext.{MayTakeMove, has_whole_pairs, may_have_movetext};
+ghost use Rattle.pgn_game.specs.steps.Judged.{IsAnnotation, IsPlayed, TakesMeant, WritesMove, after_move_at, game_by, section_unless};
+ghost use Rattle.pgn_game.specs.steps.PutResult.{BeginsText, MeetsEntry, TakesMarker, TakesUnlessMarker};
+ghost use Rattle.pgn_game.specs.steps.ReaderState.{ReaderCall, known_of, plies_of_finished_games, silenced, unread, with_announced};
+ghost use Rattle.pgn_game.specs.steps.TokenInMovetext.{MayTakeMove, has_whole_pairs, may_have_movetext};
 
 use crate::event::Event;
 use crate::marker::{Marker, MissingResult};
@@ -50,9 +50,9 @@ pub struct Game<const T: usize, const L: usize> {
 
 impl<const T: usize, const L: usize> Model for Game<T, L> {
     ghost use Rattle.std.specs.Prelude.{◌≡◌};
-    ghost use Rattle.pgn_game.specs.calls.Written.{is_nothing, mode_of_written, mode_unless};
-    ghost use Rattle.pgn_game.specs.state.Judged.{game_by};
-    ghost use Rattle.pgn_game.specs.state.ReaderState.{ReaderState};
+    ghost use Rattle.pgn_game.specs.public.Written.{is_nothing, mode_of_written, mode_unless};
+    ghost use Rattle.pgn_game.specs.steps.Judged.{game_by};
+    ghost use Rattle.pgn_game.specs.steps.ReaderState.{ReaderState};
 
     ghost Value = { ReaderState };
 

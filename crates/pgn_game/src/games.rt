@@ -3,15 +3,15 @@ ghost use Rattle.std.specs.Prelude.{◌≡◌, ◌-◌, ◌<◌, ◌≤◌, ◌^
 ghost use Rattle.std.specs.Prelude.{true, false, IsTrue, length};
 ghost use Rattle.std.specs.Option.{option_copied};
 ghost use Rattle.pgn_layout.specs.Device.{Counts, device};
-ghost use Rattle.pgn_game.specs.calls.ConverterCalls.{KeepsFault, profile_of};
-ghost use Rattle.pgn_game.specs.calls.ConverterCalls.{finished_game_value, finished_game_plies, finished_game_position};
-ghost use Rattle.pgn_game.specs.calls.ConverterCalls.{NoWriteFails, writing_nothing};
-ghost use Rattle.pgn_game.specs.calls.GamesCalls.{HaveRead, ReadsNext, NextAgain, NextAtEnd, CountsNext};
-ghost use Rattle.pgn_game.specs.calls.GamesCalls.{StillReadNone, games_of, most_left};
-ghost use Rattle.pgn_game.specs.state.GamesSteps.{FeedsRest, GoesToNextGame, GoesToNextMarker};
-ghost use Rattle.pgn_game.specs.state.GamesSteps.{MoreResult, ReadsNextMarker};
-ghost use Rattle.pgn_game.specs.state.ConverterSteps.{IsGoing};
-ghost use Rattle.pgn_game.specs.state.ReaderState.{KeepsSilence, sink_of};
+ghost use Rattle.pgn_game.specs.public.ConverterCalls.{KeepsFault, profile_of};
+ghost use Rattle.pgn_game.specs.public.ConverterCalls.{finished_game_value, finished_game_plies, finished_game_position};
+ghost use Rattle.pgn_game.specs.public.ConverterCalls.{NoWriteFails, writing_nothing};
+ghost use Rattle.pgn_game.specs.public.GamesCalls.{HaveRead, ReadsNext, NextAgain, NextAtEnd, CountsNext};
+ghost use Rattle.pgn_game.specs.public.GamesCalls.{StillReadNone, games_of, most_left};
+ghost use Rattle.pgn_game.specs.steps.GamesSteps.{FeedsRest, GoesToNextGame, GoesToNextMarker};
+ghost use Rattle.pgn_game.specs.steps.GamesSteps.{MoreResult, ReadsNextMarker};
+ghost use Rattle.pgn_game.specs.steps.ConverterSteps.{IsGoing};
+ghost use Rattle.pgn_game.specs.steps.ReaderState.{KeepsSilence, sink_of};
 
 use crate::converter::{Converter, FedUpTo};
 use crate::marker::PlacedMarker;
@@ -48,7 +48,7 @@ pub struct Games<const T: usize, const L: usize> {
 }
 
 impl<const T: usize, const L: usize> Model for Games<T, L> {
-    ghost use Rattle.pgn_game.specs.calls.GamesCalls.{Games as Seen, games_of};
+    ghost use Rattle.pgn_game.specs.public.GamesCalls.{Games as Seen, games_of};
 
     ghost Value = { Seen };
 
@@ -58,6 +58,7 @@ impl<const T: usize, const L: usize> Model for Games<T, L> {
 impl<const T: usize, const L: usize> Games<T, L> {
     /// Returns games of which none is read yet.
     pub fn new(mode: Mode) -> Self
+        // Cargo: assert!(L >= 1, "the number of levels L is at least 1")
         requires { 1 ≤ L }
         ensures begins { (left : Option (List ℕ))
             → HaveRead (profile_of T (L - 1) mode) left [] result [] }

@@ -1,317 +1,56 @@
 //! Games item by item, from a source.
-ghost use Rattle.std.specs.Prelude.{◌≡◌, ◌+◌, ◌-◌, ◌<◌, ◌≤◌, ◌^◌, None, Option, [], ℕ, IsTrue, List, false, length, option_map, true};
-ghost use Rattle.pgn_lexer.specs.Tokens.{HasLength};
-ghost use Rattle.pgn_lexer.specs.Scanned.{kind_of};
+ghost use Rattle.std.specs.Prelude.{◌≡◌, ◌+◌, ◌-◌, ◌<◌, ◌≤◌, ◌^◌, None, Option, [], ℕ, List, false, length, option_map, true};
 ghost use Rattle.pgn_lexer.specs.WhiteSpace.{white_space};
-ghost use Rattle.pgn_game.specs.calls.ConverterCalls.{IsSound};
+ghost use Rattle.pgn_game.specs.public.ConverterCalls.{IsSound};
 ghost use Rattle.pgn_layout.specs.Device.{Counts, WritesText, device};
 ghost use Rattle.std.specs.Option.{option_copied};
-ghost use Rattle.pgn_game.specs.calls.ConverterCalls.{profile_of};
-ghost use Rattle.pgn_game.specs.calls.ItemsCalls.{CountsSan, HaveGiven, ItemsAgain, ItemsAtEnd};
-ghost use Rattle.pgn_game.specs.calls.ItemsCalls.{LeavesSource, LowersAhead, ReadsItem};
-ghost use Rattle.pgn_game.specs.calls.ItemsCalls.{position_before_move};
-ghost use Rattle.pgn_game.specs.calls.ItemsCalls.{shown_move, shown_position, shown_san, shown_section};
-ghost use Rattle.pgn_game.specs.calls.ItemsCalls.{shown_uci, shown_value};
-ghost use Rattle.pgn_game.specs.calls.ItemsCalls.{IsLegalIfMove, shown_depth, shown_games, shown_word};
+ghost use Rattle.pgn_game.specs.public.ConverterCalls.{profile_of};
+ghost use Rattle.pgn_game.specs.public.ItemsCalls.{CountsSan, HaveGiven, ItemsAgain, ItemsAtEnd};
+ghost use Rattle.pgn_game.specs.public.ItemsCalls.{LeavesSource, LowersAhead, ReadsItem};
+ghost use Rattle.pgn_game.specs.public.ItemsCalls.{position_before_move, refused_items_position};
+ghost use Rattle.pgn_game.specs.public.ItemsCalls.{shown_position, shown_san, shown_section};
+ghost use Rattle.pgn_game.specs.public.ItemsCalls.{shown_uci, shown_value};
+ghost use Rattle.pgn_game.specs.public.ItemsCalls.{GiveByMarker, items_by_marker};
+ghost use Rattle.pgn_game.specs.public.ItemsCalls.{shown_pair};
+ghost use Rattle.pgn_game.specs.public.NameAndValue.{pair_of};
+ghost use Rattle.pgn_game.specs.public.ItemsCalls.{IsLegalIfMove, shown_depth, shown_games, shown_word};
 ghost use Rattle.pgn_game.specs.declared.mode.Mode.TheVariants.{Full};
-ghost use Rattle.pgn_game.specs.state.Accepted.{unwritten};
-ghost use Rattle.pgn_game.specs.state.ReaderState.{unread};
-ghost use Rattle.pgn_game.specs.state.TokenInMovetext.{has_whole_pairs};
-ghost use Rattle.pgn_game.specs.state.ItemsSteps.{AreGoing, GivesAtEnd, IsPlayedItem, MoreItems, TakesAtEnd};
-ghost use Rattle.pgn_game.specs.state.ItemsSteps.{ReadsLastToken, ReadsToken, TakesBuffered};
-ghost use Rattle.pgn_game.specs.state.ItemsSteps.{TakesItem, given_first, given_second, giving_next};
-ghost use Rattle.pgn_game.specs.state.ItemsSteps.{item_meant};
+ghost use Rattle.pgn_game.specs.steps.ItemsSteps.{AreGoing, GivesAtEnd, MoreItems, TakesAtEnd};
+ghost use Rattle.pgn_game.specs.steps.ItemsSteps.{ReadsLastToken, ReadsToken, TakesBuffered};
 
-use crate::converter::{lexical, too_long, within_limit};
-use crate::event::Event;
+use crate::converter::{MAX_INPUT_LENGTH, lexical, within_limit};
+use crate::current_game::CurrentGame;
 use crate::item::Item;
-use crate::mode::Mode;
 use crate::read_buffer::ReadBuffer;
-use crate::reader::Reader;
 use crate::reason::{Fault, Reason};
-use crate::section::write_section;
 use crate::source::Source;
 use crate::token_tests::is_end;
 use arrayvec::ArrayVec;
-use chess_rules::{Move, Position, Probes};
-use chess_text::{write_san_of, write_uci};
+use chess_rules::{Position, Probes};
 use pgn_layout::{Sink, WriteFault};
-use pgn_lexer::{Lexer, Outcome, TokenKind};
+use pgn_lexer::laws::symbols_stand_in_text;
+use pgn_lexer::{Lexer, Outcome};
 use std::marker::Model;
 
-/// The most bytes of a word (PGN 4.3).
-const WORD_LENGTH: usize = 79;
-
-/// The game whose items are given.
-#[derive(Drop)]
-pub struct CurrentGame<const T: usize, const L: usize> {
-    reader: Reader<T, L>,
-    word: ArrayVec<u8, WORD_LENGTH>,
-    games: u64,
-    last: Option<Item>,
-    // The item behind the tags, which the same token gives.
-    pending: Option<Item>,
-}
-
-impl<const T: usize, const L: usize> Model for CurrentGame<T, L> {
-    ghost use Rattle.pgn_game.specs.calls.ItemsCalls.{Current};
-    ghost use Rattle.pgn_game.specs.state.Accepted.{unwritten};
-    ghost use Rattle.pgn_game.specs.state.ItemsSteps.{IsSoundGame};
-
-    ghost Value = { Current };
-
-    ghost view = { λ c. record {
-      reading = unwritten c.reader;
-      games = c.games;
-      word = c.word.items;
-      last = c.last;
-      pending = c.pending;
-    } };
-
-    ghost invariant = { λ c. IsSoundGame (record {
-      reading = unwritten c.reader;
-      games = c.games;
-      word = c.word.items;
-      last = c.last;
-      pending = c.pending;
-    }) };
-}
-
-impl<const T: usize, const L: usize> CurrentGame<T, L> {
-    /// Returns a game of which nothing was read.
-    pub fn new() -> Self
-        requires { 1 ≤ L }
-        ensures { result ≡ record {
-          reading = unwritten (unread T L Full);
-          games = 0;
-          word = [];
-          last = None;
-          pending = None;
-        } }
-    {
-        CurrentGame {
-            reader: Reader::new(Mode::Full),
-            word: ArrayVec::new(),
-            games: 0,
-            last: None,
-            pending: None,
-        }
-    }
-
-    /// Returns the value of a name in the tag section, defaults included.
-    pub fn tag(&self, name: &[u8]) -> Option<&[u8]>
-        ensures { option_copied result ≡ shown_value self.now name.now }
-    {
-        self.last?;
-        self.reader.value_so_far(name)
-    }
-
-    /// Writes the tag section.
-    pub fn write_tags<W: Sink>(&self, out: &mut W) -> Result<(), WriteFault>
-        ensures { WritesText (device W.taken W.failures out.old out.new) result
-            (shown_section self.now) }
-    {
-        if self.last.is_none() {
-            return Ok(());
-        }
-        let reader = &self.reader;
-        write_section(reader.mode(), reader.missing_result(), &reader.pairs(), out)
-    }
-
-    /// Returns the position after the items given.
-    pub fn position(&self) -> Option<&Position>
-        ensures { option_copied result ≡ shown_position self.now }
-    {
-        self.last?;
-        match move_of(self.pending) {
-            Some(_) => Some(self.reader.position_before()),
-            None => Some(self.reader.position()),
-        }
-    }
-
-    /// Returns the position before the move just given.
-    pub fn position_before(&self) -> Option<&Position>
-        ensures position { option_copied result ≡ position_before_move self.now }
-        ensures legal { IsLegalIfMove self.now }
-    {
-        match move_of(self.last) {
-            Some(_) => Some(self.reader.position_before()),
-            None => None,
-        }
-    }
-
-    /// Returns the number of variations that are open after the items given.
-    pub fn depth(&self) -> usize
-        ensures { result ≡ shown_depth self.now }
-    {
-        if self.last.is_none() || self.pending.is_some() {
-            return 0;
-        }
-        self.reader.depth()
-    }
-
-    /// Returns the move just given in SAN.
-    pub fn san(&self, probes: &mut Probes) -> Option<ArrayVec<u8, 7>>
-        requires { probes.old + 1032 < 2 ^ 32 }
-        ensures text { option_map (λ text. text.items) result ≡ shown_san self.now }
-        ensures pairs { CountsSan self.now probes.old probes.new }
-        ensures bound { probes.new ≤ probes.old + 1032 }
-    {
-        match move_of(self.last) {
-            Some(mv) => {
-                let before = self.reader.position_before();
-                Some(write_san_of(before, &mv, self.reader.position(), probes))
-            }
-            None => None,
-        }
-    }
-
-    /// Returns the move just given in UCI notation.
-    pub fn uci(&self) -> Option<ArrayVec<u8, 5>>
-        ensures { option_map (λ text. text.items) result ≡ shown_uci self.now }
-    {
-        match move_of(self.last) {
-            Some(mv) => Some(write_uci(&mv)),
-            None => None,
-        }
-    }
-
-    /// Returns the text of the word just given.
-    pub fn word(&self) -> &[u8]
-        ensures { result.now ≡ shown_word self.now }
-    {
-        match self.last {
-            Some(Item::Word) => self.word.as_slice(),
-            _ => &[],
-        }
-    }
-
-    /// Returns the number of games whose marker was given.
-    pub fn games(&self) -> u64
-        ensures { result ≡ shown_games self.now }
-    {
-        match self.pending {
-            Some(Item::Marker(_)) => self.games.saturating_sub(1),
-            _ => self.games,
-        }
-    }
-
-    /// Takes a token, and returns the item that it gives, if it gives one.
-    ///
-    /// # Errors
-    ///
-    /// The row of the fault table that rejects the token.
-    pub fn take(&mut self, kind: TokenKind<'_>) -> Result<Option<Item>, Reason>
-        requires pending { self.old.pending ≡ None }
-        requires plies { self.old.reading.earlier_plies + self.old.reading.text.plies < 2 ^ 64 - 1 }
-        requires games { self.old.games < 2 ^ 64 - 1 }
-        requires token { HasLength (kind_of kind) }
-        ensures { TakesItem self.old (kind_of kind.entry) self.new result }
-    {
-        let begun = self.reader.is_in_movetext();
-        self.last = None;
-        self.pending = None;
-        match self.reader.accept(kind) {
-            Err(reason) => Err(reason),
-            Ok(None) => Ok(None),
-            Ok(Some(event)) => match event {
-                Event::Word(text) => {
-                    self.keep_word(text);
-                    Ok(self.give(begun, Some(Item::Word)))
-                }
-                Event::Marker(marker) => {
-                    self.games += 1;
-                    Ok(self.give(begun, Some(Item::Marker(marker))))
-                }
-                _ => Ok(self.give(begun, item_of(&event))),
-            },
-        }
-    }
-
-    // Gives an item, and where movetext begins with it first the tags.
-    fn give(&mut self, begun: bool, item: Option<Item>) -> Option<Item>
-        requires played { IsPlayedItem self.old.reading item }
-        requires whole { IsTrue (has_whole_pairs self.old.reading.stage) }
-        ensures result { result ≡ given_first begun item }
-        ensures current { self.new ≡ record self.old {
-          last = given_first begun item;
-          pending = given_second begun item;
-        } }
-    {
-        let again = item;
-        if begun {
-            self.last = item;
-            self.pending = None;
-            return again;
-        }
-        self.pending = item;
-        self.last = Some(Item::Tags);
-        Some(Item::Tags)
-    }
-
-    /// Gives the item that was read and is given next, if there is one.
-    pub fn give_next(&mut self) -> Option<Item>
-        ensures item { result ≡ self.old.pending }
-        ensures current { self.new ≡ giving_next self.old }
-    {
-        let next = self.pending;
-        if next.is_some() {
-            self.last = self.pending;
-            self.pending = None;
-        }
-        next
-    }
-
-    /// From now on no item was given last.
-    pub fn forget_last(&mut self)
-        requires { self.old.pending ≡ None }
-        ensures { self.new ≡ record self.old { last = None } }
-    {
-        self.last = None;
-    }
-
-    // Keeps the text of a word.
-    fn keep_word(&mut self, text: &[u8])
-        requires { length text.now ≤ 79 }
-        ensures { self.new ≡ record self.old { word = text.now } }
-    {
-        self.word.clear();
-        let _ = self.word.try_extend_from_slice(text);
-    }
-}
-
-// Returns the move, if the item is one.
-fn move_of(item: Option<Item>) -> Option<Move>
-    ensures { result ≡ shown_move item }
-{
-    match item? {
-        Item::Move(mv) => Some(mv),
-        _ => None,
-    }
-}
-
-// Returns the item that an event gives, if it gives one.
-fn item_of(event: &Event<'_>) -> Option<Item>
-    ensures { result ≡ item_meant event.now }
-{
-    match *event {
-        Event::Number => None,
-        Event::Move(mv, _) => Some(Item::Move(mv)),
-        Event::Glyph(glyph) => Some(Item::Glyph(glyph)),
-        Event::CommentOpen => Some(Item::CommentOpen),
-        Event::Word(_) => Some(Item::Word),
-        Event::CommentClose => Some(Item::CommentClose),
-        Event::Open => Some(Item::Open),
-        Event::Close => Some(Item::Close),
-        Event::Marker(marker) => Some(Item::Marker(marker)),
-    }
+/// How far the items were read.
+#[derive(Clone, Copy)]
+enum ItemsState {
+    /// The source has not ended.
+    Reading,
+    /// The source has ended. The lexer may have tokens left of its last bytes.
+    SourceEnded,
+    /// All items were given.
+    Finished,
+    /// Each call reports this fault.
+    Failed(Fault),
 }
 
 /// Reads the games of a source item by item: tags, moves, NAGs, comments, variations and markers.
 ///
 /// Each game is its `Tags`, then the items of its movetext, then its `Marker`. Every move is legal
 /// where it stands. What is accepted and rejected is what [`crate::convert`] accepts and rejects in
-/// full mode: a missing Result counts as `*`. After a fault no more games are read.
+/// full mode: a missing Result counts as `*`, unless it takes the marker
+/// (`take_marker_for_missing_result`). After a fault no more games are read.
 ///
 /// A game has at most `T` tag pairs, and its variations are at most `L - 1` deep. `L` is at least
 /// 1.
@@ -350,15 +89,14 @@ pub struct Items<const T: usize, const L: usize> {
     current: CurrentGame<T, L>,
     lexer: Lexer,
     buffer: ReadBuffer,
-    has_read_all: bool,
-    is_finished: bool,
-    fault: Option<Fault>,
+    state: ItemsState,
 }
 
 impl<const T: usize, const L: usize> Model for Items<T, L> {
     ghost use Rattle.std.specs.Prelude.{false};
-    ghost use Rattle.pgn_game.specs.calls.ConverterCalls.{IsSound};
-    ghost use Rattle.pgn_game.specs.calls.ItemsCalls.{Items as Seen};
+    ghost use Rattle.pgn_game.specs.public.ConverterCalls.{IsSound};
+    ghost use Rattle.pgn_game.specs.public.ItemsCalls.{Items as Seen};
+    ghost use Rattle.pgn_game.specs.steps.ItemsSteps.{fault_in, is_at_end, reads_no_more};
 
     ghost Value = { Seen };
 
@@ -366,18 +104,19 @@ impl<const T: usize, const L: usize> Model for Items<T, L> {
       lexer = i.lexer;
       current = i.current;
       unused = i.buffer;
-      has_read_all = i.has_read_all;
-      is_finished = i.is_finished;
-      fault = i.fault;
+      has_read_all = reads_no_more i.state;
+      is_finished = is_at_end i.state;
+      fault = fault_in i.state;
     } };
 
-    ghost invariant = { λ i. IsSound i.lexer i.current.reading i.current.games false i.is_finished
-        i.fault };
+    ghost invariant = { λ i. IsSound i.lexer i.current.reading i.current.games false
+        (is_at_end i.state) (fault_in i.state) };
 }
 
 impl<const T: usize, const L: usize> Items<T, L> {
     /// Returns items of which none is read yet.
     pub fn new() -> Self
+        // Cargo: assert!(L >= 1, "the number of levels L is at least 1")
         requires { 1 ≤ L }
         ensures begins { (left : Option (List ℕ))
             → HaveGiven (profile_of T (L - 1) Full) left [] result [] }
@@ -420,10 +159,39 @@ impl<const T: usize, const L: usize> Items<T, L> {
             current: CurrentGame::new(),
             lexer: Lexer::begin_at(place, in_first_column),
             buffer: ReadBuffer::new(),
-            has_read_all: false,
-            is_finished: false,
-            fault: None,
+            state: ItemsState::Reading,
         }
+    }
+
+    /// From now on a missing Result takes the marker that ends its game.
+    ///
+    /// So a game without a Result may end with any marker. New items count a missing Result as `*`.
+    /// What was given before stays right.
+    ///
+    /// The tags of a game are given before its marker. Up to the marker `tag`, `pair` and
+    /// `write_tags` give such a Result the empty value, which is no result of a game: its value is
+    /// not known yet. From the `Marker` on it is the marker.
+    ///
+    /// # Examples
+    ///
+    /// ```
+    /// use pgn_game::{Inlet, Item, Items, Marker};
+    ///
+    /// let mut source = Inlet::new(b"1. e4 1-0".as_slice());
+    /// let mut items = Items::<64, 33>::new();
+    /// items.take_marker_for_missing_result();
+    /// assert_eq!(items.next(&mut source).unwrap(), Some(Item::Tags));
+    /// assert_eq!(items.tag(b"Result"), Some(b"".as_slice()));
+    /// assert!(matches!(items.next(&mut source).unwrap(), Some(Item::Move(_))));
+    /// let marker = Item::Marker(Marker::WhiteWins);
+    /// assert_eq!(items.next(&mut source).unwrap(), Some(marker));
+    /// assert_eq!(items.tag(b"Result"), Some(b"1-0".as_slice()));
+    /// ```
+    pub fn take_marker_for_missing_result(&mut self)
+        ensures only_switch { self.new ≡ items_by_marker self.old }
+        ensures gives { GiveByMarker self.old self.new }
+    {
+        self.current.take_marker_for_missing_result();
     }
 
     /// Reads the next item of the source. `None` if no item is left.
@@ -454,26 +222,46 @@ impl<const T: usize, const L: usize> Items<T, L> {
             return Ok(Some(item));
         }
         self.current.forget_last();
-        if let Some(fault) = self.fault {
-            return Err(fault);
+        match self.state {
+            ItemsState::Failed(fault) => Err(fault),
+            ItemsState::Finished => Ok(None),
+            ItemsState::SourceEnded => self.next_at_end(),
+            ItemsState::Reading => self.read_item(source),
         }
-        if self.is_finished {
-            return Ok(None);
-        }
-        if self.has_read_all {
-            return self.next_at_end();
-        }
-        self.read_item(source)
     }
 
     /// Returns the value of a tag of the current game, roster defaults included.
     ///
     /// A game is the current one from its `Tags` to the call behind its `Marker`. At any other time
-    /// the result is `None`.
+    /// the result is `None`. `take_marker_for_missing_result` says what a missing Result is.
     pub fn tag(&self, name: &[u8]) -> Option<&[u8]>
         ensures { option_copied result ≡ shown_value self.now.current name.now }
     {
         self.current.tag(name)
+    }
+
+    /// Returns the name and the value of a tag pair of the current game, by its index.
+    ///
+    /// The pairs are those that `write_tags` writes, in the same order (PGN 8.1.1): the seven of
+    /// the roster, defaults included, then the others in the order of their names. The result is
+    /// `None` from the number of pairs on, and without a current game.
+    ///
+    /// # Examples
+    ///
+    /// ```
+    /// use pgn_game::{Inlet, Items};
+    ///
+    /// let mut source = Inlet::new(b"[White \"Ada\"] [ECO \"C20\"] *".as_slice());
+    /// let mut items = Items::<64, 33>::new();
+    /// items.next(&mut source).unwrap();
+    /// assert_eq!(items.pair(4), Some((b"White".as_slice(), b"Ada".as_slice())));
+    /// assert_eq!(items.pair(7), Some((b"ECO".as_slice(), b"C20".as_slice())));
+    /// assert_eq!(items.pair(8), None);
+    /// ```
+    pub fn pair(&self, index: usize) -> Option<(&[u8], &[u8])>
+        ensures { option_map pair_of result ≡ shown_pair self.now.current index }
+    {
+        self.current.pair(index)
     }
 
     /// Writes the tag section of the current game, with the empty line behind it (PGN 8.1).
@@ -511,6 +299,37 @@ impl<const T: usize, const L: usize> Items<T, L> {
         self.current.position_before()
     }
 
+    /// Returns the position in which a move was rejected.
+    ///
+    /// It is the one before the move, also inside a variation. The result is `None` unless the
+    /// last call returned `Reason::IllegalMove`, `Reason::AmbiguousMove` or `Reason::MoveLimit`.
+    ///
+    /// # Examples
+    ///
+    /// ```
+    /// use chess_text::write_fen;
+    /// use pgn_game::{Inlet, Items};
+    ///
+    /// let mut source = Inlet::new(b"1. e4 e5 2. Ke3 *".as_slice());
+    /// let mut items = Items::<64, 33>::new();
+    /// while let Ok(Some(_)) = items.next(&mut source) {}
+    /// let fen = write_fen(items.refused_position().unwrap());
+    /// assert!(fen.starts_with(b"rnbqkbnr/pppp1ppp/8/4p3/4P3/8/PPPP1PPP/RNBQKBNR w"));
+    /// ```
+    pub fn refused_position(&self) -> Option<&Position>
+        ensures { option_copied result ≡ refused_items_position self.now }
+    {
+        let ItemsState::Failed(fault) = self.state else {
+            return None;
+        };
+        match fault.reason {
+            Reason::IllegalMove | Reason::AmbiguousMove | Reason::MoveLimit => {
+                Some(self.current.last_position())
+            }
+            _ => None,
+        }
+    }
+
     /// Returns the number of variations that are open after the items given so far.
     ///
     /// `Open` is inside its variation, and `Close` outside. Without a current game it is 0.
@@ -525,6 +344,8 @@ impl<const T: usize, const L: usize> Items<T, L> {
     /// The result is `None` unless the last call gave a `Move`. The pairs that are tried are
     /// counted, at most 1,032.
     pub fn san(&self, probes: &mut Probes) -> Option<ArrayVec<u8, 7>>
+        // Cargo: assert!(u32::MAX - probes.count() >= 1032,
+        // "the count of Probes has room for 1,032 more")
         requires { probes.old + 1032 < 2 ^ 32 }
         ensures text { option_map (λ text. text.items) result ≡ shown_san self.now.current }
         ensures pairs { CountsSan self.now.current probes.old probes.new }
@@ -580,7 +401,10 @@ impl<const T: usize, const L: usize> Items<T, L> {
         loop {
             match self.fill_buffer(source) {
                 Err(fault) => return Err(fault),
-                Ok(false) => return self.next_at_end(),
+                Ok(false) => {
+                    symbols_stand_in_text();
+                    return self.next_at_end();
+                }
                 Ok(true) => {}
             }
             match self.take_buffered() {
@@ -599,14 +423,17 @@ impl<const T: usize, const L: usize> Items<T, L> {
     {
         let piece = within_limit(self.lexer.place(), self.buffer.unused());
         if piece.is_empty() {
-            return Err(too_long(&mut self.fault));
+            let at = MAX_INPUT_LENGTH;
+            let reason = Reason::InputTooLong;
+            self.state = ItemsState::Failed(Fault { at, reason });
+            return Err(Fault { at, reason });
         }
         let (used, read) = read_token(&mut self.lexer, &mut self.current, piece);
         self.buffer.skip(used);
         match read {
             Ok(item) => Ok(item),
             Err(fault) => {
-                self.fault = Some(fault);
+                self.state = ItemsState::Failed(fault);
                 Err(fault)
             }
         }
@@ -614,7 +441,7 @@ impl<const T: usize, const L: usize> Items<T, L> {
 
     // Reads bytes, if all are used. Returns whether there are any.
     fn fill_buffer<R: Source>(&mut self, source: &mut R) -> Result<bool, Fault>
-        requires { self.old.fault ≡ None }
+        requires { AreGoing self.old }
         ensures more { MoreItems (R.left source.old) (R.left source.new) self.old self.new result }
         ensures counted { Counts result (R.failures source.old) (R.failures source.new) }
     {
@@ -624,13 +451,13 @@ impl<const T: usize, const L: usize> Items<T, L> {
         match self.buffer.fill(source) {
             Ok(true) => Ok(true),
             Ok(false) => {
-                self.has_read_all = true;
+                self.state = ItemsState::SourceEnded;
                 Ok(false)
             }
             Err(_) => {
                 let at = self.lexer.place();
                 let reason = Reason::ReadFault;
-                self.fault = Some(Fault { at, reason });
+                self.state = ItemsState::Failed(Fault { at, reason });
                 Err(Fault { at, reason })
             }
         }
@@ -665,19 +492,23 @@ impl<const T: usize, const L: usize> Items<T, L> {
         let (is_end, read) = read_last_token(&mut self.lexer, &mut self.current);
         match read {
             Err(fault) => {
-                self.fault = Some(fault);
+                self.state = ItemsState::Failed(fault);
                 (is_end, Err(fault))
             }
             Ok(item) => {
-                self.is_finished = is_end;
+                if is_end {
+                    self.state = ItemsState::Finished;
+                    return (is_end, Ok(item));
+                }
                 (is_end, Ok(item))
             }
         }
     }
 }
 
-// Reads the next token of a piece, or white space before it. Returns how many bytes were used, and
-// the item that the token gives, if it gives one.
+// Reads the next token of a piece, or what is before it: white space, and in movetext numbers and
+// periods, which give nothing there. Returns how many bytes were used, and the item that the token
+// gives, if it gives one.
 fn read_token<const T: usize, const L: usize>(
     lexer: &mut Lexer,
     current: &mut CurrentGame<T, L>,
@@ -690,7 +521,7 @@ fn read_token<const T: usize, const L: usize>(
     requires short { lexer.old.count + length piece.now ≤ 2 ^ 62 }
     ensures { ReadsToken lexer.old current.old piece.now lexer.new current.new result.0 result.1 }
 {
-    let (used, token) = lexer.whole_token(piece, false);
+    let (used, token) = lexer.whole_token(piece, current.is_in_movetext());
     let Some(token) = token else {
         // Mostly a text goes on, which began in an earlier piece.
         if used == 0 {

@@ -57,14 +57,18 @@ pub fn given_grows()
 
 /// The calls of `Items::next` together give what the whole text of their source is read into.
 ///
-/// What was given so far is the front of it. After `Ok(None)` all of it was given, and no token of
-/// the text is rejected. After an error all of it was given, and the error is the first fault of
-/// the text. This holds for a text of at most 2^62 bytes, unless a read failed. Each call has to
-/// get the source as the call before left it.
+/// What was given so far is the front of it, and its tokens are the first ones of the text. After
+/// `Ok(None)` all of it was given, no token of the text is rejected, and all its bytes are used.
+/// After an error all of it was given, and the error is the first fault of the text. If that
+/// rejects a move, the items keep the position before it. This holds for a text of at most 2^62
+/// bytes, unless a read failed. Each call has to get the source as the call before left it.
 pub fn items_join()
     ensures front { items_joined.GivenIsFront }
+    ensures first { items_joined.TokensAreFirst }
     ensures end { items_joined.EndGivesAll }
+    ensures place { items_joined.EndUsesAll }
     ensures fault { items_joined.FaultGivesAll }
+    ensures position { items_joined.FaultKeepsPosition }
 {}
 
 /// The token that finishes a game is its marker, and the Result of its tag section is that marker.

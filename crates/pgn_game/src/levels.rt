@@ -3,8 +3,8 @@ ghost use Rattle.std.specs.Prelude.{◌≡◌, ◌+◌, ◌-◌, ◌^◌, ◌<�
 ghost use Rattle.chess_rules.specs.Legal.{is_legal};
 ghost use Rattle.pgn_game.specs.declared.event.Event.TheVariants as events;
 ghost use Rattle.pgn_game.specs.games.Chess.{first_position};
-ghost use Rattle.pgn_game.specs.state.ItemResult.{Annotates, Plays};
-ghost use Rattle.pgn_game.specs.state.Movetext.{level_of, movetext_after_fen, movetext_from, IsDepth};
+ghost use Rattle.pgn_game.specs.steps.ItemResult.{Annotates, Plays};
+ghost use Rattle.pgn_game.specs.steps.Movetext.{level_of, movetext_after_fen, movetext_from, IsDepth};
 
 use arrayvec::ArrayVec;
 use chess_rules::{Move, Position, position_after};
@@ -41,7 +41,7 @@ pub struct Levels<const L: usize> {
 
 impl<const L: usize> Model for Levels<L> {
     ghost use Rattle.std.specs.Prelude.{false};
-    ghost use Rattle.pgn_game.specs.state.Movetext.{Movetext, FitsLevelStore, code_levels};
+    ghost use Rattle.pgn_game.specs.steps.Movetext.{Movetext, FitsLevelStore, code_levels};
 
     ghost Value = { Movetext };
 

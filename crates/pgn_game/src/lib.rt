@@ -9,6 +9,7 @@
 mod checked;
 mod conversion;
 mod converter;
+mod current_game;
 mod event;
 mod find;
 mod game;

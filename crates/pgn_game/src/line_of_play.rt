@@ -2,10 +2,10 @@
 ghost use Rattle.std.specs.Prelude.{◌≡◌, ◌<◌, ◌≤◌, ◌+◌, ◌^◌, Some, IfOk, IfSome, length};
 ghost use Rattle.chess_rules.specs.Legal.{legal};
 ghost use Rattle.pgn_lexer.specs.Bytes.{is_space as is_white_space};
-ghost use Rattle.pgn_game.specs.calls.LineOfPlay as spec;
-ghost use Rattle.pgn_game.specs.calls.LineOfPlay.{NextMove, NextPly, move_texts};
-ghost use Rattle.pgn_game.specs.state.LineWords.{FindsFirst, SpaceEnds, WordBegins, WordEnds};
-ghost use Rattle.pgn_game.specs.state.LineWords.{moves_from, words_from};
+ghost use Rattle.pgn_game.specs.public.LineOfPlay as spec;
+ghost use Rattle.pgn_game.specs.public.LineOfPlay.{NextMove, NextPly, move_texts};
+ghost use Rattle.pgn_game.specs.steps.LineWords.{FindsFirst, SpaceEnds, WordBegins, WordEnds};
+ghost use Rattle.pgn_game.specs.steps.LineWords.{moves_from, words_from};
 
 use crate::notation::{Notation, read_move};
 use crate::reason::Fault;
@@ -67,8 +67,8 @@ pub struct LineOfPlay<'a> {
 
 impl<'a> Model for LineOfPlay<'a> {
     ghost use Rattle.std.specs.Prelude.{◌≤◌, length};
-    ghost use Rattle.pgn_game.specs.calls.LineOfPlay.{Ahead};
-    ghost use Rattle.pgn_game.specs.state.LineWords.{moves_from};
+    ghost use Rattle.pgn_game.specs.public.LineOfPlay.{Ahead};
+    ghost use Rattle.pgn_game.specs.steps.LineWords.{moves_from};
 
     ghost Value = { Ahead };
 

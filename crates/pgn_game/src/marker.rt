@@ -78,6 +78,17 @@ impl MissingResult {
         }
     }
 
+    /// Returns what it is in a game that ends with this marker.
+    pub fn with_marker(self, marker: Marker) -> MissingResult
+        ensures { known_result (missing_of result)
+            ≡ result_for (missing_of self) (marker_text marker) }
+    {
+        match self {
+            MissingResult::TakesTheMarker => MissingResult::CountsAs(marker),
+            missing => missing,
+        }
+    }
+
     /// Returns its text in a game that ends with this marker.
     pub fn text_at(&self, marker: Marker) -> &'static [u8]
         ensures { result.now ≡ result_for (missing_of self.now) (marker_text marker) }

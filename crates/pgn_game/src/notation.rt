@@ -2,9 +2,9 @@
 ghost use Rattle.std.specs.Prelude.{◌≡◌, ◌<◌, ◌≤◌, ◌+◌, ◌^◌, Some, IfOk};
 ghost use Rattle.chess_rules.specs.Legal.{legal};
 ghost use Rattle.chess_text.specs.Uci.{move_of_uci};
-ghost use Rattle.pgn_game.specs.calls.FoundMove.{found_in};
-ghost use Rattle.pgn_game.specs.calls.Notations as spec;
-ghost use Rattle.pgn_game.specs.calls.Tried.{AddsPairs};
+ghost use Rattle.pgn_game.specs.public.FoundMove.{found_in};
+ghost use Rattle.pgn_game.specs.public.Notations as spec;
+ghost use Rattle.pgn_game.specs.public.Tried.{AddsPairs};
 ghost use Rattle.pgn_game.specs.declared.notation.Notation.TheVariants.{Uci};
 
 use crate::find::{find_move, is_at_limit};
@@ -58,6 +58,7 @@ pub fn read_move(
     notation: Notation,
     probes: &mut Probes,
 ) -> Result<Played, Reason>
+    // Cargo: assert!(u32::MAX - probes.count() >= 8, "the count of Probes has room for 8 more")
     requires { probes.old + 8 < 2 ^ 32 }
     ensures named { result ≡ spec.named_in notation position.now text.now }
     ensures legal { IfOk result (λ played. legal position.now played.mv ≡ Some played.next) }

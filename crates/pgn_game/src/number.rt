@@ -1,7 +1,7 @@
 //! Numbers in movetext.
 ghost use Rattle.std.specs.Prelude.{◌≤◌, [], ◌++◌, ◌∷◌, codes, decimal, length};
 ghost use Rattle.pgn_layout.specs.Device.{device};
-ghost use Rattle.pgn_game.specs.state.ItemResult.{PutsTokens};
+ghost use Rattle.pgn_game.specs.steps.ItemResult.{PutsTokens};
 
 use itoa::Buffer;
 use pgn_layout::{CurrentLine, Sink, WriteFault};

@@ -1,8 +1,8 @@
 //! Tag pairs in the order of their names, which need not be stored so.
 ghost use Rattle.std.specs.Prelude.{◌≡◌, ◌<◌, ◌≤◌, drop, length, slice_index_or, take};
 ghost use Rattle.pgn_game.specs.games.Pairs.{comes_before};
-ghost use Rattle.pgn_game.specs.state.StoredPairs.{AreInOrder, FindResult, InOrder, IndexResult};
-ghost use Rattle.pgn_game.specs.state.StoredPairs.{ValueResult, placed};
+ghost use Rattle.pgn_game.specs.steps.StoredPairs.{AreInOrder, FindResult, InOrder, IndexResult};
+ghost use Rattle.pgn_game.specs.steps.StoredPairs.{ValueResult, placed};
 
 use crate::pair::TagPair;
 use std::marker::Model;
@@ -18,7 +18,7 @@ pub struct OrderedPairs<'a> {
 impl<'a> Model for OrderedPairs<'a> {
     ghost use Rattle.std.specs.Prelude.{List};
     ghost use Rattle.pgn_game.specs.games.Pairs.{Pair};
-    ghost use Rattle.pgn_game.specs.state.StoredPairs.{AreInOrder, placed};
+    ghost use Rattle.pgn_game.specs.steps.StoredPairs.{AreInOrder, placed};
 
     ghost Value = { List Pair };
 

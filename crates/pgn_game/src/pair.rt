@@ -19,7 +19,7 @@ impl Model for TagPair {
     ghost use Rattle.std.specs.Prelude.{◌+◌, ◌≤◌, length, take, drop};
     ghost use Rattle.pgn_layout.specs.TagLine.{escaped};
     ghost use Rattle.pgn_game.specs.games.Pairs.{Pair};
-    ghost use Rattle.pgn_game.specs.state.StoredPairs.{FitsOnLine};
+    ghost use Rattle.pgn_game.specs.steps.StoredPairs.{FitsOnLine};
 
     ghost Value = { Pair };
 

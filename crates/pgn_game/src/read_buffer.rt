@@ -1,7 +1,7 @@
 //! The bytes that were read and are not used yet.
 ghost use Rattle.std.specs.Prelude.{◌≡◌, ◌<◌, ◌≤◌, length, drop, []};
 ghost use Rattle.pgn_layout.specs.Device.{Counts};
-ghost use Rattle.pgn_game.specs.state.GamesSteps.{FillResult};
+ghost use Rattle.pgn_game.specs.steps.GamesSteps.{FillResult};
 
 use crate::source::{ReadFailed, Source};
 use std::marker::Model;

@@ -11,13 +11,13 @@ ghost use Rattle.pgn_game.specs.declared.stage.Stage.TheVariants.{AfterValue, Af
 ghost use Rattle.pgn_game.specs.games.Profile.{known_result};
 ghost use Rattle.pgn_game.specs.games.Markers.{marker_text, missing_of};
 ghost use Rattle.pgn_game.specs.declared.writer.Writer.{Writer};
-ghost use Rattle.pgn_game.specs.state.Accepted.{Accepts, AcceptsEntry};
-ghost use Rattle.pgn_game.specs.state.Judged.{game_at, Judges, JudgesBefore, JudgesInPair, JudgesMarker, JudgesOutside};
-ghost use Rattle.pgn_game.specs.state.Movetext.{IsDepth};
-ghost use Rattle.pgn_game.specs.state.ReaderState.{plies_of_finished_games, unread};
-ghost use Rattle.pgn_game.specs.state.TokenInMovetext.{MayTakeMove, has_whole_pairs, may_have_movetext};
-ghost use Rattle.pgn_game.specs.state.TokenInMovetext.{fen_position as position_in_fen};
-ghost use Rattle.pgn_game.specs.state.PutResult.{CountsMove, Finds, at_game_start, continued};
+ghost use Rattle.pgn_game.specs.steps.Accepted.{Accepts, AcceptsEntry};
+ghost use Rattle.pgn_game.specs.steps.Judged.{game_at, Judges, JudgesBefore, JudgesInPair, JudgesMarker, JudgesOutside};
+ghost use Rattle.pgn_game.specs.steps.Movetext.{IsDepth};
+ghost use Rattle.pgn_game.specs.steps.ReaderState.{plies_of_finished_games, unread};
+ghost use Rattle.pgn_game.specs.steps.TokenInMovetext.{MayTakeMove, has_whole_pairs, may_have_movetext};
+ghost use Rattle.pgn_game.specs.steps.TokenInMovetext.{fen_position as position_in_fen};
+ghost use Rattle.pgn_game.specs.steps.PutResult.{CountsMove, Finds, at_game_start, continued};
 ghost use Rattle.pgn_game.specs.games.FaultTable as spec;
 ghost use Rattle.pgn_game.specs.games.FaultTable.{is_reduced, result_for};
 
@@ -60,7 +60,7 @@ pub struct Reader<const T: usize, const L: usize> {
 impl<const T: usize, const L: usize> Model for Reader<T, L> {
     ghost use Rattle.std.specs.Prelude.{◌-◌, ◌≤◌, [], None, false};
     ghost use Rattle.pgn_game.specs.games.Markers.{marker_text, missing_of};
-    ghost use Rattle.pgn_game.specs.state.ReaderState.{ReaderState, AreSound};
+    ghost use Rattle.pgn_game.specs.steps.ReaderState.{ReaderState, AreSound};
 
     ghost Value = { ReaderState };
 
@@ -113,15 +113,15 @@ impl<const T: usize, const L: usize> Reader<T, L> {
         exported_value(self.mode, self.shown_result(), &self.tags.pairs(), name)
     }
 
-    /// Returns the value of a name in the tag section of the current game, defaults included. A
-    /// missing Result that takes the marker is empty.
-    pub fn value_so_far(&self, name: &[u8]) -> Option<&[u8]>
+    /// Returns the value of a name in the tag section of the current game, defaults included, if a
+    /// missing Result is this.
+    pub fn value_with(&self, missing_result: MissingResult, name: &[u8]) -> Option<&[u8]>
         requires { IsTrue (has_whole_pairs self.now.stage) }
         ensures { option_copied result
             ≡ value_of (exported self.now.profile.mode
-            (known_result self.now.profile.missing_result) self.now.tags.held) name.now }
+            (known_result (missing_of missing_result)) self.now.tags.held) name.now }
     {
-        exported_value(self.mode, self.missing_result, &self.tags.pairs(), name)
+        exported_value(self.mode, missing_result, &self.tags.pairs(), name)
     }
 
     /// Returns the tag pairs of the current game, or of the game just read, in the order of their
@@ -152,10 +152,7 @@ impl<const T: usize, const L: usize> Reader<T, L> {
         ensures { known_result (missing_of result)
             ≡ result_for self.now.profile.missing_result self.now.marker }
     {
-        match self.missing_result {
-            MissingResult::TakesTheMarker => MissingResult::CountsAs(self.marker),
-            missing => missing,
-        }
+        self.missing_result.with_marker(self.marker)
     }
 
     /// Returns the marker of the game just read.

@@ -1,13 +1,16 @@
 //! The tag section of a game.
-ghost use Rattle.std.specs.Prelude.{◌≡◌, ◌+◌, ◌<◌, ◌≤◌, Some, None, codes, length, slice_get};
+ghost use Rattle.std.specs.Prelude.{◌≡◌, ◌+◌, ◌<◌, ◌≤◌, Some, None, codes, length, option_map, slice_get};
 ghost use Rattle.std.specs.Option.{option_copied};
 ghost use Rattle.pgn_layout.specs.Device.{WritesText, device};
 ghost use Rattle.pgn_layout.specs.TagLine.{escaped};
 ghost use Rattle.pgn_game.specs.games.Markers.{missing_of};
 ghost use Rattle.pgn_game.specs.games.Profile.{known_result};
 ghost use Rattle.pgn_game.specs.games.Pairs.{value_of, has_pair};
-ghost use Rattle.pgn_game.specs.state.SectionLines.{text_by, roster_line, other_line};
-ghost use Rattle.pgn_game.specs.state.StoredPairs.{ValueResult};
+ghost use Rattle.pgn_game.specs.steps.SectionLines.{text_by, roster_line, other_line};
+ghost use Rattle.pgn_game.specs.steps.StoredPairs.{ValueResult};
+ghost use Rattle.pgn_game.specs.public.NameAndValue.{pair_of};
+ghost use Rattle.pgn_game.specs.steps.SectionPairs as spec;
+ghost use Rattle.pgn_game.specs.steps.SectionPairs.{NthResult, others};
 ghost use Rattle.pgn_game.specs.export.TagSection.{roster, in_roster, exported, other_pairs, tag_lines, tag_section, with_set_up};
 
 use crate::marker::{Marker, MissingResult};
@@ -68,6 +71,88 @@ pub fn exported_value<'a>(
         Some(value) => Some(value),
         None => unknown,
     }
+}
+
+/// Returns the name and the value of the pair of the tag section that has so many before it, if
+/// there is one.
+pub fn exported_pair<'a>(
+    mode: Mode,
+    missing_result: MissingResult,
+    pairs: &OrderedPairs<'a>,
+    index: usize,
+) -> Option<(&'a [u8], &'a [u8])>
+    ensures { option_map pair_of result
+        ≡ slice_get (exported mode (known_result (missing_of missing_result)) pairs.now) index }
+{
+    if index < 7 {
+        let (name, unknown) = roster_pair(missing_result, index);
+        return Some((name, value_in(pairs, name).unwrap_or(unknown)));
+    }
+    match mode {
+        Mode::Reduced => None,
+        Mode::Full => other_pair(pairs, index - 7),
+    }
+}
+
+// Returns the pair outside the roster that has so many such pairs before it, SetUp 1 among them if
+// there is a FEN.
+fn other_pair<'a>(pairs: &OrderedPairs<'a>, index: usize) -> Option<(&'a [u8], &'a [u8])>
+    ensures { option_map pair_of result
+        ≡ slice_get (other_pairs (with_set_up pairs.now)) index }
+{
+    if !has_fen(pairs) {
+        return nth_pair(pairs, false, index).ok();
+    }
+    let (before, after) = pairs.split_at(index_of(pairs, SET_UP));
+    match nth_pair(&before, true, index) {
+        Ok(pair) => Some(pair),
+        Err(left) => {
+            if left == 0 {
+                return Some((SET_UP, FROM_FEN));
+            }
+            nth_pair(&after, true, left - 1).ok()
+        }
+    }
+}
+
+// Returns the pair that has so many before it, of those that are outside the roster, and no second
+// SetUp beside a FEN. If there is none, the error is how many more there would have to be.
+fn nth_pair<'a>(
+    pairs: &OrderedPairs<'a>,
+    has_fen: bool,
+    index: usize,
+) -> Result<(&'a [u8], &'a [u8]), usize>
+    ensures { NthResult (others has_fen pairs.now) index result }
+{
+    let mut left = index;
+    for at in 0..pairs.len() {
+        let pair = pairs.at(at);
+        match left_behind(pair, has_fen, left) {
+            None => return Ok((pair.name(), pair.value())),
+            Some(rest) => left = rest,
+        }
+    }
+    Err(left)
+}
+
+// Returns how many pairs are left to pass behind this one. `None` if it is the one that is sought.
+fn left_behind(pair: &TagPair, has_fen: bool, left: usize) -> Option<usize>
+    ensures { result ≡ spec.left_behind (spec.is_other has_fen pair.now) left }
+{
+    if !is_other(pair, has_fen) {
+        return Some(left);
+    }
+    if left == 0 {
+        return None;
+    }
+    Some(left - 1)
+}
+
+// Whether a pair is outside the roster, and no second SetUp beside a FEN.
+fn is_other(pair: &TagPair, has_fen: bool) -> bool
+    ensures { result ≡ spec.is_other has_fen pair.now }
+{
+    !(is_in_roster(pair.name()) || (has_fen && pair.name() == SET_UP))
 }
 
 // The value of a name, with SetUp 1 if there is a FEN (PGN 9.7.1).
@@ -151,7 +236,7 @@ fn write_other<W: Sink>(pair: &TagPair, has_fen: bool, out: &mut W) -> Result<()
     ensures { WritesText (device W.taken W.failures out.old out.new) result
         (other_line has_fen pair.now) }
 {
-    if is_in_roster(pair.name()) || (has_fen && pair.name() == SET_UP) {
+    if !is_other(pair, has_fen) {
         return Ok(());
     }
     write_tag(pair.name(), pair.value(), out)

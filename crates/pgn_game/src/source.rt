@@ -44,7 +44,7 @@ pub struct Inlet<R> {
 }
 
 impl<R> Model for Inlet<R> {
-    ghost use Rattle.pgn_game.specs.calls.Inlet.{Inlet as Seen, inlet_code};
+    ghost use Rattle.pgn_game.specs.public.Inlet.{Inlet as Seen, inlet_code};
 
     ghost Value = { Seen R };
 

@@ -2,7 +2,7 @@
 ghost use Rattle.std.specs.Prelude.{◌≡◌, ◌+◌, ◌≤◌, ◌↔◌, [], IsTrue, IfSome, IsSome, IsSomeAnd, Some, None, length};
 ghost use Rattle.pgn_layout.specs.TagLine.{escaped};
 ghost use Rattle.pgn_game.specs.games.Pairs.{insert_pair};
-ghost use Rattle.pgn_game.specs.state.StoredPairs.{FindResult, MayBegin, ValueResult};
+ghost use Rattle.pgn_game.specs.steps.StoredPairs.{FindResult, MayBegin, ValueResult};
 
 use crate::ordered::{OrderedPairs, find, value_in};
 use crate::pair::TagPair;
@@ -25,8 +25,8 @@ pub struct TagPairs<const T: usize> {
 
 impl<const T: usize> Model for TagPairs<T> {
     ghost use Rattle.std.specs.Prelude.{length};
-    ghost use Rattle.pgn_game.specs.state.StoredPairs.{TagPairs as Seen};
-    ghost use Rattle.pgn_game.specs.state.StoredPairs.{pairs_seen, placed, pair_at, FitsPairStore};
+    ghost use Rattle.pgn_game.specs.steps.StoredPairs.{TagPairs as Seen};
+    ghost use Rattle.pgn_game.specs.steps.StoredPairs.{pairs_seen, placed, pair_at, FitsPairStore};
 
     ghost Value = { Seen };
 

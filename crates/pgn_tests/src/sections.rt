@@ -1,10 +1,26 @@
 //! Worked rows: where reading goes on, by the rules in words.
-use pgn_sections::{BadGame, Ends, next_section};
+use pgn_sections::{BadGame, Ends, SectionSearch, next_section};
 use std::process::Abort;
 
 // Behind the game that begins at a place, with its fault at another, reading goes on there.
 fn is_next(rt: &impl Abort, text: &[u8], begin: usize, fault: usize, place: Option<usize>) {
     assert_eq!(rt; next_section(text, begin, fault), place);
+    for cut in begin..=text.len() {
+        assert_eq!(rt; found_at_cut(text, begin, fault, cut), place);
+    }
+}
+
+// What a search finds in the text from `begin` on, which is cut in two.
+fn found_at_cut(text: &[u8], begin: usize, fault: usize, cut: usize) -> Option<usize> {
+    if cut < begin || text.len() < cut {
+        return None;
+    }
+    let front = &text[begin..cut];
+    let rest = &text[cut..];
+    let mut search = SectionSearch::new(begin, fault);
+    search.feed(front);
+    search.feed(rest);
+    search.finish()
 }
 
 /// A line that begins with a bracket, after movetext.

@@ -2,7 +2,7 @@
 use Rattle.std.specs.Prelude.{◌≡◌, ℕ, List, [], Option}
 use Rattle.std.specs.Io.KnownBytes.{Appends, Consumes}
 use Rattle.pgn_lexer.specs.Tokens.{Token}
-use Rattle.pgn_game.specs.calls.GamesCalls.{Games, HaveRead}
+use Rattle.pgn_game.specs.public.GamesCalls.{Games, HaveRead}
 use Rattle.pgn_tool.specs.ListLines.{lines_of, list_profile}
 use Rattle.pgn_tool.specs.Files.{FileStep, added, whole_files}
 use Rattle.pgn_tool.specs.SplitGames.{texts_in, torn_text}

@@ -14,8 +14,8 @@ use Rattle.pgn_game.specs.declared.conversion.Totals.{Totals}
 use Rattle.pgn_game.specs.games.Profile.{Profile}
 use Rattle.pgn_game.specs.games.Reason.{line_of}
 use Rattle.pgn_game.specs.games.Progress.{output, verdict}
-use Rattle.pgn_game.specs.calls.Checked.{checked_output, checked_profile, checked_verdict}
-use Rattle.pgn_game.specs.calls.CheckedConversion.{TwoReadingsConvert, TwoReadingsCount}
+use Rattle.pgn_game.specs.public.Checked.{checked_output, checked_profile, checked_verdict}
+use Rattle.pgn_game.specs.public.CheckedConversion.{TwoReadingsConvert, TwoReadingsCount}
 use Rattle.pgn_arguments.specs.declared.arguments.Task.{Task}
 use Rattle.pgn_arguments.specs.declared.arguments.Task.TheVariants.{Checked}
 use Rattle.pgn_tool.specs.TaskRun.{Concludes, FlushesLast, HasFailed, HasFront, Tells, TellsVerdict, line, mode_for, status_of}

@@ -19,8 +19,8 @@ use Rattle.pgn_game.specs.games.Pairs.{value_of}
 use Rattle.pgn_game.specs.export.TagSection.{exported}
 use Rattle.pgn_game.specs.games.Game.{Game}
 use Rattle.pgn_game.specs.games.Progress.{read}
-use Rattle.pgn_game.specs.calls.ConverterCalls.{Converter, FinishedGame, finished_game_of, profile_of, IsRefused}
-use Rattle.pgn_game.specs.calls.Conversion.{Decides}
+use Rattle.pgn_game.specs.public.ConverterCalls.{Converter, FinishedGame, finished_game_of, profile_of, IsRefused}
+use Rattle.pgn_game.specs.public.Conversion.{Decides}
 use Rattle.pgn_tool.specs.declared.list.Stopped.{Stopped}
 use Rattle.pgn_tool.specs.declared.list.Stopped.TheVariants.{Refused, Unwritten}
 

@@ -8,7 +8,7 @@ use Rattle.pgn_game.specs.declared.reason.Reason.{Reason}
 use Rattle.pgn_game.specs.declared.reason.Reason.TheVariants.{ReadFault, WriteFault}
 use Rattle.pgn_game.specs.declared.reason.Fault.{Fault}
 use Rattle.pgn_game.specs.games.Reason.{line_of}
-use Rattle.pgn_game.specs.calls.GamesCalls.{Games, CountsNext, ReadsNext}
+use Rattle.pgn_game.specs.public.GamesCalls.{Games, CountsNext, ReadsNext}
 use Rattle.pgn_tool.specs.declared.files.CreateFault.TheVariants as create_faults
 use Rattle.pgn_tool.specs.declared.game_sink.GameFile.{GameFile}
 use Rattle.pgn_tool.specs.declared.game_sink.GameFile.TheVariants as game_files

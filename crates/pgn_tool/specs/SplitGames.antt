@@ -12,8 +12,8 @@ use Rattle.pgn_game.specs.declared.reason.Reason.TheVariants.{ReadFault, WriteFa
 use Rattle.pgn_game.specs.declared.reason.Fault.{Fault}
 use Rattle.pgn_game.specs.export.Text.{game_text, text_of, torn}
 use Rattle.pgn_game.specs.games.Progress.{due, read}
-use Rattle.pgn_game.specs.calls.ConverterCalls.{IsRefused}
-use Rattle.pgn_game.specs.calls.Conversion.{Decides}
+use Rattle.pgn_game.specs.public.ConverterCalls.{IsRefused}
+use Rattle.pgn_game.specs.public.Conversion.{Decides}
 use Rattle.pgn_tool.specs.declared.split.Unsplit.{Unsplit}
 use Rattle.pgn_tool.specs.declared.split.Unsplit.TheVariants.{Refused, NoMemory}
 use Rattle.pgn_tool.specs.ListLines.{list_profile}

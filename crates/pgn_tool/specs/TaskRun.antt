@@ -14,8 +14,8 @@ use Rattle.pgn_game.specs.declared.conversion.Totals.{Totals}
 use Rattle.pgn_game.specs.games.Profile.{Profile}
 use Rattle.pgn_game.specs.games.Reason.{line_of}
 use Rattle.pgn_game.specs.games.Progress.{Verdict, refused, totals, output, verdict}
-use Rattle.pgn_game.specs.calls.ConverterCalls.{profile_of}
-use Rattle.pgn_game.specs.calls.Conversion.{Checks, Converts, CountsResult}
+use Rattle.pgn_game.specs.public.ConverterCalls.{profile_of}
+use Rattle.pgn_game.specs.public.Conversion.{Checks, Converts, CountsResult}
 use Rattle.pgn_arguments.specs.declared.arguments.Task.{Task}
 use Rattle.pgn_arguments.specs.declared.arguments.Task.TheVariants.{Export, Checked, Check, List as ListGames, Split}
 use Rattle.pgn_tool.specs.declared.list.Stopped.{Stopped}

@@ -2,7 +2,7 @@
 ghost use Rattle.std.specs.Prelude.{◌≡◌, [], unwrap_or};
 ghost use Rattle.pgn_layout.specs.Device.{Counts, Writes};
 ghost use Rattle.pgn_tool.specs.ListLines.{CountsList, ListResult, field, line_just_finished, six_fields};
-ghost use Rattle.pgn_game.specs.calls.ConverterCalls.{finished_game_value};
+ghost use Rattle.pgn_game.specs.public.ConverterCalls.{finished_game_value};
 
 use crate::stream::{LEVELS, TAGS};
 use chess_text::write_fen;

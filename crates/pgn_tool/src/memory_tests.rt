@@ -3,7 +3,7 @@
 ghost use Rattle.std.specs.Prelude.{◌≡◌, ℕ, ◌-◌, ◌^◌, ◌<◌, ◌≤◌, List, [], ◌∷◌, ◌++◌, Some, IfOk, length, string_bytes};
 ghost use Rattle.std.specs.Io.KnownBytes.{Appends};
 ghost use Rattle.pgn_game.specs.declared.mode.Mode.TheVariants.{Full};
-ghost use Rattle.pgn_game.specs.calls.ConverterCalls.{profile_of};
+ghost use Rattle.pgn_game.specs.public.ConverterCalls.{profile_of};
 ghost use Rattle.pgn_game.specs.games.Progress.{output};
 ghost use Rattle.pgn_lexer.specs.TokensOf.{tokens_of};
 ghost use Rattle.pgn_tool.specs.Files.{whole_files};

@@ -1,7 +1,7 @@
 //! Writes each game to a file of its own.
 ghost use Rattle.std.specs.Prelude.{◌≡◌, ◌<◌, ◌≤◌, true, false, None, Ok, OnOk};
 ghost use Rattle.pgn_layout.specs.Device.{device, one_more};
-ghost use Rattle.pgn_game.specs.calls.GamesCalls.{most_left};
+ghost use Rattle.pgn_game.specs.public.GamesCalls.{most_left};
 ghost use Rattle.pgn_tool.specs.Files.{added, closing_steps};
 ghost use Rattle.pgn_tool.specs.SplitGames.{SplitResult};
 ghost use Rattle.pgn_tool.specs.SplitFiles.{CountsSplit, GameSplit, RunsSplit, SplitFiles, settled};

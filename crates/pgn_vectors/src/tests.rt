@@ -3,6 +3,7 @@ mod bytes;
 mod counts;
 mod cuts;
 mod finished_games;
+mod item_tags;
 mod items;
 mod limits;
 mod lines_of_play;

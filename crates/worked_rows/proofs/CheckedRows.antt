@@ -2,10 +2,10 @@
 use Rattle.worked_rows.proofs.Words.{String, ◌≡◌, ℕ, ◌+◌, List, [], ◌++◌, None, Some, length, refl, codes, replicate, take, tokens_of, Full, Reduced, ResultDiffers, IllegalMove, UnexpectedEnd, Changed, Profile, Verdict, totals, due, output}
 use Rattle.std.specs.Prelude.{drop}
 use Rattle.pgn_lexer.specs.Decided.{decided}
-use Rattle.pgn_game.specs.calls.Checked.{checked_profile, compared, written_by, checked_verdict, checked_output}
-use Rattle.pgn_game.specs.calls.CheckedConversion.{WriteStops}
-use Rattle.pgn_game.specs.calls.Conversion.{Decides}
-use Rattle.pgn_game.specs.calls.ConverterCalls.{AreShown}
+use Rattle.pgn_game.specs.public.Checked.{checked_profile, compared, written_by, checked_verdict, checked_output}
+use Rattle.pgn_game.specs.public.CheckedConversion.{WriteStops}
+use Rattle.pgn_game.specs.public.Conversion.{Decides}
+use Rattle.pgn_game.specs.public.ConverterCalls.{AreShown}
 use Rattle.pgn_lexer.specs.Tokens.{asterisk}
 use Rattle.std.proofs.lemmas.Bool.{leb-true, ltb-true}
 use Rattle.worked_rows.proofs.WorkedRows.{counted, fault, head, unknown, of_moves}

@@ -1,7 +1,7 @@
 -- Worked rows of a line of play: the words of a text that are to name moves, and the plies.
 use Rattle.worked_rows.proofs.Words.{◌≡◌, ℕ, List, [], ◌∷◌, Some, map, refl, codes, squares, agreeing, NotAMove, IllegalMove, first_position, move_of}
 use Rattle.pgn_game.specs.games.Chess.{text_of_move}
-use Rattle.pgn_game.specs.calls.LineOfPlay.{Line, Word, line_of_text, move_texts}
+use Rattle.pgn_game.specs.public.LineOfPlay.{Line, Word, line_of_text, move_texts}
 use Rattle.pgn_game.specs.declared.notation.Notation.TheVariants.{San, Uci}
 
 abbrev word : ℕ → List ℕ → Word

@@ -4,9 +4,9 @@ use Rattle.std.specs.Prelude.{drop}
 use Rattle.chess_rules.specs.Legal.{is_check}
 use Rattle.chess_text.specs.San.{MarkPairs}
 use Rattle.pgn_lexer.specs.Tokens.{symbol}
-use Rattle.pgn_game.specs.calls.Tried.{Costs}
-use Rattle.pgn_game.specs.calls.MostTried.{MostTried, Tries, none, refused, passes}
-use Rattle.pgn_game.specs.calls.CheckedConversion.{MostOfBoth}
+use Rattle.pgn_game.specs.public.Tried.{Costs}
+use Rattle.pgn_game.specs.public.MostTried.{MostTried, Tries, none, refused, passes}
+use Rattle.pgn_game.specs.public.CheckedConversion.{MostOfBoth}
 use Rattle.worked_rows.proofs.CheckedRows.{twice}
 use Rattle.worked_rows.proofs.WorkedRows.{plain, reduced}
 

@@ -1,4 +1,4 @@
-use Rattle.pgn_game.specs.calls.GamesCalls.{most_left}
+use Rattle.pgn_game.specs.public.GamesCalls.{most_left}
 use Rattle.demo.proofs.list_games.Given as goal
 
 abbrev pub decreases-loop-fault : goal.decreases-loop-fault

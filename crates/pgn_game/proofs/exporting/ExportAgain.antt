@@ -1,15 +1,15 @@
 -- An export text is read as its games with their defaults filled in, so it is written again as it
 -- is.
 use Rattle.pgn_game.proofs.Words.{◌≡◌, ℕ, ◌+◌, ◌≤◌, ◌^◌, inl, inr, Bool, true, false, List, [], ◌∷◌, ◌++◌, length, map, refl, sym, ap, subst, ◌∙◌, arith, length-append, append-nil, Option, None, Some, sum, IfSome, Err, filter, Consumes, length-map, length-filter, count_by-le-length, IsLast, RisesTo, TokensRise, tokens_of, Kind, Token, Fault, Between, Game, Part, Mode, Pair, Profile, Progress, progress_after, read_from, output, verdict, refused as is_refused, totals, refusal, is_end, filled, AreExportable, SameText, counted, IsWrittenAgain, SliceIsKept, SourceIsKept, FixedPoint, ExportIsKept, ExportIsKeptOfSource, games_in, IsExportable, ExportingTwice, SameOutput, FewPairsHaveRoom, plies_of, roster, roster_pairs, with_set_up, exported, Spells, FailsOn, Fails, Totals, text_of_games as text_of, rules, Ok, common_steps}
-use Rattle.pgn_game.specs.calls.Conversion as conversion
+use Rattle.pgn_game.specs.public.Conversion as conversion
 use Rattle.pgn_game.proofs.exporting.ExportToGames.{ExportedGames}
 use Rattle.pgn_game.proofs.reading.PairsInTurn.{length-insert}
 use Rattle.pgn_game.proofs.pairs.ExportedValues.{set_up, set_up_if, without_set_up}
 use Rattle.pgn_game.specs.laws.UniqueReading.{UniqueReading}
-use Rattle.pgn_game.proofs.tokens.StepsAtEnd.{end_passes}
+use Rattle.pgn_game.proofs.stepping.StepsAtEnd.{end_passes}
 use Rattle.pgn_game.proofs.putting.PairStepToReader.{no_torn}
-use Rattle.pgn_game.proofs.tokens.OneMoreToken.{first_passes, goes_on}
-use Rattle.pgn_game.proofs.tokens.WholeInput.{verdict_passes}
+use Rattle.pgn_game.proofs.stepping.OneMoreToken.{first_passes, goes_on}
+use Rattle.pgn_game.proofs.stepping.WholeInput.{verdict_passes}
 
 -- Where all is read without a fault, reading ends between games.
 passing_last : (p : Profile) (part : Part) (k : Kind) → IsLast k → refusal p part k ≡ None → is_end k ≡ true

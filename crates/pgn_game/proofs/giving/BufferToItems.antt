@@ -1,13 +1,13 @@
 -- From a token of the bytes that were read to what is read of the source.
 use Rattle.pgn_game.proofs.Words.{◌≡◌, ℕ, ◌+◌, ◌-◌, ◌^◌, ◌<◌, ◌≤◌, ◌==◌, true, false, List, [], ◌∷◌, ◌++◌, length, take, drop, Option, None, Some, Ok, Err, refl, sym, ap, subst, ◌∙◌, arith, inl, append-nil, Consumes-nil, append_assoc, length-append, length-take, take-append-drop, take_all, take-take, drop-take, drop_of_length-le, eqb-true, Token, Fault, InputTooLong, Profile, IsDecided, StandsAfter, Standing, first, within_limit, AreNext, HasRead}
 use Rattle.pgn_game.specs.declared.item.Item.{Item as CodeItem}
-use Rattle.pgn_game.specs.calls.GamesCalls.{ReadsOn}
-use Rattle.pgn_game.specs.calls.ItemsCalls.{Current, Items, games_of_items}
-use Rattle.pgn_game.specs.state.ItemsSteps.{AfterBuffered, AfterToken, AreGoing, FillsItems, GoesOn, LastIs, ReadsToken, TakesBuffered, at_token, reads_as, too_long}
-use Rattle.pgn_game.specs.state.ReaderState.{Writing}
-use Rattle.pgn_game.proofs.tokens.AcceptedToConverter.{read_as}
-use Rattle.pgn_game.proofs.tokens.BytesWithinLimit.{front_within}
-use Rattle.pgn_game.proofs.tokens.StepsInPiece.{before_more, decided_at_end, decided_before}
+use Rattle.pgn_game.specs.public.GamesCalls.{ReadsOn}
+use Rattle.pgn_game.specs.public.ItemsCalls.{Current, Items, games_of_items}
+use Rattle.pgn_game.specs.steps.ItemsSteps.{AfterBuffered, AfterToken, AreGoing, FillsItems, GoesOn, LastIs, ReadsToken, TakesBuffered, at_token, reads_as, too_long}
+use Rattle.pgn_game.specs.steps.ReaderState.{Writing}
+use Rattle.pgn_game.proofs.stepping.AcceptedToConverter.{read_as}
+use Rattle.pgn_game.proofs.stepping.BytesWithinLimit.{front_within}
+use Rattle.pgn_game.proofs.stepping.StepsInPiece.{before_more, decided_at_end, decided_before}
 
 first_front : (n : ℕ) (xs : List ℕ) → 0 < n → first (take n xs) ≡ first xs
 first_front n [] h = ap first (take_all n [] (omega arith))
@@ -32,6 +32,10 @@ some_left left i some = record {
   empty = inl refl;
 }
 
+-- the same items with a fault
+abbrev pub failed : Items → Fault → Items
+failed i f = record i { has_read_all = true; is_finished = false; fault = Some f }
+
 module _ (old : Items) (going : AreGoing old) (count : old.lexer.count ≤ 2 ^ 62) where
   abbrev room : ℕ
   room = 2 ^ 62 - old.lexer.count
@@ -50,7 +54,8 @@ module _ (old : Items) (going : AreGoing old) (count : old.lexer.count ≤ 2 ^ 6
     within_is = ap within_limit reads.bytes ∙ front_within reads.used old.unused room place
 
   -- the byte at place 2^62 was read
-  pub stops_too_long : 0 < length old.unused → length piece ≡ 0 → TakesBuffered old (record old { fault = Some (record { at = 2 ^ 62; reason = InputTooLong }) })
+  pub stops_too_long : 0 < length old.unused → length piece ≡ 0
+      → TakesBuffered old (failed old (record { at = 2 ^ 62; reason = InputTooLong }))
       (Err (record { at = 2 ^ 62; reason = InputTooLong }))
   stops_too_long some none =
       let full : room ≡ 0 = omega (arith, some, none, length-take room old.unused) in
@@ -59,7 +64,7 @@ module _ (old : Items) (going : AreGoing old) (count : old.lexer.count ≤ 2 ^ 6
             let end : length reads.used ≡ 2 ^ 62 = omega (arith, full, place p u given reads) in
             too_long reads.used old.unused reads.bytes end some (reads.at_limit end);
         goes = (refl, going.last, going.pending);
-        read_all = refl;
+        read_all = tt;
         short = count;
         nearer = tt;
       }
@@ -144,13 +149,14 @@ module _ (old : Items) (going : AreGoing old) (count : old.lexer.count ≤ 2 ^ 6
           nearer = omega (arith, reads_token.nearer, reads_token.count);
         })
 
-      pub takes_fault : (f : Fault) → ReadsToken old.lexer old.current piece lexer current used (Err f) → TakesBuffered old (new (Some f)) (Err f)
+      pub takes_fault : (f : Fault) → ReadsToken old.lexer old.current piece lexer current used (Err f)
+          → TakesBuffered old (failed (new None) f) (Err f)
       takes_fault f reads_token = record {
         after = λ p u given reads.
             let after = reads_token.after p reads.used given (stands_before p u given reads) (has_read p u given reads) in
-            at_token f after.0 after.1 (subst (λ (s : List ℕ). AreNext s (given ++ after.0 ∷ [])) (sym (within_is p u given reads)) after.2);
+            at_token f after.0 after.1 (subst (λ (s : List ℕ). AreNext s after.0) (sym (within_is p u given reads)) after.2);
         goes = (refl, reads_token.last.0, reads_token.last.1);
-        read_all = refl;
+        read_all = tt;
         short = short_after reads_token.within reads_token.count;
         nearer = tt;
       }

@@ -1,6 +1,6 @@
 -- Where the game whose items are given fits in memory, its reader does.
 use Rattle.pgn_game.proofs.Words.{FitsInMemory, RattleType}
-use Rattle.pgn_game.specs.contracts.items.CurrentGame.{the_row}
+use Rattle.pgn_game.specs.contracts.current_game.CurrentGame.{the_row}
 use Rattle.pgn_game.specs.contracts.items.Items.{the_row as items_row}
 use Rattle.pgn_game.specs.contracts.reader.Reader.{the_row as reader_row}
 use Rattle.pgn_game.proofs.ReaderFitsInMemory.{first, second}
@@ -9,7 +9,7 @@ pub current_fits_reader : (T L : RattleType) → FitsInMemory (the_row T L) → 
 current_fits_reader T L fits = second _ _ _ _ (first _ _ _ _ (first _ _ _ _ (first _ _ _ _ (first _ _ _ _ fits))))
 
 pub items_fit_current : (T L : RattleType) → FitsInMemory (items_row T L) → FitsInMemory (the_row T L)
-items_fit_current T L fits = second _ _ _ _ (first _ _ _ _ (first _ _ _ _ (first _ _ _ _ (first _ _ _ _ (first _ _ _ _ fits)))))
+items_fit_current T L fits = second _ _ _ _ (first _ _ _ _ (first _ _ _ _ (first _ _ _ _ fits)))
 
 -- items of the same bounds fit too
 pub items_alike : (T L : RattleType) → FitsInMemory (items_row T L) → FitsInMemory (items_row T L)

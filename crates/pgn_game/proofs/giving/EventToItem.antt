@@ -4,10 +4,10 @@ use Rattle.pgn_game.proofs.Words.{◌≡◌, ◌↔◌, ℕ, ◌+◌, ◌||◌, 
 use Rattle.pgn_game.specs.declared.event.Event.TheVariants as events
 use Rattle.pgn_game.specs.declared.item.Item.{Item as CodeItem}
 use Rattle.pgn_game.specs.declared.item.Item.TheVariants as items
-use Rattle.pgn_game.specs.calls.Given.{Given, item, tags, given_at, given_of_next, given_of_part, given_with}
-use Rattle.pgn_game.specs.calls.ItemsCalls.{Current, IsBehindTags, IsLegalIfMove, is_marker_item, shown_move, given_as, given_if, given_next}
-use Rattle.pgn_game.specs.state.Accepted.{Accepts, MeansItems, answer_of, given_for, unwritten}
-use Rattle.pgn_game.specs.state.ItemsSteps.{GivesFor, GivesMore, IsAnswer, IsPlayedItem, IsSoundGame, LastIs, TakesItem, games_added, given_first, given_second, item_meant, marker_given}
+use Rattle.pgn_game.specs.public.Given.{Given, item, tags, given_at, given_of_next, given_of_part, given_with}
+use Rattle.pgn_game.specs.public.ItemsCalls.{Current, IsBehindTags, IsLegalIfMove, is_marker_item, shown_move, given_as, given_if, given_next}
+use Rattle.pgn_game.specs.steps.Accepted.{Accepts, MeansItems, answer_of, given_for, unwritten}
+use Rattle.pgn_game.specs.steps.ItemsSteps.{GivesFor, GivesMore, IsAnswer, IsPlayedItem, IsSoundGame, LastIs, TakesItem, games_added, given_first, given_second, item_meant, marker_given}
 
 -- the text of a word that an event has
 abbrev pub IsSpelled : Event → List ℕ → Type 0

@@ -1,8 +1,8 @@
 -- Each item lowers the bound on the items that are still to come.
 use Rattle.pgn_game.proofs.Words.{◌≡◌, ℕ, ◌+◌, ◌*◌, ◌<◌, ◌≤◌, Bool, true, false, Option, None, Some, Result, Ok, Err, ap, arith}
 use Rattle.pgn_game.specs.declared.item.Item.{Item as CodeItem}
-use Rattle.pgn_game.specs.calls.ItemsCalls.{IsLessIfItem, Items, ahead_unless, items_ahead, one_if, tokens_ahead}
-use Rattle.pgn_game.specs.state.ItemsSteps.{AreGoing, TakesBuffered}
+use Rattle.pgn_game.specs.public.ItemsCalls.{IsLessIfItem, Items, ahead_unless, items_ahead, one_if, tokens_ahead}
+use Rattle.pgn_game.specs.steps.ItemsSteps.{AreGoing, TakesBuffered}
 
 one_at_most : (o : Option CodeItem) → one_if o ≤ 1
 one_at_most None = omega arith

@@ -1,14 +1,14 @@
 -- What is given of the tokens of a text, call by call.
 use Rattle.std.proofs.lemmas.List.{map-append}
-use Rattle.pgn_game.proofs.Words.{◌≡◌, ℕ, ◌^◌, ◌≤◌, ◌⊎◌, List, [], ◌∷◌, ◌++◌, map, length, Option, None, Some, refl, sym, ap, subst, ◌∙◌, inl, inr, arith, append-nil, append_assoc, length-append, take_all, Kind, Token, Fault, Stage, InMovetext, Profile, Part, no_progress, Progress, progress_after, going, whole, next, next_in, items_of, marker_of, read, read_from, tokens_of, first, Follows, Consumes, IsAtEnd}
+use Rattle.pgn_game.proofs.Words.{◌≡◌, ℕ, ◌^◌, ◌≤◌, ◌⊎◌, List, [], ◌∷◌, ◌++◌, map, length, Option, None, Some, refl, sym, ap, subst, ◌∙◌, inl, inr, arith, append-nil, append_assoc, length-append, take_all, Kind, Token, Fault, Stage, InMovetext, Profile, Part, no_progress, Progress, progress_after, going, whole, next, next_in, items_of, marker_of, read, read_from, tokens_of, first, Follows, Consumes, IsAtEnd, Parts, position_at_fault}
 use Rattle.pgn_layout.specs.Device.{Device}
 use Rattle.pgn_lexer.specs.Standing.{coming}
-use Rattle.pgn_game.specs.calls.Given.{Given, given_at, given_of, given_of_games, given_of_next, given_of_part, given_with, item, marker, tags}
-use Rattle.pgn_game.specs.calls.ItemsCalls as calls
-use Rattle.pgn_game.specs.calls.ItemsCalls.{GivesFault, GivesNoItem, HaveGiven, Items, ItemsRead, ItemsStop, given_next}
-use Rattle.pgn_game.specs.laws.ItemsJoined.{FaultGivesAll, EndGivesAll, GivenAll, GivenGrows, GivenIsFront, IsFront, ReadHasFailed, all_given}
+use Rattle.pgn_game.specs.public.Given.{Given, given_at, given_of, given_of_games, given_of_next, given_of_part, given_with, item, marker, tags}
+use Rattle.pgn_game.specs.public.ItemsCalls as calls
+use Rattle.pgn_game.specs.public.ItemsCalls.{GivesFault, GivesNoItem, HaveGiven, Items, ItemsRead, ItemsStop, given_next, position_at_items_stop, refused_items_position}
+use Rattle.pgn_game.specs.laws.ItemsJoined.{EndGivesAll, EndUsesAll, FaultGivesAll, FaultKeepsPosition, GivenAll, GivenGrows, GivenIsFront, IsFront, ReadHasFailed, TokensAreFirst, all_given}
 use Rattle.pgn_game.proofs.giving.TokenToItems.{given_after}
-use Rattle.pgn_game.proofs.tokens.OneMoreToken.{by_token, goes_on, stops_from}
+use Rattle.pgn_game.proofs.stepping.OneMoreToken.{by_token, goes_on, stops_from}
 
 -- ---- a token takes nothing back
 
@@ -78,10 +78,13 @@ first_tokens p u rest i tokens (calls.behind more left) = (
   coming i.lexer [],
   ap (λ (s : List ℕ). tokens_of (u ++ s)) left.at_end ∙ ap tokens_of (append-nil u) ∙ left.rest,
 )
-first_tokens p u rest i tokens (calls.at_end more all) = (
+first_tokens p u rest i tokens (calls.at_end more place all) = (
   [],
   ap (λ (s : List ℕ). tokens_of (u ++ s)) all.at_end ∙ ap tokens_of (append-nil u) ∙ sym all.whole ∙ sym (append-nil tokens),
 )
+
+pub tokens_are_first : TokensAreFirst
+tokens_are_first p u rest i given have = first_tokens p u rest i have.tokens have.reads
 
 pub given_is_front : GivenIsFront
 given_is_front p u rest i given have =
@@ -98,15 +101,23 @@ rest_after : (rest more : List ℕ) (left : Option (List ℕ)) → Consumes (Som
 rest_after rest more None consumed = absurd consumed
 rest_after rest more (Some after) consumed = (after, refl, consumed)
 
-pub end_gives_all : EndGivesAll
-end_gives_all p u rest given left_new new gives =
+-- the whole text was read
+all_read : (p : Profile) (u rest : List ℕ) (given : List Given) (left_new : Option (List ℕ)) (new : Items) (gives : GivesNoItem p u given (Some rest) left_new new)
+    → u ++ rest ≡ u ++ gives.more
+all_read p u rest given left_new new gives =
     let after = rest_after rest gives.more left_new gives.consumed in
     let ended : after.0 ≡ [] = subst IsAtEnd after.1 gives.all.at_end in
-    let all : u ++ rest ≡ u ++ gives.more =
-    ap (λ (s : List ℕ). u ++ s) (after.2 ∙ ap (λ (s : List ℕ). gives.more ++ s) ended ∙ append-nil gives.more) in (
+    ap (λ (s : List ℕ). u ++ s) (after.2 ∙ ap (λ (s : List ℕ). gives.more ++ s) ended ∙ append-nil gives.more)
+
+pub end_gives_all : EndGivesAll
+end_gives_all p u rest given left_new new gives =
+    let all = all_read p u rest given left_new new gives in (
       subst (λ (s : List ℕ). length s ≤ 2 ^ 62) (sym all) gives.all.short,
       subst (λ (s : List ℕ). GivenAll p s given None) (sym all) (record { whole = gives.whole; fault_is = gives.all.has_read.passes }),
     )
+
+pub end_uses_all : EndUsesAll
+end_uses_all p u rest given left_new new gives = gives.place ∙ ap (length {A = ℕ}) (sym (all_read p u rest given left_new new gives))
 
 module _ (p : Profile) (u after : List ℕ) (given : List Given) (source : Device) (left : source.after ≡ Some after) (short : length (u ++ after) ≤ 2 ^ 62) where
   fits : length u ≤ 2 ^ 62
@@ -126,9 +137,34 @@ module _ (p : Profile) (u after : List ℕ) (given : List Given) (source : Devic
   stop_gives_all g (calls.too_long front rest is long some passes all_is) =
       absurd (omega (arith, fits, ap (length {A = ℕ}) is, length-append front rest, long, some))
 
+  stop_position : (f : Fault) (stops : ItemsStop p u given source f)
+      → ReadHasFailed source f ⊎ (position_at_items_stop stops ≡ position_at_fault (read p (tokens_of (u ++ after))))
+  stop_position g (calls.at_token f tokens follows fault all_is) =
+      let cut = follows after in
+      let all : tokens_of (u ++ after) ≡ tokens ++ cut.0 = ap (λ (s : List ℕ). tokens_of (s ++ after)) (sym (take_all (2 ^ 62) u fits)) ∙ cut.1 in
+      inr (sym (ap position_at_fault (ap (read p) all ∙ stops_from p no_progress tokens cut.0 fault)))
+  stop_position g (calls.at_end f ended size fault all_is) =
+      let none : after ≡ [] = subst IsAtEnd left ended in
+      let all : u ++ after ≡ u = ap (λ (s : List ℕ). u ++ s) none ∙ append-nil u in
+      inr (sym (ap (λ (s : List ℕ). position_at_fault (read p (tokens_of s))) all))
+  stop_position g (calls.unread counted size passes all_is) = inl (record { reason = refl; counted = counted })
+  stop_position g (calls.too_long front rest is long some passes all_is) =
+      absurd (omega (arith, fits, ap (length {A = ℕ}) is, length-append front rest, long, some))
+
 pub fault_gives_all : FaultGivesAll
 fault_gives_all p u rest given source new f before short gives =
     let after = rest_after rest gives.more source.after (subst (λ (left : Option (List ℕ)). Consumes left source.after gives.more) before gives.consumed) in
     let all : u ++ rest ≡ (u ++ gives.more) ++ after.0 = ap (λ (s : List ℕ). u ++ s) after.2 ∙ sym (append_assoc u gives.more after.0) in
     subst (λ (s : List ℕ). ReadHasFailed source f ⊎ GivenAll p s given (Some f)) (sym all)
     (stop_gives_all p (u ++ gives.more) after.0 given source after.1 (subst (λ (s : List ℕ). length s ≤ 2 ^ 62) all short) f gives.stops)
+
+pub fault_keeps_position : FaultKeepsPosition
+fault_keeps_position p u rest given source new f before short gives =
+    let after = rest_after rest gives.more source.after (subst (λ (left : Option (List ℕ)). Consumes left source.after gives.more) before gives.consumed) in
+    let all : u ++ rest ≡ (u ++ gives.more) ++ after.0 = ap (λ (s : List ℕ). u ++ s) after.2 ∙ sym (append_assoc u gives.more after.0) in
+    subst (λ (s : List ℕ). ReadHasFailed source f ⊎ (refused_items_position new ≡ position_at_fault (read p (tokens_of s)))) (sym all)
+    (by (stop_position p (u ++ gives.more) after.0 given source after.1 (subst (λ (s : List ℕ). length s ≤ 2 ^ 62) all short) f gives.stops))
+  where
+    by : {o : Option Parts} → ReadHasFailed source f ⊎ (position_at_items_stop gives.stops ≡ o) → ReadHasFailed source f ⊎ (refused_items_position new ≡ o)
+    by (inl failed) = inl failed
+    by (inr is) = inr (gives.position ∙ is)

@@ -6,12 +6,12 @@ use Rattle.pgn_lexer.specs.Tokens as tokens
 use Rattle.pgn_game.proofs.Words.{◌≡◌, ℕ, ◌≤◌, Bool, true, false, List, [], ◌∷◌, ◌++◌, length, Option, None, Some, Result, Ok, Err, refl, sym, ap, subst, ◌∙◌, arith, append-nil, length-append, false≢true, Kind, Token, Stage, Between, Reason, Lexical, LexFault, Profile, Part, no_part, Progress, progress_with, read, refusal, next, HasLeft, Standing, waiting, fault, HasRead, IsSound, HoldsPairs, Accepted, More, Finished, FinishesAtMarker, is_end, due, torn}
 use Rattle.pgn_game.specs.export.Text.{text_of}
 use Rattle.pgn_game.specs.declared.item.Item.{Item as CodeItem}
-use Rattle.pgn_game.specs.calls.Given.{Given, given_of}
-use Rattle.pgn_game.specs.calls.ItemsCalls.{Current, given_as, given_next}
-use Rattle.pgn_game.specs.state.ItemsSteps.{AfterToken, ReadsLastToken, TakesItem, games_added, reads_as}
+use Rattle.pgn_game.specs.public.Given.{Given, given_of}
+use Rattle.pgn_game.specs.public.ItemsCalls.{Current, given_as, given_next}
+use Rattle.pgn_game.specs.steps.ItemsSteps.{AfterToken, ReadsLastToken, TakesItem, games_added, reads_as}
 use Rattle.pgn_game.proofs.giving.TokenToItems.{after_item, free, rejected, rejected_text}
-use Rattle.pgn_game.proofs.tokens.OneMoreToken.{read-passes, torn-none}
-use Rattle.pgn_game.proofs.tokens.StepsAtEnd.{Left, Nearer, end_at, is_the_end, left_by, marker_or_end, nearer_by, tokens_left}
+use Rattle.pgn_game.proofs.stepping.OneMoreToken.{read-passes, torn-none}
+use Rattle.pgn_game.proofs.stepping.StepsAtEnd.{Left, Nearer, end_at, is_the_end, left_by, marker_or_end, nearer_by, tokens_left}
 
 -- nothing is given where what was given stays
 longer : (xs : List Given) (y : Given) (ys : List Given) → xs ≡ xs ++ y ∷ ys → ⊥
@@ -68,7 +68,8 @@ module _ (old_lexer lexer : Standing) (old new : Current) (sound : IsSound old_l
         by : (e : Bool) → e ≡ is_end t.kind → Nearer e old_lexer lexer → ((u : List ℕ) (given : List Token) → HasLeft old_lexer u given → Left u given e lexer t)
             → ReadsLastToken old_lexer old lexer new e (Ok item)
         by false is near left_is = record {
-          after = λ p u given left has_read. (t, left_is u given left, after_item p old_lexer lexer old new given t has_read item takes);
+          after = λ p u given left has_read.
+              (t, left_is u given left, after_item p old_lexer lexer old new given t has_read item takes, takes.is_marker);
           count = gives.count;
           last = takes.last;
           sound = record {
@@ -122,7 +123,7 @@ module _ (old_lexer lexer : Standing) (old new : Current) (sound : IsSound old_l
   pub reads_last_fault : (f : LexFault) → Finishes old_lexer lexer (fault f) → (old.last ≡ None) × (old.pending ≡ None)
       → ReadsLastToken old_lexer old lexer old false (Err (record { at = f.at; reason = Lexical f.reason }))
   reads_last_fault f gives last_none = record {
-    after = λ p u given left has_read. (refusal_token f, [], gives.left u given left, rejected_text p given f has_read.passes);
+    after = λ p u given left has_read. (refusal_token f, [], gives.left u given left, rejected_text p given old f has_read.passes);
     count = gives.count;
     last = last_none;
     sound = tt;

@@ -2,10 +2,10 @@
 use Rattle.std.proofs.lemmas.List.{map-append}
 use Rattle.pgn_game.proofs.Words.{◌≡◌, ◌↔◌, ◌&&◌, ℕ, Bool, true, false, IsTrue, List, [], ◌++◌, map, codes, decimal, Option, None, Some, Result, Ok, Err, refl, sym, ap, subst, ◌∙◌, arith, append-nil, Kind, Reason, Stage, Between, AfterLeftBracket, AfterName, AfterValue, AfterTags, InMovetext, Move, Part, Pair, Item, Marker, marker_text, marker_of, Event, Means, ReaderState, IsAnnotation, BeginsText, ReaderCall, Refuses, RefusesMarker, TakesOther, TakesMarker, IsEntry, EndsAtMarker, going, whole, next, with_items, game_of, game_by, is_begun, items_meant, pairs_meant, after_move_at, may_have_movetext, has_whole_pairs, More, EntersMovetext, TakesOutside, IsOutside, Agrees, Leads, unused}
 use Rattle.pgn_layout.specs.declared.sink.WriteFault.{WriteFault as Fault}
-use Rattle.pgn_game.specs.calls.Given.{Given, item, given_of_next, given_at, given_with}
+use Rattle.pgn_game.specs.public.Given.{Given, item, given_of_next, given_at, given_with}
 use Rattle.pgn_game.specs.declared.event.Event.TheVariants as events
 use Rattle.pgn_game.specs.games.Game as games
-use Rattle.pgn_game.specs.state.Accepted.{Accepts, AcceptsEntry, IsSoundEvent, MeansItems, answer_of, given_for, no_writer, some_event, unwritten}
+use Rattle.pgn_game.specs.steps.Accepted.{Accepts, AcceptsEntry, IsSoundEvent, MeansItems, answer_of, given_for, no_writer, some_event, unwritten}
 use Rattle.pgn_game.proofs.putting.EndToGame.{marker_refused, marker_taken}
 use Rattle.pgn_game.proofs.putting.EventToGame.{annotation_taken, move_taken, number_taken, number_means_same}
 use Rattle.pgn_game.proofs.refusals.RefusalsInMovetext.{marker_whole}

@@ -1,20 +1,23 @@
 -- What is given of a source, call by call.
-use Rattle.pgn_game.proofs.Words.{◌≡◌, ℕ, ◌^◌, ◌≤◌, ◌⊎◌, ◌||◌, length-map, Bool, true, false, IsTrue, is_some, List, [], ◌∷◌, ◌++◌, length, fold-append, Option, None, Some, IsSomeAnd, Result, Ok, Err, refl, sym, ap, subst, ◌∙◌, arith, inl, inr, append-nil, append_assoc, false≢true, none-some, Consumes, Consumes-kept, Consumes-nil, Consumes-trans, one_more, IsAtEnd, Token, Fault, Profile, no_progress, Pair, HasLeft, IsDecided, Stands, first, HasRead, HasReadAll, Standing, decided, read, here, levels_of, start_of, StoredLevels, tokens_of}
+use Rattle.pgn_game.proofs.Words.{◌≡◌, ℕ, ◌^◌, ◌≤◌, ◌⊎◌, ◌||◌, length-map, Bool, true, false, IsTrue, is_some, List, [], ◌∷◌, ◌++◌, length, fold-append, Option, None, Some, IsSomeAnd, Result, Ok, Err, refl, sym, ap, subst, ◌∙◌, arith, inl, inr, append-nil, append_assoc, append_cancel_left, coming, EndsAt, Parts, SymbolsStandInText, false≢true, none-some, Consumes, Consumes-kept, Consumes-nil, Consumes-trans, one_more, IsAtEnd, Token, Fault, Profile, no_progress, Pair, HasLeft, IsDecided, Stands, first, HasRead, HasReadAll, Standing, decided, read, here, levels_of, start_of, StoredLevels, tokens_of}
 use Rattle.std.specs.Io.KnownBytes.{Keeps}
 use Rattle.pgn_game.specs.declared.item.Item.{Item as CodeItem}
 use Rattle.pgn_game.specs.declared.item.Item.TheVariants as items
 use Rattle.pgn_game.specs.declared.reason.Reason.TheVariants.{ReadFault}
-use Rattle.pgn_game.specs.calls.GamesCalls.{ReadsOn}
-use Rattle.pgn_game.specs.calls.Given.{Given, Shown, given_of, shown, shown_with, tags}
-use Rattle.pgn_game.specs.calls.ItemsCalls.{AfterItem, Current, EndsWithMarker, GivesFault, GivesItem, GivesNoItem, HasRest, HaveGiven, IsBehindTags, IsHeld, IsShown, Items, ItemsRead, ItemsStop, ReadsNoSooner, at_end, at_token, behind, converter_of, games_of_items, given_as, given_if, given_next, depth_behind, has_read_marker, is_marker_item, position_without, shown_depth, too_long, unread, within}
-use Rattle.pgn_game.specs.state.Movetext.{stored_level}
-use Rattle.pgn_game.specs.state.ItemsSteps as steps
-use Rattle.pgn_game.specs.state.ItemsSteps.{AfterLastToken, AfterToken, AreGoing, FillsItems, GivesAtEnd, ItemsSoFar, ReadsLastToken, Rejects, RestSoFar, StopsInBuffer, TakesAtEnd, TakesBuffered, still_at, giving_next, reads_as}
-use Rattle.pgn_game.proofs.tokens.AcceptedToConverter.{read_as}
+use Rattle.pgn_game.specs.games.Progress.{position_at_fault}
+use Rattle.pgn_game.specs.public.ConverterCalls.{reported_position}
+use Rattle.pgn_game.specs.public.GamesCalls.{ReadsOn}
+use Rattle.pgn_game.specs.public.Given.{Given, Shown, given_of, shown, shown_with, tags}
+use Rattle.pgn_game.specs.public.ItemsCalls.{AfterItem, Current, EndsWithMarker, GivesFault, GivesItem, GivesNoItem, HasRest, HaveGiven, IsBehindTags, IsHeld, IsShown, Items, ItemsRead, ItemsStop, MarkersEndAt, ReadsNoSooner, at_end, at_token, behind, converter_of, games_of_items, given_as, given_if, given_next, depth_behind, has_read_marker, is_marker_item, position_at_items_stop, position_without, refused_items_position, shown_depth, too_long, unread, within}
+use Rattle.pgn_game.specs.steps.Movetext.{stored_level}
+use Rattle.pgn_game.specs.steps.ItemsSteps as steps
+use Rattle.pgn_game.specs.steps.ItemsSteps.{AfterLastToken, AreGoing, FillsItems, ItemsSoFar, ReadsLastToken, Rejects, RestSoFar, StopsInBuffer, TakesAtEnd, TakesBuffered, still_at, giving_next, reads_as}
+use Rattle.pgn_game.proofs.stepping.AcceptedToConverter.{read_as}
 use Rattle.pgn_game.proofs.giving.ItemsAhead.{lowers_end, lowers_on}
 use Rattle.pgn_game.proofs.giving.TokenToItems.{no_marker}
-use Rattle.pgn_game.proofs.tokens.OneMoreToken.{stops_from}
-use Rattle.pgn_game.proofs.tokens.StepsInPiece.{decided_at_end, stands_before_any}
+use Rattle.pgn_game.proofs.stepping.MarkersAtEnd.{markers_end}
+use Rattle.pgn_game.proofs.stepping.OneMoreToken.{stops_from}
+use Rattle.pgn_game.proofs.stepping.StepsInPiece.{decided_at_end, stands_before_any}
 
 -- ---- what is shown
 
@@ -87,7 +90,7 @@ module _ (c : Current) (i : CodeItem) (given : List Given) (last : c.last ≡ So
 pub gives_one : (p : Profile) (u : List ℕ) (given : List Given) (left : Option (List ℕ)) (new : Items) (i : CodeItem) (tokens : List Token)
     → ItemsRead p left u new tokens → given_of (read p tokens).progress ≡ given ++ given_as new.current i ∷ given_next new.current
     → steps.HoldsShown (given_of (read p tokens).progress) new.current → new.current.last ≡ Some i → IsBehindTags new.current.pending new.current.last
-    → (IsTrue (has_read_marker new.current) → new.has_read_all ≡ false → EndsWithMarker tokens new.lexer.count)
+    → (IsTrue (has_read_marker new.current) → EndsWithMarker tokens new.lexer.count)
     → HaveGiven p left u new (given ++ given_as new.current i ∷ [])
 gives_one p u given left new i tokens reads all holds last at ends =
     let whole : given_of (read p tokens).progress ≡ (given ++ given_as new.current i ∷ []) ++ given_next new.current =
@@ -103,6 +106,10 @@ gives_one p u given left new i tokens reads all holds last at ends =
       marker_ends = ends;
     }
 
+-- the position in which a move was rejected, by the fault that is kept
+pub refused_if : (i : Items) (f : Fault) → i.fault ≡ Some f → refused_items_position i ≡ reported_position i.current.reading f.reason
+refused_if i f is = ap (λ (o : Option Fault). elim o [ None ↦ None | Some g ↦ reported_position i.current.reading g.reason ]) is
+
 -- ---- in the bytes that were read
 
 pub nothing_next : (i : Items) (given : List Given) → AreGoing i → given ++ given_next i.current ≡ given
@@ -115,7 +122,7 @@ pub reads_within : (p : Profile) (left : Option (List ℕ)) (u : List ℕ) (i : 
     → ItemsRead p left u i tokens → ReadsOn p u (games_of_items i) tokens
 reads_within p left u i tokens more going (within is on) = on
 reads_within p left u i tokens more going (behind is rest) = absurd (false≢true (sym more ∙ is))
-reads_within p left u i tokens more going (at_end is all) = absurd (false≢true (sym going ∙ is))
+reads_within p left u i tokens more going (at_end is place all) = absurd (false≢true (sym going ∙ is))
 
 pub so_far_none : (old : Items) (left : Option (List ℕ)) → AreGoing old → old.has_read_all ≡ false → steps.ReadSoFar old old left left
 so_far_none old left going more p u given have = record {
@@ -204,7 +211,7 @@ module _ (p : Profile) (u : List ℕ) (given : List Given) (left_old left_now : 
           more = so.more;
           consumed = so.consumed;
           have_given = gives_one p (u ++ so.more) given left_now new i after.0 (within (takes.read_all ∙ more) after.1)
-              (after.2.0.gives ∙ ap (λ (gs : List Given). gs ++ given_as new.current i ∷ given_next new.current) so.whole) after.2.1 takes.goes.2 takes.goes.3 (λ is none. after.3 is);
+              (after.2.0.gives ∙ ap (λ (gs : List Given). gs ++ given_as new.current i ∷ given_next new.current) so.whole) after.2.1 takes.goes.2 takes.goes.3 after.3;
           last = takes.goes.2;
           no_sooner = so.no_sooner;
         }
@@ -215,20 +222,24 @@ module _ (p : Profile) (u : List ℕ) (given : List Given) (left_old left_now : 
     took_fault f failures failures_after takes = record {
       more = so.more;
       consumed = so.consumed;
-      stops = by f (takes.after p (u ++ so.more) so.tokens so.reads);
+      stops = (by f (takes.after p (u ++ so.more) so.tokens so.reads)).0;
       no_sooner = so.no_sooner;
       kept = takes.goes.0;
+      position = refused_if new f takes.goes.0 ∙ (by f (takes.after p (u ++ so.more) so.tokens so.reads)).1;
       last = takes.goes.1;
       none_next = takes.goes.2;
     }
       where
-        by : (g : Fault) → StopsInBuffer p (u ++ so.more) so.tokens g
-            → ItemsStop p (u ++ so.more) given (record { before = left_old; after = left_now; failures = failures; failures_after = failures_after }) g
-        by _ (steps.at_token g token rejects next) =
-            at_token g (so.tokens ++ token ∷ []) next rejects.fault (ap given_of rejects.progress ∙ so.whole)
-        by _ (steps.too_long front rest is full more all) =
-            too_long front rest is full more (subst (λ (ts : List Token). (read p ts).fault ≡ None) all so.reads.stands.has_read.passes)
-            (ap (λ (ts : List Token). given_of (read p ts).progress) (sym all) ∙ so.whole)
+        by : (g : Fault) → StopsInBuffer p (u ++ so.more) so.tokens new.current g
+            → (stops : ItemsStop p (u ++ so.more) given (record { before = left_old; after = left_now; failures = failures; failures_after = failures_after }) g)
+            × (reported_position new.current.reading g.reason ≡ position_at_items_stop stops)
+        by _ (steps.at_token g tokens rejects next) =
+            (at_token g tokens next rejects.fault (rejects.gives ∙ so.whole), rejects.position)
+        by _ (steps.too_long front rest is full more all) = (
+          too_long front rest is full more (subst (λ (ts : List Token). (read p ts).fault ≡ None) all so.reads.stands.has_read.passes)
+              (ap (λ (ts : List Token). given_of (read p ts).progress) (sym all) ∙ so.whole),
+          refl,
+        )
 
     -- a read failed
     pub read_failed : now.unused ≡ [] → now.fault ≡ None → (f : Fault) → f ≡ record { at = now.lexer.count; reason = ReadFault } → new.fault ≡ Some f
@@ -241,13 +252,27 @@ module _ (p : Profile) (u : List ℕ) (given : List Given) (left_old left_now : 
         record {
           more = so.more;
           consumed = Consumes-kept left_old left_now left_new so.more so.consumed keeps;
-          stops = subst (λ (g : Fault). ItemsStop p (u ++ so.more) given (record { before = left_old; after = left_new; failures = failures; failures_after = one_more failures }) g) (sym (is ∙ ap (λ (n : ℕ). record { at = n; reason = ReadFault }) place))
-              (unread refl (omega (arith, place, short)) (passes_now none) (decided_now none));
+          stops = (stops_by f (is ∙ ap (λ (n : ℕ). record { at = n; reason = ReadFault }) place)).0;
           no_sooner = so.no_sooner;
           kept = kept;
+          position = refused_if new f kept ∙ (stops_by f (is ∙ ap (λ (n : ℕ). record { at = n; reason = ReadFault }) place)).1;
           last = ap (λ (c : Current). c.last) same ∙ at.last;
           none_next = ap (λ (c : Current). c.pending) same ∙ at.pending;
         }
+      where
+        place_short : length (u ++ so.more) ≤ 2 ^ 62
+        place_short =
+            let used : length so.reads.used ≡ length (u ++ so.more) =
+            ap (length {A = ℕ}) (sym (append-nil so.reads.used) ∙ ap (λ (xs : List ℕ). so.reads.used ++ xs) (sym none) ∙ sym so.reads.bytes) in
+            omega (arith, so.reads.stands.lexer.count ∙ used, short)
+
+        stops_by : (g : Fault) → g ≡ record { at = length (u ++ so.more); reason = ReadFault }
+            → (stops : ItemsStop p (u ++ so.more) given (record { before = left_old; after = left_new; failures = failures; failures_after = one_more failures }) g)
+            × (reported_position new.current.reading g.reason ≡ position_at_items_stop stops)
+        stops_by g by_read =
+            subst (λ (h : Fault). (stops : ItemsStop p (u ++ so.more) given (record { before = left_old; after = left_new; failures = failures; failures_after = one_more failures }) h)
+            × (reported_position new.current.reading h.reason ≡ position_at_items_stop stops)) (sym by_read)
+            (unread refl place_short (passes_now none) (decided_now none), refl)
 
     consumed_on : Consumes left_now left_new [] → (xs : List ℕ) → Consumes left_new left_new xs → Consumes left_old left_new (so.more ++ xs)
     consumed_on ended xs consumed =
@@ -260,6 +285,26 @@ module _ (p : Profile) (u : List ℕ) (given : List Given) (left_old left_now : 
     stops_on f v (at_end g ended short fault all) = at_end g ended short fault all
     stops_on f v (unread failed short passes all) = unread failed short passes all
     stops_on f v (too_long front rest is full more passes all) = too_long front rest is full more passes all
+
+    -- with the position in which a move was rejected
+    stops_with : {failures failures_after : ℕ} (f : Fault) (v : List ℕ) (o : Option Parts) (stops : ItemsStop p v given (still_at left_new failures failures_after) f)
+        → o ≡ position_at_items_stop stops → o ≡ position_at_items_stop (stops_on f v stops)
+    unfolding stops_on
+    stops_with f v o (at_token g tokens next fault all) is = is
+    stops_with f v o (at_end g ended short fault all) is = is
+    stops_with f v o (unread failed short passes all) is = is
+    stops_with f v o (too_long front rest is_long full more passes all) is = is
+
+    abbrev AtStop : ℕ → ℕ → Fault → List ℕ → Type 0
+    AtStop failures failures_after f v =
+        (stops : ItemsStop p v given (record { before = left_old; after = left_new; failures = failures; failures_after = failures_after }) f)
+        × (refused_items_position new ≡ position_at_items_stop stops)
+
+    stops_later : {failures failures_after : ℕ} (f : Fault) (more : List ℕ) (stops : ItemsStop p ((u ++ so.more) ++ more) given (still_at left_new failures failures_after) f)
+        → refused_items_position new ≡ position_at_items_stop stops → AtStop failures failures_after f (u ++ (so.more ++ more))
+    stops_later {failures} {failures_after} f more stops is =
+        subst (AtStop failures failures_after f) (append_assoc u so.more more)
+        (stops_on f ((u ++ so.more) ++ more) stops, stops_with f ((u ++ so.more) ++ more) (refused_items_position new) stops is)
 
     sooner : (xs : List ℕ) → ReadsNoSooner p (u ++ so.more) xs given → ReadsNoSooner p u (so.more ++ xs) given
     sooner xs (inl none) = subst (λ (ys : List ℕ). ReadsNoSooner p u (so.more ++ ys) given) (sym none) (subst (λ (ys : List ℕ). ReadsNoSooner p u ys given) (sym (append-nil so.more)) so.no_sooner)
@@ -274,9 +319,9 @@ module _ (p : Profile) (u : List ℕ) (given : List Given) (left_old left_now : 
 
     -- ---- the source has ended
 
-    pub rest_begins : now.unused ≡ [] → AreGoing now → now.lexer.count ≤ 2 ^ 62 → new ≡ record now { has_read_all = true } → IsAtEnd left_new
+    pub rest_begins : SymbolsStandInText → now.unused ≡ [] → AreGoing now → now.lexer.count ≤ 2 ^ 62 → new ≡ record now { has_read_all = true } → IsAtEnd left_new
         → HaveGiven p left_new (u ++ so.more) new given
-    rest_begins none going short is ended =
+    rest_begins stand none going short is ended =
         let used : so.reads.used ≡ u ++ so.more = sym (append-nil so.reads.used) ∙ ap (λ (xs : List ℕ). so.reads.used ++ xs) (sym none) ∙ sym so.reads.bytes in
         let stands = subst (λ (xs : List ℕ). Stands p (converter_of now) so.reads.used (first xs) so.tokens) none so.reads.stands in
         let rest : HasLeft now.lexer so.reads.used so.tokens = ap tokens_of (sym (append-nil so.reads.used)) ∙ stands.lexer.tokens [] tt in
@@ -287,6 +332,7 @@ module _ (p : Profile) (u : List ℕ) (given : List Given) (left_old left_now : 
             short = omega (arith, short, stands.lexer.count, ap (length {A = ℕ}) used);
             place = stands.lexer.count ∙ ap (length {A = ℕ}) used;
             rest = subst (λ (v : List ℕ). HasLeft now.lexer v so.tokens) used rest;
+            markers = subst (λ (v : List ℕ). MarkersEndAt (length v) (coming now.lexer [])) used (markers_end stand now.lexer so.reads.used so.tokens stands.lexer);
             has_read = stands.has_read;
             not_finished = so.reads.not_finished;
           });
@@ -311,6 +357,7 @@ module _ (p : Profile) (u : List ℕ) (given : List Given) (left_old left_now : 
     after_more ended failures failures_after (Ok None) gives = record {
       more = so.more ++ gives.more;
       consumed = consumed_on ended gives.more gives.consumed;
+      place = gives.place ∙ ap (length {A = ℕ}) (append_assoc u so.more gives.more);
       all = subst (λ (v : List ℕ). HasReadAll p left_new v (games_of_items new) (tokens_of v)) (append_assoc u so.more gives.more) gives.all;
       whole = subst (λ (v : List ℕ). given_of (read p (tokens_of v)).progress ≡ given) (append_assoc u so.more gives.more) gives.whole;
       last = gives.last;
@@ -319,10 +366,10 @@ module _ (p : Profile) (u : List ℕ) (given : List Given) (left_old left_now : 
     after_more ended failures failures_after (Err f) gives = record {
       more = so.more ++ gives.more;
       consumed = consumed_on ended gives.more gives.consumed;
-      stops = stops_on f (u ++ (so.more ++ gives.more))
-          (subst (λ (v : List ℕ). ItemsStop p v given (still_at left_new failures failures_after) f) (append_assoc u so.more gives.more) gives.stops);
+      stops = (stops_later f gives.more gives.stops gives.position).0;
       no_sooner = sooner gives.more gives.no_sooner;
       kept = gives.kept;
+      position = (stops_later f gives.more gives.stops gives.position).1;
       last = gives.last;
       none_next = gives.none_next;
     }
@@ -339,7 +386,7 @@ rest_none old going all p u given left have = record {
     by : ItemsRead p left u old have.tokens → HasRest p left u old have.tokens
     by (within is on) = absurd (false≢true (sym is ∙ all))
     by (behind is rest) = rest
-    by (at_end is whole) = absurd (false≢true (sym going.not_finished ∙ is))
+    by (at_end is place whole) = absurd (false≢true (sym going.not_finished ∙ is))
 
 module _ (p : Profile) (u : List ℕ) (given : List Given) (left : Option (List ℕ)) (now : Items) (so : RestSoFar p u given left now) (going : AreGoing now) (lexer : Standing) (current : Current) where
   abbrev new : Bool → Option Fault → Items
@@ -359,6 +406,13 @@ module _ (p : Profile) (u : List ℕ) (given : List Given) (left : Option (List 
     after : AfterLastToken p u so.tokens lexer current is_end result
     after = reads.after p u so.tokens so.rest.rest has_read
 
+  -- the tokens that are left behind the first
+  left_behind : (t : Token) → HasLeft lexer u (so.tokens ++ t ∷ []) → MarkersEndAt (length u) (t ∷ coming lexer [])
+  left_behind t left_now =
+      subst (MarkersEndAt (length u))
+      (append_cancel_left so.tokens (coming now.lexer []) (t ∷ coming lexer [])
+      (sym so.rest.rest ∙ left_now ∙ append_assoc so.tokens (t ∷ []) (coming lexer []))) so.rest.markers
+
   pub rest_on : ReadsLastToken now.lexer now.current lexer current false (Ok None) → RestSoFar p u given left (new false None)
   rest_on reads =
       let h = after false (Ok None) reads in
@@ -369,6 +423,7 @@ module _ (p : Profile) (u : List ℕ) (given : List Given) (left : Option (List 
           short = so.rest.short;
           place = reads.count ∙ so.rest.place;
           rest = h.1;
+          markers = (left_behind h.0 h.1).1;
           has_read = read_as h.2.has_read refl refl refl tt;
           not_finished = refl;
         };
@@ -389,11 +444,18 @@ module _ (p : Profile) (u : List ℕ) (given : List Given) (left : Option (List 
               short = so.rest.short;
               place = reads.count ∙ so.rest.place;
               rest = h.1;
+              markers = (left_behind h.0 h.1).1;
               has_read = read_as h.2.0.has_read refl refl refl tt;
               not_finished = refl;
             }))
             (h.2.0.gives ∙ ap (λ (gs : List Given). gs ++ given_as current i ∷ given_next current) so.whole) h.2.1 reads.last.0 reads.last.1
-            (λ read none. absurd (false≢true (sym none ∙ all))));
+            (λ read. record {
+              before = so.tokens;
+              last = h.0;
+              is_last = refl;
+              is_marker = h.3 read;
+              ends = subst (EndsAt h.0.kind h.0.at) (sym (reads.count ∙ so.rest.place)) ((left_behind h.0 h.1).0 (h.3 read));
+            }));
         last = reads.last.0;
         no_sooner = inl refl;
       }
@@ -412,6 +474,7 @@ module _ (p : Profile) (u : List ℕ) (given : List Given) (left : Option (List 
           has_read = read_as h.1.has_read refl refl refl tt;
           finished = refl;
         });
+        place = reads.count ∙ so.rest.place ∙ ap (length {A = ℕ}) (sym (append-nil u));
         whole = subst (λ (v : List ℕ). given_of (read p (tokens_of v)).progress ≡ given) (sym (append-nil u))
             (h.1.gives ∙ append-nil (given_of (read p so.tokens).progress) ∙ so.whole);
         last = reads.last.0;
@@ -428,35 +491,46 @@ module _ (p : Profile) (u : List ℕ) (given : List Given) (left : Option (List 
       record {
         more = [];
         consumed = Consumes-nil left;
-        stops = subst (λ (v : List ℕ). ItemsStop p v given (still_at left failures failures_after) f) (sym (append-nil u))
-            (at_end f so.rest.at_end so.rest.short (ap (λ r. r.fault) same ∙ h.3.fault) (ap (λ r. given_of r.progress) same ∙ ap given_of h.3.progress ∙ so.whole));
+        stops = (stops_at (ap (λ r. r.fault) same ∙ h.3.fault) (ap (λ r. given_of r.progress) same ∙ h.3.gives ∙ so.whole)).0;
         no_sooner = inl refl;
         kept = refl;
+        position = h.3.position ∙ sym (ap position_at_fault same)
+            ∙ (stops_at (ap (λ r. r.fault) same ∙ h.3.fault) (ap (λ r. given_of r.progress) same ∙ h.3.gives ∙ so.whole)).1;
         last = reads.last.0;
         none_next = reads.last.1;
       }
     where
+      stops_at : (read p (tokens_of u)).fault ≡ Some f → given_of (read p (tokens_of u)).progress ≡ given
+          → (stops : ItemsStop p (u ++ []) given (still_at left failures failures_after) f) × (position_at_fault (read p (tokens_of u)) ≡ position_at_items_stop stops)
+      stops_at fault whole =
+          subst (λ (v : List ℕ). (stops : ItemsStop p v given (still_at left failures failures_after) f)
+          × (position_at_fault (read p (tokens_of u)) ≡ position_at_items_stop stops))
+          (sym (append-nil u)) (at_end f so.rest.at_end so.rest.short fault whole, refl)
+
       cut : (e : Bool) → ReadsLastToken now.lexer now.current lexer current e (Err f)
-          → (t : Token) × (rest : List Token) × (tokens_of u ≡ so.tokens ++ t ∷ rest) × Rejects p so.tokens t f
+          → (t : Token) × (rest : List Token) × (tokens_of u ≡ so.tokens ++ t ∷ rest) × Rejects p so.tokens (so.tokens ++ t ∷ []) current f
       cut true reads = after true (Err f) reads
       cut false reads = after false (Err f) reads
 
 -- what a token behind them does
 module _ (now : Items) (going : AreGoing now) (all : now.has_read_all ≡ true) (lexer : Standing) (current : Current) where
-  abbrev then : Bool → Option Fault → Items
-  then finished fault = record {
+  abbrev then : Bool → Bool → Option Fault → Items
+  then read_all finished fault = record {
     lexer = lexer;
     current = current;
     unused = now.unused;
-    has_read_all = now.has_read_all;
+    has_read_all = read_all;
     is_finished = finished;
     fault = fault;
   }
 
-  pub takes_last : (e : Bool) (o : Option CodeItem) → ReadsLastToken now.lexer now.current lexer current e (Ok o) → TakesAtEnd now (then e now.fault) e (Ok o)
-  takes_last e o reads = subst (λ (fault : Option Fault). TakesAtEnd now (then e fault) e (Ok o)) (sym going.no_fault) (by e o reads)
+  pub takes_last : (e read_all finished : Bool) (fault : Option Fault) (o : Option CodeItem) → read_all ≡ true → finished ≡ e → fault ≡ None
+      → ReadsLastToken now.lexer now.current lexer current e (Ok o) → TakesAtEnd now (then read_all finished fault) e (Ok o)
+  takes_last e read_all finished fault o is_all is_end none reads =
+      rw (is_end, none, is_all ∙ sym all) (by e o reads)
     where
-      by : (e : Bool) (o : Option CodeItem) → ReadsLastToken now.lexer now.current lexer current e (Ok o) → TakesAtEnd now (then e None) e (Ok o)
+      by : (e : Bool) (o : Option CodeItem) → ReadsLastToken now.lexer now.current lexer current e (Ok o)
+          → TakesAtEnd now (then now.has_read_all e None) e (Ok o)
       by false None reads = record {
         after = λ p u given left so. rest_on p u given left now so going lexer current reads;
         goes = (record { no_fault = refl; not_finished = refl; last = reads.last.0; pending = reads.last.1 }, reads.nearer refl);
@@ -476,26 +550,26 @@ module _ (now : Items) (going : AreGoing now) (all : now.has_read_all ≡ true) 
         goes = tt;
         read_all = refl;
         count = reads.count;
-        lowers = lowers_on now (then false None) going refl (omega (arith, reads.nearer refl, reads.count));
+        lowers = lowers_on now (then now.has_read_all false None) going refl (omega (arith, reads.nearer refl, reads.count));
       }
       by true (Some i) reads = record {
         after = λ p u given left so. absurd (none-some i (sym (reads.after p u so.tokens so.rest.rest (read_as so.rest.has_read refl refl refl tt)).0));
         goes = tt;
         read_all = refl;
         count = reads.count;
-        lowers = lowers_end now (then true None) going refl;
+        lowers = lowers_end now (then now.has_read_all true None) going refl;
       }
 
-  pub takes_last_fault : (f : Fault) (e : Bool) → ReadsLastToken now.lexer now.current lexer current e (Err f) → TakesAtEnd now (then now.is_finished (Some f)) e (Err f)
-  takes_last_fault f e reads = subst (λ (finished : Bool). TakesAtEnd now (then finished (Some f)) e (Err f)) (sym going.not_finished) (record {
+  pub takes_last_fault : (f : Fault) (e : Bool) → ReadsLastToken now.lexer now.current lexer current e (Err f) → TakesAtEnd now (then true false (Some f)) e (Err f)
+  takes_last_fault f e reads = subst (λ (read_all : Bool). TakesAtEnd now (then read_all false (Some f)) e (Err f)) all (record {
     after = λ p u given left so. rest_fault p u given left now so going lexer current f e reads;
     goes = by e;
-    read_all = refl;
+    read_all = tt;
     count = reads.count;
     lowers = tt;
   })
     where
-      by : (e : Bool) → steps.GoesOnAtEnd now (then false (Some f)) e (Err f)
+      by : (e : Bool) → steps.GoesOnAtEnd now (then now.has_read_all false (Some f)) e (Err f)
       by true = tt
       by false = tt
 
@@ -508,8 +582,8 @@ module _ (old : Items) (i : CodeItem) (next : old.current.pending ≡ Some i) wh
   reads_same : (p : Profile) (left : Option (List ℕ)) (u : List ℕ) (tokens : List Token) → ItemsRead p left u old tokens → ItemsRead p left u given_now tokens
   reads_same p left u tokens (within is on) = within is on
   reads_same p left u tokens (behind is rest) =
-      behind is (record { at_end = rest.at_end; short = rest.short; place = rest.place; rest = rest.rest; has_read = rest.has_read; not_finished = rest.not_finished })
-  reads_same p left u tokens (at_end is all) = at_end is all
+      behind is (record { at_end = rest.at_end; short = rest.short; place = rest.place; rest = rest.rest; markers = rest.markers; has_read = rest.has_read; not_finished = rest.not_finished })
+  reads_same p left u tokens (at_end is place all) = at_end is place all
 
   same_as : given_as given_now.current i ≡ given_as old.current i
   same_as = by i
@@ -542,7 +616,7 @@ module _ (old : Items) (i : CodeItem) (next : old.current.pending ≡ Some i) wh
           behind = tt;
           shows = λ is. shows_given given_now.current i given refl (more held) tt;
           holds = λ is. more held;
-          marker_ends = λ read none. have.marker_ends (read_before read) none;
+          marker_ends = λ read. have.marker_ends (read_before read);
         });
         last = refl;
         no_sooner = inl refl;
@@ -586,8 +660,8 @@ module _ (old : Items) (none : old.current.pending ≡ None) where
       by : ItemsRead p left u old have.tokens → ItemsRead p left u forgotten have.tokens
       by (within is on) = within is on
       by (behind is rest) =
-          behind is (record { at_end = rest.at_end; short = rest.short; place = rest.place; rest = rest.rest; has_read = rest.has_read; not_finished = rest.not_finished })
-      by (at_end is all) = at_end is all
+          behind is (record { at_end = rest.at_end; short = rest.short; place = rest.place; rest = rest.rest; markers = rest.markers; has_read = rest.has_read; not_finished = rest.not_finished })
+      by (at_end is place all) = at_end is place all
 
   -- all was given
   pub gives_none : old.is_finished ≡ true → (p : Profile) (u : List ℕ) (given : List Given) (left : Option (List ℕ)) → HaveGiven p left u old given
@@ -597,14 +671,20 @@ module _ (old : Items) (none : old.current.pending ≡ None) where
     consumed = Consumes-nil left;
     all = subst (λ (v : List ℕ). HasReadAll p left v (games_of_items forgotten) (tokens_of v)) (sym (append-nil u)) whole.0;
     whole = subst (λ (v : List ℕ). given_of (read p (tokens_of v)).progress ≡ given) (sym (append-nil u)) whole.1;
+    place = place_of have.reads ∙ ap (length {A = ℕ}) (sym (append-nil u));
     last = refl;
     none_next = none;
   }
     where
+      place_of : ItemsRead p left u old have.tokens → old.lexer.count ≡ length u
+      place_of (within more on) = absurd (false≢true (sym on.not_finished ∙ is))
+      place_of (behind more rest) = rest.place
+      place_of (at_end e place all) = place
+
       by : ItemsRead p left u old have.tokens → HasReadAll p left u (games_of_items old) (tokens_of u) × (have.tokens ≡ tokens_of u)
       by (within more on) = absurd (false≢true (sym on.not_finished ∙ is))
       by (behind more rest) = absurd (false≢true (sym rest.not_finished ∙ is))
-      by (at_end e all) = (subst (λ (ts : List Token). HasReadAll p left u (games_of_items old) ts) all.whole all, all.whole)
+      by (at_end e place all) = (subst (λ (ts : List Token). HasReadAll p left u (games_of_items old) ts) all.whole all, all.whole)
 
       whole : HasReadAll p left u (games_of_items forgotten) (tokens_of u) × (given_of (read p (tokens_of u)).progress ≡ given)
       whole =

@@ -2,13 +2,14 @@
 use Rattle.pgn_lexer.specs.PartialToken.{refusal as refusal_token}
 use Rattle.pgn_lexer.specs.Scanned.{token}
 use Rattle.pgn_game.proofs.Words.{◌≡◌, ℕ, ◌+◌, ◌^◌, ◌<◌, ◌≤◌, ◌||◌, IsTrue, false, List, [], ◌∷◌, ◌++◌, map, length, take, drop, fold, fold-append, Option, None, Some, IsSomeAnd, Result, Ok, Err, refl, sym, ap, subst, ◌∙◌, arith, append-nil, append_assoc, inl, false≢true, take_all, drop_of_length-le, Token, Reason, WriteFault, Lexical, LexFault, Profile, Game, Item, Pair, Next, going, whole, Progress, progress_with, read, refusal, next, Follows, StandsAfter, first, Scans, Standing, more, fault, HasRead, IsSound, Keeps, Answers, Accepted, More, Finished, CountsWrites, TakesToken, part_after, unused}
-use Rattle.pgn_game.specs.state.ReaderState as reader_state
+use Rattle.pgn_game.specs.games.Progress.{position_at_fault}
+use Rattle.pgn_game.specs.steps.ReaderState as reader_state
 use Rattle.pgn_game.specs.declared.item.Item.{Item as CodeItem}
-use Rattle.pgn_game.specs.calls.Given.{Given, Shown, given_of, given_of_game, given_of_games, given_of_next, given_of_part, given_with, item, shown, shown_with}
-use Rattle.pgn_game.specs.calls.ItemsCalls.{Current, IsHeld, given_as, given_next, has_read_marker, is_marker_item}
-use Rattle.pgn_game.specs.state.ItemsSteps.{AfterToken, GivesFor, IsAnswer, ReadsToken, Rejects, TakesItem, games_added, marker_given, reads_as}
-use Rattle.pgn_game.proofs.tokens.AcceptedToConverter.{follows_own, has_read_game, has_read_more, lexical-refusal, next_in_piece, read_as, read_at, still_none}
-use Rattle.pgn_game.proofs.tokens.OneMoreToken.{read-passes, read-refuses}
+use Rattle.pgn_game.specs.public.Given.{Given, Shown, given_of, given_of_game, given_of_games, given_of_next, given_of_part, given_with, item, shown, shown_with}
+use Rattle.pgn_game.specs.public.ItemsCalls.{Current, IsHeld, given_as, given_next, has_read_marker, is_marker_item}
+use Rattle.pgn_game.specs.steps.ItemsSteps.{AfterToken, GivesFor, IsAnswer, ReadsToken, Rejects, TakesItem, games_added, marker_given, reads_as}
+use Rattle.pgn_game.proofs.stepping.AcceptedToConverter.{follows_own, has_read_game, has_read_more, lexical-refusal, next_in_piece, read_as, read_at, still_none}
+use Rattle.pgn_game.proofs.stepping.OneMoreToken.{read-passes, read-refuses}
 
 games-snoc : (games : List Game) (g : Game) → given_of_games (games ++ g ∷ []) ≡ given_of_games games ++ given_of_game g
 games-snoc [] g = append-nil (given_of_game g)
@@ -113,23 +114,23 @@ module _ (p : Profile) (old_lexer lexer : Standing) (old new : Current) (given :
   no_write_fails reason takes is =
       absurd (omega (arith, (subst (λ (r : Reason). CountsWrites (Err r) (unused None 0)) is takes.counted).1))
 
-  pub rejected : (reason : Reason) → TakesItem old t.kind new (Err reason) → Rejects p given t (record { at = t.at; reason = reason })
+  pub rejected : (reason : Reason) → TakesItem old t.kind new (Err reason) → Rejects p given (given ++ t ∷ []) new (record { at = t.at; reason = reason })
   rejected reason takes =
       let taken = subst (λ (a : Result Accepted Reason). TakesToken old.reading t.kind new.reading a (unused None 0)) takes.is takes.takes in
       by reason (no_write_fails reason taken) (taken.accepts b.part has_read.agrees)
     where
-      by : (why : Reason) → (why ≡ WriteFault → ⊥) → Answers old.reading b.part t.kind new.reading (Err why) None None → Rejects p given t (record { at = t.at; reason = why })
+      by : (why : Reason) → (why ≡ WriteFault → ⊥) → Answers old.reading b.part t.kind new.reading (Err why) None None → Rejects p given (given ++ t ∷ []) new (record { at = t.at; reason = why })
       by why other (reader_state.unwritten none wrote tries) = absurd (other refl)
       by why other (reader_state.refused reason some wrote tries here) =
           let ends = read-refuses p given t [] reason has_read.passes (subst (λ (q : Profile). refusal q b.part t.kind ≡ Some reason) has_read.profile some) in
-          record { fault = ap (λ r. r.fault) ends; progress = ap (λ r. r.progress) ends }
+          record { fault = ap (λ r. r.fault) ends; gives = ap (λ r. given_of r.progress) ends; position = here ∙ sym (ap position_at_fault ends) }
 
 -- The lexer rejects the text.
-pub rejected_text : (p : Profile) (given : List Token) (f : LexFault) → (read p given).fault ≡ None
-    → Rejects p given (refusal_token f) (record { at = f.at; reason = Lexical f.reason })
-rejected_text p given f passes =
+pub rejected_text : (p : Profile) (given : List Token) (new : Current) (f : LexFault) → (read p given).fault ≡ None
+    → Rejects p given (given ++ refusal_token f ∷ []) new (record { at = f.at; reason = Lexical f.reason })
+rejected_text p given new f passes =
     let ends = read-refuses p given (refusal_token f) [] (Lexical f.reason) passes (lexical-refusal p (part_after p given) f) in
-    record { fault = ap (λ r. r.fault) ends; progress = ap (λ r. r.progress) ends }
+    record { fault = ap (λ r. r.fault) ends; gives = ap (λ r. given_of r.progress) ends; position = sym (ap position_at_fault ends) }
 
 -- no marker was read
 pub no_marker : (c : Current) → c.last ≡ None → c.pending ≡ None → IsTrue (has_read_marker c) → ⊥
@@ -203,7 +204,7 @@ module _ (old_lexer lexer : Standing) (old new : Current) (piece : List ℕ) (us
     reads_refused reason takes = record {
       after = λ p u given stands has_read.
           let scan = scans.carries u (first piece) given stands (follows_own piece) in
-          (t, rejected p old_lexer lexer old new given t has_read reason takes, next_in_piece lexer u piece used scan.0);
+          (given ++ t ∷ [], rejected p old_lexer lexer old new given t has_read reason takes, next_in_piece lexer u piece used scan.0);
       within = within;
       last = takes.last;
       writing = takes.takes.keeps.writing;
@@ -217,8 +218,8 @@ module _ (old_lexer lexer : Standing) (old new : Current) (piece : List ℕ) (us
   reads_fault f scans last pending = record {
     after = λ p u given stands has_read.
         let scan = scans.carries u (first piece) given stands (follows_own piece) in (
-          refusal_token f,
-          rejected_text p given f has_read.passes,
+          given ++ refusal_token f ∷ [],
+          rejected_text p given old f has_read.passes,
           λ s. (
             [],
             scan.0 s (subst (λ b. Follows b s) (sym (still_none (first piece) piece some)) tt) ∙ sym (append-nil (given ++ refusal_token f ∷ [])),

@@ -2,11 +2,11 @@
 use Rattle.pgn_game.proofs.Words.{◌≡◌, ◌&&◌, ◌↔◌, ℕ, Bool, true, false, IsTrue, List, [], Option, Result, Ok, Err, OnOk, is_some, refl, sym, ap, subst, ◌∙◌, arith, Appends, AppendsFront, Writes, WritesText, Device, device, Kind, Marker, Reason, Stage, Between, AfterLeftBracket, AfterName, AfterValue, AfterTags, InMovetext, Pair, ReaderState, ReaderCall, KeepsSilence, Writing, BeginsText, EndsAtMarker, RefusesMarker, FinishesAtMarker, IsOpen, ItemCall, Mode, PutResult, PutsMarker, TakesMarker, Writer, WriteFault, ending_if, game_by, is_nothing, known_of, line_behind, marker_of, marker_text, may_have_movetext, mode_of_written, section_due, section_due_of, section_unless, seen, tag_section, writing_of, Written}
 use Rattle.pgn_game.specs.declared.mode.Written.TheVariants.{Full, Reduced, Nothing}
 use Rattle.pgn_layout.specs.declared.sink.WriteFault.{WriteFault as Fault}
-use Rattle.pgn_game.specs.state.PutResult.{ended}
+use Rattle.pgn_game.specs.steps.PutResult.{ended}
 use Rattle.pgn_game.proofs.putting.MarkerToReader.{EndsText, ends_ill, ends_silent, ends_unbegun, ends_well, ending, finished_reader, to_game, writes_if_failed}
 use Rattle.pgn_game.proofs.putting.SilentReader.{seen_if, unseen}
-use Rattle.pgn_game.proofs.tokens.PairsTriedForToken.{marker_untried}
-use Rattle.pgn_game.proofs.tokens.PutToAnswer.{entry_refused, takes_marker}
+use Rattle.pgn_game.proofs.stepping.PairsTriedForToken.{marker_untried}
+use Rattle.pgn_game.proofs.stepping.PutToAnswer.{entry_refused, takes_marker}
 
 not_begun : (begun : Bool) → (IsTrue begun → ⊥) → begun ≡ false
 not_begun true no_more = absurd (no_more refl)

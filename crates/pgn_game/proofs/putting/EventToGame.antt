@@ -2,13 +2,13 @@
 use Rattle.pgn_game.proofs.Words.{Profile, Written, Marker, TakesMeant, ◌≡◌, ◌&&◌, ◌||◌, not, None, Some, Parts, StoredLevels, IsAnnotation, IsWritable, ItemCall, MeetsEntry, PutsAnnotation, PutsMove, WritesMove, token_if, writes_annotations, ◌+◌, ◌<◌, ◌≤◌, ℕ, max, Bool, true, false, IsTrue, List, [], ◌∷◌, Option, Result, Ok, Err, inl, inr, refl, sym, ap, subst, ◌∙◌, arith, common_steps, length, Move, Movetext, Kind, Mode, Part, More, Event, InMovetext, Item, going, is_move, is_written, ReaderState, ReaderCall, KeepsSilence, LeavesSink, BeginsText, Means, IsOpen, TakesOther, Adds, PutsTokens, PutResult, Plays, Annotates, Writer, Writing, WriteFault, MovesText, after_move_at, after_move_if, counting_probes, device, game_by, is_nothing, items_meant, may_have_movetext, mode_of_written, mode_unless, mode_written, pairs_meant, seen, tokens_if, with_items, writing_of, Device, Reason, AppendsFront}
 use Rattle.pgn_layout.specs.declared.sink.WriteFault.{WriteFault as Fault}
 use Rattle.pgn_game.specs.games.Game.{move}
-use Rattle.pgn_game.specs.state.ItemResult.{counted_at}
+use Rattle.pgn_game.specs.steps.ItemResult.{counted_at}
 use Rattle.pgn_game.specs.declared.event.Event.TheVariants as events
 use Rattle.pgn_game.proofs.putting.ItemToMovetext.{Advances, adds_front, adds_put, annotation_ends, annotation_tokens, goes_on, plays_on}
 use Rattle.pgn_game.proofs.putting.ItemToReader.{IsAfterItem, fails_item, gain_is, lines_gain, puts_item, puts_number, to_items, unbegun_part, unwritten}
 use Rattle.pgn_game.proofs.putting.WritesInTurn.{front_of_more}
-use Rattle.pgn_game.proofs.tokens.PairsTriedForToken.{CostsToPut, adds_item, adds_move, adds_none}
-use Rattle.pgn_game.proofs.tokens.PutToAnswer.{takes_event}
+use Rattle.pgn_game.proofs.stepping.PairsTriedForToken.{CostsToPut, adds_item, adds_move, adds_none}
+use Rattle.pgn_game.proofs.stepping.PutToAnswer.{takes_event}
 
 -- at most one move more is outside variations
 few_counted : (deep : ℕ) → counted_at deep ≤ 1

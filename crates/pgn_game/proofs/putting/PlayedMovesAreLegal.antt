@@ -1,6 +1,6 @@
 -- Each move that is read is legal where it stands.
 use Rattle.pgn_game.proofs.Words.{◌≡◌, ℕ, Bool, List, [], ◌∷◌, ◌++◌, Option, None, Some, Result, Ok, refl, ap, ◌⊎◌, IsTrue, option_map, is_some, list_all, and_from, list_all-append, legal, TheOneMoveIsRead, Parts, Played, SanFault, Kind, Token, Stage, InMovetext, Profile, Pair, Item, Game, Part, move_of, Levels, here, levels_of, start_of, levels_of_part, placed_from, Next, going, whole, next, next_in, in_text, move_item, items_of, Progress, progress_with, progress_after, no_progress, read_from, Form, move_of_form, arith, rules, is_legal_at, plays_legally, MovesAreLegal}
-use Rattle.pgn_game.proofs.tokens.OneMoreToken.{by_token}
+use Rattle.pgn_game.proofs.stepping.OneMoreToken.{by_token}
 use Rattle.pgn_game.proofs.putting.ItemsAppended.{placed-append}
 
 -- the items placed there are legal moves, or no moves

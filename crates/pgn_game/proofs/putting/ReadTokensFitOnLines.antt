@@ -6,7 +6,7 @@ use Rattle.std.proofs.lemmas.List.Elements.{All-append}
 use Rattle.pgn_game.specs.games.Game as games
 use Rattle.pgn_game.specs.laws.MovetextLines.{AreOnLines, GameIsOnLines, MovetextIsOnLines}
 use Rattle.pgn_game.proofs.MarkerTexts.{result_marker}
-use Rattle.pgn_game.proofs.tokens.OneMoreToken.{by_token}
+use Rattle.pgn_game.proofs.stepping.OneMoreToken.{by_token}
 use Rattle.pgn_game.proofs.putting.MarkerToReader.{marker_token}
 use Rattle.pgn_game.proofs.putting.NumberToTokens.{number_token, glyph_token}
 use Rattle.pgn_game.proofs.putting.PlayedMovesAreLegal.{HoldsNone, none_held, AddsNone, adds_none}

@@ -3,8 +3,8 @@ use Rattle.pgn_game.proofs.Words.{◌≡◌, ℕ, max, Bool, false, List, [], �
 use Rattle.pgn_game.specs.declared.event.Event.TheVariants as events
 use Rattle.pgn_game.specs.games.Game.{move}
 use Rattle.pgn_game.proofs.refusals.RefusalsInMovetext.{move_free, move_leads}
-use Rattle.pgn_game.proofs.tokens.PairsTriedForToken.{costs_found}
-use Rattle.pgn_game.proofs.tokens.PutToAnswer.{entry_refused, move_refused, next_of}
+use Rattle.pgn_game.proofs.stepping.PairsTriedForToken.{costs_found}
+use Rattle.pgn_game.proofs.stepping.PutToAnswer.{entry_refused, move_refused, next_of}
 
 -- Outside movetext.
 

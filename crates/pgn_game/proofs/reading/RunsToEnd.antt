@@ -1,7 +1,7 @@
 -- Tokens that are read to their end, as a relation: which games they finish from a part on.
 use Rattle.pgn_game.proofs.Words.{◌≡◌, ℕ, false, List, [], ◌∷◌, ◌++◌, map, None, refl, sym, ap, ◌∙◌, append_assoc, append-nil, ◌↔◌, IsLast, RisesTo, Kind, Token, Stage, Between, AfterLeftBracket, AfterName, AfterValue, Profile, Pair, Item, Game, Part, no_part, refusal, is_end, Next, going, whole, next, Progress, no_progress, progress_with, progress_after, read_from, read, rules}
 use Rattle.pgn_lexer.specs.Tokens as tokens
-use Rattle.pgn_game.proofs.tokens.OneMoreToken.{first_passes, goes_on}
+use Rattle.pgn_game.proofs.stepping.OneMoreToken.{first_passes, goes_on}
 
 abbrev pub at : Stage → List Pair → List ℕ → List Item → Part
 at stage ps name items = record { stage = stage; pairs = ps; name = name; items = items }

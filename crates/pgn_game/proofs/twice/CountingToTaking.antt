@@ -8,14 +8,14 @@ use Rattle.pgn_game.specs.export.Text.{text_of}
 use Rattle.pgn_game.proofs.refusals.RefusalsInMovetext.{other_if}
 use Rattle.pgn_game.proofs.exporting.GameTextToGame.{exported_result}
 use Rattle.pgn_game.proofs.exporting.GameToResult.{one_of_four, result_of}
-use Rattle.pgn_game.proofs.tokens.OneMoreToken.{after_test, by_token, read_from-test, goes_on, text_of-snoc}
+use Rattle.pgn_game.proofs.stepping.OneMoreToken.{after_test, by_token, read_from-test, goes_on, text_of-snoc}
 use Rattle.pgn_game.proofs.twice.MarkerCounts.{marker_finishes, no_marker_goes, refusal_counting, same_game_text, table_alike}
 use Rattle.pgn_game.proofs.twice.TakingToCounting.{reads_as_one_marker}
 
 -- One row of the table.
 
 -- the reason is that a marker is not the Result
-abbrev by_result : Option Reason → Bool
+abbrev pub by_result : Option Reason → Bool
 by_result o = elim o [ Some reason ↦ is_about_result reason | None ↦ false ]
 
 unless_first : (b : Bool) (reason : Reason) (o with_row : Option Reason)
@@ -60,7 +60,7 @@ other_of text part k (Some marker) (Some value) is given =
     grind (arith, common_steps, counts_as, unwrap_or, takes_the_marker)
 other_of text part k (Some marker) None is given = grind (arith, common_steps, takes_the_marker, unwrap_or, bytes_eq-Decides)
 
-refusal_taking : (q : Profile) (text : List ℕ) (part : Part) (k : Kind)
+pub refusal_taking : (q : Profile) (text : List ℕ) (part : Part) (k : Kind)
     → q.missing_result ≡ takes_the_marker → by_result (refusal (counting q text) part k) ≡ false
     → refusal q part k ≡ refusal (counting q text) part k
 refusal_taking q text part k takes plain =

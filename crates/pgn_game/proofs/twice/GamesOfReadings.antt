@@ -2,20 +2,20 @@
 -- token at which reading stops.
 use Rattle.pgn_lexer.specs.Tokens as tokens
 use Rattle.pgn_game.specs.declared.marker.PlacedMarker.{PlacedMarker as CodePlacedMarker}
-use Rattle.pgn_game.proofs.Words.{Kind, Token, Reason, Changed, WriteFault, Fault, Profile, takes_the_marker, Game, Part, no_part, ◌≡◌, ℕ, ◌+◌, ◌^◌, ◌<◌, ◌≤◌, ◌||◌, ◌&&◌, ◌==◌, not, is_some, bytes_eq, Bool, true, false, List, [], ◌∷◌, ◌++◌, length, take, drop, Option, None, Some, Ok, Err, IfSome, refl, sym, ap, subst, ◌∙◌, append_assoc, append-nil, drop-length, arith, and_parts, not-false, bytes_eq-Decides, Appends-nil, Appends-trans, Appends, Device, TokensRise, tokens_of, Stage, Between, InMovetext, HoldsText, Marker, counting, refusal, is_end, marker_of, torn, gain, text_next, Next, going, whole, next, read, IsLastGame, game_in_reader, ReaderState, with_announced, as_written, IsStopped, Converter, marker_text, game_of, PlacedMarker, is_other, is_changed, HasMarkers, HasMatched, Reading, model_marker, changed_reason, OneGame, ReadsMore, EndsGame, part_after, append_cancel_left, IfSome_then, game_text, AllRead, ComesNext, EndComes, FirstFails, GameRead, GameWritten, HasCome, HasGiven, MarkerComes, ReadingStops, Known, AreNextIn, first_bytes, all_bytes, decided, SecondFails, StandsBetween, at_read, as_changed, announcing, AreShown, writing_nothing, common_steps}
-use Rattle.pgn_game.specs.state.ReaderState as reader_state
-use Rattle.pgn_game.specs.state.Readings.{at_token}
-use Rattle.pgn_game.specs.state.Readings as readings
-use Rattle.pgn_game.specs.calls.ConverterCalls.{at_end}
-use Rattle.pgn_game.proofs.tokens.AcceptedToConverter.{read_as}
-use Rattle.pgn_game.proofs.tokens.BytesWithinLimit.{shown_begins}
-use Rattle.pgn_game.proofs.tokens.MarkerToGame.{game_accepted, has_read_marker, takes, written_at_fault, written_at_marker}
-use Rattle.pgn_game.proofs.tokens.MissingCountsAs.{reads_silently}
-use Rattle.pgn_game.proofs.tokens.NextGrows.{next_is}
-use Rattle.pgn_game.proofs.tokens.OneMoreToken.{read-passes, torn-none}
-use Rattle.pgn_game.proofs.tokens.StepsAtEnd.{end_at, is_the_end}
+use Rattle.pgn_game.proofs.Words.{Kind, Token, Reason, Changed, WriteFault, Fault, Profile, takes_the_marker, Game, Part, no_part, ◌≡◌, ℕ, ◌+◌, ◌^◌, ◌<◌, ◌≤◌, ◌||◌, ◌&&◌, ◌==◌, not, is_some, bytes_eq, Bool, true, false, List, [], ◌∷◌, ◌++◌, length, take, drop, Option, None, Some, Ok, Err, refl, sym, ap, subst, ◌∙◌, append_assoc, append-nil, drop-length, arith, and_parts, not-false, bytes_eq-Decides, Appends-nil, Appends-trans, Appends, Device, TokensRise, tokens_of, Standing, Stage, Between, InMovetext, HoldsText, Marker, counting, refusal, is_end, marker_of, torn, gain, text_next, Next, going, whole, next, read, IsLastGame, game_in_reader, ReaderState, with_announced, as_written, IsStopped, Converter, marker_text, game_of, PlacedMarker, is_other, is_changed, HasMarkers, HasMatched, Reading, model_marker, changed_reason, OneGame, ReadsMore, EndsGame, part_after, append_cancel_left, game_text, AfterMarker, AllRead, ComesNext, FirstFails, GameRead, GameWritten, HasGiven, HasGivenIn, IsGivenLast, ReadingStops, first, known_by, Known, AreNextIn, first_bytes, all_bytes, decided, SecondFails, StandsBetween, at_read, as_changed, announcing, AreShown, writing_nothing, common_steps}
+use Rattle.pgn_game.specs.steps.ConverterSteps.{start_of}
+use Rattle.pgn_game.specs.steps.ReaderState as reader_state
+use Rattle.pgn_game.specs.steps.Readings.{at_token}
+use Rattle.pgn_game.specs.steps.Readings as readings
+use Rattle.pgn_game.specs.public.ConverterCalls.{at_end}
+use Rattle.pgn_game.proofs.stepping.AcceptedToConverter.{read_as}
+use Rattle.pgn_game.proofs.stepping.MarkerToGame.{game_accepted, has_read_marker, takes, written_at_fault, written_at_marker}
+use Rattle.pgn_game.proofs.stepping.MissingCountsAs.{reads_silently}
+use Rattle.pgn_game.proofs.stepping.NextGrows.{next_is}
+use Rattle.pgn_game.proofs.stepping.OneMoreToken.{read-passes, torn-none}
+use Rattle.pgn_game.proofs.stepping.StepsAtEnd.{end_at, is_the_end}
 use Rattle.pgn_game.proofs.twice.MarkerCounts.{changes, marker_finishes, no_marker_goes, refusals_are_inside, same_game_text}
-use Rattle.pgn_game.proofs.twice.MarkerToReading.{come_text, of_whole, some_coming}
+use Rattle.pgn_game.proofs.twice.MarkerToReading.{next_in, of_whole, shown_in, some_coming}
 use Rattle.pgn_game.proofs.twice.MarkersInTurn.{marked_game, marked_more, marked_on, matched_next, matched_on, no_end_before}
 
 -- The end adds nothing, and is no marker.
@@ -31,10 +31,15 @@ end_gains_nothing : (q w : Profile) (part : Part) (k : Kind) → is_end k ≡ tr
 end_gains_nothing q w part k is free =
     ap (λ n. drop (length (torn w part)) (text_next w n)) (end_leads q part k is free) ∙ drop-length (torn w part)
 
--- a text that begins with tokens which are known to be its first
-begins_known : (text : Known) (ts : List Token) → AreNextIn text ts → (s : List ℕ) × (rest : List Token) × (tokens_of s ≡ ts ++ rest)
-begins_known (first_bytes s) ts next = (s ++ [], (next []).0, (next []).1)
-begins_known (all_bytes s) ts next = (s, next.0, next.1)
+-- what a text begins with of which these tokens are known
+begins_known : (text : Known) (ts : List Token) (t : Token) → AreNextIn text (ts ++ t ∷ []) → (s : List ℕ) × (rest : List Token) × (tokens_of s ≡ ts ++ t ∷ rest)
+begins_known (first_bytes s) ts t next = (s ++ [], (next []).0, (next []).1 ∙ append_assoc ts (t ∷ []) (next []).0)
+begins_known (all_bytes s) ts t next = (s, next.0, next.1 ∙ append_assoc ts (t ∷ []) next.0)
+
+-- the token given last is one that was given
+given_last : (text : Known) (l : Standing) (t : Token) (ts : List Token) → IsGivenLast text l t ts → HasGivenIn text l ts
+given_last (first_bytes s) l t ts last = last.0
+given_last (all_bytes s) l t ts last = last
 
 -- ---- the first reading
 
@@ -44,13 +49,13 @@ module _ (q : Profile) (left_old left_new : Option (List ℕ)) (given : List Tok
       → (ms : List PlacedMarker) → HasMarkers q given ms → HasMarkers q ts ms
   still_marked ts now a c reads ms h = grind (arith, common_steps, marked_on, read)
 
-  pub all_read : (new : Reading) (a c : Option (List ℕ)) → EndComes q left_old given new a c → AllRead q left_old given new
-  all_read new a c comes =
-      let h = comes.ends in
+  pub all_read : (old new : Reading) (a c : Option (List ℕ))
+      → AfterMarker left_old left_new (start_of q old.converter (first old.unused) given a) new (Ok None) c → AllRead q left_old given new
+  all_read old new a c (u, (count, short, text), h) =
       let ts = h.tokens ++ h.token ∷ [] in
       record {
         tokens = ts;
-        whole = of_whole left_old comes.text comes.whole (λ s. (length s ≤ 2 ^ 62) × (tokens_of s ≡ ts)) (comes.short, h.whole);
+        whole = of_whole left_old u text (λ s. (length s ≤ 2 ^ 62) × (tokens_of s ≡ ts)) (short, h.whole);
         has_read = h.has_read;
         marked = λ ms so.
             marked_more q h.tokens h.token ms (part_after q h.tokens) h.reads.has_read.passes h.passes
@@ -91,62 +96,56 @@ module _ (q : Profile) (left_old left_new : Option (List ℕ)) (given : List Tok
 
 -- ---- the marker
 
--- What the text of a source begins with.
-module _ (left_old left_now : Option (List ℕ)) (r : Reading) where
-  pub begins : (ts : List Token) → HasCome left_old left_now r ts → IfSome left_old (λ s. (rest : List Token) × (tokens_of s ≡ ts ++ rest))
-  begins ts h =
-      IfSome_then left_old {P = λ s. AreShown s ts} {Q = λ s. (rest : List Token) × (tokens_of s ≡ ts ++ rest)}
-      (come_text left_old left_now r ts h).1 (λ s shown. shown_begins s ts shown)
-
-  -- What a reading has come to is not moved by the marker that its converter takes.
-  come_still : (s : Reading) (ts : List Token) → s.converter.lexer ≡ r.converter.lexer → s.unused ≡ r.unused → s.has_ended ≡ r.has_ended
-      → HasCome left_old left_now r ts → HasCome left_old left_now s ts
-  come_still s ts lexer unused ended h = grind (arith, common_steps)
-
 -- The marker that one of the readings has met is taken.
-module _ (q : Profile) (left_old left_new : Option (List ℕ)) (given : List Token) (m : CodePlacedMarker) (mid new : Reading) (a : Option (List ℕ)) (sink : Device)
+module _ (q : Profile) (left_old left_new : Option (List ℕ)) (given : List Token) (old : Reading) (m : CodePlacedMarker) (mid new : Reading) (a : Option (List ℕ)) (sink : Device)
     (takes_it : q.missing_result ≡ takes_the_marker) (so : (read q given).fault ≡ None)
-    (h : MarkerComes q left_old left_new given m mid a sink.before) where
+    (h : AfterMarker left_old left_new (start_of q old.converter (first old.unused) given a) mid (Ok (Some m)) sink.before) where
   abbrev ts : List Token
-  ts = h.tokens
+  ts = h.2.tokens
 
   abbrev t : Token
-  t = h.token
+  t = h.2.token
 
   abbrev part : Part
-  part = part_after q h.tokens
+  part = part_after q h.2.tokens
 
   abbrev reader : ReaderState
-  reader = h.meets.reader
+  reader = h.2.meets.reader
 
   profile : reader.profile ≡ q
-  profile = h.meets.reads.has_read.profile
+  profile = h.2.meets.reads.has_read.profile
 
-  pub passes : (read q h.tokens).fault ≡ None
-  passes = h.meets.reads.has_read.passes
+  pub passes : (read q h.2.tokens).fault ≡ None
+  passes = h.2.meets.reads.has_read.passes
 
-  pub comes : ComesNext left_old h.tokens h.token
-  comes = (come_text left_old left_new mid (ts ++ t ∷ []) h.come).1
+  given_known : HasGivenIn (known_by mid.has_ended h.0) mid.converter.lexer (h.2.tokens ++ h.2.token ∷ [])
+  given_known = given_last (known_by mid.has_ended h.0) mid.converter.lexer t (ts ++ t ∷ []) h.2.lexer
 
-  pub met_marked : (ms : List PlacedMarker) → HasMarkers q given ms → HasMarkers q h.tokens ms
-  met_marked = still_marked q left_old left_new given so ts (record mid.converter { reading = reader }) a sink.before h.meets.reads
+  pub next_known : AreNextIn (known_by mid.has_ended h.0) (h.2.tokens ++ h.2.token ∷ [])
+  next_known = next_in (known_by mid.has_ended h.0) mid.converter.lexer (ts ++ t ∷ []) given_known
+
+  pub comes : ComesNext left_old h.2.tokens h.2.token
+  comes = shown_in left_old left_new mid h.0 (ts ++ t ∷ []) h.1 next_known
+
+  pub met_marked : (ms : List PlacedMarker) → HasMarkers q given ms → HasMarkers q h.2.tokens ms
+  met_marked = still_marked q left_old left_new given so ts (record mid.converter { reading = reader }) a sink.before h.2.meets.reads
 
   module _ (ends : EndsGame mid.converter.reading m new.converter.reading (Ok tt) sink) where
     free : refusal q part t.kind ≡ None
     free =
         subst (λ (p : Profile). refusal p part t.kind ≡ None) profile
-        (game_accepted q given ts t m mid.converter a sink h.meets new.converter.reading ends).free
+        (game_accepted q given ts t m mid.converter a sink h.2.meets new.converter.reading ends).free
 
     pub game : Game
     game = game_of part (marker_text m.marker)
 
     leads : next part t.kind ≡ whole (game_of part (marker_text m.marker))
-    leads = marker_finishes q part t.kind (marker_text m.marker) h.meets.is free
+    leads = marker_finishes q part t.kind (marker_text m.marker) h.2.meets.is free
 
     abbrev more : List Token
-    more = h.tokens ++ h.token ∷ []
+    more = h.2.tokens ++ h.2.token ∷ []
 
-    pub one_more : OneGame q given (h.tokens ++ h.token ∷ []) (game_of (part_after q h.tokens) (marker_text m.marker))
+    pub one_more : OneGame q given (h.2.tokens ++ h.2.token ∷ []) (game_of (part_after q h.2.tokens) (marker_text m.marker))
     one_more = grind (arith, common_steps, read-passes, passes, free, leads)
 
     between : part_after q more ≡ no_part
@@ -155,14 +154,16 @@ module _ (q : Profile) (left_old left_new : Option (List ℕ)) (given : List Tok
     module _ (lexer : new.converter.lexer ≡ mid.converter.lexer) (unused : new.unused ≡ mid.unused) (ended : new.has_ended ≡ mid.has_ended)
         (games : new.converter.games ≡ mid.converter.games + 1)
         (finished : new.converter.just_finished ≡ Some (game_in_reader new.converter.reading)) (fault : new.converter.fault ≡ None) where
-      pub stands_behind : StandsBetween q left_old left_new (h.tokens ++ h.token ∷ []) new
+      pub stands_behind : StandsBetween q left_old left_new (h.2.tokens ++ h.2.token ∷ []) new
       stands_behind =
           record {
             has_given = record {
               takes = takes_it;
-              come = come_still left_old left_new mid new more lexer unused ended h.come;
+              bytes = h.0;
+              source = record { consumed = h.1.consumed; stores = rw (ended, lexer, unused) h.1.stores };
+              lexer = rw (ended, lexer) given_known;
               has_read =
-                  let marked = has_read_marker q given ts t m mid.converter a sink h.meets new.converter.reading ends new.converter.lexer false in
+                  let marked = has_read_marker q given ts t m mid.converter a sink h.2.meets new.converter.reading ends new.converter.lexer false in
                   read_as marked refl games fault (subst (λ o. IsLastGame o (read q more).progress.games) (sym finished) marked.just_finished);
             };
             between = between;
@@ -175,7 +176,7 @@ module _ (q : Profile) (left_old left_new : Option (List ℕ)) (given : List Tok
             tokens = more;
             stands = stands_behind;
             marked = λ ms marked.
-                subst (λ n. HasMarkers q more (ms ++ record { text = marker_text m.marker; at = n } ∷ [])) h.meets.place
+                subst (λ n. HasMarkers q more (ms ++ record { text = marker_text m.marker; at = n } ∷ [])) h.2.meets.place
                 (marked_game q ts t ms (game_of part (marker_text m.marker)) passes free leads (met_marked ms marked));
           }
 
@@ -188,8 +189,8 @@ module _ (q : Profile) (left_old left_new : Option (List ℕ)) (given : List Tok
         passes = passes;
         marked = met_marked;
         why = refused_first q left_old left_new given so ts t f reader new.converter.reading sink.before sink.after profile
-            (ends.place ∙ sym h.meets.place) no_write comes
-            ((takes q given ts t m mid.converter a sink h.meets new.converter.reading (Err f) ends).accepts part h.meets.reads.has_read.agrees);
+            (ends.place ∙ sym h.2.meets.place) no_write comes
+            ((takes q given ts t m mid.converter a sink h.2.meets new.converter.reading (Err f) ends).accepts part h.2.meets.reads.has_read.agrees);
       }
 
 -- ---- the second reading, to which the marker of the game was announced
@@ -208,13 +209,12 @@ text_announced marker r here _ h = h
 module _ (q : Profile) (left_old left : Option (List ℕ)) (r : Reading) where
   pub announced_reading : (given : List Token) (m : Marker) (d : Converter) → d ≡ announcing m r.converter → HasGiven q left_old left r given
       → HasGiven q left_old left (record { converter = d; unused = r.unused; has_ended = r.has_ended }) given
-  announced_reading given m d is h =
-      grind (arith, common_steps, takes, come_still, passes, text_announced)
+  announced_reading given m d is h = grind (arith, common_steps, text_announced)
 
   -- nothing is written from now on
   pub silent_reading : (d : Converter) → d ≡ writing_nothing r.converter → HasGiven q left_old left r []
       → HasGiven q left_old left (record { converter = d; unused = r.unused; has_ended = r.has_ended }) []
-  silent_reading d is h = grind (arith, common_steps, takes, come_still, reads_silently)
+  silent_reading d is h = grind (arith, common_steps, reads_silently)
 
 pub announced_by : (q : Profile) (c d : Converter) (m : Marker) → d ≡ announcing m c → q.missing_result ≡ takes_the_marker → c.reading.profile ≡ q
     → as_written d.reading ≡ counting q (marker_text m)
@@ -250,20 +250,19 @@ module _ (q : Profile) (left_old left_new : Option (List ℕ)) (given : List Tok
 
   -- tokens behind which another comes show no difference
   still_matched : (ts : List Token) (now : Converter) (a c : Option (List ℕ)) (reads : ReadsMore q given ts now a c)
-      → (s : List ℕ) (t : Token) (rest : List Token) → tokens_of s ≡ ts ++ t ∷ rest
+      → (t : Token) → (s : List ℕ) × (rest : List Token) × (tokens_of s ≡ ts ++ t ∷ rest)
       → (ms : List PlacedMarker) → HasMatched q ms given (expected ∷ []) → HasMatched q ms ts (expected ∷ [])
-  still_matched ts now a c reads s t rest cut ms h = grind (arith, common_steps, matched_on, read, no_end_before)
+  still_matched ts now a c reads t (s, rest, cut) ms h = grind (arith, common_steps, matched_on, read, no_end_before)
 
   -- it stops behind these tokens
   fails_behind : (ts : List Token) (now : Converter) (f : Fault) (a c d : Option (List ℕ)) → as_written now.reading ≡ w → ReadsMore q given ts now a c
-      → (s : List ℕ) (t : Token) (rest : List Token) → tokens_of s ≡ ts ++ t ∷ rest
-      → readings.WhySecond q left_old left_new ts announced c d f → SecondFails q left_old left_new given announced f a d
-  fails_behind ts now f a c d by reads s t rest cut why =
+      → (text : Known) (t : Token) → AreNextIn text (ts ++ t ∷ []) → readings.WhySecond q left_old left_new ts announced c d f → SecondFails q left_old left_new given announced f a d
+  fails_behind ts now f a c d by reads text t next why =
       record {
         tokens = ts;
         passes = reads.has_read.passes;
         no_game = reads.no_game;
-        matched = still_matched ts now a c reads s t rest cut;
+        matched = still_matched ts now a c reads t (begins_known text ts t next);
         mid = c;
         wrote = written_of ts now a c by reads;
         why = why;
@@ -301,10 +300,9 @@ module _ (q : Profile) (left_old left_new : Option (List ℕ)) (given : List Tok
       → ReadingStops q left_old left_new given f new a d → SecondFails q left_old left_new given announced (as_changed f) a d
   second_fails new f a d by (at_token text h comes) =
       let n = h.fails in
-      let some = begins_known text (h.tokens ++ h.token ∷ []) h.next in
       let by_now : as_written n.now.reading ≡ w = written_at_fault n ∙ by in
       let part : Part = part_after q h.tokens in
-      fails_behind h.tokens n.now (as_changed f) a n.mid d by_now n.reads some.0 h.token some.1 (some.2 ∙ append_assoc h.tokens (h.token ∷ []) some.1)
+      fails_behind h.tokens n.now (as_changed f) a n.mid d by_now n.reads text h.token h.next
       (why_token h.tokens h.token f n.now.reading new.converter.reading n.mid d n.reads.has_read.profile by_now n.place comes
       (λ k free short is. by_end (is_end h.token.kind) refl k free short (n.no_marker is)) n.stopped)
     where
@@ -317,65 +315,64 @@ module _ (q : Profile) (left_old left_new : Option (List ℕ)) (given : List Tok
           ap (λ (n : Next). is_other expected n h.token) (no_marker_goes (part_after q h.tokens) h.token.kind none).1 ∙ is
   second_fails new f a d by (at_read u fails h) =
       let behind = some_coming h.now.lexer in
-      fails_behind (decided u) h.now (as_changed f) a d d (ap as_written (sym h.same) ∙ by) h.reads u behind.0 behind.1
-      (h.left ∙ ap (λ (ts : List Token). decided u ++ ts) behind.2) (readings.unread f fails (Appends-nil d))
+      fails_behind (decided u) h.now (as_changed f) a d d (ap as_written (sym h.same) ∙ by) h.reads (all_bytes u) behind.0
+      (behind.1, h.left ∙ ap (λ (ts : List Token). decided u ++ ts) behind.2 ∙ sym (append_assoc (decided u) (behind.0 ∷ []) behind.1))
+      (readings.unread f fails (Appends-nil d))
 
   -- It has ended before a marker.
-  pub ends_before : (new : Reading) (a d : Option (List ℕ)) → as_written new.converter.reading ≡ w → EndComes q left_old given new a d
+  pub ends_before : (old new : Reading) (a d : Option (List ℕ)) → as_written new.converter.reading ≡ w
+      → AfterMarker left_old left_new (start_of q old.converter (first old.unused) given a) new (Ok None) d
       → SecondFails q left_old left_new given announced (record { at = new.converter.lexer.count; reason = Changed }) a d
-  ends_before new a d by comes =
-      let h = comes.ends in
+  ends_before old new a d by (u, (count, short, text), h) =
       let ts = h.tokens ++ h.token ∷ [] in
-      fails_behind h.tokens new.converter (record { at = new.converter.lexer.count; reason = Changed }) a d d by h.reads comes.text h.token [] h.whole
-      (subst (λ n. readings.WhySecond q left_old left_new h.tokens announced d d (record { at = n; reason = Changed })) (h.place ∙ sym comes.count)
-      (readings.differs h.token
-      (of_whole left_old comes.text comes.whole (λ s. AreShown s ts) (at_end comes.short [] (h.whole ∙ sym (append-nil ts))))
+      let cut = h.whole ∙ sym (append-nil ts) in
+      fails_behind h.tokens new.converter (record { at = new.converter.lexer.count; reason = Changed }) a d d by h.reads (all_bytes u) h.token ([], cut)
+      (subst (λ n. readings.WhySecond q left_old left_new h.tokens announced d d (record { at = n; reason = Changed })) (h.place ∙ sym count)
+      (readings.differs h.token (of_whole left_old u text (λ s. AreShown s ts) (at_end short [] cut))
       (differs_if q expected (part_after q h.tokens) h.token true h.passes
       (ap (λ (n : Next). is_other expected n h.token) (end_leads q (part_after q h.tokens) h.token.kind h.is_end h.passes) ∙ h.is_end))
       (Appends-nil d)))
 
   -- The marker that it has met.
-  module _ (m : CodePlacedMarker) (mid new : Reading) (a : Option (List ℕ)) (sink : Device) (by : as_written mid.converter.reading ≡ w)
-      (h : MarkerComes q left_old left_new given m mid a sink.before) where
-    by_reader : as_written h.meets.reader ≡ w
-    by_reader = written_at_marker h.meets ∙ by
+  module _ (old : Reading) (m : CodePlacedMarker) (mid new : Reading) (a : Option (List ℕ)) (sink : Device) (by : as_written mid.converter.reading ≡ w)
+      (h : AfterMarker left_old left_new (start_of q old.converter (first old.unused) given a) mid (Ok (Some m)) sink.before) where
+    by_reader : as_written h.2.meets.reader ≡ w
+    by_reader = written_at_marker h.2.meets ∙ by
 
-    text_before : (rest : List Token) × (tokens_of h.come.bytes ≡ h.tokens ++ h.token ∷ rest)
-    text_before =
-        let cut = (come_text left_old left_new mid (h.tokens ++ h.token ∷ []) h.come).0 in
-        (cut.0, cut.1 ∙ append_assoc h.tokens (h.token ∷ []) cut.0)
+    known_now : AreNextIn (known_by mid.has_ended h.0) (h.2.tokens ++ h.2.token ∷ [])
+    known_now = next_known q left_old left_new given old m mid new a sink takes_it so h
 
     -- it is another one
     pub marker_differs : not (bytes_eq (marker_text m.marker) (marker_text announced.marker) && (m.at == announced.at)) ≡ true
         → SecondFails q left_old left_new given announced (record { at = m.at; reason = Changed }) a sink.before
     marker_differs other =
-        fails_behind h.tokens (record mid.converter { reading = h.meets.reader }) (record { at = m.at; reason = Changed }) a sink.before sink.before
-        by_reader h.meets.reads h.come.bytes h.token text_before.0 text_before.1
-        (subst (λ n. readings.WhySecond q left_old left_new h.tokens announced sink.before sink.before (record { at = n; reason = Changed })) h.meets.place
-        (readings.differs h.token (comes q left_old left_new given m mid new a sink takes_it so h)
-        (differs_at_marker q expected (part_after q h.tokens) h.token (marker_text m.marker) h.meets.is
-        (subst (λ n. not (bytes_eq (marker_text m.marker) (marker_text announced.marker) && (n == announced.at)) ≡ true) (sym h.meets.place)
+        fails_behind h.2.tokens (record mid.converter { reading = h.2.meets.reader }) (record { at = m.at; reason = Changed }) a sink.before sink.before
+        by_reader h.2.meets.reads (known_by mid.has_ended h.0) h.2.token known_now
+        (subst (λ n. readings.WhySecond q left_old left_new h.2.tokens announced sink.before sink.before (record { at = n; reason = Changed })) h.2.meets.place
+        (readings.differs h.2.token (comes q left_old left_new given old m mid new a sink takes_it so h)
+        (differs_at_marker q expected (part_after q h.2.tokens) h.2.token (marker_text m.marker) h.2.meets.is
+        (subst (λ n. not (bytes_eq (marker_text m.marker) (marker_text announced.marker) && (n == announced.at)) ≡ true) (sym h.2.meets.place)
         other))
         (Appends-nil sink.before)))
 
     module _ (same : not (bytes_eq (marker_text m.marker) (marker_text announced.marker) && (m.at == announced.at)) ≡ false) where
-      same_there : not (bytes_eq (marker_text m.marker) (marker_text announced.marker) && (h.token.at == announced.at)) ≡ false
+      same_there : not (bytes_eq (marker_text m.marker) (marker_text announced.marker) && (h.2.token.at == announced.at)) ≡ false
       same_there = subst (λ n. not (bytes_eq (marker_text m.marker) (marker_text announced.marker) && (n == announced.at)) ≡ false)
-          (sym h.meets.place) same
+          (sym h.2.meets.place) same
 
       -- it is not taken
       pub marker_refused_second : (f : Fault) → EndsGame mid.converter.reading m new.converter.reading (Err f) sink
           → SecondFails q left_old left_new given announced (as_changed f) a sink.after
       marker_refused_second f ends =
-          let part : Part = part_after q h.tokens in
-          fails_behind h.tokens (record mid.converter { reading = h.meets.reader }) (as_changed f) a sink.before sink.after
-          by_reader h.meets.reads h.come.bytes h.token text_before.0 text_before.1
-          (why_token h.tokens h.token f h.meets.reader new.converter.reading sink.before sink.after h.meets.reads.has_read.profile by_reader
-          (ends.place ∙ sym h.meets.place) (comes q left_old left_new given m mid new a sink takes_it so h)
-          (λ n free short is. ap (λ (n : Next). is_other expected n h.token) (marker_finishes q part h.token.kind (marker_text m.marker) h.meets.is free)
+          let part : Part = part_after q h.2.tokens in
+          fails_behind h.2.tokens (record mid.converter { reading = h.2.meets.reader }) (as_changed f) a sink.before sink.after
+          by_reader h.2.meets.reads (known_by mid.has_ended h.0) h.2.token known_now
+          (why_token h.2.tokens h.2.token f h.2.meets.reader new.converter.reading sink.before sink.after h.2.meets.reads.has_read.profile by_reader
+          (ends.place ∙ sym h.2.meets.place) (comes q left_old left_new given old m mid new a sink takes_it so h)
+          (λ n free short is. ap (λ (n : Next). is_other expected n h.2.token) (marker_finishes q part h.2.token.kind (marker_text m.marker) h.2.meets.is free)
           ∙ same_there)
-          ((takes q given h.tokens h.token m mid.converter a sink h.meets new.converter.reading (Err f) ends).accepts part
-          h.meets.reads.has_read.agrees))
+          ((takes q given h.2.tokens h.2.token m mid.converter a sink h.2.meets new.converter.reading (Err f) ends).accepts part
+          h.2.meets.reads.has_read.agrees))
 
       -- it is taken
       module _ (ends : EndsGame mid.converter.reading m new.converter.reading (Ok tt) sink)
@@ -383,35 +380,35 @@ module _ (q : Profile) (left_old left_new : Option (List ℕ)) (given : List Tok
           (games : new.converter.games ≡ mid.converter.games + 1)
           (finished : new.converter.just_finished ≡ Some (game_in_reader new.converter.reading)) (fault : new.converter.fault ≡ None) where
         abbrev g : Game
-        g = game_of (part_after q h.tokens) (marker_text m.marker)
+        g = game_of (part_after q h.2.tokens) (marker_text m.marker)
 
-        row : refusal q (part_after q h.tokens) h.token.kind ≡ None
-        row = free q left_old left_new given m mid new a sink takes_it so h ends
+        row : refusal q (part_after q h.2.tokens) h.2.token.kind ≡ None
+        row = free q left_old left_new given old m mid new a sink takes_it so h ends
 
-        goes_to : next (part_after q h.tokens) h.token.kind ≡ whole (game_of (part_after q h.tokens) (marker_text m.marker))
-        goes_to = leads q left_old left_new given m mid new a sink takes_it so h ends
+        goes_to : next (part_after q h.2.tokens) h.2.token.kind ≡ whole (game_of (part_after q h.2.tokens) (marker_text m.marker))
+        goes_to = leads q left_old left_new given old m mid new a sink takes_it so h ends
 
-        text_is : text_next w (next (part_after q h.tokens) h.token.kind) ≡ game_text q (game_of (part_after q h.tokens) (marker_text m.marker))
+        text_is : text_next w (next (part_after q h.2.tokens) h.2.token.kind) ≡ game_text q (game_of (part_after q h.2.tokens) (marker_text m.marker))
         text_is =
             grind (arith, common_steps, bytes_eq-Decides, and_parts, not-false, goes_to, same_game_text)
 
         pub game_written : GameWritten q left_old left_new given announced new a sink.after
         game_written =
             record {
-              tokens = h.tokens ++ h.token ∷ [];
-              stands = stands_behind q left_old left_new given m mid new a sink takes_it so h ends lexer unused ended games finished fault;
+              tokens = h.2.tokens ++ h.2.token ∷ [];
+              stands = stands_behind q left_old left_new given old m mid new a sink takes_it so h ends lexer unused ended games finished fault;
               game = g;
-              one_game = one_more q left_old left_new given m mid new a sink takes_it so h ends;
+              one_game = one_more q left_old left_new given old m mid new a sink takes_it so h ends;
               matched = λ ms matched.
-                  matched_next q ms expected h.tokens h.token (whole g) h.meets.reads.has_read.passes
-                  (differs_if q expected (part_after q h.tokens) h.token false row
-                  (ap (λ (n : Next). is_other expected n h.token) goes_to ∙ same_there)) goes_to
-                  (still_matched h.tokens (record mid.converter { reading = h.meets.reader }) a sink.before h.meets.reads h.come.bytes h.token
-                  text_before.0 text_before.1 ms matched);
+                  matched_next q ms expected h.2.tokens h.2.token (whole g) h.2.meets.reads.has_read.passes
+                  (differs_if q expected (part_after q h.2.tokens) h.2.token false row
+                  (ap (λ (n : Next). is_other expected n h.2.token) goes_to ∙ same_there)) goes_to
+                  (still_matched h.2.tokens (record mid.converter { reading = h.2.meets.reader }) a sink.before h.2.meets.reads h.2.token
+                  (begins_known (known_by mid.has_ended h.0) h.2.tokens h.2.token known_now) ms matched);
               written = subst (Appends a sink.after)
-                  (sym (next_is w (part_after q h.tokens) h.token.kind) ∙ text_is)
+                  (sym (next_is w (part_after q h.2.tokens) h.2.token.kind) ∙ text_is)
                   (Appends-trans a sink.before sink.after _ _
-                  (written_of h.tokens (record mid.converter { reading = h.meets.reader }) a sink.before by_reader h.meets.reads)
-                  (subst (λ (w : Profile). Appends sink.before sink.after (gain w (part_after q h.tokens) h.token.kind)) by_reader
-                  (game_accepted q given h.tokens h.token m mid.converter a sink h.meets new.converter.reading ends).appended));
+                  (written_of h.2.tokens (record mid.converter { reading = h.2.meets.reader }) a sink.before by_reader h.2.meets.reads)
+                  (subst (λ (w : Profile). Appends sink.before sink.after (gain w (part_after q h.2.tokens) h.2.token.kind)) by_reader
+                  (game_accepted q given h.2.tokens h.2.token m mid.converter a sink h.2.meets new.converter.reading ends).appended));
             }

@@ -2,18 +2,17 @@
 -- ended.
 use Rattle.pgn_lexer.specs.declared.partial_token.LexMode.{LexMode}
 use Rattle.pgn_game.specs.declared.marker.PlacedMarker.{PlacedMarker as CodePlacedMarker}
-use Rattle.pgn_game.specs.state.ConverterSteps.{IsReady, start_of}
-use Rattle.pgn_game.proofs.Words.{Start, ReachedAtEnd, all_bytes, first_bytes, last_step, Token, InputTooLong, Fault, Profile, ◌≡◌, ℕ, ◌^◌, ◌≤◌, arith, Bool, false, true, List, [], ◌∷◌, ◌++◌, length, Option, None, Some, Result, Ok, Err, IfSome, IsStill, CountsFault, refl, sym, ap, subst, ◌∙◌, Consumes-trans, Consumes, Stands, takes_the_marker, with_missing, Device, tokens_of, decided, Standing, coming, HasLeft, first, Converter, ReadsMore, StandsWithin, Reading, games_of, AreShown, EndsToMarker, taking_announced_marker, Games, MeetsNext, MarkerComes, within_limit, CountsReading, StopsBefore, IsAtEnd, UsesAll, AfterMarker, HasCome, HasGiven, ReadingStops, ReadFails, at_read, StandsIn, common_steps, IsReadyAfter, IfOk}
-use Rattle.pgn_game.specs.calls.ConverterCalls.{at_end}
-use Rattle.pgn_game.specs.state.GamesSteps as games_steps
-use Rattle.pgn_game.specs.state.Readings.{at_token}
-use Rattle.pgn_game.proofs.tokens.AcceptedToConverter.{follows_own}
-use Rattle.pgn_game.proofs.tokens.StepsAtEnd.{left_of}
-use Rattle.pgn_game.proofs.tokens.BytesWithinLimit.{none_next, shown_by}
-use Rattle.pgn_game.proofs.tokens.ReadsInText.{next_of, stands_within}
-use Rattle.pgn_game.proofs.tokens.LastTokens.{IsLeft, glyph, left_in, none, symbol}
-use Rattle.pgn_game.proofs.tokens.MissingCountsAs.{reads_taking}
-use Rattle.pgn_game.proofs.tokens.WholeInput.{known_left, known_whole}
+use Rattle.pgn_game.specs.steps.ConverterSteps.{IsReady, start_of}
+use Rattle.pgn_game.proofs.Words.{Start, ReachedAtEnd, all_bytes, first_bytes, last_step, Token, InputTooLong, Fault, Profile, ◌≡◌, ℕ, arith, Bool, false, true, List, [], ◌∷◌, ◌++◌, Option, None, Some, Result, Ok, Err, IfSome, IsStill, CountsFault, refl, sym, subst, ◌∙◌, Consumes-trans, Consumes, Stands, takes_the_marker, with_missing, Device, decided, Standing, coming, first, Converter, ReadsMore, StandsWithin, Reading, games_of, AreShown, EndsToMarker, taking_announced_marker, Games, MeetsNext, within_limit, CountsReading, StopsBefore, IsAtEnd, UsesAll, AfterMarker, AreNextIn, HasGiven, HasGivenIn, Known, ReaderState, ReadingStops, ReadFails, SourceGives, Stores, at_read, known_by, common_steps, IsReadyAfter, IfOk}
+use Rattle.pgn_game.specs.public.ConverterCalls.{at_end}
+use Rattle.pgn_game.specs.steps.GamesSteps as games_steps
+use Rattle.pgn_game.specs.steps.Readings.{at_token}
+use Rattle.pgn_game.proofs.stepping.StepsAtEnd.{left_of}
+use Rattle.pgn_game.proofs.stepping.BytesWithinLimit.{none_next, shown_by}
+use Rattle.pgn_game.proofs.stepping.ReadsInText.{next_of, stands_within}
+use Rattle.pgn_game.proofs.stepping.LastTokens.{IsLeft, glyph, left_in, none, symbol}
+use Rattle.pgn_game.proofs.stepping.MissingCountsAs.{reads_taking}
+use Rattle.pgn_game.proofs.stepping.WholeInput.{known_left, known_whole}
 use Rattle.pgn_game.proofs.twice.FailuresOfSteps.{behind_still, reader_reason}
 
 -- a lexer has a token left at the end
@@ -31,55 +30,40 @@ pub given_none : (p : Profile) (c d : Converter) (unused : List ℕ) (left : Opt
     → HasGiven (with_missing p takes_the_marker) left left (record { converter = d; unused = unused; has_ended = false }) []
 given_none p c d unused left stands is empty = grind (arith, common_steps, none_next, reads_taking)
 
--- where a reading stands, by whether its source has ended
-module _ (q : Profile) (left_old left : Option (List ℕ)) (r : Reading) (given : List Token) (h : HasGiven q left_old left r given) where
-  pub within_source : r.has_ended ≡ false → StandsWithin h.come.bytes (games_of r.converter r.unused) given
-  within_source is = (subst (λ e. StandsIn e r h.come.bytes given left_old) is h.come.stands).0
-
-  pub behind_source : r.has_ended ≡ true
-      → HasLeft r.converter.lexer h.come.bytes given × (r.converter.lexer.count ≡ length h.come.bytes) × (length h.come.bytes ≤ 2 ^ 62) × IfSome left_old (λ s. s ≡ h.come.bytes)
-  behind_source is = subst (λ e. StandsIn e r h.come.bytes given left_old) is h.come.stands
-
 -- what holds of the whole text
 pub of_whole : (left_old : Option (List ℕ)) (u : List ℕ) → IfSome left_old (λ s. s ≡ u) → (P : List ℕ → Type 0) → P u → IfSome left_old P
 of_whole left_old u whole P h = grind (arith, common_steps)
 
--- A text of the source begins with the tokens that have come, and its own text shows them.
-pub come_text : (left_old left_now : Option (List ℕ)) (r : Reading) (ts : List Token) (h : HasCome left_old left_now r ts)
-    → ((rest : List Token) × (tokens_of h.bytes ≡ ts ++ rest)) × IfSome left_old (λ s. AreShown s ts)
-come_text left_old left_now r ts h = by_end r.has_ended h.stands
+-- the text of a source begins with the tokens that the lexer has given of it
+pub next_in : (text : Known) (l : Standing) (ts : List Token) → HasGivenIn text l ts → AreNextIn text ts
+next_in (first_bytes s) l ts on = next_of s l ts on
+next_in (all_bytes s) l ts left = (coming l [], left)
+
+-- and it shows them
+pub shown_in : (left_old left_now : Option (List ℕ)) (r : Reading) (u : List ℕ) (ts : List Token) → SourceGives left_old left_now r u
+    → AreNextIn (known_by r.has_ended u) ts → IfSome left_old (λ s. AreShown s ts)
+shown_in left_old left_now r u ts gives = by_end r.has_ended gives.stores
   where
-    by_end : (e : Bool) → StandsIn e r h.bytes ts left_old → ((rest : List Token) × (tokens_of h.bytes ≡ ts ++ rest)) × IfSome left_old (λ s. AreShown s ts)
-    by_end false (stands, next) = (
-      (coming r.converter.lexer r.unused, ap tokens_of stands.bytes ∙ stands.lexer.tokens r.unused (follows_own r.unused)),
-      known_left left_old left_now h.bytes (λ s. AreShown s ts) h.consumed (λ rest. shown_by _ h.bytes rest ts refl next),
-    )
-    by_end true (left, count, short, is) =
-        ((coming r.converter.lexer [], left), of_whole left_old h.bytes is (λ s. AreShown s ts) (at_end short (coming r.converter.lexer []) left))
+    by_end : (e : Bool) → Stores e r.converter.lexer.count r.unused u left_old → AreNextIn (known_by e u) ts → IfSome left_old (λ s. AreShown s ts)
+    by_end false stores next = known_left left_old left_now u (λ s. AreShown s ts) gives.consumed (λ rest. shown_by _ u rest ts refl next)
+    by_end true (count, short, is) next = of_whole left_old u is (λ s. AreShown s ts) (at_end short next.0 next.1)
+
+-- where a reading stands whose source has not ended
+pub within_source : (q : Profile) (left_old left : Option (List ℕ)) (r : Reading) (given : List Token) (h : HasGiven q left_old left r given)
+    → r.has_ended ≡ false → StandsWithin h.bytes (games_of r.converter r.unused) given
+within_source q left_old left r given h is =
+    stands_within h.bytes (games_of r.converter r.unused) given (rw is at h.lexer) (rw is at h.source.stores)
 
 -- Where the source has ended: u is the whole text.
-module _ (left_old left_new : Option (List ℕ)) (start : Start) (u : List ℕ) (new : Converter) (c : Option (List ℕ))
-    (consumed : Consumes left_old left_new u) (whole : IfSome left_old (λ s. s ≡ u)) (count : new.lexer.count ≡ length u) (short : length u ≤ 2 ^ 62)
-    (unused : List ℕ) where
-  abbrev reading : Reading
-  reading = record { converter = new; unused = unused; has_ended = true }
-
-  pub met_at_end : (r : Result (Option CodePlacedMarker) Fault) → ReachedAtEnd start u new (last_step r) c
-      → AfterMarker start.profile left_old left_new start.given reading r start.before c
-  met_at_end (Ok (Some m)) h =
-      record {
-        tokens = h.tokens;
-        token = h.token;
-        come = record {
-          bytes = u;
-          consumed = consumed;
-          stands = (h.lexer, count, short, whole);
-        };
-        meets = h.meets;
-      }
-  met_at_end (Ok None) (h, between) = record { text = u; whole = whole; short = short; count = count; ends = h }
-  met_at_end (Err f) h =
-      at_token (all_bytes u) h (of_whole left_old u whole (λ s. AreShown s (h.tokens ++ h.token ∷ [])) (at_end short h.next.0 h.next.1))
+pub met_at_end : (left_old left_new : Option (List ℕ)) (start : Start) (n : ℕ) (b : Option ℕ) (reader : ReaderState) (u unused : List ℕ) (new : Converter) (c : Option (List ℕ))
+    → Consumes left_old left_new u → Stores true new.lexer.count unused u left_old → (r : Result (Option CodePlacedMarker) Fault)
+    → ReachedAtEnd (record start { count = n; next = b; reading = reader }) u new (last_step r) c
+    → AfterMarker left_old left_new start (record { converter = new; unused = unused; has_ended = true }) r c
+met_at_end left_old left_new start n b reader u unused new c consumed stores (Ok (Some m)) h =
+    (u, record { consumed = consumed; stores = stores }, record { tokens = h.tokens; token = h.token; lexer = h.lexer; meets = h.meets })
+met_at_end left_old left_new start n b reader u unused new c consumed stores (Ok None) (h, between) = (u, stores, h)
+met_at_end left_old left_new start n b reader u unused new c consumed (count, short, whole) (Err f) h =
+    at_token (all_bytes u) h (of_whole left_old u whole (λ s. AreShown s (h.tokens ++ h.token ∷ [])) (at_end short h.next.0 h.next.1))
 
 -- In the bytes of the source.
 module _ (q : Profile) (left_old left left_new : Option (List ℕ)) (given : List Token) (u more : List ℕ) (consumed : Consumes left_old left u) (taken : Consumes left left_new more)
@@ -105,30 +89,19 @@ module _ (q : Profile) (left_old left left_new : Option (List ℕ)) (given : Lis
 
   -- a marker was met
   pub met_in_source : (c : Converter) (unused : List ℕ) (m : CodePlacedMarker) (after : Option (List ℕ)) → MeetsNext start bytes m (games_of c unused) after
-      → MarkerComes q left_old left_new given m (record { converter = c; unused = unused; has_ended = false }) before after
-  met_in_source c unused m after h =
-      let ts = h.met.tokens ++ h.met.token ∷ [] in
-      record {
-        tokens = h.met.tokens;
-        token = h.met.token;
-        come = record {
-          bytes = bytes;
-          consumed = all;
-          stands = (stands_within bytes (games_of c unused) ts h.met.lexer.0 h.unused, next_of (within_limit bytes) c.lexer ts h.met.lexer.0);
-        };
-        meets = h.met.meets;
-      }
+      → AfterMarker left_old left_new start (record { converter = c; unused = unused; has_ended = false }) (Ok (Some m)) after
+  met_in_source c unused m after h = (bytes, record { consumed = all; stores = h.unused }, h.met)
 
   -- the source has just ended
   pub all_used : (now : Converter) (b : Option (List ℕ)) → UsesAll start bytes now b → IsAtEnd left_new
       → (unused : List ℕ) (new : Converter) (c : Option (List ℕ)) (sink : Device) (r : Result (Option CodePlacedMarker) Fault) → sink.before ≡ b
       → sink.after ≡ c → EndsToMarker now new r sink
-      → AfterMarker q left_old left_new given (record { converter = new; unused = unused; has_ended = true }) r before c
+      → AfterMarker left_old left_new start (record { converter = new; unused = unused; has_ended = true }) r c
   all_used now b so ended unused new c sink r from to ends =
       let left_over = left_of now.lexer bytes (first old.unused) so.tokens so.stands in
       let at : Start = start_of q now None given before in
-      met_at_end left_old left_new at bytes new c all (known_whole left_old left_new bytes (λ s. s ≡ bytes) all ended refl)
-      (ends.count ∙ so.stands.count) so.short unused r
+      met_at_end left_old left_new start now.lexer.count None now.reading bytes unused new c all
+      (ends.count ∙ so.stands.count, so.short, known_whole left_old left_new bytes (λ s. s ≡ bytes) all ended refl) r
       (subst (λ o. ReachedAtEnd at bytes new (last_step r) o) to
       (ends.after at bytes so.tokens (record { lexer = left_over; reads = subst (λ o. ReadsMore q given so.tokens now before o) (sym from) so.reads; stays = λ between. refl })))
 

@@ -3,8 +3,8 @@
 use Rattle.pgn_game.proofs.Words.{Token, Reason, Profile, Game, Part, ◌≡◌, ℕ, Bool, false, ◌||◌, is_some, List, [], ◌∷◌, ◌++◌, length, Option, None, Some, refl, sym, ap, subst, ◌∙◌, append_assoc, append-nil, tokens_of, RisesTo, TokensRise, refusal, is_end, Next, going, whole, next, Progress, progress_with, no_progress, progress_after, Read, read, read_from, PlacedMarker, marker_at, markers, markers_from, is_other, is_changed, markers_after, compared_from, compared, HasMarkers, HasMatched, SameGames, part_after, arith, common_steps}
 use Rattle.pgn_game.proofs.EqualReadings.{after_markers, markers_test, after_change, change_test}
 use Rattle.pgn_game.proofs.reading.RunsToEnd.{not_end}
-use Rattle.pgn_game.proofs.tokens.NoneBeforeFault.{reads_behind}
-use Rattle.pgn_game.proofs.tokens.OneMoreToken.{first_passes, goes_on, read-passes}
+use Rattle.pgn_game.proofs.stepping.NoneBeforeFault.{reads_behind}
+use Rattle.pgn_game.proofs.stepping.OneMoreToken.{first_passes, goes_on, read-passes}
 use Rattle.pgn_game.proofs.twice.CountingToTaking.{game_stays}
 
 module _ (q : Profile) (given : List Token) (t : Token) (ms : List PlacedMarker) where

@@ -1,16 +1,15 @@
 -- From what the calls of each game return, in both readings, to the conversion.
-use Rattle.pgn_game.proofs.Words.{Token, Reason, Changed, ReadFault, Fault, Profile, takes_the_marker, Game, no_part, ◌≡◌, ℕ, ◌+◌, ◌^◌, ◌<◌, ◌≤◌, max, Bool, true, false, List, [], ◌∷◌, ◌++◌, length, take, Option, None, Some, Ok, IfSome, refl, sym, ap, subst, ◌∙◌, append_assoc, append-nil, length-append, arith, IsTrue, map, sum, take-append-add, Appends-nil, Appends-trans, and_parts, not-false, bytes_eq-Decides, Appends, Device, FailsOnce, tokens_of, decided, coming, plies_of, text_next, gain, refusal, plies_of_finished_games, play_moves, verdict_in, MostTried, PlacedMarker, markers_from, is_other, is_changed, markers_after, Comparison, compared_from, compared, with_marker, torn_before, written_by, earlier_fault, BothSoFar, HasMarkers, Reading, changed_reason, model_marker, part_after, IfSome_then, Totals, game_text, torn, Next, going, whole, next, Progress, progress_with, progress_after, Read, read, totals, verdict_of, Decides, IsTokenPrefix, AreConverted, AreRefused, AreTotalled, HasTaken, MatchesAllMarkers, FirstStops, SecondStops, WriteStops, TwoReadingsFail, TwoReadingsConvert, AllRead, ComesNext, FirstFails, GameRead, GameWritten, HasCome, HasGiven, ReadFails, SecondFails, StandsIn, WhyFirst, WhySecond, as_changed, AreShown, common_steps}
+use Rattle.pgn_game.proofs.Words.{Token, Reason, Changed, ReadFault, Fault, Profile, takes_the_marker, Game, no_part, ◌≡◌, ℕ, ◌+◌, ◌^◌, ◌<◌, ◌≤◌, max, Bool, true, false, List, [], ◌∷◌, ◌++◌, length, take, Option, None, Some, Ok, IfSome, refl, sym, ap, subst, ◌∙◌, append_assoc, append-nil, length-append, arith, IsTrue, map, sum, take-append-add, Appends-nil, Appends-trans, and_parts, not-false, bytes_eq-Decides, Appends, Device, FailsOnce, tokens_of, decided, plies_of, text_next, gain, refusal, plies_of_finished_games, play_moves, verdict_in, MostTried, PlacedMarker, markers_from, is_other, is_changed, markers_after, Comparison, compared_from, compared, with_marker, torn_before, written_by, earlier_fault, BothSoFar, HasMarkers, Reading, changed_reason, model_marker, part_after, IfSome_then, Totals, game_text, torn, Next, going, whole, next, Progress, progress_with, progress_after, Read, read, totals, verdict_of, Decides, IsTokenPrefix, AreConverted, AreRefused, AreTotalled, HasTaken, MatchesAllMarkers, FirstStops, SecondStops, WriteStops, TwoReadingsFail, TwoReadingsConvert, AllRead, ComesNext, FirstFails, GameRead, GameWritten, HasGiven, ReadFails, SecondFails, Stores, WhyFirst, WhySecond, as_changed, AreNextIn, AreShown, known_by, common_steps}
 use Rattle.pgn_game.specs.declared.marker.PlacedMarker.{PlacedMarker as CodePlacedMarker}
 use Rattle.pgn_game.specs.export.Text.{text_of}
 use Rattle.pgn_game.specs.games.Progress.{refused as is_refused}
-use Rattle.pgn_game.specs.state.Readings as readings
+use Rattle.pgn_game.specs.steps.Readings as readings
 use Rattle.pgn_game.proofs.EqualReadings.{after_markers, markers_test, after_change, change_test, no_marker_ahead}
-use Rattle.pgn_game.proofs.tokens.NextGrows.{next_is}
-use Rattle.pgn_game.proofs.tokens.OneMoreToken.{read-refuses, text_of-snoc}
-use Rattle.pgn_game.proofs.tokens.AcceptedToConverter.{in_games}
-use Rattle.pgn_game.proofs.tokens.BytesWithinLimit.{decides_by, shown_begins}
-use Rattle.pgn_game.proofs.twice.MarkerToReading.{come_text}
-use Rattle.pgn_game.proofs.twice.GamesOfReadings.{begins}
+use Rattle.pgn_game.proofs.stepping.NextGrows.{next_is}
+use Rattle.pgn_game.proofs.stepping.OneMoreToken.{read-refuses, text_of-snoc}
+use Rattle.pgn_game.proofs.stepping.AcceptedToConverter.{in_games}
+use Rattle.pgn_game.proofs.stepping.BytesWithinLimit.{decides_by, shown_begins}
+use Rattle.pgn_game.proofs.twice.MarkerToReading.{next_in, shown_in}
 use Rattle.pgn_game.proofs.twice.MarkersInTurn.{matched_marker, not_changed, both_read}
 
 -- what follows for both texts, if both are known
@@ -23,13 +22,21 @@ both_known o n A B P first second goes =
 abbrev Begins : List Token → List ℕ → Type 0
 Begins given s = IsTokenPrefix given (tokens_of s)
 
--- the bytes of a source that were read decide the tokens that the reading has given
-decides : (r : Reading) (given : List Token) (d : Device) → HasCome d.before d.after r given → Decides d.before d.after given
-decides r given d h = by_end r.has_ended h.stands
-  where
-    by_end : (e : Bool) → StandsIn e r h.bytes given d.before → Decides d.before d.after given
-    by_end false (stands, next) = decides_by d.before d.after h.bytes given h.consumed next
-    by_end true (left, count, short, text_is) = Decides.at_end h.bytes h.consumed short text_is (coming r.converter.lexer [], left)
+-- What a reading has given: the text of its source shows the tokens, and the bytes that were read
+-- decide them.
+module _ (q : Profile) (left_old left_now : Option (List ℕ)) (r : Reading) (given : List Token) (h : HasGiven q left_old left_now r given) where
+  come : AreNextIn (known_by r.has_ended h.bytes) given
+  come = next_in (known_by r.has_ended h.bytes) r.converter.lexer given h.lexer
+
+  shown : IfSome left_old (λ s. AreShown s given)
+  shown = shown_in left_old left_now r h.bytes given h.source come
+
+  decides : Decides left_old left_now given
+  decides = by_end r.has_ended h.source.stores come
+    where
+      by_end : (e : Bool) → Stores e r.converter.lexer.count r.unused h.bytes left_old → AreNextIn (known_by e h.bytes) given → Decides left_old left_now given
+      by_end false stores next = decides_by left_old left_now h.bytes given h.source.consumed next
+      by_end true (count, short, is) next = Decides.at_end h.bytes h.source.consumed short is next
 
 pub both_none : (q : Profile) (first second : Option (List ℕ)) (a b : Reading) (o : Option (List ℕ))
     → HasGiven q first first a [] → HasGiven q second second b [] → BothSoFar q first first second second a b o o
@@ -99,7 +106,9 @@ module _ (q : Profile) (first second sink : Device) (first_now : Option (List �
   written = subst (HasTaken sink) (sym (append-nil (text_of q (read q so.second_tokens).progress.games))) so.written
 
   second_begins : IfSome second.before (Begins so.second_tokens)
-  second_begins = begins second.before second.after b so.second_tokens so.second_stands.has_given.come
+  second_begins =
+      IfSome_then second.before {P = λ r. AreShown r so.second_tokens} {Q = Begins so.second_tokens}
+      (shown _ _ _ _ _ so.second_stands.has_given) (λ r shown. shown_begins r so.second_tokens shown)
 
   converted : (s r : List ℕ) (o : Option Fault) → compared q (tokens_of s) (tokens_of r) ≡ at_marker → (read q (tokens_of s)).fault ≡ o
       → AreConverted q s r (verdict_of (record { progress = (read q so.second_tokens).progress; fault = o })) sink
@@ -118,7 +127,7 @@ module _ (q : Profile) (first second sink : Device) (first_now : Option (List �
       ap (λ n. totals (record { games = n; plies = sum (map plies_of c.games) })) (sym (games ∙ h.games))
       ∙ ap (λ n. totals (record { games = t.games; plies = n })) (sym (plies ∙ h.plies)) in
       both_known first.before second.before (λ s. (length s ≤ 2 ^ 62) × (tokens_of s ≡ tokens))
-      (λ r. AreShown r so.second_tokens) (λ s r. AreTotalled q s r t sink) reads.whole (come_text _ _ _ _ so.second_stands.has_given.come).1
+      (λ r. AreShown r so.second_tokens) (λ s r. AreTotalled q s r t sink) reads.whole (shown _ _ _ _ _ so.second_stands.has_given)
       (λ s r whole second_shown.
       let x = whole.1 in
       let y = shown_begins r so.second_tokens second_shown in
@@ -191,7 +200,7 @@ module _ (q : Profile) (first second sink : Device) (first_now : Option (List �
       TwoReadingsFail.refused f
       (both_known first.before second.before (λ s. AreShown s (tokens ++ t ∷ []))
       (λ r. AreShown r so.second_tokens) (λ s r. AreRefused q s r f × AreConverted q s r (is_refused f) sink)
-      comes (come_text _ _ _ _ so.second_stands.has_given.come).1
+      comes (shown _ _ _ _ _ so.second_stands.has_given)
       (λ s r first_shown second_shown.
       let x = shown_begins s (tokens ++ t ∷ []) first_shown in
       let y = shown_begins r so.second_tokens second_shown in
@@ -240,7 +249,7 @@ module _ (q : Profile) (first second sink : Device) (first_now second_now mid : 
   behind vs = markers_from q (read q first_tokens).progress vs
 
   first_decides : Decides first.before first.after first_tokens
-  first_decides = decides new_a first_tokens first reads.stands.has_given.come
+  first_decides = decides q first.before first.after new_a first_tokens reads.stands.has_given
 
   goes : (xs us vs ws : List Token) → xs ≡ first_tokens ++ vs → us ≡ tokens ++ ws
       → compared q xs us ≡ compared_from q (marker ∷ behind vs) c ws
@@ -323,7 +332,7 @@ module _ (q : Profile) (first second sink : Device) (first_now second_now mid : 
       ∙ ap (after_change q marker (behind vs) c t ws) changed in
       TwoReadingsFail.refused f
       (both_known first.before second.before (λ s. AreShown s first_tokens) (λ r. AreShown r (tokens ++ t ∷ []))
-      (λ s r. AreRefused q s r f × AreConverted q s r (is_refused f) sink) (come_text _ _ _ _ reads.stands.has_given.come).1 comes
+      (λ s r. AreRefused q s r f × AreConverted q s r (is_refused f) sink) (shown _ _ _ _ _ reads.stands.has_given) comes
       (λ s r first_shown second_shown.
       let x = shown_begins s first_tokens first_shown in
       let y = shown_begins r (tokens ++ t ∷ []) second_shown in

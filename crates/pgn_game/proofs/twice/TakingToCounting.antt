@@ -3,7 +3,7 @@
 -- Letters: q is the profile whose missing Result takes the marker, b the progress, t a token, ts
 -- are tokens.
 use Rattle.pgn_game.proofs.Words.{Token, Profile, takes_the_marker, Game, ◌≡◌, inl, inr, ℕ, List, [], ◌∷◌, ◌++◌, bytes_eq, Option, None, Some, IsTrue, refl, sym, ap, ◌∙◌, list_all-append, bytes_eq-Decides, counting, refusal, marker_of, Next, going, whole, next, Progress, progress_with, progress_after, read_from, and_parts, all_end_with, arith, common_steps}
-use Rattle.pgn_game.proofs.tokens.OneMoreToken.{by_token, first_passes, goes_on}
+use Rattle.pgn_game.proofs.stepping.OneMoreToken.{by_token, first_passes, goes_on}
 use Rattle.pgn_game.proofs.twice.MarkerCounts.{marker_finishes, refusal_counting}
 
 -- the games so far are among those of all tokens

@@ -11,9 +11,9 @@ use Rattle.pgn_lexer.specs.Decided.{decided}
 use Rattle.pgn_game.specs.declared.conversion.Totals.{Totals}
 use Rattle.pgn_game.specs.games.Profile.{Profile, takes_the_marker}
 use Rattle.pgn_game.specs.games.Progress.{due, output, verdict}
-use Rattle.pgn_game.specs.calls.Checked.{PlacedMarker, Comparison, compared, written_by, checked_output, checked_verdict}
-use Rattle.pgn_game.specs.calls.Conversion.{IsTotalled}
-use Rattle.pgn_game.specs.calls.CheckedConversion.{AreTotalled}
+use Rattle.pgn_game.specs.public.Checked.{PlacedMarker, Comparison, compared, written_by, checked_output, checked_verdict}
+use Rattle.pgn_game.specs.public.Conversion.{IsTotalled}
+use Rattle.pgn_game.specs.public.CheckedConversion.{AreTotalled}
 use Rattle.pgn_game.specs.laws.Laws.{IsPrefix}
 
 -- If both readings give the same text, its verdict and its output are those of one reading.

@@ -15,7 +15,7 @@ use Rattle.pgn_game.specs.games.Levels.{plies_of}
 use Rattle.pgn_game.specs.export.Text.{text_of}
 use Rattle.pgn_game.specs.games.Progress.{Counted, read, output, verdict, totals}
 use Rattle.pgn_game.specs.games.Spells.{Spells}
-use Rattle.pgn_game.specs.calls.Conversion.{AfterConversion, AfterSlice}
+use Rattle.pgn_game.specs.public.Conversion.{AfterConversion, AfterSlice}
 use Rattle.pgn_game.specs.laws.Filled.{exported_pairs, filled}
 
 -- The tag section that is written has no more lines than a game may have pairs.

@@ -12,7 +12,7 @@ use Rattle.pgn_game.specs.games.Game.{Game}
 use Rattle.pgn_game.specs.games.FaultTable.{marker_of, result_for}
 use Rattle.pgn_game.specs.export.Text.{text_of}
 use Rattle.pgn_game.specs.games.Progress.{read, due}
-use Rattle.pgn_game.specs.calls.ConverterCalls.{Converter, Stands}
+use Rattle.pgn_game.specs.public.ConverterCalls.{Converter, Stands}
 use Rattle.pgn_game.specs.laws.GamesRestart.{games_read, FinishesGame}
 
 -- The token that finishes a game is its marker, which is the Result of its tag section. After it

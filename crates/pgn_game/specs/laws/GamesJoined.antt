@@ -11,9 +11,9 @@ use Rattle.pgn_game.specs.declared.reason.Fault.{Fault}
 use Rattle.pgn_game.specs.games.Profile.{Profile}
 use Rattle.pgn_game.specs.export.Text.{text_of}
 use Rattle.pgn_game.specs.games.Progress.{output, totals, verdict}
-use Rattle.pgn_game.specs.calls.ConverterCalls.{FinishedGame, finished_game_of}
-use Rattle.pgn_game.specs.calls.Conversion.{Fails}
-use Rattle.pgn_game.specs.calls.GamesCalls.{Games, HaveRead, ReadsNext}
+use Rattle.pgn_game.specs.public.ConverterCalls.{FinishedGame, finished_game_of}
+use Rattle.pgn_game.specs.public.Conversion.{Fails}
+use Rattle.pgn_game.specs.public.GamesCalls.{Games, HaveRead, ReadsNext}
 use Rattle.pgn_game.specs.laws.GamesRestart.{games_read}
 
 -- Calls of `next` one after another, which all returned `true`. Each gets the source and the sink

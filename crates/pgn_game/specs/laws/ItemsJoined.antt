@@ -8,9 +8,9 @@ use Rattle.pgn_lexer.specs.TokensOf.{tokens_of}
 use Rattle.pgn_game.specs.declared.reason.Fault.{Fault}
 use Rattle.pgn_game.specs.declared.reason.Reason.TheVariants.{ReadFault}
 use Rattle.pgn_game.specs.games.Profile.{Profile}
-use Rattle.pgn_game.specs.games.Progress.{read}
-use Rattle.pgn_game.specs.calls.Given.{Given, given_of}
-use Rattle.pgn_game.specs.calls.ItemsCalls.{GivesFault, GivesNoItem, HaveGiven, Items, given_next}
+use Rattle.pgn_game.specs.games.Progress.{position_at_fault, read}
+use Rattle.pgn_game.specs.public.Given.{Given, given_of}
+use Rattle.pgn_game.specs.public.ItemsCalls.{GivesFault, GivesNoItem, HaveGiven, Items, given_next, refused_items_position}
 
 -- all that is given of the text s
 abbrev pub all_given : Profile → List ℕ → List Given
@@ -32,6 +32,13 @@ GivenIsFront =
     (p : Profile) (u rest : List ℕ) (i : Items) (given : List Given) → HaveGiven p (Some rest) u i given
     → IsFront (given ++ given_next i.current) (all_given p (u ++ rest))
 
+-- The tokens of what was given are the first ones of the text. If a marker was given last, it is
+-- the last of them, and `HaveGiven.marker_ends` says that it ends where the next byte is.
+abbrev pub TokensAreFirst : Type 0
+TokensAreFirst =
+    (p : Profile) (u rest : List ℕ) (i : Items) (given : List Given) (have : HaveGiven p (Some rest) u i given)
+    → (later : List Token) × (tokens_of (u ++ rest) ≡ have.tokens ++ later)
+
 -- All is given of the text s, and this is its fault, if a token is rejected.
 pub record GivenAll (p : Profile) (s : List ℕ) (given : List Given) (fault : Option Fault) : Type 0 where
   pub whole : all_given p s ≡ given
@@ -43,6 +50,12 @@ EndGivesAll =
     (p : Profile) (u rest : List ℕ) (given : List Given) (left_new : Option (List ℕ)) (new : Items)
     → GivesNoItem p u given (Some rest) left_new new
     → (length (u ++ rest) ≤ 2 ^ 62) × GivenAll p (u ++ rest) given None
+
+-- All bytes of the text are used then.
+abbrev pub EndUsesAll : Type 0
+EndUsesAll =
+    (p : Profile) (u rest : List ℕ) (given : List Given) (left_new : Option (List ℕ)) (new : Items)
+    → GivesNoItem p u given (Some rest) left_new new → new.lexer.count ≡ length (u ++ rest)
 
 -- a read failed, which the source has counted
 pub record ReadHasFailed (source : Device) (f : Fault) : Type 0 where
@@ -56,3 +69,10 @@ FaultGivesAll =
     (p : Profile) (u rest : List ℕ) (given : List Given) (source : Device) (new : Items) (f : Fault)
     → source.before ≡ Some rest → length (u ++ rest) ≤ 2 ^ 62 → GivesFault p u given source new f
     → ReadHasFailed source f ⊎ GivenAll p (u ++ rest) given (Some f)
+
+-- If such a fault is about a move, the items keep the position in which it was rejected.
+abbrev pub FaultKeepsPosition : Type 0
+FaultKeepsPosition =
+    (p : Profile) (u rest : List ℕ) (given : List Given) (source : Device) (new : Items) (f : Fault)
+    → source.before ≡ Some rest → length (u ++ rest) ≤ 2 ^ 62 → GivesFault p u given source new f
+    → ReadHasFailed source f ⊎ (refused_items_position new ≡ position_at_fault (read p (tokens_of (u ++ rest))))

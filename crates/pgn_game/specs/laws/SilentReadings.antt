@@ -4,7 +4,7 @@ use Rattle.std.specs.Prelude.{◌≡◌, ℕ, ◌≤◌, true, false, List, None
 use Rattle.pgn_lexer.specs.Tokens.{Token}
 use Rattle.pgn_game.specs.games.Profile.{Profile}
 use Rattle.pgn_game.specs.games.Progress.{read}
-use Rattle.pgn_game.specs.calls.MostTried.{MostTried}
+use Rattle.pgn_game.specs.public.MostTried.{MostTried}
 
 -- How many pairs a silent reading tries for one token.
 -- - `few`: at most 8.

@@ -2,7 +2,7 @@
 use Rattle.pgn_tool.proofs.Words.{◌≡◌, ◌∙◌, ℕ, List, ◌∷◌, ◌++◌, length, take, Option, Some, None, [], ap, append_assoc, append-nil, subst, sym, take-append_seam, Result, Ok, Err, Appends, Consumes, Device, Token, tokens_of, decided, Fault, Totals, Profile, takes_the_marker, Verdict, due, output, AreConverted, IsTokenPrefix, TwoReadingsConvert, Decides, FirstStops, SecondStops, TwoReadingsFail, HasTaken, first_too_long, first_unread, second_too_long, second_unread, unwritten, EqualReadings, InterruptedReadings, HasFront, Gives, arith, common_steps, AreShown}
 use Rattle.pgn_lexer.specs.Laws.{DecidedIsPrefix}
 use Rattle.pgn_game.specs.laws.Laws.{DueGrows, IsPrefix}
-use Rattle.pgn_game.specs.calls.Checked.{compared, written_by}
+use Rattle.pgn_game.specs.public.Checked.{compared, written_by}
 
 front_is : (out : Device) (written whole : List ℕ) → IsPrefix written whole → HasTaken out written → HasFront out whole
 front_is out written whole prefix taken =

@@ -2,22 +2,22 @@
 use crate::{Vector, converted, tables};
 use chess_rules::{Colour, Position, Probes};
 use chess_text::{read_fen, read_uci, write_fen};
-use pgn_game::{Fault, Inlet, Item, Items, Mode, Outlet, Sink, find_move};
+use pgn_game::{Fault, Inlet, Item, Items, Mode, Outlet, Sink, Totals, find_move};
 use std::io::{self, Read};
 use std::process::Abort;
 use std::test::Fail;
 
 /// Items with the limits of the program: 64 pairs, and variations to depth 32.
-type UsualItems = Items<64, 33>;
+pub type UsualItems = Items<64, 33>;
 
 /// How many bytes a read gives at most.
-const LENGTHS: [usize; 6] = [1, 2, 3, 7, 64, 4096];
+pub const LENGTHS: [usize; 6] = [1, 2, 3, 7, 64, 4096];
 
 /// A reader that gives at most so many bytes a call.
 #[derive(Drop)]
-struct Drops<'a> {
-    left: &'a [u8],
-    most: usize,
+pub struct Drops<'a> {
+    pub left: &'a [u8],
+    pub most: usize,
 }
 
 impl Read for Drops<'_> {
@@ -33,7 +33,7 @@ impl Read for Drops<'_> {
 }
 
 /// Appends the bytes to the text.
-fn append(text: &mut Vec<u8>, bytes: &[u8]) {
+pub fn append(text: &mut Vec<u8>, bytes: &[u8]) {
     if !bytes.is_empty() {
         let _ = Outlet::new(text).write_some(bytes);
     }
@@ -61,6 +61,14 @@ struct Written {
     games: u64,
     plies: u64,
 }
+
+/// Nothing is written.
+const NOTHING_WRITTEN: Written = Written {
+    line: 0,
+    is_after_move: false,
+    games: 0,
+    plies: 0,
+};
 
 impl Written {
     /// Goes on to where a token of this length goes: on the line if it fits, else on the next one.
@@ -148,12 +156,7 @@ fn write_items<R: Read>(
     text: &mut Vec<u8>,
 ) -> (Written, Option<Fault>) {
     text.clear();
-    let mut written = Written {
-        line: 0,
-        is_after_move: false,
-        games: 0,
-        plies: 0,
-    };
+    let mut written = NOTHING_WRITTEN;
     // An input has fewer items than that.
     for _ in 0..u64::MAX {
         match items.next(source) {
@@ -229,6 +232,56 @@ fn the_items_of_each_vector_are_its_export(rt: HostRuntime) {
     let mut export = Vec::new(rt.alloc());
     for table in tables() {
         agrees_each(&rt, table, &mut text, &mut export);
+    }
+}
+
+/// Each marker ends where the items say: the text up to there has the games so far, and without its
+/// last byte it has not.
+fn ends_at_markers(rt: &impl Abort, vector: &Vector, most: usize, text: &mut Vec<u8>) {
+    let input = vector.input.as_bytes();
+    let mut items = UsualItems::new();
+    let mut source = Inlet::new(Drops { left: input, most });
+    // An input has fewer items than that.
+    for _ in 0..u64::MAX {
+        let Ok(Some(item)) = items.next(&mut source) else {
+            return;
+        };
+        if matches!(item, Item::Marker(_)) {
+            let end = items.place() as usize;
+            let whole = converted(input.get(..end).unwrap_or_default(), Mode::Full, text);
+            assert!(rt;
+                has_games(whole, items.games()),
+                "{} by {most}",
+                vector.name
+            );
+            let short = input.get(..end.saturating_sub(1)).unwrap_or_default();
+            let cut = converted(short, Mode::Full, text);
+            assert!(rt; !has_games(cut, items.games()), "{} by {most}", vector.name);
+        }
+    }
+}
+
+/// The run has no fault, and so many games.
+fn has_games(run: Result<Totals, Fault>, games: u64) -> bool {
+    match run {
+        Ok(totals) => totals.games == games,
+        Err(_) => false,
+    }
+}
+
+fn ends_each(rt: &impl Abort, table: &[Vector], text: &mut Vec<u8>) {
+    for vector in table {
+        for most in LENGTHS {
+            ends_at_markers(rt, vector, most, text);
+        }
+    }
+}
+
+#[test]
+fn each_marker_ends_where_the_items_say(rt: HostRuntime) {
+    let mut text = Vec::new(rt.alloc());
+    for table in tables() {
+        ends_each(&rt, table, &mut text);
     }
 }
 

@@ -1,7 +1,10 @@
 //! The position in which a move was rejected.
+use crate::tests::items::{Drops, LENGTHS, UsualItems};
 use crate::{Usual, feed, feed_once};
+use chess_rules::Position;
 use chess_text::write_fen;
-use pgn_game::{Fault, Fed, Marker, Mode, Nowhere, Reason};
+use pgn_game::{Fault, Fed, Inlet, Marker, Mode, Nowhere, Reason};
+use std::io::Read;
 use std::process::Abort;
 
 /// The usual first position.
@@ -74,6 +77,60 @@ fn rejects_in(rt: &impl Abort, input: &[u8], fault: Fault, fen: &[u8]) {
 fn tells_where_a_move_was_rejected(rt: HostRuntime) {
     for &(input, at, reason, fen) in REFUSED {
         rejects_in(&rt, input, Fault { at, reason }, fen);
+    }
+}
+
+/// Reads the items up to the end or a fault. No move is rejected before it.
+fn read_items<R: Read>(
+    rt: &impl Abort,
+    items: &mut UsualItems,
+    source: &mut Inlet<R>,
+) -> Option<Fault> {
+    // An input has fewer items than that.
+    for _ in 0..u64::MAX {
+        assert!(rt; items.refused_position().is_none());
+        match items.next(source) {
+            Ok(Some(_)) => {}
+            Ok(None) => return None,
+            Err(fault) => return Some(fault),
+        }
+    }
+    None
+}
+
+/// The position has this FEN, or there is none.
+fn is_kept(rt: &impl Abort, position: Option<&Position>, fen: Option<&[u8]>) {
+    match position {
+        Some(position) => assert!(rt; Some(write_fen(position).as_slice()) == fen),
+        None => assert!(rt; fen.is_none()),
+    }
+}
+
+/// The items end with this fault, and keep the position of this FEN, if a move was rejected.
+fn items_keep(rt: &impl Abort, input: &[u8], fault: Fault, fen: Option<&[u8]>, most: usize) {
+    let mut items = UsualItems::new();
+    let mut source = Inlet::new(Drops { left: input, most });
+    assert!(rt; read_items(rt, &mut items, &mut source) == Some(fault));
+    is_kept(rt, items.refused_position(), fen);
+    assert!(rt; items.next(&mut source) == Err(fault));
+    is_kept(rt, items.refused_position(), fen);
+}
+
+#[test]
+fn the_items_keep_where_a_move_was_rejected(rt: HostRuntime) {
+    for &(input, at, reason, fen) in REFUSED {
+        for most in LENGTHS {
+            items_keep(&rt, input, Fault { at, reason }, Some(fen), most);
+        }
+    }
+}
+
+#[test]
+fn the_items_keep_no_position_with_another_fault(rt: HostRuntime) {
+    for &(input, at, reason) in OTHER_FAULTS {
+        for most in LENGTHS {
+            items_keep(&rt, input, Fault { at, reason }, None, most);
+        }
     }
 }
 

@@ -1,5 +1,5 @@
 use Rattle.std.proofs.Common.{◌≤◌, ◌^◌, ℕ, List, ◌++◌, length, Some, arith, refl, sym, subst, ◌∙◌}
-use Rattle.pgn_game.specs.calls.ItemsCalls.{GivesItem}
+use Rattle.pgn_game.specs.public.ItemsCalls.{GivesItem}
 use Rattle.pgn_game.specs.declared.mode.Mode.TheVariants.{Full}
 use Rattle.pgn_c.specs.Results.{profile_in}
 use Rattle.pgn_c.proofs.ItemsGiven.{all_given_written, buffer_full, fault_written, game_written, more, room_after}
@@ -48,7 +48,8 @@ returns-then-is_marker c u have short =
     game_written c.args.fields s c.args.first c.args.buffer.now c.loop-fault.buffer c.loop-fault.items c.loop-fault.source.left.now c.loop-fault.lines
     (omega (arith, c.ranges.first.fits)) so left c.next.new.self c.in-Ok-Some.item gives c.put_item.new.self c.put_item.new.buffer c.put_item.result c.put_item.ensures
     (c.items_join.ensures.front (profile_in Full) (so.u ++ gives.more) left c.next.new.self _ gives.have_given) c.whole_game.result
-    c.if-not-put_item.false (sym c.is_marker.ensures ∙ c.if-is_marker.true) _ c.whole_game.ensures
+    c.if-not-put_item.false (sym c.is_marker.ensures ∙ c.if-is_marker.true) _ c.whole_game.ensures c.place.ensures
+    (c.items_join.ensures.first (profile_in Full) (so.u ++ gives.more) left c.next.new.self _ gives.have_given)
 
 pub loop-fault-preserved : goal.loop-fault-preserved
 loop-fault-preserved c = record {

@@ -1,4 +1,4 @@
-use Rattle.pgn_game.specs.calls.ItemsCalls.{items_ahead}
+use Rattle.pgn_game.specs.public.ItemsCalls.{items_ahead}
 use Rattle.pgn_c.specs.ItemSteps.{WritesSoFar}
 use Rattle.pgn_c.proofs.items.write_game.Given as goal
 

@@ -1,5 +1,5 @@
 use Rattle.pgn_c.proofs.Words.{◌≡◌, Bool, true, false, drop, refl, ap, text_from, ◌∙◌, arith}
-use Rattle.pgn_game.specs.calls.ConverterCalls.{Converter}
+use Rattle.pgn_game.specs.public.ConverterCalls.{Converter}
 use Rattle.pgn_layout.specs.Device.{nowhere}
 use Rattle.pgn_c.specs.NextGameSteps.{profile_if, silenced_if}
 use Rattle.pgn_c.proofs.NextGames.{finds_as}

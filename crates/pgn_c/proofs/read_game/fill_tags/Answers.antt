@@ -1,6 +1,6 @@
 use Rattle.pgn_c.proofs.Words.{◌≡◌, ℕ, length, take, Some, ap, sym, subst, ◌∙◌, arith, length-take-le}
 use Rattle.pgn_layout.specs.Device.{Writes}
-use Rattle.pgn_game.specs.calls.ConverterCalls.{finished_game_section}
+use Rattle.pgn_game.specs.public.ConverterCalls.{finished_game_section}
 use Rattle.pgn_c.specs.NextGame.{section_full}
 use Rattle.pgn_c.proofs.ConversionToBuffer.{filled}
 use Rattle.pgn_c.proofs.TagSections.{all_written, some_written}

@@ -1,6 +1,6 @@
 use Rattle.pgn_game.proofs.Words.{◌-◌, true, ap, Converter, profile_of, device, None}
 use Rattle.pgn_game.proofs.putting.SilentReader.{ready_silently}
-use Rattle.pgn_game.proofs.tokens.WholeInput.{is_short}
+use Rattle.pgn_game.proofs.stepping.WholeInput.{is_short}
 use Rattle.pgn_game.proofs.twice.FailuresOfSteps.{no_write_in}
 use Rattle.pgn_game.proofs.conversion.check.Goals as goal
 

@@ -1,6 +1,6 @@
 use Rattle.pgn_game.proofs.Words.{◌-◌, true, ap, profile_of, None, Converter}
 use Rattle.pgn_game.proofs.putting.SilentReader.{ready_silently}
-use Rattle.pgn_game.proofs.tokens.WholeInput.{is_short_slice}
+use Rattle.pgn_game.proofs.stepping.WholeInput.{is_short_slice}
 use Rattle.pgn_game.proofs.twice.FailuresOfSteps.{no_write_to}
 use Rattle.pgn_game.proofs.conversion.check_slice.Goals as goal
 

@@ -1,5 +1,5 @@
 use Rattle.pgn_game.proofs.Words.{◌-◌, false, profile_of}
-use Rattle.pgn_game.proofs.tokens.WholeInput.{is_short}
+use Rattle.pgn_game.proofs.stepping.WholeInput.{is_short}
 use Rattle.pgn_game.proofs.conversion.convert.Goals as goal
 
 pub convert_all-requires : goal.convert_all-requires

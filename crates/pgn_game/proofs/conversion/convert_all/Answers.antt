@@ -1,7 +1,7 @@
 use Rattle.pgn_game.proofs.Words.{KeepsSilence, sink_of, refl, ◌∙◌, device, Device, err_from_is_err_and, games_of, ReadsNext}
 use Rattle.pgn_game.proofs.ReaderFitsInMemory.{fits_alike}
 use Rattle.pgn_game.proofs.putting.SilentReader.{seen_alike, silence_kept, silence_then}
-use Rattle.pgn_game.proofs.tokens.WholeInput.{none_read, read_none, games_more, games_end, games_stop}
+use Rattle.pgn_game.proofs.stepping.WholeInput.{none_read, read_none, games_more, games_end, games_stop}
 use Rattle.pgn_game.proofs.conversion.convert_all.Goals as goal
 use Rattle.pgn_game.proofs.conversion.convert_all.Goals.{After-next_game}
 

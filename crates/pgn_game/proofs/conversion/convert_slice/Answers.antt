@@ -1,5 +1,5 @@
 use Rattle.pgn_game.proofs.Words.{◌-◌, false, profile_of, device}
-use Rattle.pgn_game.proofs.tokens.WholeInput.{is_short_slice}
+use Rattle.pgn_game.proofs.stepping.WholeInput.{is_short_slice}
 use Rattle.pgn_game.proofs.conversion.convert_slice.Goals as goal
 
 pub convert_text-requires : goal.convert_text-requires

@@ -1,6 +1,6 @@
 use Rattle.pgn_game.proofs.Words.{refl, err_from_is_err_and, arith}
 use Rattle.pgn_game.proofs.ReaderFitsInMemory.{fits_alike}
-use Rattle.pgn_game.proofs.tokens.WholeInput.{slice_stops, slice_ends}
+use Rattle.pgn_game.proofs.stepping.WholeInput.{slice_stops, slice_ends}
 use Rattle.pgn_game.proofs.conversion.convert_text.Goals as goal
 
 pub feed_all-requires : goal.feed_all-requires

@@ -1,6 +1,6 @@
 use Rattle.pgn_game.proofs.Words.{err_from_is_err_and}
 use Rattle.pgn_game.proofs.ReaderFitsInMemory.{fits_alike}
-use Rattle.pgn_game.proofs.tokens.WholeInput.{ended}
+use Rattle.pgn_game.proofs.stepping.WholeInput.{ended}
 use Rattle.pgn_game.proofs.conversion.end.Goals as goal
 
 pub returns-in_err-finish-clause-ends : goal.returns-in_err-finish-clause-ends

@@ -1,6 +1,6 @@
 use Rattle.pgn_game.proofs.Words.{Writer, ◌≡◌, ℕ, Appends-nil, All-nil, IsToken, Parts, PutsTokens, Some, ap, arith, device, false, is_nothing, is_written, length, max, mode_of_written, refl, subst, sym, tokens_at, true, ◌∙◌}
 use Rattle.pgn_layout.specs.declared.sink.WriteFault.{WriteFault}
-use Rattle.pgn_game.specs.calls.MostTried.{CostsToWrite}
+use Rattle.pgn_game.specs.public.MostTried.{CostsToWrite}
 use Rattle.pgn_game.specs.games.Game.{move}
 use Rattle.pgn_game.proofs.putting.ItemToMovetext.{not_silent}
 use Rattle.pgn_game.proofs.putting.SilentReader.{seen_if}

@@ -1,6 +1,6 @@
 use Rattle.pgn_game.proofs.Words.{sym, games_of, seen, Fault, ◌≡◌, Bool, Result, Ok, Err, refl, ◌∙◌, arith, Device, device, CountsFault, CountsNext, EndsGame, Ends, CountsGame}
 use Rattle.pgn_game.proofs.ReaderFitsInMemory.{fits_alike}
-use Rattle.pgn_game.proofs.tokens.GamesInTurn.{begins, game_read, marker_stops, stops_before, stands_at_end, finished}
+use Rattle.pgn_game.proofs.stepping.GamesInTurn.{begins, game_read, marker_stops, stops_before, stands_at_end, finished}
 use Rattle.pgn_game.proofs.putting.SilentReader.{none_fails, seen_alike, silence_then}
 use Rattle.pgn_game.proofs.twice.FailuresOfSteps.{behind_still, no_write_seen, reader_reason}
 use Rattle.pgn_game.proofs.reader.ErrorReturned.{error_returned}

@@ -1,6 +1,6 @@
 use Rattle.pgn_game.proofs.Words.{◌∙◌, drop-length, le_trans, length, refl, sym}
 use Rattle.pgn_game.proofs.ReaderFitsInMemory.{fits_alike}
-use Rattle.pgn_game.proofs.tokens.GoesToMarker.{keeps_as}
+use Rattle.pgn_game.proofs.stepping.GoesToMarker.{keeps_as}
 use Rattle.pgn_game.proofs.reader.ErrorReturned.{error_returned}
 use Rattle.pgn_game.proofs.games.feed_rest.Goals as goal
 

@@ -1,6 +1,6 @@
 use Rattle.pgn_game.proofs.Words.{le_refl, refl, sym, ◌∙◌, games_of}
 use Rattle.pgn_game.proofs.ReaderFitsInMemory.{fits_alike}
-use Rattle.pgn_game.proofs.tokens.GamesInTurn.{at_end_again}
+use Rattle.pgn_game.proofs.stepping.GamesInTurn.{at_end_again}
 use Rattle.pgn_game.proofs.games.next_game.Goals as goal
 
 pub fault-requires : goal.fault-requires

@@ -1,8 +1,8 @@
 use Rattle.pgn_game.proofs.Words.{None, [], ◌++◌, append-nil, drop-length, sym, Consumes-nil, Consumes-trans, ℕ, Ok, refl, ap, ◌∙◌, device, le_refl, le_trans, games_of, one_more, sink_of, FeedsRest, ReadsSoFar}
 use Rattle.pgn_game.proofs.twice.FailuresOfSteps.{behind_still, reader_reason}
-use Rattle.pgn_game.proofs.tokens.GoesToMarker.{keeps_behind, keeps_failing}
-use Rattle.pgn_game.proofs.tokens.BytesToMarker.{none_yet, rest_stops, filled, at_source_end, unread, unused_now}
-use Rattle.pgn_game.proofs.tokens.WholeInput.{keeps_consumed}
+use Rattle.pgn_game.proofs.stepping.GoesToMarker.{keeps_behind, keeps_failing}
+use Rattle.pgn_game.proofs.stepping.BytesToMarker.{none_yet, rest_stops, filled, at_source_end, unread, unused_now}
+use Rattle.pgn_game.proofs.stepping.WholeInput.{keeps_consumed}
 use Rattle.pgn_game.proofs.putting.SilentReader.{seen_alike, silence_kept, silence_then}
 use Rattle.pgn_game.proofs.reader.ErrorReturned.{error_returned}
 use Rattle.pgn_game.proofs.games.next_marker.Given.{Over}

@@ -1,4 +1,4 @@
-use Rattle.pgn_game.proofs.tokens.OneMoreToken.{due_grows}
+use Rattle.pgn_game.proofs.stepping.OneMoreToken.{due_grows}
 use Rattle.pgn_game.proofs.laws.due_grows.Goals as goal
 
 pub returns : goal.returns

@@ -1,4 +1,4 @@
-use Rattle.pgn_game.proofs.tokens.MarkerEndsGame as marker_ends_game
+use Rattle.pgn_game.proofs.stepping.MarkerEndsGame as marker_ends_game
 use Rattle.pgn_game.proofs.laws.games_end_by_marker.Goals as goal
 
 pub returns : goal.returns

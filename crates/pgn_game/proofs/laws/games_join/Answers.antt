@@ -1,4 +1,4 @@
-use Rattle.pgn_game.proofs.tokens.GamesJoined.{games_join}
+use Rattle.pgn_game.proofs.stepping.GamesJoined.{games_join}
 use Rattle.pgn_game.proofs.laws.games_join.Goals as goal
 
 pub returns : goal.returns

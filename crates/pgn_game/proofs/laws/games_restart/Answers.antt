@@ -1,4 +1,4 @@
-use Rattle.pgn_game.proofs.tokens.GamesRestart as games_restart
+use Rattle.pgn_game.proofs.stepping.GamesRestart as games_restart
 use Rattle.pgn_game.proofs.laws.games_restart.Goals as goal
 
 pub returns : goal.returns

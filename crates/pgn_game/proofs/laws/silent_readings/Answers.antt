@@ -1,4 +1,4 @@
-use Rattle.pgn_game.proofs.tokens.PairsTriedSilently.{tries_few, tries_fewer}
+use Rattle.pgn_game.proofs.stepping.PairsTriedSilently.{tries_few, tries_fewer}
 use Rattle.pgn_game.proofs.laws.silent_readings.Goals as goal
 
 pub returns : goal.returns

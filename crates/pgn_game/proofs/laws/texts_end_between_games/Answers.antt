@@ -1,4 +1,4 @@
-use Rattle.pgn_game.proofs.tokens.TextEndsGame as text_ends_game
+use Rattle.pgn_game.proofs.stepping.TextEndsGame as text_ends_game
 use Rattle.pgn_game.proofs.laws.texts_end_between_games.Goals as goal
 
 pub returns : goal.returns

@@ -1,5 +1,6 @@
-use Rattle.pgn_game.proofs.Words.{◌≡◌, ℕ, ◌+◌, ◌≤◌, Bor, IfSome, List, ◌∙◌, escaped, length, option_copied, take, Option, None, Some, slice_get, unwrap_or, ap, err_from_is_err_and, take_all, Appends, AppendsFront, one_more, tag_line, missing_of, known_result, Pair, value_of, roster_line, text_by, roster, rules}
+use Rattle.pgn_game.proofs.Words.{◌≡◌, ℕ, ◌+◌, ◌≤◌, Bor, IfSome, List, ◌∙◌, escaped, length, take, Option, None, Some, slice_get, unwrap_or, ap, err_from_is_err_and, take_all, Appends, AppendsFront, one_more, tag_line, missing_of, known_result, Pair, value_of, roster_line, text_by, roster, rules}
 use Rattle.pgn_game.proofs.pairs.ExportedValues.{seven}
+use Rattle.pgn_game.proofs.pairs.SectionByIndex.{default_or}
 use Rattle.pgn_game.proofs.putting.WritesInTurn.{next_text, next_front, within_at}
 use Rattle.pgn_game.proofs.section.write_roster.Goals as goal
 
@@ -18,12 +19,6 @@ front_of_line : (result : List ℕ) (held : List Pair) (i : ℕ) (name unknown v
 front_of_line result held i name unknown value a b c at is done next =
     let p = within_at (roster result) i (record { name = name; value = unknown }) at in
     next_front (roster_line held) (roster result) i (record { name = name; value = unknown }) a b c p.0 p.1 done (rw is at next)
-
--- a value found, or the default
-default_or : (o : Option (Bor (List ℕ))) (value unknown : Bor (List ℕ)) (found : Option (List ℕ)) → value ≡ unwrap_or o unknown → option_copied o ≡ found
-    → value.now ≡ unwrap_or found unknown.now
-default_or None value unknown found is same = rw (is, ← same)
-default_or (Some v) value unknown found is same = rw (is, ← same)
 
 -- it fits on its line
 fits_or : (name : List ℕ) (o : Option (Bor (List ℕ))) (value unknown : Bor (List ℕ)) → value ≡ unwrap_or o unknown

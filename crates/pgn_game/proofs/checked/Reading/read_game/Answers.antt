@@ -1,4 +1,5 @@
-use Rattle.pgn_game.proofs.Words.{◌≡◌, List, Option, ℕ, Profile, Token, Reading, ap, refl, ◌∙◌, ◌+◌, false, None, [], Device, device, Err, EndsGame, CountsFault, IsStill, CountsReading, MarkerComes, StandsBetween, no_sink}
+use Rattle.pgn_game.proofs.Words.{◌≡◌, List, Option, ℕ, Profile, Token, Reading, ap, refl, ◌∙◌, ◌+◌, false, None, [], Device, device, Err, EndsGame, CountsFault, IsStill, CountsReading, AfterMarker, StandsBetween, Some, Ok, first, no_sink}
+use Rattle.pgn_game.specs.steps.ConverterSteps.{start_of}
 use Rattle.pgn_game.proofs.ReaderFitsInMemory.{reading_alike, reading_fits_converter}
 use Rattle.pgn_game.proofs.twice.FailuresOfSteps.{behind_still, no_write, reader_reason, seen_none}
 use Rattle.pgn_game.proofs.twice.GamesOfReadings.{all_read, first_fails, game_read, marker_refused_first}
@@ -17,10 +18,11 @@ module _ (g : Over) (c : After-end_game g) where
 
   met : (q : Profile) (left_old : Option (List ℕ)) (given : List Token)
       → StandsBetween q left_old (g.R.Source.left c.args.source.now) given c.args.self.now
-      → MarkerComes q left_old left_new given c.in-Some.marker here None None
+      → AfterMarker left_old left_new (start_of q c.args.self.now.converter (first c.args.self.now.unused) given None) here (Ok (Some c.in-Some.marker)) None
   met q left_old given stands =
+      let old = c.args.self.now in
       let reads = rw c.in-Some.is at c.in_ok-marker.ensures.reads.reads in
-      seen_none (λ d. MarkerComes q left_old left_new given c.in-Some.marker here d.before d.after) _
+      seen_none (λ d. AfterMarker left_old left_new (start_of q old.converter (first old.unused) given d.before) here (Ok (Some c.in-Some.marker)) d.after) _
       (rw (← c.self.view_is) at (reads q left_old given stands.has_given))
 
   ends : EndsGame c.self.inside.converter.reading c.in-Some.marker c.end_game.new.self.reading c.end_game.result no_sink
@@ -49,7 +51,7 @@ returns-in_err-marker g c =
 
 pub returns-in_default-clause-reads : goal.returns-in_default-clause-reads
 returns-in_default-clause-reads g c = λ q left_old given stands.
-    all_read q left_old (g.R.Source.left c.read_to_marker.new.source) given stands.has_given.has_read.passes c.read_to_marker.new.self _ _
+    all_read q left_old (g.R.Source.left c.read_to_marker.new.source) given stands.has_given.has_read.passes c.args.self.now c.read_to_marker.new.self _ _
     ((rw c.in_default.is at c.in_ok-marker.ensures.reads.reads) q left_old given stands.has_given)
 
 pub returns-in_default-clause-counted : goal.returns-in_default-clause-counted
@@ -70,7 +72,7 @@ returns-in_err-end_game g c =
     (seen_none (CountsFault {A = Unit} (Err f)) c.self.inside.converter.reading.writing.is_silent c.in_err-end_game.ensures.counts.counted) in
     rw (error_returned _ c.from_residual-in_err-end_game.ensures.1) (record {
       reads = λ q left_old given stands.
-          marker_refused_first q left_old _ given _ _ (record { converter = c.end_game.new.self; unused = []; has_ended = false }) None no_sink
+          marker_refused_first q left_old _ given c.args.self.now _ _ (record { converter = c.end_game.new.self; unused = []; has_ended = false }) None no_sink
           stands.has_given.takes stands.has_given.has_read.passes (met g place q left_old given stands) f (no_write f.reason _ _ counted)
           (rw c.in_err-end_game.was at (ends g place));
       going = tt;
@@ -85,7 +87,7 @@ returns g c =
     let same = ap (λ (r : Reading). r.converter.games) c.self.view_is ∙ c.read_to_marker.ensures.reads.games in
     record {
       reads = λ q left_old given stands.
-          game_read q left_old _ given _ _ _ None no_sink stands.has_given.takes stands.has_given.has_read.passes
+          game_read q left_old _ given c.args.self.now _ _ _ None no_sink stands.has_given.takes stands.has_given.has_read.passes
           (met g place q left_old given stands) (rw c.in_ok-end_game.was at (ends g place))
           counts.lexer refl refl counts.games counts.just_finished counts.fault;
       going = (

@@ -1,8 +1,8 @@
-use Rattle.pgn_game.proofs.Words.{device, games_of, le_trans, refl, sink_of, ◌∙◌, StepsAtEnd}
+use Rattle.pgn_game.proofs.Words.{None, device, games_of, le_trans, refl, sink_of, ◌∙◌, StepsAtEnd}
 use Rattle.pgn_game.proofs.ReaderFitsInMemory.{reading_fits_converter}
 use Rattle.pgn_game.proofs.putting.SilentReader.{seen_alike, silence_then}
-use Rattle.pgn_game.proofs.tokens.FinishesGames.{at_left}
-use Rattle.pgn_game.proofs.twice.MarkerToReading.{all_used, behind_source, counts_behind, counts_then, met_at_end, met_in_source, stops_in_source, within_source, counts_met, ready_met}
+use Rattle.pgn_game.proofs.stepping.FinishesGames.{at_left}
+use Rattle.pgn_game.proofs.twice.MarkerToReading.{all_used, counts_behind, counts_then, met_at_end, met_in_source, stops_in_source, within_source, counts_met, ready_met}
 use Rattle.pgn_game.proofs.reader.ErrorReturned.{error_returned}
 use Rattle.pgn_game.proofs.checked.Reading.read_to_marker.Goals as goal
 
@@ -23,10 +23,12 @@ returns-then-self g c =
     (record {
       reads = record {
         reads = λ q left_old given h.
-            let behind = behind_source q left_old _ _ given h c.if-self.true in
+            let old = c.self.inside.converter in
+            let stores = rw c.if-self.true at h.source.stores in
             rw c.if-self.true
-            (met_at_end left_old _ _ h.come.bytes c.finish_to_marker.new.self _ h.come.consumed behind.3 (ends.count ∙ behind.1) behind.2 _ c.finish_to_marker.result
-            (ends.after _ h.come.bytes given (at_left q h.come.bytes given _ _ behind.0 h.has_read)));
+            (met_at_end left_old _ _ old.lexer.count None old.reading h.bytes _ c.finish_to_marker.new.self _ h.source.consumed
+            (ends.count ∙ stores.0, stores.1, stores.2) c.finish_to_marker.result
+            (ends.after _ h.bytes given (at_left q h.bytes given _ _ (rw c.if-self.true at h.lexer) h.has_read)));
         ready = ready_met _ _ ends.ready;
         games = ends.keeps.games;
         written = ends.keeps.written;
@@ -44,8 +46,8 @@ returns-in_err-marker g c =
     (record {
       reads = record {
         reads = λ q left_old given h.
-            let x = c.in_err-marker.ensures.reads q h.come.bytes given (within_source q left_old _ _ given h c.if-self.false) h.has_read in
-            stops_in_source q left_old _ _ given h.come.bytes x.0 h.come.consumed x.1 (games_of c.self.inside.converter c.self.inside.buffer) _ _ _ _ x.2;
+            let x = c.in_err-marker.ensures.reads q h.bytes given (within_source q left_old _ _ given h c.if-self.false) h.has_read in
+            stops_in_source q left_old _ _ given h.bytes x.0 h.source.consumed x.1 (games_of c.self.inside.converter c.self.inside.buffer) _ _ _ _ x.2;
         ready = tt;
         games = read.goes.keeps.games;
         written = read.goes.keeps.written;
@@ -63,9 +65,9 @@ returns-in-Some g c =
       reads = record {
         reads = λ q left_old given h.
             let reads = rw c.in-Some.is at c.in_ok-marker.ensures.reads in
-            let x = reads q h.come.bytes given (within_source q left_old _ _ given h c.if-self.false) h.has_read in
+            let x = reads q h.bytes given (within_source q left_old _ _ given h c.if-self.false) h.has_read in
             rw c.if-self.false
-            (met_in_source q left_old _ _ given h.come.bytes x.0 h.come.consumed x.1 (games_of c.self.inside.converter c.self.inside.buffer) _ c.next_marker.new.converter c.next_marker.new.buffer c.in-Some.marker _ x.2);
+            (met_in_source q left_old _ _ given h.bytes x.0 h.source.consumed x.1 (games_of c.self.inside.converter c.self.inside.buffer) _ c.next_marker.new.converter c.next_marker.new.buffer c.in-Some.marker _ x.2);
         ready = rw c.in-Some.is at c.in_ok-marker.ensures.goes.ready;
         games = read.goes.keeps.games;
         written = read.goes.keeps.written;
@@ -86,8 +88,8 @@ returns g c =
       reads = record {
         reads = λ q left_old given h.
             let reads = rw c.in_default.is at c.in_ok-marker.ensures.reads in
-            let x = reads q h.come.bytes given (within_source q left_old _ _ given h c.if-self.false) h.has_read in
-            all_used q left_old _ _ given h.come.bytes x.0 h.come.consumed x.1 (games_of c.self.inside.converter c.self.inside.buffer) _ c.next_marker.new.converter _ x.2.1 x.2.0
+            let x = reads q h.bytes given (within_source q left_old _ _ given h c.if-self.false) h.has_read in
+            all_used q left_old _ _ given h.bytes x.0 h.source.consumed x.1 (games_of c.self.inside.converter c.self.inside.buffer) _ c.next_marker.new.converter _ x.2.1 x.2.0
             _ c.finish_to_marker-2.new.self _ (sink_of r g.W.Sink.taken g.W.Sink.failures c.next_marker.new.out c.finish_to_marker-2.new.out)
             c.finish_to_marker-2.result refl refl ends;
         ready = ready_met _ _ ends.ready;

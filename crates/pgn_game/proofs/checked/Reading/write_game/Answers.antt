@@ -1,4 +1,5 @@
-use Rattle.pgn_game.proofs.Words.{◌≡◌, seen, Device, ℕ, List, Option, Profile, Token, counting, marker_text, Converter, Reading, as_written, ap, refl, sym, ◌∙◌, device, sink_of, CountsFault, EndsGame, IsStill, KeepsSilence, false, Err, [], AfterMarker, ReadsUpToMarker, StandsBetween}
+use Rattle.pgn_game.proofs.Words.{◌≡◌, seen, Device, ℕ, List, Option, Profile, Token, counting, marker_text, Converter, Reading, as_written, ap, refl, sym, ◌∙◌, device, sink_of, CountsFault, EndsGame, IsStill, KeepsSilence, false, Err, [], AfterMarker, ReadsUpToMarker, StandsBetween, first}
+use Rattle.pgn_game.specs.steps.ConverterSteps.{start_of}
 use Rattle.pgn_game.proofs.ReaderFitsInMemory.{reading_alike, reading_fits_converter}
 use Rattle.pgn_game.proofs.putting.SilentReader.{seen_alike, silence_then}
 use Rattle.pgn_game.proofs.twice.FailuresOfSteps.{behind_still, counts_changed, reader_reason}
@@ -12,6 +13,9 @@ module _ (g : Over) (c : After-read_to_marker g) where
   abbrev old : Reading
   old = record { converter = c.self.inside.converter; unused = c.self.inside.buffer; has_ended = c.self.inside.has_ended }
 
+  abbrev announced : Reading
+  announced = record { converter = c.announce_marker.new.self; unused = c.self.inside.buffer; has_ended = c.self.inside.has_ended }
+
   abbrev source : Device
   source = device g.R.Source.left g.R.Source.failures c.args.source.now c.read_to_marker.new.source
 
@@ -21,15 +25,15 @@ module _ (g : Over) (c : After-read_to_marker g) where
   same : c.announce_marker.new.self.reading.writing.is_silent ≡ c.self.inside.converter.reading.writing.is_silent
   same = ap (λ (s : Converter). s.reading.writing.is_silent) c.announce_marker.ensures
 
-  met : ReadsUpToMarker (record { converter = c.announce_marker.new.self; unused = c.self.inside.buffer; has_ended = c.self.inside.has_ended })
-      c.read_to_marker.new.self c.read_to_marker.result source sink
+  met : ReadsUpToMarker announced c.read_to_marker.new.self c.read_to_marker.result source sink
   met = seen_alike (ReadsUpToMarker _ _ _ _) _ _ _ same c.read_to_marker.ensures.reads
 
   silent : KeepsSilence c.self.inside.converter.reading c.read_to_marker.new.self.converter.reading c.args.out.now c.read_to_marker.new.out
   silent = silence_then _ _ _ _ _ _ (record { silent = same; untouched = λ silent. refl }) c.read_to_marker.ensures.silent
 
   module _ (q : Profile) (left_old : Option (List ℕ)) (given : List Token) (here : StandsBetween q left_old source.before given old) where
-    reads : AfterMarker q left_old source.after given c.read_to_marker.new.self c.read_to_marker.result sink.before sink.after
+    reads : AfterMarker left_old source.after (start_of q announced.converter (first announced.unused) given sink.before)
+        c.read_to_marker.new.self c.read_to_marker.result sink.after
     reads = met.reads q left_old given
         (announced_reading q left_old source.before old given c.args.expected.marker c.announce_marker.new.self c.announce_marker.ensures
         here.has_given)
@@ -73,7 +77,7 @@ returns-in-Ok-None g c =
           let h = here.has_given in
           rw (c.place.ensures ∙ ap (λ (r : Reading). r.converter.lexer.count) c.self-2.view_is)
           (ends_before q left_old _ given c.args.expected c.tokens_rise.ensures h.takes h.has_read.passes here.between
-          c.read_to_marker.new.self _ _ (by g place q left_old given here) (rw (c.in-Ok-None.is, c.in-Ok-None.field-0-is) at (reads g place q left_old given here)));
+          (announced g place) c.read_to_marker.new.self _ _ (by g place q left_old given here) (rw (c.in-Ok-None.is, c.in-Ok-None.field-0-is) at (reads g place q left_old given here)));
       going = tt;
       counted = rw c.in-Ok-None.is at (met g place).counted;
       silent = silent g place;
@@ -87,7 +91,7 @@ returns-then-is_other g c =
       writes = λ q left_old given here.
           let h = here.has_given in
           marker_differs q left_old _ given c.args.expected c.tokens_rise.ensures h.takes h.has_read.passes here.between
-          c.in-Ok-Some.found c.read_to_marker.new.self c.read_to_marker.new.self _
+          (announced g place) c.in-Ok-Some.found c.read_to_marker.new.self c.read_to_marker.new.self _
           (sink_of c.self.inside.converter.reading g.W.Sink.taken g.W.Sink.failures c.read_to_marker.new.out c.read_to_marker.new.out) (by g place q left_old given here)
           (rw (c.in-Ok-Some.is, c.in-Ok-Some.field-0-is) at (reads g place q left_old given here)) (sym c.is_other.ensures ∙ c.if-is_other.true);
       going = tt;
@@ -112,7 +116,7 @@ returns-in-Err-end_game g c =
       writes = λ q left_old given here.
           let h = here.has_given in
           marker_refused_second q left_old _ given c.args.expected c.tokens_rise.ensures h.takes h.has_read.passes here.between
-          c.in-Ok-Some.found _ (record { converter = c.end_game.new.self; unused = []; has_ended = false }) _ (seen _ last) (rw (← c.self-2.view_is) at (by g place q left_old given here))
+          (announced g place) c.in-Ok-Some.found _ (record { converter = c.end_game.new.self; unused = []; has_ended = false }) _ (seen _ last) (rw (← c.self-2.view_is) at (by g place q left_old given here))
           (rw (c.in-Ok-Some.is, c.in-Ok-Some.field-0-is, ← c.self-2.view_is) at (reads g place q left_old given here))
           (sym c.is_other.ensures ∙ c.if-is_other.false) f (seen_alike (EndsGame _ _ _ _) _ _ _ behind c.in-Err-end_game.ensures.ends);
       going = tt;
@@ -133,7 +137,7 @@ returns-in_default g c =
       writes = λ q left_old given here.
           let h = here.has_given in
           game_written q left_old _ given c.args.expected c.tokens_rise.ensures h.takes h.has_read.passes here.between
-          c.in-Ok-Some.found _ _ _ (seen _ last) (rw (← c.self-2.view_is) at (by g place q left_old given here))
+          (announced g place) c.in-Ok-Some.found _ _ _ (seen _ last) (rw (← c.self-2.view_is) at (by g place q left_old given here))
           (rw (c.in-Ok-Some.is, c.in-Ok-Some.field-0-is, ← c.self-2.view_is) at (reads g place q left_old given here))
           (sym c.is_other.ensures ∙ c.if-is_other.false) (seen_alike (EndsGame _ _ _ _) _ _ _ behind ended.ends)
           ended.counts.lexer refl refl ended.counts.games ended.counts.just_finished ended.counts.fault;

@@ -1,6 +1,6 @@
 use Rattle.pgn_game.proofs.Words.{arith, refl, no_progress, none, false≢true}
 use Rattle.pgn_game.proofs.ReaderFitsInMemory.{fits_game}
-use Rattle.pgn_game.proofs.tokens.SoundAtStart.{sound_at_start}
+use Rattle.pgn_game.proofs.stepping.SoundAtStart.{sound_at_start}
 use Rattle.pgn_game.proofs.converter.Converter.begin_at.Goals as goal
 
 pub returns : goal.returns

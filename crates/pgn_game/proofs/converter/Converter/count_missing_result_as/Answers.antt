@@ -1,6 +1,6 @@
 use Rattle.pgn_game.proofs.Words.{sym, subst, CountsMissingAs, refl}
 use Rattle.pgn_game.proofs.ReaderFitsInMemory.{fits_game}
-use Rattle.pgn_game.proofs.tokens.MissingCountsAs.{finished_alike, sound_counting, stands_counting}
+use Rattle.pgn_game.proofs.stepping.MissingCountsAs.{finished_alike, sound_counting, stands_counting}
 use Rattle.pgn_game.proofs.converter.Converter.count_missing_result_as.Goals as goal
 
 pub count_missing_result_as-requires : goal.count_missing_result_as-requires

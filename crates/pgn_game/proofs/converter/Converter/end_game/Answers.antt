@@ -1,7 +1,7 @@
 use Rattle.pgn_game.proofs.Words.{arith, refl, ap, game_in_reader_if, sink_of}
 use Rattle.pgn_game.proofs.ReaderFitsInMemory.{fits_game}
-use Rattle.pgn_game.proofs.tokens.AcceptedToConverter.{written_same}
-use Rattle.pgn_game.proofs.tokens.StepsAtEnd.{counts_reason, not_just_finished, sound_behind_fault}
+use Rattle.pgn_game.proofs.stepping.AcceptedToConverter.{written_same}
+use Rattle.pgn_game.proofs.stepping.StepsAtEnd.{counts_reason, not_just_finished, sound_behind_fault}
 use Rattle.pgn_game.proofs.converter.Converter.end_game.Goals as goal
 
 pub end_game-requires : goal.end_game-requires

@@ -1,7 +1,7 @@
 use Rattle.pgn_game.proofs.putting.SilentReader.{none_fails, seen_alike, silence_then}
 use Rattle.pgn_game.proofs.Words.{device, le_trans, ◌∙◌, Err, err_from_is_err_and, at_token, CountsGame, EndsGame}
 use Rattle.pgn_game.proofs.ReaderFitsInMemory.{fits_alike}
-use Rattle.pgn_game.proofs.tokens.PieceToGame.{fed_all, fed_game, fed_stops, marker_fails}
+use Rattle.pgn_game.proofs.stepping.PieceToGame.{fed_all, fed_game, fed_stops, marker_fails}
 use Rattle.pgn_game.proofs.converter.Converter.feed.Goals as goal
 
 pub feed_to_marker-requires : goal.feed_to_marker-requires

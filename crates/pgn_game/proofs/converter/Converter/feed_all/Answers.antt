@@ -1,8 +1,8 @@
 use Rattle.pgn_game.proofs.putting.SilentReader.{seen_alike, silence_kept, silence_then}
 use Rattle.pgn_game.proofs.Words.{◌+◌, ◌≤◌, device, sink_of, arith, refl, drop, length, ◌∙◌, length-drop, take_rest, err_from_is_err_and, Feeds}
 use Rattle.pgn_game.proofs.ReaderFitsInMemory.{fits_alike}
-use Rattle.pgn_game.proofs.tokens.AcceptedToConverter.{follows_own}
-use Rattle.pgn_game.proofs.tokens.GamesInPiece.{all_none, all_more, all_fed, all_stops}
+use Rattle.pgn_game.proofs.stepping.AcceptedToConverter.{follows_own}
+use Rattle.pgn_game.proofs.stepping.GamesInPiece.{all_none, all_more, all_fed, all_stops}
 use Rattle.pgn_game.proofs.converter.Converter.feed_all.Goals as goal
 use Rattle.pgn_game.proofs.converter.Converter.feed_all.Goals.{After-feed, In-Game}
 

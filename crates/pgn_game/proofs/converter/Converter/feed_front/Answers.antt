@@ -2,10 +2,10 @@ use Rattle.pgn_game.specs.declared.converter.StepEnd.TheVariants.{NoMarker, Mark
 use Rattle.pgn_game.proofs.Words.{KeepsSilence, ◌+◌, drop, sink_of, ◌≡◌, Ok, None, Some, arith, refl, ap, ◌∙◌, length, length-drop, take_rest, StepGoes, StepsInPiece, ReadsOn, step_marker}
 use Rattle.pgn_game.proofs.ReaderFitsInMemory.{fits_alike}
 use Rattle.pgn_game.proofs.putting.SilentReader.{seen_alike, silence_kept, silence_then}
-use Rattle.pgn_game.proofs.tokens.GoesToMarker.{goes_all, goes_fault, goes_marker, keeps_at_start}
-use Rattle.pgn_game.proofs.tokens.RunsInPiece.{before_rest, goes_then}
-use Rattle.pgn_game.proofs.tokens.StepsAtEnd.{sound_at_none}
-use Rattle.pgn_game.proofs.tokens.ReadsInText.{lets_go, reads_then}
+use Rattle.pgn_game.proofs.stepping.GoesToMarker.{goes_all, goes_fault, goes_marker, keeps_at_start}
+use Rattle.pgn_game.proofs.stepping.RunsInPiece.{before_rest, goes_then}
+use Rattle.pgn_game.proofs.stepping.StepsAtEnd.{sound_at_none}
+use Rattle.pgn_game.proofs.stepping.ReadsInText.{lets_go, reads_then}
 use Rattle.pgn_game.proofs.converter.Converter.feed_front.Goals as goal
 use Rattle.pgn_game.proofs.converter.Converter.feed_front.Goals.{After-step-step, In-Ok-Some-NoMarker}
 

@@ -1,10 +1,10 @@
 use Rattle.pgn_game.proofs.Words.{◌∙◌, refl, ◌≡◌, ℕ, ◌+◌, ◌-◌, ◌^◌, length, arith, ap, take_all, length-take, err_from_is_err_and, Converter, within_limit, inl, inr, sym, length-drop}
 use Rattle.pgn_game.proofs.putting.SilentReader.{silence_kept}
 use Rattle.pgn_game.proofs.ReaderFitsInMemory.{fits_alike}
-use Rattle.pgn_game.proofs.tokens.GoesToMarker.{front_goes, too_long_goes}
-use Rattle.pgn_game.proofs.tokens.StepsAtEnd.{not_just_finished, sound_behind_fault}
-use Rattle.pgn_game.proofs.tokens.ReadsInText.{front_ahead, read_ahead}
-use Rattle.pgn_game.proofs.tokens.StepsInPiece.{limit_left, front_used}
+use Rattle.pgn_game.proofs.stepping.GoesToMarker.{front_goes, too_long_goes}
+use Rattle.pgn_game.proofs.stepping.StepsAtEnd.{not_just_finished, sound_behind_fault}
+use Rattle.pgn_game.proofs.stepping.ReadsInText.{front_ahead, read_ahead}
+use Rattle.pgn_game.proofs.stepping.StepsInPiece.{limit_left, front_used}
 use Rattle.pgn_game.proofs.converter.Converter.feed_to_marker.Goals as goal
 use Rattle.pgn_game.proofs.converter.Converter.feed_to_marker.Goals.{After-feed_front}
 

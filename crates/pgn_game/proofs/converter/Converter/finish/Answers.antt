@@ -1,9 +1,9 @@
 use Rattle.pgn_game.proofs.putting.SilentReader.{none_fails, seen_alike, silence_kept, silence_then}
 use Rattle.pgn_game.proofs.Words.{ap, le_refl, le_trans, refl, sym, ◌∙◌, device, Err, Standing, err_from_is_err_and, false≢true, CountsGame, EndsGame, StepsAtEnd}
 use Rattle.pgn_game.proofs.ReaderFitsInMemory.{fits_alike, fits_game}
-use Rattle.pgn_game.proofs.tokens.StepsAtEnd.{left_of}
-use Rattle.pgn_game.proofs.tokens.FinishesGames.{at_left, ended_none, ended_game, ended_input, failed_input, failed_game, sound_finished}
-use Rattle.pgn_game.proofs.tokens.MarkerToGame.{shows_due, shows_stop}
+use Rattle.pgn_game.proofs.stepping.StepsAtEnd.{left_of}
+use Rattle.pgn_game.proofs.stepping.FinishesGames.{at_left, ended_none, ended_game, ended_input, failed_input, failed_game, sound_finished}
+use Rattle.pgn_game.proofs.stepping.MarkerToGame.{shows_due, shows_stop}
 use Rattle.pgn_game.proofs.converter.Converter.finish.Goals as goal
 use Rattle.pgn_game.proofs.converter.Converter.finish.Goals.{then-finished_game, else-finished_game}
 

@@ -1,10 +1,10 @@
 use Rattle.pgn_game.proofs.Words.{Some, arith, refl, ap, ◌∙◌, err_from_is_err_and, le_refl, StepsAtEnd}
 use Rattle.pgn_game.proofs.ReaderFitsInMemory.{fits_alike}
 use Rattle.pgn_game.proofs.putting.SilentReader.{seen_alike, silence_kept, silence_then}
-use Rattle.pgn_game.proofs.tokens.GoesToMarker.{keeps_as, keeps_at_start}
-use Rattle.pgn_game.proofs.tokens.RunsInPiece.{keeps_then}
-use Rattle.pgn_game.proofs.tokens.StepsAtEnd.{sound_at_none}
-use Rattle.pgn_game.proofs.tokens.FinishesGames.{left_alone}
+use Rattle.pgn_game.proofs.stepping.GoesToMarker.{keeps_as, keeps_at_start}
+use Rattle.pgn_game.proofs.stepping.RunsInPiece.{keeps_then}
+use Rattle.pgn_game.proofs.stepping.StepsAtEnd.{sound_at_none}
+use Rattle.pgn_game.proofs.stepping.FinishesGames.{left_alone}
 use Rattle.pgn_game.proofs.converter.Converter.finish_to_marker.Goals as goal
 
 pub loop-marker-init : goal.loop-marker-init

@@ -1,4 +1,4 @@
-use Rattle.pgn_game.proofs.tokens.StepsAtEnd.{sound_at_none}
+use Rattle.pgn_game.proofs.stepping.StepsAtEnd.{sound_at_none}
 use Rattle.pgn_game.proofs.converter.Converter.forget_game.Goals as goal
 
 pub invariant_of-self : goal.invariant_of-self

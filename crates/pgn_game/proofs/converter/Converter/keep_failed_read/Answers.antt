@@ -1,4 +1,4 @@
-use Rattle.pgn_game.proofs.tokens.StepsAtEnd.{sound_behind_fault}
+use Rattle.pgn_game.proofs.stepping.StepsAtEnd.{sound_behind_fault}
 use Rattle.pgn_game.proofs.converter.Converter.keep_failed_read.Goals as goal
 
 pub invariant_of-self : goal.invariant_of-self

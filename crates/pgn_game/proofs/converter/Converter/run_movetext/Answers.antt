@@ -2,11 +2,11 @@ use Rattle.pgn_game.specs.declared.converter.StepEnd.TheVariants.{NoMarker}
 use Rattle.pgn_game.proofs.Words.{IsSound, KeepsSilence, false, sink_of, kind_of, ◌≡◌, ◌∙◌, arith, ap, None, Ok, Some, take_rest, device, drop, refl, StepsInPiece, outcome_at, MeetsEntry, TakesUnlessMarker}
 use Rattle.pgn_game.proofs.ReaderFitsInMemory.{fits_alike, fits_game}
 use Rattle.pgn_game.proofs.putting.SilentReader.{seen_alike, silence_kept, silence_then}
-use Rattle.pgn_game.proofs.tokens.AcceptedToConverter.{now_at}
-use Rattle.pgn_game.proofs.tokens.PastNumbers.{meets_in_movetext}
-use Rattle.pgn_game.proofs.tokens.RunsInPiece.{Runs, before_rest, room_behind, runs_none, runs_step, runs_then, steps_behind, steps_run}
-use Rattle.pgn_game.proofs.tokens.StepsAtEnd.{after_at_end, fields_before}
-use Rattle.pgn_game.proofs.tokens.StepsOverTokens.{runs_past, sound_met_behind, sound_past, steps_met_behind}
+use Rattle.pgn_game.proofs.stepping.AcceptedToConverter.{now_at}
+use Rattle.pgn_game.proofs.stepping.PastNumbers.{meets_in_movetext}
+use Rattle.pgn_game.proofs.stepping.RunsInPiece.{Runs, before_rest, room_behind, runs_none, runs_step, runs_then, steps_behind, steps_run}
+use Rattle.pgn_game.proofs.stepping.StepsAtEnd.{after_at_end, fields_before}
+use Rattle.pgn_game.proofs.stepping.StepsOverTokens.{runs_past, sound_met_behind, sound_past, steps_met_behind}
 use Rattle.pgn_game.proofs.converter.Converter.run_movetext.Goals as goal
 use Rattle.pgn_game.proofs.converter.Converter.run_movetext.Goals.{After-accept_entry-met, Left-loop-used, else-loop-used-test, then-loop-used-test+in_default}
 

@@ -1,7 +1,7 @@
 use Rattle.pgn_game.proofs.Words.{◌≡◌, ◌-◌, false, None, Some, Ok, length, sink_of, KeepsSilence, InMovetext, IsSound}
 use Rattle.pgn_game.specs.declared.converter.StepEnd.TheVariants.{NoMarker}
-use Rattle.pgn_game.proofs.tokens.RunsInPiece.{Runs}
-use Rattle.pgn_game.proofs.tokens.AcceptedToConverter.{now_at}
+use Rattle.pgn_game.proofs.stepping.RunsInPiece.{Runs}
+use Rattle.pgn_game.proofs.stepping.AcceptedToConverter.{now_at}
 use Rattle.pgn_game.proofs.converter.Converter.run_movetext.Given as goal
 
 -- the fields, and what was read so far

@@ -2,10 +2,10 @@ use Rattle.pgn_lexer.specs.Scanned.{token}
 use Rattle.pgn_lexer.specs.PartialToken.{refusal as refusal_token}
 use Rattle.pgn_lexer.specs.Stands.{Finishes}
 use Rattle.pgn_game.proofs.Words.{[], ◌∷◌, ◌++◌, append-nil, all_bytes, IsSound, IsTrue, Keeps, LexFault, Lexical, List, Marker, None, Ok, Err, Option, Reason, ReaderState, Result, Device, Some, Standing, Token, ℕ, arith, le_refl, sym, ap, refl, ◌∙◌, ◌≡◌, ◌&&◌, true, false, is_ok, is_end, kind_of, outcome_at, game_in_reader_if, fault, StepsAtEnd, TakesUnlessMarker}
-use Rattle.pgn_game.proofs.tokens.AcceptedToConverter.{now_at}
-use Rattle.pgn_game.proofs.tokens.ReadsInText.{between}
-use Rattle.pgn_game.proofs.tokens.MarkerToGame.{rejects_at}
-use Rattle.pgn_game.proofs.tokens.StepsAtEnd.{Nearer, after_at_end, keeps_met, closes_end, closes_token, fields_before, kept, left_by, nearer_by, counts_token, advances_at_end, counts_ok, goes_on_at, no_fault_if_ok, ready_at_end, sound_at_end, sound_behind, sound_behind_fault, sound_if_not_ok}
+use Rattle.pgn_game.proofs.stepping.AcceptedToConverter.{now_at}
+use Rattle.pgn_game.proofs.stepping.ReadsInText.{between}
+use Rattle.pgn_game.proofs.stepping.MarkerToGame.{rejects_at}
+use Rattle.pgn_game.proofs.stepping.StepsAtEnd.{Nearer, after_at_end, keeps_met, closes_end, closes_token, fields_before, kept, left_by, nearer_by, counts_token, advances_at_end, counts_ok, goes_on_at, no_fault_if_ok, ready_at_end, sound_at_end, sound_behind, sound_behind_fault, sound_if_not_ok}
 use Rattle.pgn_game.proofs.ReaderFitsInMemory.{fits_game}
 use Rattle.pgn_game.proofs.converter.Converter.step_at_end.Goals as goal
 use Rattle.pgn_game.proofs.converter.Converter.step_at_end.Goals.{else-is_end-via-then-is_end+else-is_ok, else-is_end-via-else-is_end}

@@ -1,9 +1,9 @@
 use Rattle.pgn_game.proofs.Words.{arith, refl}
 use Rattle.pgn_game.proofs.ReaderFitsInMemory.{fits_game}
-use Rattle.pgn_game.proofs.tokens.RunsInPiece.{steps_of}
+use Rattle.pgn_game.proofs.stepping.RunsInPiece.{steps_of}
 use Rattle.pgn_game.proofs.putting.SilentReader.{silence_kept}
-use Rattle.pgn_game.proofs.tokens.StepsAtEnd.{fields_before, short_before, sound_behind_fault}
-use Rattle.pgn_game.proofs.tokens.StepsOverTokens.{sound_met, sound_more, steps_fault, steps_met, steps_more}
+use Rattle.pgn_game.proofs.stepping.StepsAtEnd.{fields_before, short_before, sound_behind_fault}
+use Rattle.pgn_game.proofs.stepping.StepsOverTokens.{sound_met, sound_more, steps_fault, steps_met, steps_more}
 use Rattle.pgn_game.proofs.converter.Converter.step_on.Goals as goal
 
 pub accept_copied-met-requires : goal.accept_copied-met-requires

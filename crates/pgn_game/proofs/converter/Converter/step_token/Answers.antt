@@ -1,12 +1,12 @@
 use Rattle.pgn_game.specs.declared.converter.StepEnd.TheVariants.{NoMarker}
 use Rattle.pgn_game.proofs.Words.{IsSound, List, Option, ℕ, refl, None, false, ◌<◌, take_rest, IsTrue, Ok, Some, false≢true, length, arith}
 use Rattle.pgn_game.proofs.ReaderFitsInMemory.{fits_alike, fits_game}
-use Rattle.pgn_game.proofs.tokens.AcceptedToConverter.{now_at}
-use Rattle.pgn_game.proofs.tokens.ReadsInText.{between}
-use Rattle.pgn_game.proofs.tokens.RunsInPiece.{Runs, before_rest, steps_at_once, steps_behind, steps_of, steps_run}
+use Rattle.pgn_game.proofs.stepping.AcceptedToConverter.{now_at}
+use Rattle.pgn_game.proofs.stepping.ReadsInText.{between}
+use Rattle.pgn_game.proofs.stepping.RunsInPiece.{Runs, before_rest, steps_at_once, steps_behind, steps_of, steps_run}
 use Rattle.pgn_game.proofs.putting.SilentReader.{silence_kept}
-use Rattle.pgn_game.proofs.tokens.StepsAtEnd.{fields_before, short_before}
-use Rattle.pgn_game.proofs.tokens.StepsOverTokens.{runs_past, sound_met_behind, sound_past, steps_met_behind}
+use Rattle.pgn_game.proofs.stepping.StepsAtEnd.{fields_before, short_before}
+use Rattle.pgn_game.proofs.stepping.StepsOverTokens.{runs_past, sound_met_behind, sound_past, steps_met_behind}
 use Rattle.pgn_game.proofs.converter.Converter.step_token.Goals as goal
 use Rattle.pgn_game.proofs.converter.Converter.step_token.Goals.{In_default}
 

@@ -1,5 +1,5 @@
 use Rattle.pgn_game.proofs.Words.{sym, ap, subst, ◌∙◌, ReadsByMarker, writing_nothing}
-use Rattle.pgn_game.proofs.tokens.MissingCountsAs.{stands_by_marker}
+use Rattle.pgn_game.proofs.stepping.MissingCountsAs.{stands_by_marker}
 use Rattle.pgn_game.proofs.converter.Converter.take_marker_for_missing_result.Goals as goal
 
 pub returns-clause-only_switch : goal.returns-clause-only_switch

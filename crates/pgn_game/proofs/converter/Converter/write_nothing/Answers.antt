@@ -1,6 +1,6 @@
 use Rattle.pgn_game.proofs.Words.{sym, subst, StillStands, refl}
 use Rattle.pgn_game.proofs.ReaderFitsInMemory.{fits_game}
-use Rattle.pgn_game.proofs.tokens.MissingCountsAs.{finished_silently, sound_silently, stands_silently}
+use Rattle.pgn_game.proofs.stepping.MissingCountsAs.{finished_silently, sound_silently, stands_silently}
 use Rattle.pgn_game.proofs.converter.Converter.write_nothing.Goals as goal
 
 pub write_nothing-requires : goal.write_nothing-requires

@@ -1,7 +1,7 @@
 use Rattle.pgn_game.proofs.putting.EventToGame.{still_sound}
 use Rattle.pgn_game.proofs.Words.{kind_of, ◌≡◌, None, Err, subst, arith, refl, false≢true, game_by, Kind, Reason, WriteFault, ReaderState, marker_of, CountsWrites, TakesUnwritten}
 use Rattle.pgn_game.proofs.ReaderLemmas.{game_alike, reader_fits}
-use Rattle.pgn_game.proofs.tokens.PutToAnswer.{entry_met}
+use Rattle.pgn_game.proofs.stepping.PutToAnswer.{entry_met}
 use Rattle.pgn_game.proofs.reader.ErrorReturned.{error_returned}
 use Rattle.pgn_game.proofs.game.Game.accept_unless_marker.Goals as goal
 

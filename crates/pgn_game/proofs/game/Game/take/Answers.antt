@@ -6,13 +6,13 @@ use Rattle.pgn_game.proofs.putting.EventToGame.{sound_after, still_sound}
 use Rattle.pgn_game.proofs.game.Game.take.Goals as goal
 
 -- a judged token leaves the stage
-stage_of : {old judge : ReaderState} {k : Kind} {e : Event} → Means old k judge e → IsTrue (may_have_movetext old.stage)
-    → IsTrue (may_have_movetext judge.stage)
-stage_of means may = rw means.after may
+ready : {old judge : ReaderState} {k : Kind} {e : Event} {begun : Bool} → Means old k judge e → IsTrue (may_have_movetext old.stage)
+    → (IsTrue begun → old.stage ≡ InMovetext) → IsTrue (may_have_movetext judge.stage) × (IsTrue begun → judge.stage ≡ InMovetext)
+ready means may is = (rw means.after may, λ begun. ap (λ (r : ReaderState). r.stage) means.after ∙ is begun)
 
-begun_of : {old judge : ReaderState} {k : Kind} {e : Event} {begun : Bool} → Means old k judge e → (IsTrue begun → old.stage ≡ InMovetext)
-    → IsTrue begun → judge.stage ≡ InMovetext
-begun_of means is begun = ap (λ (r : ReaderState). r.stage) means.after ∙ is begun
+ready_with : {old judge : ReaderState} {k : Kind} {e : Event} {begun : Bool} {A : Type 0} → Means old k judge e → IsTrue (may_have_movetext old.stage)
+    → (IsTrue begun → old.stage ≡ InMovetext) → A → IsTrue (may_have_movetext judge.stage) × ((IsTrue begun → judge.stage ≡ InMovetext) × A)
+ready_with means may is more = let both = ready means may is in (both.0, (both.1, more))
 
 played_of : {old judge : ReaderState} {k : Kind} {m : Move} {n : _} → Means old k judge (events.Move m n) → IsPlayed judge m
 played_of {old} {judge} {k} {m} means =
@@ -46,176 +46,122 @@ returns-in-Ok-Marker g c =
 
 pub take_number-requires : goal.take_number-requires
 take_number-requires g c =
-    let may = rw (← c.self.view_is) at c.requires.may in
-    let begun = rw (← c.self.view_is) at c.requires.begun in
-    let h = rw c.in-Ok-Number.field-0-is at c.in-Ok-Number.ensures in
-    (search reader_fits, (stage_of h may.stage, begun_of h begun))
+    (search reader_fits, ready (rw c.in-Ok-Number.field-0-is at c.in-Ok-Number.ensures) (rw (← c.self.view_is) at c.requires.may).stage (rw (← c.self.view_is) at c.requires.begun))
 
 pub returns-in-Ok-Number : goal.returns-in-Ok-Number
 returns-in-Ok-Number g c =
-    let may = rw (← c.self.view_is) at c.requires.may in
-    let h = rw c.in-Ok-Number.field-0-is at c.in-Ok-Number.ensures in
     rw (← c.self.view_is)
-    (c.take_number.ensures.takes c.self.inside.reader (kind_of c.args.kind) events.Number h may.stage c.self.invariant
-    refl)
+    (c.take_number.ensures.takes c.self.inside.reader (kind_of c.args.kind) events.Number (rw c.in-Ok-Number.field-0-is at c.in-Ok-Number.ensures)
+    (rw (← c.self.view_is) at c.requires.may).stage c.self.invariant refl)
 
 pub invariant_of-self-in-Ok-Number : goal.invariant_of-self-in-Ok-Number
 invariant_of-self-in-Ok-Number g c =
-    let may = rw (← c.self.view_is) at c.requires.may in
-    let h = rw c.in-Ok-Number.field-0-is at c.in-Ok-Number.ensures in
-    sound_after c.take_number.ensures c.self.inside.reader (kind_of c.args.kind) events.Number h may.stage c.self.invariant
-    refl
+    sound_after c.take_number.ensures c.self.inside.reader (kind_of c.args.kind) events.Number (rw c.in-Ok-Number.field-0-is at c.in-Ok-Number.ensures)
+    (rw (← c.self.view_is) at c.requires.may).stage c.self.invariant refl
 
 pub take_move-requires : goal.take_move-requires
 take_move-requires g c =
-    let may = rw (← c.self.view_is) at c.requires.may in
-    let begun = rw (← c.self.view_is) at c.requires.begun in
     let h = rw c.in-Ok-Move.field-0-is at c.in-Ok-Move.ensures in
-    (search reader_fits, (stage_of h may.stage, (begun_of h begun, (played_of h, h.fits.1))))
+    (search reader_fits, ready_with h (rw (← c.self.view_is) at c.requires.may).stage (rw (← c.self.view_is) at c.requires.begun) (played_of h, h.fits.1))
 
 pub returns-in-Ok-Move : goal.returns-in-Ok-Move
 returns-in-Ok-Move g c =
-    let may = rw (← c.self.view_is) at c.requires.may in
-    let h = rw c.in-Ok-Move.field-0-is at c.in-Ok-Move.ensures in
     rw (← c.self.view_is)
-    (c.take_move.ensures.takes c.self.inside.reader (kind_of c.args.kind) (events.Move c.in-Ok-Move.mv c.in-Ok-Move.probes) h may.stage c.self.invariant
-    refl)
+    (c.take_move.ensures.takes c.self.inside.reader (kind_of c.args.kind) (events.Move c.in-Ok-Move.mv c.in-Ok-Move.probes) (rw c.in-Ok-Move.field-0-is at c.in-Ok-Move.ensures)
+    (rw (← c.self.view_is) at c.requires.may).stage c.self.invariant refl)
 
 pub invariant_of-self-in-Ok-Move : goal.invariant_of-self-in-Ok-Move
 invariant_of-self-in-Ok-Move g c =
-    let may = rw (← c.self.view_is) at c.requires.may in
-    let h = rw c.in-Ok-Move.field-0-is at c.in-Ok-Move.ensures in
-    sound_after c.take_move.ensures c.self.inside.reader (kind_of c.args.kind) (events.Move c.in-Ok-Move.mv c.in-Ok-Move.probes) h may.stage c.self.invariant
-    refl
+    sound_after c.take_move.ensures c.self.inside.reader (kind_of c.args.kind) (events.Move c.in-Ok-Move.mv c.in-Ok-Move.probes) (rw c.in-Ok-Move.field-0-is at c.in-Ok-Move.ensures)
+    (rw (← c.self.view_is) at c.requires.may).stage c.self.invariant refl
 
 pub take_glyph-requires : goal.take_glyph-requires
 take_glyph-requires g c =
-    let may = rw (← c.self.view_is) at c.requires.may in
-    let begun = rw (← c.self.view_is) at c.requires.begun in
-    let h = rw c.in-Ok-Glyph.field-0-is at c.in-Ok-Glyph.ensures in
-    (search reader_fits, (stage_of h may.stage, begun_of h begun))
+    (search reader_fits, ready (rw c.in-Ok-Glyph.field-0-is at c.in-Ok-Glyph.ensures) (rw (← c.self.view_is) at c.requires.may).stage (rw (← c.self.view_is) at c.requires.begun))
 
 pub returns-in-Ok-Glyph : goal.returns-in-Ok-Glyph
 returns-in-Ok-Glyph g c =
-    let may = rw (← c.self.view_is) at c.requires.may in
-    let h = rw c.in-Ok-Glyph.field-0-is at c.in-Ok-Glyph.ensures in
     rw (← c.self.view_is)
-    (c.take_glyph.ensures.takes c.self.inside.reader (kind_of c.args.kind) (events.Glyph c.in-Ok-Glyph.glyph) h may.stage c.self.invariant
-    (record { item = games.glyph c.in-Ok-Glyph.glyph; adds = refl; plain = refl; written = λ b p. refl; untried = refl; moves = λ o n m. m }))
+    (c.take_glyph.ensures.takes c.self.inside.reader (kind_of c.args.kind) (events.Glyph c.in-Ok-Glyph.glyph) (rw c.in-Ok-Glyph.field-0-is at c.in-Ok-Glyph.ensures)
+    (rw (← c.self.view_is) at c.requires.may).stage c.self.invariant (record { item = games.glyph c.in-Ok-Glyph.glyph; adds = refl; plain = refl; written = λ b p. refl; untried = refl; moves = λ o n m. m }))
 
 pub invariant_of-self-in-Ok-Glyph : goal.invariant_of-self-in-Ok-Glyph
 invariant_of-self-in-Ok-Glyph g c =
-    let may = rw (← c.self.view_is) at c.requires.may in
-    let h = rw c.in-Ok-Glyph.field-0-is at c.in-Ok-Glyph.ensures in
-    sound_after c.take_glyph.ensures c.self.inside.reader (kind_of c.args.kind) (events.Glyph c.in-Ok-Glyph.glyph) h may.stage c.self.invariant
-    (record { item = games.glyph c.in-Ok-Glyph.glyph; adds = refl; plain = refl; written = λ b p. refl; untried = refl; moves = λ o n m. m })
+    sound_after c.take_glyph.ensures c.self.inside.reader (kind_of c.args.kind) (events.Glyph c.in-Ok-Glyph.glyph) (rw c.in-Ok-Glyph.field-0-is at c.in-Ok-Glyph.ensures)
+    (rw (← c.self.view_is) at c.requires.may).stage c.self.invariant (record { item = games.glyph c.in-Ok-Glyph.glyph; adds = refl; plain = refl; written = λ b p. refl; untried = refl; moves = λ o n m. m })
 
 pub take_annotation-requires : goal.take_annotation-requires
 take_annotation-requires g c =
-    let may = rw (← c.self.view_is) at c.requires.may in
-    let begun = rw (← c.self.view_is) at c.requires.begun in
-    let h = rw c.in-Ok-CommentOpen.field-0-is at c.in-Ok-CommentOpen.ensures in
-    (search reader_fits, (stage_of h may.stage, (begun_of h begun, (record { not_empty = omega arith; fits = omega arith }))))
+    (search reader_fits, ready_with (rw c.in-Ok-CommentOpen.field-0-is at c.in-Ok-CommentOpen.ensures) (rw (← c.self.view_is) at c.requires.may).stage (rw (← c.self.view_is) at c.requires.begun) (record { not_empty = omega arith; fits = omega arith }))
 
 pub returns-in-Ok-CommentOpen : goal.returns-in-Ok-CommentOpen
 returns-in-Ok-CommentOpen g c =
-    let may = rw (← c.self.view_is) at c.requires.may in
-    let h = rw c.in-Ok-CommentOpen.field-0-is at c.in-Ok-CommentOpen.ensures in
     rw (← c.self.view_is)
-    (c.take_annotation.ensures.takes c.self.inside.reader (kind_of c.args.kind) events.CommentOpen h may.stage c.self.invariant
-    (record { item = games.comment_open; adds = refl; plain = refl; written = λ b p. refl; untried = refl; moves = λ o n m. m }))
+    (c.take_annotation.ensures.takes c.self.inside.reader (kind_of c.args.kind) events.CommentOpen (rw c.in-Ok-CommentOpen.field-0-is at c.in-Ok-CommentOpen.ensures)
+    (rw (← c.self.view_is) at c.requires.may).stage c.self.invariant (record { item = games.comment_open; adds = refl; plain = refl; written = λ b p. refl; untried = refl; moves = λ o n m. m }))
 
 pub invariant_of-self-in-Ok-CommentOpen : goal.invariant_of-self-in-Ok-CommentOpen
 invariant_of-self-in-Ok-CommentOpen g c =
-    let may = rw (← c.self.view_is) at c.requires.may in
-    let h = rw c.in-Ok-CommentOpen.field-0-is at c.in-Ok-CommentOpen.ensures in
-    sound_after c.take_annotation.ensures c.self.inside.reader (kind_of c.args.kind) events.CommentOpen h may.stage c.self.invariant
-    (record { item = games.comment_open; adds = refl; plain = refl; written = λ b p. refl; untried = refl; moves = λ o n m. m })
+    sound_after c.take_annotation.ensures c.self.inside.reader (kind_of c.args.kind) events.CommentOpen (rw c.in-Ok-CommentOpen.field-0-is at c.in-Ok-CommentOpen.ensures)
+    (rw (← c.self.view_is) at c.requires.may).stage c.self.invariant (record { item = games.comment_open; adds = refl; plain = refl; written = λ b p. refl; untried = refl; moves = λ o n m. m })
 
 pub take_annotation-requires-in-Ok-Word : goal.take_annotation-requires-in-Ok-Word
 take_annotation-requires-in-Ok-Word g c =
-    let may = rw (← c.self.view_is) at c.requires.may in
-    let begun = rw (← c.self.view_is) at c.requires.begun in
     let h = rw c.in-Ok-Word.field-0-is at c.in-Ok-Word.ensures in
-    (search reader_fits, (stage_of h may.stage, (begun_of h begun, h.fits)))
+    (search reader_fits, ready_with h (rw (← c.self.view_is) at c.requires.may).stage (rw (← c.self.view_is) at c.requires.begun) h.fits)
 
 pub returns-in-Ok-Word : goal.returns-in-Ok-Word
 returns-in-Ok-Word g c =
-    let may = rw (← c.self.view_is) at c.requires.may in
-    let h = rw c.in-Ok-Word.field-0-is at c.in-Ok-Word.ensures in
     rw (← c.self.view_is)
-    (c.take_annotation-in-Ok-Word.ensures.takes c.self.inside.reader (kind_of c.args.kind) (events.Word c.in-Ok-Word.word) h may.stage c.self.invariant
-    (record { item = games.word c.in-Ok-Word.word.now; adds = refl; plain = refl; written = λ b p. refl; untried = refl; moves = λ o n m. m }))
+    (c.take_annotation-in-Ok-Word.ensures.takes c.self.inside.reader (kind_of c.args.kind) (events.Word c.in-Ok-Word.word) (rw c.in-Ok-Word.field-0-is at c.in-Ok-Word.ensures)
+    (rw (← c.self.view_is) at c.requires.may).stage c.self.invariant (record { item = games.word c.in-Ok-Word.word.now; adds = refl; plain = refl; written = λ b p. refl; untried = refl; moves = λ o n m. m }))
 
 pub invariant_of-self-in-Ok-Word : goal.invariant_of-self-in-Ok-Word
 invariant_of-self-in-Ok-Word g c =
-    let may = rw (← c.self.view_is) at c.requires.may in
-    let h = rw c.in-Ok-Word.field-0-is at c.in-Ok-Word.ensures in
-    sound_after c.take_annotation-in-Ok-Word.ensures c.self.inside.reader (kind_of c.args.kind) (events.Word c.in-Ok-Word.word) h may.stage c.self.invariant
-    (record { item = games.word c.in-Ok-Word.word.now; adds = refl; plain = refl; written = λ b p. refl; untried = refl; moves = λ o n m. m })
+    sound_after c.take_annotation-in-Ok-Word.ensures c.self.inside.reader (kind_of c.args.kind) (events.Word c.in-Ok-Word.word) (rw c.in-Ok-Word.field-0-is at c.in-Ok-Word.ensures)
+    (rw (← c.self.view_is) at c.requires.may).stage c.self.invariant (record { item = games.word c.in-Ok-Word.word.now; adds = refl; plain = refl; written = λ b p. refl; untried = refl; moves = λ o n m. m })
 
 pub take_annotation-requires-in-Ok-CommentClose : goal.take_annotation-requires-in-Ok-CommentClose
 take_annotation-requires-in-Ok-CommentClose g c =
-    let may = rw (← c.self.view_is) at c.requires.may in
-    let begun = rw (← c.self.view_is) at c.requires.begun in
-    let h = rw c.in-Ok-CommentClose.field-0-is at c.in-Ok-CommentClose.ensures in
-    (search reader_fits, (stage_of h may.stage, (begun_of h begun, (record { not_empty = omega arith; fits = omega arith }))))
+    (search reader_fits, ready_with (rw c.in-Ok-CommentClose.field-0-is at c.in-Ok-CommentClose.ensures) (rw (← c.self.view_is) at c.requires.may).stage (rw (← c.self.view_is) at c.requires.begun) (record { not_empty = omega arith; fits = omega arith }))
 
 pub returns-in-Ok-CommentClose : goal.returns-in-Ok-CommentClose
 returns-in-Ok-CommentClose g c =
-    let may = rw (← c.self.view_is) at c.requires.may in
-    let h = rw c.in-Ok-CommentClose.field-0-is at c.in-Ok-CommentClose.ensures in
     rw (← c.self.view_is)
-    (c.take_annotation-in-Ok-CommentClose.ensures.takes c.self.inside.reader (kind_of c.args.kind) events.CommentClose h may.stage c.self.invariant
-    (record { item = games.comment_close; adds = refl; plain = refl; written = λ b p. refl; untried = refl; moves = λ o n m. m }))
+    (c.take_annotation-in-Ok-CommentClose.ensures.takes c.self.inside.reader (kind_of c.args.kind) events.CommentClose (rw c.in-Ok-CommentClose.field-0-is at c.in-Ok-CommentClose.ensures)
+    (rw (← c.self.view_is) at c.requires.may).stage c.self.invariant (record { item = games.comment_close; adds = refl; plain = refl; written = λ b p. refl; untried = refl; moves = λ o n m. m }))
 
 pub invariant_of-self-in-Ok-CommentClose : goal.invariant_of-self-in-Ok-CommentClose
 invariant_of-self-in-Ok-CommentClose g c =
-    let may = rw (← c.self.view_is) at c.requires.may in
-    let h = rw c.in-Ok-CommentClose.field-0-is at c.in-Ok-CommentClose.ensures in
-    sound_after c.take_annotation-in-Ok-CommentClose.ensures c.self.inside.reader (kind_of c.args.kind) events.CommentClose h may.stage c.self.invariant
-    (record { item = games.comment_close; adds = refl; plain = refl; written = λ b p. refl; untried = refl; moves = λ o n m. m })
+    sound_after c.take_annotation-in-Ok-CommentClose.ensures c.self.inside.reader (kind_of c.args.kind) events.CommentClose (rw c.in-Ok-CommentClose.field-0-is at c.in-Ok-CommentClose.ensures)
+    (rw (← c.self.view_is) at c.requires.may).stage c.self.invariant (record { item = games.comment_close; adds = refl; plain = refl; written = λ b p. refl; untried = refl; moves = λ o n m. m })
 
 pub take_annotation-requires-in-Ok-Open : goal.take_annotation-requires-in-Ok-Open
 take_annotation-requires-in-Ok-Open g c =
-    let may = rw (← c.self.view_is) at c.requires.may in
-    let begun = rw (← c.self.view_is) at c.requires.begun in
-    let h = rw c.in-Ok-Open.field-0-is at c.in-Ok-Open.ensures in
-    (search reader_fits, (stage_of h may.stage, (begun_of h begun, (record { not_empty = omega arith; fits = omega arith }))))
+    (search reader_fits, ready_with (rw c.in-Ok-Open.field-0-is at c.in-Ok-Open.ensures) (rw (← c.self.view_is) at c.requires.may).stage (rw (← c.self.view_is) at c.requires.begun) (record { not_empty = omega arith; fits = omega arith }))
 
 pub returns-in-Ok-Open : goal.returns-in-Ok-Open
 returns-in-Ok-Open g c =
-    let may = rw (← c.self.view_is) at c.requires.may in
-    let h = rw c.in-Ok-Open.field-0-is at c.in-Ok-Open.ensures in
     rw (← c.self.view_is)
-    (c.take_annotation-in-Ok-Open.ensures.takes c.self.inside.reader (kind_of c.args.kind) events.Open h may.stage c.self.invariant
-    (record { item = games.open_variation; adds = refl; plain = refl; written = λ b p. refl; untried = refl; moves = λ o n m. m }))
+    (c.take_annotation-in-Ok-Open.ensures.takes c.self.inside.reader (kind_of c.args.kind) events.Open (rw c.in-Ok-Open.field-0-is at c.in-Ok-Open.ensures)
+    (rw (← c.self.view_is) at c.requires.may).stage c.self.invariant (record { item = games.open_variation; adds = refl; plain = refl; written = λ b p. refl; untried = refl; moves = λ o n m. m }))
 
 pub invariant_of-self-in-Ok-Open : goal.invariant_of-self-in-Ok-Open
 invariant_of-self-in-Ok-Open g c =
-    let may = rw (← c.self.view_is) at c.requires.may in
-    let h = rw c.in-Ok-Open.field-0-is at c.in-Ok-Open.ensures in
-    sound_after c.take_annotation-in-Ok-Open.ensures c.self.inside.reader (kind_of c.args.kind) events.Open h may.stage c.self.invariant
-    (record { item = games.open_variation; adds = refl; plain = refl; written = λ b p. refl; untried = refl; moves = λ o n m. m })
+    sound_after c.take_annotation-in-Ok-Open.ensures c.self.inside.reader (kind_of c.args.kind) events.Open (rw c.in-Ok-Open.field-0-is at c.in-Ok-Open.ensures)
+    (rw (← c.self.view_is) at c.requires.may).stage c.self.invariant (record { item = games.open_variation; adds = refl; plain = refl; written = λ b p. refl; untried = refl; moves = λ o n m. m })
 
 pub take_annotation-requires-in-Ok-Close : goal.take_annotation-requires-in-Ok-Close
 take_annotation-requires-in-Ok-Close g c =
-    let may = rw (← c.self.view_is) at c.requires.may in
-    let begun = rw (← c.self.view_is) at c.requires.begun in
-    let h = rw c.in-Ok-Close.field-0-is at c.in-Ok-Close.ensures in
-    (search reader_fits, (stage_of h may.stage, (begun_of h begun, (record { not_empty = omega arith; fits = omega arith }))))
+    (search reader_fits, ready_with (rw c.in-Ok-Close.field-0-is at c.in-Ok-Close.ensures) (rw (← c.self.view_is) at c.requires.may).stage (rw (← c.self.view_is) at c.requires.begun) (record { not_empty = omega arith; fits = omega arith }))
 
 pub returns-in-Ok-Close : goal.returns-in-Ok-Close
 returns-in-Ok-Close g c =
-    let may = rw (← c.self.view_is) at c.requires.may in
-    let h = rw c.in-Ok-Close.field-0-is at c.in-Ok-Close.ensures in
     rw (← c.self.view_is)
-    (c.take_annotation-in-Ok-Close.ensures.takes c.self.inside.reader (kind_of c.args.kind) events.Close h may.stage c.self.invariant
-    (record { item = games.close_variation; adds = refl; plain = refl; written = λ b p. refl; untried = refl; moves = λ o n m. m }))
+    (c.take_annotation-in-Ok-Close.ensures.takes c.self.inside.reader (kind_of c.args.kind) events.Close (rw c.in-Ok-Close.field-0-is at c.in-Ok-Close.ensures)
+    (rw (← c.self.view_is) at c.requires.may).stage c.self.invariant (record { item = games.close_variation; adds = refl; plain = refl; written = λ b p. refl; untried = refl; moves = λ o n m. m }))
 
 pub invariant_of-self-in-Ok-Close : goal.invariant_of-self-in-Ok-Close
 invariant_of-self-in-Ok-Close g c =
-    let may = rw (← c.self.view_is) at c.requires.may in
-    let h = rw c.in-Ok-Close.field-0-is at c.in-Ok-Close.ensures in
-    sound_after c.take_annotation-in-Ok-Close.ensures c.self.inside.reader (kind_of c.args.kind) events.Close h may.stage c.self.invariant
-    (record { item = games.close_variation; adds = refl; plain = refl; written = λ b p. refl; untried = refl; moves = λ o n m. m })
+    sound_after c.take_annotation-in-Ok-Close.ensures c.self.inside.reader (kind_of c.args.kind) events.Close (rw c.in-Ok-Close.field-0-is at c.in-Ok-Close.ensures)
+    (rw (← c.self.view_is) at c.requires.may).stage c.self.invariant (record { item = games.close_variation; adds = refl; plain = refl; written = λ b p. refl; untried = refl; moves = λ o n m. m })

@@ -1,5 +1,5 @@
 use Rattle.pgn_game.proofs.ReaderFitsInMemory.{games_fit_converter}
-use Rattle.pgn_game.proofs.tokens.WholeInput.{none_read}
+use Rattle.pgn_game.proofs.stepping.WholeInput.{none_read}
 use Rattle.pgn_game.proofs.games.Games.new.Goals as goal
 
 pub new-requires : goal.new-requires

@@ -1,6 +1,6 @@
 use Rattle.pgn_game.proofs.Words.{games_of}
 use Rattle.pgn_game.proofs.ReaderFitsInMemory.{games_fit_converter}
-use Rattle.pgn_game.proofs.tokens.WholeInput.{read_none_silently}
+use Rattle.pgn_game.proofs.stepping.WholeInput.{read_none_silently}
 use Rattle.pgn_game.proofs.games.Games.write_nothing.Goals as goal
 
 pub write_nothing-requires : goal.write_nothing-requires

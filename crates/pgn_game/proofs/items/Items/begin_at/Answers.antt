@@ -1,6 +1,6 @@
 use Rattle.pgn_game.proofs.Words.{arith, refl, sym, inl, no_progress, none, false≢true, append-nil, []}
-use Rattle.pgn_game.specs.calls.ItemsCalls.{within}
-use Rattle.pgn_game.proofs.tokens.SoundAtStart.{sound_at_start}
+use Rattle.pgn_game.specs.public.ItemsCalls.{within}
+use Rattle.pgn_game.proofs.stepping.SoundAtStart.{sound_at_start}
 use Rattle.pgn_game.proofs.giving.CurrentFitsInMemory.{items_fit_current}
 use Rattle.pgn_game.proofs.giving.ItemsAtStart.{spaces_decide_none}
 use Rattle.pgn_game.proofs.items.Items.begin_at.Goals as goal

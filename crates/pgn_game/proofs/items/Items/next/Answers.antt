@@ -1,9 +1,10 @@
 use Rattle.pgn_game.proofs.Words.{None, Option, ap, arith, sym, ◌∙◌}
 use Rattle.pgn_game.specs.declared.item.Item.{Item as CodeItem}
-use Rattle.pgn_game.specs.calls.ItemsCalls.{Current, one_if}
+use Rattle.pgn_game.specs.public.ItemsCalls.{Current, one_if}
 use Rattle.pgn_game.proofs.giving.CurrentFitsInMemory.{items_fit_current}
 use Rattle.pgn_game.proofs.giving.ItemsAhead.{lowers_from}
 use Rattle.pgn_game.proofs.giving.SourceToItems.{forgets, gives_next, gives_none, gives_nothing, gives_some}
+use Rattle.pgn_game.specs.steps.ItemsSteps.{is_at_end}
 use Rattle.pgn_game.proofs.items.Items.next.Goals as goal
 
 pub give_next-requires : goal.give_next-requires
@@ -26,34 +27,34 @@ returns-in-Some-clause-lowers g c =
     rw (← c.self.view_is, c.give_next.ensures.current ∙ gives_some _ c.in-Some.item is)
     (omega (arith, ap (λ (o : Option CodeItem). one_if o) is))
 
-pub returns-then-self-clause-reads : goal.returns-then-self-clause-reads
-returns-then-self-clause-reads g c =
+pub returns-in-Finished-clause-reads : goal.returns-in-Finished-clause-reads
+returns-in-Finished-clause-reads g c =
     let none = sym c.give_next.ensures.item ∙ c.in_default.is in
     let current_is = c.forget_last.ensures ∙ ap (λ (x : Current). record x { last = None }) (c.give_next.ensures.current ∙ gives_nothing _ none) in
-    rw current_is (λ p u given have. gives_none _ none c.if-self.true p u given _ (rw (← c.self.view_is) at have))
+    rw current_is (λ p u given have. gives_none _ none (ap is_at_end c.in-Finished.is) p u given _ (rw (← c.self.view_is) at have))
 
-pub returns-then-self-2-clause-reads : goal.returns-then-self-2-clause-reads
-returns-then-self-2-clause-reads g c =
+pub returns-in-SourceEnded-clause-reads : goal.returns-in-SourceEnded-clause-reads
+returns-in-SourceEnded-clause-reads g c =
     let none = sym c.give_next.ensures.item ∙ c.in_default.is in
     let current_is = c.forget_last.ensures ∙ ap (λ (x : Current). record x { last = None }) (c.give_next.ensures.current ∙ gives_nothing _ none) in
     λ p u given have.
     (rw current_is at c.next_at_end.ensures.gives) _ _ _ p u given (forgets _ none p u given _ (rw (← c.self.view_is) at have))
 
-pub returns-then-self-2-clause-lowers : goal.returns-then-self-2-clause-lowers
-returns-then-self-2-clause-lowers g c =
+pub returns-in-SourceEnded-clause-lowers : goal.returns-in-SourceEnded-clause-lowers
+returns-in-SourceEnded-clause-lowers g c =
     let none = sym c.give_next.ensures.item ∙ c.in_default.is in
     let current_is = c.forget_last.ensures ∙ ap (λ (x : Current). record x { last = None }) (c.give_next.ensures.current ∙ gives_nothing _ none) in
     rw (← c.self.view_is) (lowers_from _ _ _ _ (rw current_is at c.next_at_end.ensures.lowers) (omega arith))
 
-pub returns-clause-reads : goal.returns-clause-reads
-returns-clause-reads g c =
+pub returns-in-Reading-clause-reads : goal.returns-in-Reading-clause-reads
+returns-in-Reading-clause-reads g c =
     let none = sym c.give_next.ensures.item ∙ c.in_default.is in
     let current_is = c.forget_last.ensures ∙ ap (λ (x : Current). record x { last = None }) (c.give_next.ensures.current ∙ gives_nothing _ none) in
     λ p u given have.
     (rw current_is at c.read_item.ensures.reads) p u given (forgets _ none p u given _ (rw (← c.self.view_is) at have))
 
-pub returns-clause-lowers : goal.returns-clause-lowers
-returns-clause-lowers g c =
+pub returns-in-Reading-clause-lowers : goal.returns-in-Reading-clause-lowers
+returns-in-Reading-clause-lowers g c =
     let none = sym c.give_next.ensures.item ∙ c.in_default.is in
     let current_is = c.forget_last.ensures ∙ ap (λ (x : Current). record x { last = None }) (c.give_next.ensures.current ∙ gives_nothing _ none) in
     rw (← c.self.view_is) (lowers_from _ _ _ _ (rw current_is at c.read_item.ensures.lowers) (omega arith))

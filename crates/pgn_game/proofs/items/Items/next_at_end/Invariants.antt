@@ -1,6 +1,6 @@
 use Rattle.pgn_game.proofs.Words.{◌≡◌, ◌≤◌, true, waiting}
-use Rattle.pgn_game.specs.calls.ItemsCalls.{tokens_ahead}
-use Rattle.pgn_game.specs.state.ItemsSteps.{AreGoing, ReadRestSoFar}
+use Rattle.pgn_game.specs.public.ItemsCalls.{tokens_ahead}
+use Rattle.pgn_game.specs.steps.ItemsSteps.{AreGoing, ReadRestSoFar}
 use Rattle.pgn_game.proofs.items.Items.next_at_end.Given as goal
 
 abbrev pub invariant-loop-fault : goal.invariant-loop-fault

@@ -1,5 +1,5 @@
 use Rattle.pgn_game.proofs.Words.{ℕ, ap, arith, one_more, refl, subst, sym, ◌∙◌}
-use Rattle.pgn_game.specs.calls.ItemsCalls.{GivesFault, Items, items_ahead, tokens_ahead}
+use Rattle.pgn_game.specs.public.ItemsCalls.{GivesFault, Items, items_ahead, tokens_ahead}
 use Rattle.pgn_game.proofs.giving.ItemsAhead.{ahead_going, lowers_buffered, lowers_from}
 use Rattle.pgn_game.proofs.giving.SourceToItems.{after_more, filled, read_failed, rest_begins, so_far_none, took_fault, took_item, took_none}
 use Rattle.pgn_game.proofs.items.Items.read_item.Goals as goal
@@ -32,7 +32,7 @@ returns-in-Ok-false-clause-reads g c = λ p u given have.
     let x = so.reads p u given have in
     let ends = rw c.in-Ok-false.field-0-test at c.in-Ok-false.ensures.more in
     after_more p u given _ _ _ x _ _ ends.2 _ _ c.next_at_end.result
-    (c.next_at_end.ensures.gives _ _ _ p _ given (rest_begins p u given _ _ _ x _ _ ends.0 so.going so.short ends.1 ends.3))
+    (c.next_at_end.ensures.gives _ _ _ p _ given (rest_begins p u given _ _ _ x _ _ c.symbols_stand_in_text.ensures ends.0 so.going so.short ends.1 ends.3))
 
 pub returns-in-Ok-false-clause-lowers : goal.returns-in-Ok-false-clause-lowers
 returns-in-Ok-false-clause-lowers g c =

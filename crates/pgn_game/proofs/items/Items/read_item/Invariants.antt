@@ -1,6 +1,6 @@
 use Rattle.pgn_game.proofs.Words.{◌≡◌, ◌^◌, ◌≤◌, false}
-use Rattle.pgn_game.specs.calls.ItemsCalls.{tokens_ahead}
-use Rattle.pgn_game.specs.state.ItemsSteps.{AreGoing, ReadSoFar}
+use Rattle.pgn_game.specs.public.ItemsCalls.{tokens_ahead}
+use Rattle.pgn_game.specs.steps.ItemsSteps.{AreGoing, ReadSoFar}
 use Rattle.pgn_game.proofs.items.Items.read_item.Given as goal
 
 abbrev pub invariant-loop-fault : goal.invariant-loop-fault

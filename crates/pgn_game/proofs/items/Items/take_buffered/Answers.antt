@@ -1,7 +1,7 @@
 use Rattle.pgn_game.proofs.Words.{ℕ, ◌-◌, ◌^◌, ◌<◌, List, length, length-take, arith, ap, sym, subst, ◌∙◌}
 use Rattle.pgn_game.proofs.giving.BufferToItems.{empty_if, some_if, stops_too_long, takes_fault, takes_on}
 use Rattle.pgn_game.proofs.giving.CurrentFitsInMemory.{items_fit_current}
-use Rattle.pgn_game.proofs.tokens.StepsAtEnd.{sound_behind_fault}
+use Rattle.pgn_game.proofs.stepping.StepsAtEnd.{sound_behind_fault}
 use Rattle.pgn_game.proofs.items.Items.take_buffered.Goals as goal
 
 pub returns-then-is_empty : goal.returns-then-is_empty
@@ -9,7 +9,7 @@ returns-then-is_empty g c =
     let going = rw (← c.self.view_is) at c.requires.going in
     let some = rw (← c.self.view_is) at c.requires.some in
     let piece_is = rw (c.place.ensures, c.unused.ensures) at c.within_limit-piece.ensures in
-    rw (← c.self.view_is, c.too_long.ensures.kept, c.too_long.ensures.fault)
+    rw (← c.self.view_is)
     (stops_too_long _ going c.self.invariant.count some (ap length (sym piece_is) ∙ empty_if (length c.within_limit-piece.result.now) (c.if-is_empty.ensures)))
 
 pub read_token-used-requires : goal.read_token-used-requires

@@ -1,5 +1,5 @@
 use Rattle.pgn_game.proofs.Words.{◌≡◌, ◌+◌, ◌==◌, ◌∙◌, false, Movetext, Parts, Plays, Some, ap, arith, length, legal, ne_eqb, subst, sym, common_steps, ℕ}
-use Rattle.pgn_game.specs.state.ItemResult.{counted_at}
+use Rattle.pgn_game.specs.steps.ItemResult.{counted_at}
 use Rattle.pgn_game.proofs.levels.Levels.play.Given.{Over}
 use Rattle.pgn_game.proofs.levels.Levels.play.Goals.{After-depth}
 use Rattle.pgn_game.proofs.levels.Levels.play.Goals as goal

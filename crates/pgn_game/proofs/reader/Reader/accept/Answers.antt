@@ -1,6 +1,6 @@
 use Rattle.pgn_game.proofs.Words.{Err, Ok, arith}
 use Rattle.pgn_game.proofs.ReaderLemmas.{reader_alike}
-use Rattle.pgn_game.specs.state.Accepted.{no_writer}
+use Rattle.pgn_game.specs.steps.Accepted.{no_writer}
 use Rattle.pgn_game.proofs.giving.SilentEvents.{entry_accepted, outside_accepted, outside_refused}
 use Rattle.pgn_game.proofs.reader.Reader.accept.Goals as goal
 

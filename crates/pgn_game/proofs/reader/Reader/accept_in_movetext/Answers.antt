@@ -1,7 +1,7 @@
 use Rattle.pgn_game.proofs.Words.{◌≡◌, refl, sym, subst, may_have_movetext, IsTrue, Event, Kind, Marker, Means, Ok, ReaderState, RefusesMarker, EndsAtMarker}
 use Rattle.pgn_game.proofs.ReaderLemmas.{reader_alike}
 use Rattle.pgn_game.specs.declared.event.Event.TheVariants as events
-use Rattle.pgn_game.specs.state.Judged.{Judges}
+use Rattle.pgn_game.specs.steps.Judged.{Judges}
 use Rattle.pgn_game.proofs.giving.SilentEvents.{end_accepted, end_refused, event_accepted, event_refused}
 use Rattle.pgn_game.proofs.reader.Reader.accept_in_movetext.Goals as goal
 

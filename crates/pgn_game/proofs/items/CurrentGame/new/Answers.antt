@@ -1,5 +1,0 @@
-use Rattle.pgn_game.proofs.giving.CurrentFitsInMemory.{current_fits_reader}
-use Rattle.pgn_game.proofs.items.CurrentGame.new.Goals as goal
-
-pub new-requires : goal.new-requires
-new-requires g c = (search current_fits_reader, c.requires)

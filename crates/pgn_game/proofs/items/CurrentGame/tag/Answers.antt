@@ -1,6 +1,0 @@
-use Rattle.pgn_game.proofs.Words.{is_some, ap}
-use Rattle.pgn_game.proofs.giving.CurrentFitsInMemory.{current_fits_reader}
-use Rattle.pgn_game.proofs.items.CurrentGame.tag.Goals as goal
-
-pub value_so_far-requires : goal.value_so_far-requires
-value_so_far-requires g c = (search current_fits_reader, c.self.invariant.whole (ap is_some c.in_ok-self.was))

@@ -1,0 +1,335 @@
+-- One token that the lexer gave, and what the reader answered to it.
+use Rattle.pgn_lexer.specs.PartialToken.{refusal as refusal_token}
+use Rattle.pgn_game.proofs.Words.{Writing, Reason, Lexical, WriteFault, Profile, Game, Part, ◌≡◌, ℕ, ◌+◌, ◌<◌, ◌≤◌, ◌⊎◌, Bool, List, [], ◌∷◌, ◌++◌, length, take, Option, None, Some, Ok, Err, refl, sym, ap, subst, ◌∙◌, append_assoc, append-nil, length-append, le_refl, arith, IsTrue, map, sum, map-append, list_any-append, or_cases, Appends-nil, Appends, Token, Standing, Follows, first, still, More, Finished, refusal, marker_of, position_if_move, position_in, Next, going, whole, next, Progress, progress_with, progress_after, Read, read, gain, text_next, Gains, plies_of, has_move, ReaderState, Agrees, as_written, IsBehind, plies_of_finished_games, plies_added, Leads, Answers, AppendsFront, MostTried, Raises, Tries, TriesUnwritten, sum_by-append, sum_by-cons, LexFault, finished_game_of, Converter, game_in_reader, play_moves, has_played_move, HasRead, IsLastGame, refused_stop as refused, unwritten, reported_position, FaultAtEnd, SameGames, OneGame, GainsAs, Meets, NotTaken, ReadsMore, due_as, part_after, TakesToken, Device, Marker, rules, inl, inr, position_at_fault, due, torn, text_of_games as text_of, MeetsMarker, common_steps, coming, AreNext, take-append-drop, drop, tokens_of, StandsAfter}
+use Rattle.pgn_game.specs.steps.ReaderState as reader_state
+use Rattle.pgn_game.proofs.stepping.PairsTriedForToken.{most_with, most_to_refused, part_probed, raises_none}
+use Rattle.pgn_game.proofs.stepping.OneMoreToken.{read-passes, read-refuses, due-passes}
+use Rattle.pgn_game.proofs.stepping.NextGrows.{next_is}
+use Rattle.pgn_game.specs.steps.ReaderState.{refused as refused_by}
+
+pub follows_first : (xs s : List ℕ) → Follows (first xs) (xs ++ s)
+follows_first [] s = tt
+follows_first (x ∷ xs) s = refl
+
+pub follows_own : (xs : List ℕ) → Follows (first xs) xs
+follows_own [] = tt
+follows_own (x ∷ xs) = refl
+
+pub follows_none : (b : Option ℕ) → Follows b []
+follows_none None = tt
+follows_none (Some x) = tt
+
+-- what is written for a missing Result follows from the profile and the announced marker
+pub written_same : (old new : ReaderState) → new.profile ≡ old.profile → new.writing ≡ old.writing → as_written new ≡ as_written old
+written_same old new profile writing = rw (profile, writing) refl
+
+-- what a token leads to, with the games before; one that finishes no game counts no move
+leads_more : (nx : Next) (games : List Game) (r : ReaderState) → Leads nx More r
+    → ((progress_with games nx).games ≡ games) × Agrees r (progress_with games nx).part × (plies_added nx ≡ 0)
+leads_more (going part) games r h = (refl, h, refl)
+leads_more (whole g) games r h = absurd h
+
+-- what stands written then, where a missing Result is written as by w
+text_more : (w p : Profile) (nx : Next) (games : List Game) (r : ReaderState) → Leads nx More r
+    → text_of p (progress_with games nx).games ++ torn w (progress_with games nx).part ≡ text_of p games ++ text_next w nx
+text_more w p (going part) games r h = refl
+text_more w p (whole g) games r h = absurd h
+
+leads_finished : (nx : Next) (games : List Game) (r : ReaderState) → Leads nx Finished r
+    → (g : Game) × ((progress_with games nx).games ≡ games ++ g ∷ [])
+    × Agrees r (progress_with games nx).part × IsBehind r g × (plies_added nx ≡ plies_of g)
+leads_finished (going part) games r h = absurd h
+leads_finished (whole g) games r h = (g, refl, h.agrees, h, refl)
+
+-- what the reader still holds of the game that it is behind
+finished_behind : {r : ReaderState} {g : Game} → IsBehind r g → game_in_reader r ≡ finished_game_of g
+finished_behind h = cc (h.pairs, h.plies, h.position, h.marker)
+
+plies-snoc : (games : List Game) (g : Game) → sum (map plies_of (games ++ g ∷ [])) ≡ sum (map plies_of games) + plies_of g
+plies-snoc games g = grind (arith, common_steps, sum_by-cons, map-append, sum_by-append)
+
+-- a move is in the games before, or in the last one
+moves-snoc : (games : List Game) (g : Game) → IsTrue (play_moves (games ++ g ∷ [])) → IsTrue (play_moves games) ⊎ IsTrue (has_move g.items)
+moves-snoc games g h = search (rules, list_any-append, or_cases)
+
+pub in_games : (b : Progress) → IsTrue (play_moves b.games) → IsTrue (has_played_move b)
+in_games b h = grind (arith, common_steps)
+
+-- some pair was tried where a move was played in a game, or in the part
+in_either : {r : ReaderState} (b : Progress) → Agrees r b.part
+    → (IsTrue (play_moves b.games) → 0 < r.most_probes) → IsTrue (has_played_move b) → 0 < r.most_probes
+in_either {r} b agrees before moves = grind (arith, common_steps, part_probed)
+
+-- a converter after a token, where it finishes no game and is no fault
+abbrev pub now_at : Standing → ReaderState → ℕ → Bool → Converter
+now_at l r games finished =
+    record { lexer = l; reading = r; games = games; just_finished = None; is_finished = finished; fault = None }
+
+module _ (p : Profile) (old : Converter) (given : List Token) (t : Token) (l : Standing) (new : ReaderState) (finished : Bool)
+    (has_read : HasRead p old given) (profile : new.profile ≡ old.reading.profile) (probes : old.reading.most_probes ≤ new.most_probes)
+    (writing : new.writing ≡ old.reading.writing) where
+  abbrev b : Progress
+  b = (read p given).progress
+
+  passes : refusal old.reading.profile b.part t.kind ≡ None → refusal p b.part t.kind ≡ None
+  passes h = subst (λ q. refusal q b.part t.kind ≡ None) has_read.profile h
+
+  reads : refusal old.reading.profile b.part t.kind ≡ None → read p (given ++ t ∷ []) ≡ record { progress = progress_after b t; fault = None }
+  reads h = read-passes p given t has_read.passes (passes h)
+
+  same_silence : old.reading.writing.is_silent ≡ new.writing.is_silent
+  same_silence = ap (λ (w : Writing). w.is_silent) (sym writing)
+
+  tried_before : MostTried new.writing.is_silent p given old.reading.most_probes
+  tried_before = subst (λ (silent : Bool). MostTried silent p given old.reading.most_probes) same_silence has_read.tried
+
+  raised : Raises (Tries old.reading.writing.is_silent old.reading.profile b.part t.kind) old.reading.most_probes new.most_probes
+      → Raises (Tries new.writing.is_silent p b.part t.kind) old.reading.most_probes new.most_probes
+  raised h = grind (arith, common_steps, same_silence)
+
+  most_tried : refusal old.reading.profile b.part t.kind ≡ None
+      → Raises (Tries old.reading.writing.is_silent old.reading.profile b.part t.kind) old.reading.most_probes new.most_probes → MostTried new.writing.is_silent p (given ++ t ∷ []) new.most_probes
+  most_tried h tries = most_with new.writing.is_silent p t tried_before has_read.passes (passes h) (raised tries)
+
+  probed_before : IsTrue (has_played_move b) → 0 < new.most_probes
+  probed_before moves = let some = has_read.probed moves in omega (arith, some, probes)
+
+  pub same_games : refusal old.reading.profile b.part t.kind ≡ None
+      → Leads (next b.part t.kind) More new → SameGames p given (given ++ t ∷ [])
+  same_games h leads = rw (reads h) ((leads_more (next b.part t.kind) b.games new leads).0)
+
+  pub has_read_more : refusal old.reading.profile b.part t.kind ≡ None → Leads (next b.part t.kind) More new
+      → plies_of_finished_games new ≡ plies_of_finished_games old.reading + plies_added (next b.part t.kind)
+      → Raises (Tries old.reading.writing.is_silent old.reading.profile b.part t.kind) old.reading.most_probes new.most_probes
+      → HasRead p (now_at l new old.games finished) (given ++ t ∷ [])
+  has_read_more h leads plies tries =
+      let more = leads_more (next b.part t.kind) b.games new leads in
+      let same = same_games h leads in
+      let total : plies_of_finished_games new ≡ plies_of_finished_games old.reading = omega (arith, plies, more.2) in
+      let agrees : Agrees new (read p (given ++ t ∷ [])).progress.part = rw (reads h) more.1 in
+      record {
+        profile = profile ∙ has_read.profile;
+        no_fault = refl;
+        passes = rw (reads h);
+        agrees = agrees;
+        games = has_read.games ∙ ap (length {A = Game}) (sym same);
+        plies = total ∙ has_read.plies ∙ ap (λ games. sum (map plies_of games)) (sym same);
+        probed = in_either (read p (given ++ t ∷ [])).progress agrees
+            (λ moves. probed_before (in_games b (rw same at moves)));
+        tried = most_tried h tries;
+        just_finished = tt;
+      }
+
+  pub one_game : refusal old.reading.profile b.part t.kind ≡ None → Leads (next b.part t.kind) Finished new
+      → (g : Game) × OneGame p given (given ++ t ∷ []) g × (game_in_reader new ≡ finished_game_of g)
+  one_game h leads = grind (arith, common_steps, leads_finished, reads, finished_behind)
+
+  pub has_read_game : refusal old.reading.profile b.part t.kind ≡ None → Leads (next b.part t.kind) Finished new
+      → plies_of_finished_games new ≡ plies_of_finished_games old.reading + plies_added (next b.part t.kind)
+      → Raises (Tries old.reading.writing.is_silent old.reading.profile b.part t.kind) old.reading.most_probes new.most_probes
+      → HasRead p (record {
+        lexer = l;
+        reading = new;
+        games = old.games + 1;
+        just_finished = Some (game_in_reader new);
+        is_finished = finished;
+        fault = None;
+      }) (given ++ t ∷ [])
+  has_read_game h leads plies tries =
+      let done = leads_finished (next b.part t.kind) b.games new leads in
+      let one = ap (λ (r : Read). r.progress.games) (reads h) ∙ done.1 in
+      let g : Game = done.0 in
+      let behind : IsBehind new g = done.3 in
+      let agrees : Agrees new (read p (given ++ t ∷ [])).progress.part = rw (reads h) done.2 in
+      record {
+        profile = profile ∙ has_read.profile;
+        no_fault = refl;
+        passes = rw (reads h);
+        agrees = agrees;
+        games = rw has_read.games (sym (ap (length {A = Game}) one ∙ length-append b.games (g ∷ [])));
+        plies = cc (plies, has_read.plies, done.4, one, plies-snoc b.games g);
+        probed = in_either (read p (given ++ t ∷ [])).progress agrees
+            (λ moves. elim (moves-snoc b.games g (rw one at moves)) [
+              | inl before ↦ probed_before (in_games b before)
+              | inr here ↦ behind.probed here
+            ]);
+        tried = most_tried h tries;
+        just_finished = (b.games, g, one, finished_behind behind);
+      }
+
+  pub at_refused : (us : List Token) {a c : Option (List ℕ)} {reason : Reason}
+      → refusal old.reading.profile b.part t.kind ≡ Some reason → Appends a c []
+      → Raises (Tries old.reading.writing.is_silent old.reading.profile b.part t.kind) old.reading.most_probes new.most_probes
+      → reported_position new reason ≡ position_if_move reason (position_in b.part)
+      → FaultAtEnd p given (given ++ t ∷ us) (record { at = t.at; reason = reason }) new a c
+  at_refused us {reason} h wrote tries here =
+      let some = rw has_read.profile at h in
+      let ends = read-refuses p given t us reason has_read.passes some in
+      record {
+        stops = refused (record { at = t.at; reason = reason }) (ap (λ (r : Read). r.fault) ends)
+            (record { text = []; due_for = rw ends (sym (append-nil (due p given))); appended = wrote });
+        no_game = ap (λ (r : Read). r.progress.games) ends;
+        counts = record {
+          tried = most_to_refused new.writing.is_silent p t us tried_before has_read.passes some (raised tries);
+          probed = search (rules, probed_before);
+        };
+        position = here ∙ sym (ap position_at_fault ends);
+      }
+
+  -- where the reason is not that a write failed
+  pub at_refusal : (us : List Token) {a c : Option (List ℕ)} {why : Reason} → (why ≡ WriteFault → ⊥)
+      → Answers old.reading b.part t.kind new (Err why) a c → FaultAtEnd p given (given ++ t ∷ us) (record { at = t.at; reason = why }) new a c
+  at_refusal us other (reader_state.refused reason some wrote tries here) = at_refused us some wrote tries here
+  at_refusal us other (reader_state.unwritten none wrote tries) = absurd (other refl)
+
+  -- where the game goes on, the same profile writes what the token adds
+  pub due_more : (w : Profile) → refusal old.reading.profile b.part t.kind ≡ None → Leads (next b.part t.kind) More new
+      → due_as w p (given ++ t ∷ []) ≡ due_as w p given ++ gain w b.part t.kind
+  due_more w h leads = grind (arith, common_steps, reads, text_more, next_is, append_assoc)
+
+  -- what is written is the profile's
+  module _ (written : as_written old.reading ≡ old.reading.profile) where
+    shown : as_written old.reading ≡ p
+    shown = written ∙ has_read.profile
+
+    pub gains_token : {a c : Option (List ℕ)} → refusal old.reading.profile b.part t.kind ≡ None
+        → Appends a c (gain (as_written old.reading) b.part t.kind) → Gains p given (given ++ t ∷ []) a c
+    gains_token h wrote = search (rules, due-passes, passes, shown)
+
+    pub at_unwritten : (us : List Token) {a c : Option (List ℕ)} → refusal old.reading.profile b.part t.kind ≡ None
+        → AppendsFront a c (gain (as_written old.reading) b.part t.kind)
+        → Raises (TriesUnwritten old.reading.writing.is_silent old.reading.profile b.part t.kind) old.reading.most_probes new.most_probes
+        → FaultAtEnd p given (given ++ t ∷ us) (record { at = t.at; reason = WriteFault }) new a c
+    at_unwritten us {a} {c} h (n, short, wrote) tries =
+        record {
+          stops = unwritten t.at (record {
+            front = given;
+            token = t;
+            rest = us;
+            cut = refl;
+            place = refl;
+            passes = rw (reads h);
+            text = gain p b.part t.kind;
+            due_for = due-passes p given t has_read.passes (passes h);
+            count = n;
+            least = omega arith;
+            short = subst (λ q. n < length (gain q b.part t.kind)) shown short;
+            appended = subst (λ q. Appends a c (take n (gain q b.part t.kind))) shown wrote;
+          });
+          no_game = refl;
+          counts = record {
+            tried = (
+              old.reading.most_probes,
+              tried_before,
+              subst (λ (silent : Bool). Raises (TriesUnwritten silent p b.part t.kind) old.reading.most_probes new.most_probes) same_silence
+                  (subst (λ q. Raises (TriesUnwritten old.reading.writing.is_silent q b.part t.kind) old.reading.most_probes new.most_probes)
+                  has_read.profile tries),
+            );
+            probed = probed_before;
+          };
+          position = refl;
+        }
+
+    pub at_fault : (us : List Token) {a c : Option (List ℕ)} {why : Reason} → Answers old.reading b.part t.kind new (Err why) a c
+        → FaultAtEnd p given (given ++ t ∷ us) (record { at = t.at; reason = why }) new a c
+    at_fault us (reader_state.refused reason some wrote tries here) = at_refused us some wrote tries here
+    at_fault us (reader_state.unwritten none wrote tries) = at_unwritten us none wrote tries
+
+-- a text that goes on behind the bytes used goes on behind the piece
+pub next_in_piece : (l : Standing) (u piece : List ℕ) (used : ℕ) {given : List Token}
+    → StandsAfter l (u ++ take used piece) (first (drop used piece)) given → AreNext (u ++ piece) given
+next_in_piece l u piece used stands s =
+    let rest = drop used piece in
+    let whole : (u ++ piece) ++ s ≡ (u ++ take used piece) ++ (rest ++ s) =
+    cc (take-append-drop used piece, append_assoc u (take used piece) rest, append_assoc (u ++ take used piece) rest s) in
+    (coming l (rest ++ s), ap tokens_of whole ∙ stands.tokens (rest ++ s) (follows_first rest s))
+
+pub still_none : (b : Option ℕ) (piece : List ℕ) → 0 < length piece → still b piece ≡ None
+still_none b [] h = absurd (omega arith)
+still_none b (x ∷ xs) h = refl
+
+-- where nothing was read, nothing was gained
+pub gains_as_none : (w p : Profile) (given : List Token) {a c : Option (List ℕ)} → c ≡ a → GainsAs w p given given a c
+gains_as_none w p given {a} same = record { text = []; due_for = sym (append-nil (due_as w p given)); appended = rw same (Appends-nil a) }
+
+-- the same was read by a converter with the same reader and count
+pub read_as : {p : Profile} {old new : Converter} {given : List Token} → HasRead p old given → new.reading ≡ old.reading → new.games ≡ old.games
+    → new.fault ≡ None → IsLastGame new.just_finished (read p given).progress.games → HasRead p new given
+read_as h same games none last = grind (arith, common_steps, passes)
+
+-- wherever the lexer stands
+module _ (p : Profile) (old : Converter) (given : List Token) where
+  pub read_at : (l : Standing) (finished : Bool) → HasRead p old given → HasRead p (now_at l old.reading old.games finished) given
+  read_at l finished h = read_as h refl refl refl tt
+
+  -- No token more was read.
+  pub reads_none : (l : Standing) (finished : Bool) {a c : Option (List ℕ)} → HasRead p old given → c ≡ a
+      → ReadsMore p given given (now_at l old.reading old.games finished) a c
+  reads_none l finished has_read same = record {
+    more = [];
+    extends = sym (append-nil given);
+    has_read = read_at l finished has_read;
+    no_game = refl;
+    gains = gains_as_none (as_written old.reading) p given same;
+  }
+
+  -- A token was taken.
+  pub reads_token : (t : Token) (l : Standing) (new : ReaderState) (finished : Bool) (d : Device) → HasRead p old given
+      → TakesToken old.reading t.kind new (Ok More) d → ReadsMore p given (given ++ t ∷ []) (now_at l new old.games finished) d.before d.after
+  reads_token t l new finished d has_read takes =
+      let h = takes.accepts (part_after p given) has_read.agrees in
+      let keeps = takes.keeps in
+      let w = as_written old.reading in
+      record {
+        more = t ∷ [];
+        extends = refl;
+        has_read = has_read_more p old given t l new finished has_read keeps.profile keeps.probes keeps.writing h.free h.leads h.plies h.tried;
+        no_game = same_games p old given t l new finished has_read keeps.profile keeps.probes keeps.writing h.free h.leads;
+        gains = subst (λ w. GainsAs w p given (given ++ t ∷ []) d.before d.after) (sym (written_same old.reading new keeps.profile keeps.writing))
+            (record {
+              text = gain w (part_after p given) t.kind;
+              due_for = due_more p old given t l new finished has_read keeps.profile keeps.probes keeps.writing w h.free h.leads;
+              appended = h.appended;
+            });
+      }
+
+  -- A marker was met.
+  pub meets_marker : (t : Token) (marker : Marker) (l : Standing) (new : ReaderState) (finished : Bool) (d : Device) → HasRead p old given
+      → MeetsMarker old.reading t.kind marker new d → Meets p given given t (record { marker = marker; at = t.at })
+      (now_at l new old.games finished) d.before d.after
+  meets_marker t marker l new finished d has_read meets = record {
+    reader = old.reading;
+    reads = reads_none l finished has_read meets.unwritten;
+    is = meets.is;
+    place = refl;
+    enters = meets.enters;
+  }
+
+  -- A token was not taken.
+  pub not_taken : (t : Token) (new : ReaderState) (reason : Reason) (d : Device) → HasRead p old given
+      → TakesToken old.reading t.kind new (Err reason) d → (reason ≡ WriteFault → marker_of t.kind ≡ None)
+      → NotTaken p given given t (record { at = t.at; reason = reason }) new d.before d.after
+  not_taken t new reason d has_read takes no_marker = grind (arith, common_steps, reads, reads_none)
+
+-- a rejection of the lexer is a row of its own
+pub lexical-refusal : (p : Profile) (part : Part) (f : LexFault) → refusal p part (refusal_token f).kind ≡ Some (Lexical f.reason)
+unfolding refusal
+lexical-refusal p part f = refl
+
+-- it tries no pair, and rejects no move
+module _ (p : Profile) (old : Converter) where
+  pub not_taken_lexical : (given : List Token) (f : LexFault) (new : ReaderState) (o : Option (List ℕ)) → HasRead p old given → new ≡ old.reading
+      → NotTaken p given given (refusal_token f) (record { at = f.at; reason = Lexical f.reason }) new o o
+  not_taken_lexical given f new o has_read same =
+      let some = lexical-refusal old.reading.profile (part_after p given) f in
+      rw same (record {
+        now = now_at old.lexer old.reading old.games old.is_finished;
+        mid = o;
+        reads = reads_none p old given old.lexer old.is_finished has_read refl;
+        place = refl;
+        no_marker = λ is. absurd (cc);
+        stopped = refused_by (Lexical f.reason) some (Appends-nil o) (raises_none some) refl;
+        profile = refl;
+        writing = refl;
+        probes = le_refl old.reading.most_probes;
+      })

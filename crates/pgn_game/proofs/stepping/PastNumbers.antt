@@ -1,0 +1,114 @@
+-- White space that is passed, with numbers and periods in movetext.
+use Rattle.pgn_lexer.specs.Tokens.{period}
+use Rattle.pgn_lexer.specs.WholeTokens.{none}
+use Rattle.pgn_lexer.specs.declared.token.TokenKind.TheVariants as token_kinds
+use Rattle.pgn_game.proofs.Words.{length-drop, Agrees, Bool, Marker, Kind, next, Standing, waiting, InMovetext, ReaderState, Device, Reason, ◌≡◌, ℕ, ◌+◌, ◌*◌, ◌<◌, ◌≤◌, List, [], length, take, drop, Option, None, Ok, IsTrue, refl, sym, ap, subst, ◌∙◌, arith, Appends-nil, More, kind_of, TokenKind, Result, Accepted, may_have_movetext, TakesToken, ReadsOn, false, take-append-drop, symbol, Passes, is_passed, over_space, over_token, MeetsEntry, Part, IsEntry, IsOpen, PutResult, CostsToFind, mode_written, going, in_text, text_refusal, with_items, TakesEntry, TakesUnlessMarker, common_steps}
+use Rattle.pgn_game.proofs.putting.ItemToReader.{begun_before, puts_number, to_items}
+use Rattle.pgn_game.proofs.stepping.PairsTriedForToken.{adds_none}
+use Rattle.pgn_game.proofs.stepping.PutToAnswer.{entry_met, takes_put}
+use Rattle.pgn_game.proofs.ReaderLemmas.{counting_none, enters, entry_in_movetext, number_no_score, number_free, number_leads, number_untried}
+use Rattle.pgn_game.proofs.stepping.AcceptedToConverter.{now_at}
+use Rattle.pgn_game.proofs.stepping.ReadsInText.{between, reads_met, reads_nothing, reads_space, reads_then}
+
+-- ---- how far the lexer gets
+
+pub passes_count : {skips : Bool} {old : Standing} {piece : List ℕ} {new : Standing} {n : ℕ} → Passes skips old piece new n → new.count ≡ old.count + n
+passes_count none = omega arith
+passes_count (over_space l new m passes within is_white scans waits) = let before = passes_count passes in omega (arith, before, scans.count)
+passes_count (over_token l new m n t passes within some scans skipped passed) = let before = passes_count passes in omega (arith, before, scans.count)
+
+pub passes_few : {skips : Bool} {old : Standing} {piece : List ℕ} {new : Standing} {n : ℕ} → Passes skips old piece new n → waiting new ≤ 2 * n + waiting old
+passes_few none = omega arith
+passes_few (over_space l new m passes within is_white scans waits) = let before = passes_few passes in omega (arith, before, waits)
+passes_few (over_token l new m n t passes within some scans skipped passed) = grind (arith, common_steps)
+
+pub passes_sooner : {skips : Bool} {old : Standing} {piece : List ℕ} {new : Standing} {n : ℕ} → Passes skips old piece new n → 0 < n → waiting new < 2 * n + waiting old
+passes_sooner none h = absurd (omega arith)
+passes_sooner (over_space l new m passes within is_white scans waits) h = let before = passes_few passes in omega (arith, before, waits)
+passes_sooner (over_token l new m n t passes within some scans skipped passed) h = grind (arith, common_steps, passes_few)
+
+-- ---- what the reader does with them
+
+-- a kind as the lexer returns it
+given_as : (k : Kind) → IsTrue (is_passed k) → (returned : TokenKind) × (kind_of returned ≡ k)
+given_as (symbol text) h = (token_kinds.Symbol (record { ref_ptr = (0, 0); now = text }), refl)
+given_as period h = (token_kinds.Period, refl)
+given_as _ h = absurd (cc)
+
+-- a sink in which nothing is written
+abbrev still_at : Option (List ℕ) → ℕ → Device
+still_at taken failures = record { before = taken; after = taken; failures = failures; failures_after = failures }
+
+-- in movetext such a token adds nothing
+puts_none : (r : ReaderState) (taken : Option (List ℕ)) (failures : ℕ) → r.stage ≡ InMovetext
+    → PutResult r (IsOpen r) (to_items []) r (Ok More) (still_at taken failures)
+puts_none r taken failures at =
+    puts_number r r (still_at taken failures) (ap may_have_movetext at) (begun_before r (still_at taken failures) at (Appends-nil taken) refl)
+
+passes : (r : ReaderState) (k : Kind) (taken : Option (List ℕ)) (failures : ℕ) → r.stage ≡ InMovetext
+    → ((part : Part) → IsOpen r part → (text_refusal r.profile part k ≡ None) × (in_text part k ≡ going (with_items part [])))
+    → ((part : Part) → CostsToFind part k 0) → TakesEntry r k r (Ok More) (still_at taken failures)
+passes r k taken failures at says finds =
+    takes_put r (IsEntry r k) (IsOpen r) k 0 0 (counting_none r) (puts_none r taken failures at) tt (λ between. refl) (omega arith)
+    (λ part is. is.is_open)
+    (λ part is. (is.row ∙ (says part is.is_open).0, is.leads ∙ (says part is.is_open).1)) (λ part is. finds part)
+    (λ part is. adds_none (mode_written r) part)
+
+entry_passed : (r : ReaderState) (k : Kind) (taken : Option (List ℕ)) (failures : ℕ) → r.stage ≡ InMovetext → IsTrue (is_passed k)
+    → TakesEntry r k r (Ok More) (still_at taken failures)
+entry_passed r (symbol text) taken failures at number =
+    let score = number_no_score text number in
+    passes r (symbol text) taken failures at
+    (λ part is. (number_free r.profile part text number score, number_leads part text number score)) (λ part. number_untried part text number)
+entry_passed r period taken failures at h = passes r period taken failures at (λ part is. (refl, refl)) (λ part. refl)
+entry_passed r _ taken failures at h = absurd (cc)
+
+takes_in_movetext : (r new : ReaderState) (k : TokenKind) (answer : Result Accepted Reason) (d : Device) → r.stage ≡ InMovetext
+    → TakesEntry r (kind_of k) new answer d → TakesToken r (kind_of k) new answer d
+takes_in_movetext r new k answer d at takes =
+    (enters r k (ap may_have_movetext at) (λ part agrees. entry_in_movetext r k part at agrees)).takes new answer d takes
+
+pub takes_passed : (r : ReaderState) (k : Kind) (taken : Option (List ℕ)) (failures : ℕ) → r.stage ≡ InMovetext → IsTrue (is_passed k)
+    → TakesToken r k r (Ok More) (still_at taken failures)
+takes_passed r k taken failures at h =
+    let returned = given_as k h in
+    subst (λ j. TakesToken r j r (Ok More) (still_at taken failures)) returned.1
+    (takes_in_movetext r r returned.0 (Ok More) (still_at taken failures) at
+    (subst (λ j. TakesEntry r j r (Ok More) (still_at taken failures)) (sym returned.1) (entry_passed r k taken failures at h)))
+
+-- it leads to a part with the same items
+entry_leads : (r : ReaderState) (k : TokenKind) (part : Part) → r.stage ≡ InMovetext → Agrees r part → next part (kind_of k) ≡ in_text part (kind_of k)
+entry_leads r k part at agrees = (entry_in_movetext r k part at agrees).leads
+
+adds_no_items : (part : Part) (k : Kind) → IsTrue (is_passed k) → in_text part k ≡ going (with_items part [])
+adds_no_items part (symbol text) number = number_leads part text number (number_no_score text number)
+adds_no_items part period h = refl
+adds_no_items part _ h = absurd (cc)
+
+pub passed_leads : (r : ReaderState) (k : Kind) (part : Part) → r.stage ≡ InMovetext → IsTrue (is_passed k) → Agrees r part
+    → next part k ≡ going (with_items part [])
+passed_leads r k part at h agrees =
+    let returned = given_as k h in
+    subst (λ (j : Kind). next part j ≡ in_text part j) returned.1 (entry_leads r returned.0 part at agrees) ∙ adds_no_items part k h
+
+-- a token that is met in movetext
+pub meets_in_movetext : (r new : ReaderState) (k : TokenKind) (met : Result (Option Marker) Reason) (d : Device) → r.stage ≡ InMovetext
+    → MeetsEntry r (kind_of k) new met d → TakesUnlessMarker r (kind_of k) new met d
+meets_in_movetext r new k met d at meets =
+    entry_met r r new (kind_of k) met d (enters r k (ap may_have_movetext at) (λ part agrees. entry_in_movetext r k part at agrees)) meets
+
+-- ---- what a converter has read then
+
+module _ (lexer : Standing) (reading : ReaderState) (games : ℕ) (piece : List ℕ) (o : Option (List ℕ))
+    {skips : Bool} (at : IsTrue skips → reading.stage ≡ InMovetext) where
+  pub reads_past : {l : Standing} {used : ℕ} → Passes skips lexer piece l used → used ≤ length piece
+      → ReadsOn (now_at lexer reading games false) piece (now_at l reading games false) (Ok None) (between o o 0 0)
+  reads_past none inside = reads_nothing (now_at lexer reading games false) piece o
+  reads_past (over_space l new m passes within is_white scans waits) inside =
+      reads_then _ (now_at l reading games false) _ piece m (Ok None) o o o within (reads_past passes (omega (arith, within))) (passes_count passes)
+      (reads_space (now_at l reading games false) (drop m piece) (take 1 (drop m piece)) (drop 1 (drop m piece)) (take-append-drop 1 (drop m piece))
+      (omega (arith, scans.reads.0)) scans false o)
+  reads_past (over_token l new m count t passes within some scans skipped passed) inside =
+      reads_then _ (now_at l reading games false) _ piece m (Ok None) o o o within (reads_past passes (omega (arith, within))) (passes_count passes)
+      (reads_met (now_at l reading games false) (drop m piece) (omega (arith, inside, length-drop m piece)) (omega (arith, within, length-drop m piece)) t scans reading false (between o o 0 0) (Ok None)
+      (takes_passed reading t.kind o 0 (at skipped) passed))

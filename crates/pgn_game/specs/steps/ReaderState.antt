@@ -1,0 +1,243 @@
+-- **Bookkeeping**: what a contract sees of the reader of games, and what it does with one token.
+-- Letters: k is the kind of a token, g a game, p a profile. `old` and `new` are the reader before a
+-- call and after it. `before` and `after` are the bytes that the sink has taken then, if it reports
+-- them.
+use Rattle.std.specs.Prelude.{◌≡◌, ℕ, ◌+◌, ◌-◌, codes, ◌<◌, ◌≤◌, nat_le, false, IsTrue, is_some, Bool, true, List, [], length, Option, None, Some, IsSomeAnd, Result, Ok, Err}
+use Rattle.std.specs.Io.KnownBytes.{Appends}
+use Rattle.pgn_layout.specs.Device.{AppendsFront, Device, IsStill, device, one_more}
+use Rattle.pgn_lexer.specs.Tokens.{Kind}
+use Rattle.pgn_game.specs.declared.reason.Reason.{Reason}
+use Rattle.pgn_game.specs.declared.reason.Reason.TheVariants.{WriteFault}
+use Rattle.pgn_game.specs.declared.stage.Stage.{Stage}
+use Rattle.pgn_game.specs.declared.stage.Stage.TheVariants.{Between, AfterLeftBracket, AfterName, InMovetext}
+use Rattle.pgn_game.specs.declared.mode.Mode.{Mode}
+use Rattle.pgn_game.specs.public.Written.{mode_unless, seen}
+use Rattle.pgn_game.specs.games.Profile.{Missing, Profile, counting, counts_as, known_result, takes_the_marker}
+use Rattle.pgn_game.specs.games.Chess.{first_position}
+use Rattle.pgn_game.specs.games.Pairs.{has_pair}
+use Rattle.pgn_game.specs.steps.StoredPairs.{TagPairs}
+use Rattle.pgn_game.specs.games.Game.{Game, Part, no_part}
+use Rattle.pgn_game.specs.games.Levels.{start_of, plies_of, last_position}
+use Rattle.pgn_game.specs.export.Text.{has_move}
+use Rattle.pgn_game.specs.steps.Movetext.{Movetext, HoldsItems, movetext_from}
+use Rattle.pgn_game.specs.games.Reason.{number_of}
+use Rattle.pgn_game.specs.games.FaultTable.{refusal, marker_of, position_if_move, position_in}
+use Rattle.pgn_game.specs.games.Progress.{Next, going, whole, next}
+use Rattle.pgn_game.specs.export.Due.{gain}
+use Rattle.pgn_game.specs.public.MostTried.{Raises, Tries, TriesUnwritten}
+
+-- How a reader writes. `announced` is the marker that was announced for a missing Result, if one
+-- was. If `is_silent`, nothing is written.
+pub record Writing : Type 0 where
+  pub announced : Option (List ℕ)
+  pub is_silent : Bool
+
+-- The profile, how the reader writes, the stage of the game, its pairs, its movetext, the number of
+-- moves outside variations of the games before it, the most pairs tried for a move, the line of
+-- movetext, and the marker that ended the game before.
+pub record ReaderState : Type 0 where
+  pub profile : Profile
+  pub writing : Writing
+  pub stage : Stage
+  pub tags : TagPairs
+  pub text : Movetext
+  pub earlier_plies : ℕ
+  pub most_probes : ℕ
+  pub line : List ℕ
+  pub marker : List ℕ
+
+-- a reader that has read no token, with room for so many pairs and levels
+abbrev pub unread : (tags levels : ℕ) → Mode → ReaderState
+unread tags levels mode = record {
+  profile = record {
+    tags = tags;
+    depth = levels - 1;
+    mode = mode;
+    missing_result = counts_as (codes "*");
+  };
+  writing = record { announced = None; is_silent = false };
+  stage = Between;
+  tags = record { held = []; pending_name = None };
+  text = movetext_from first_position;
+  earlier_plies = 0;
+  most_probes = 0;
+  line = [];
+  marker = codes "*";
+}
+
+-- the mode by which the reader writes; a silent one has none
+abbrev pub mode_written : ReaderState → Option Mode
+mode_written reading = mode_unless reading.writing.is_silent reading.profile.mode
+
+-- the reader to which this marker was announced
+abbrev pub with_announced : List ℕ → ReaderState → ReaderState
+with_announced marker reading = record reading { writing = record reading.writing { announced = Some marker } }
+
+-- the reader that writes nothing from now on
+abbrev pub silenced : ReaderState → ReaderState
+silenced reading = record reading { writing = record reading.writing { is_silent = true } }
+
+-- the sink of a reader before a call and after it, as the contracts see it
+abbrev pub sink_of : {S : Type 0} → ReaderState → (S → Option (List ℕ)) → (S → ℕ) → S → S → Device
+sink_of reading bytes failures old new = seen reading.writing.is_silent (device bytes failures old new)
+
+-- A call leaves the reader silent or not, as it was. If it is silent, the sink does not change.
+pub record KeepsSilence {S : Type 0} (old new : ReaderState) (sink_old sink_new : S) : Type 0 where
+  pub silent : new.writing.is_silent ≡ old.writing.is_silent
+  pub untouched : IsTrue old.writing.is_silent → sink_new ≡ sink_old
+
+-- `Takes` holds of the sink that contracts see. The call leaves the reader silent or not, as it
+-- was.
+pub record ReaderCall {S : Type 0} (taken : S → Option (List ℕ)) (failures : S → ℕ)
+    (old new : ReaderState) (sink_old sink_new : S) (Takes : Device → Type 0) : Type 0 where
+  pub takes : Takes (sink_of old taken failures sink_old sink_new)
+  pub silent : KeepsSilence old new sink_old sink_new
+
+-- What always holds of the pairs at a stage. After a name, and nowhere else, a name waits for its
+-- value, and it has at most 249 bytes. After a `[` there is room for one pair more.
+abbrev pub AreSound : ℕ → Stage → TagPairs → Type 0
+AreSound most AfterLeftBracket tags = (tags.pending_name ≡ None) × (length tags.held < most)
+AreSound most AfterName tags = IsSomeAnd tags.pending_name (λ name. length name ≤ 249)
+AreSound most _ tags = tags.pending_name ≡ None
+
+-- The pairs held are those of the part, and none has the name that waits for its value. Between
+-- games they may be those of the game before.
+abbrev pub HoldsPairs : Stage → TagPairs → Part → Type 0
+HoldsPairs Between tags part = part ≡ no_part
+HoldsPairs AfterName tags part = (tags ≡ record { held = part.pairs; pending_name = Some part.name }) × (has_pair part.pairs part.name ≡ false)
+HoldsPairs _ tags part = tags ≡ record { held = part.pairs; pending_name = None }
+
+-- The movetext held is that of the part, which has no item before its movetext begins. Once it has
+-- a move, a pair was tried. Between games it may be that of the game before, but for the line,
+-- which is empty.
+abbrev pub HoldsText : Stage → ReaderState → Part → Type 0
+HoldsText Between reading part = reading.line ≡ []
+HoldsText InMovetext reading part =
+    HoldsItems (mode_written reading) (start_of part.pairs) part.items reading.text reading.line × (IsTrue (has_move part.items) → 0 < reading.most_probes)
+HoldsText _ reading part = (part.items ≡ []) × (reading.text ≡ movetext_from (start_of part.pairs)) × (reading.line ≡ [])
+
+-- The reader agrees with a part: its stage, its pairs and its movetext are those of the part.
+-- Between games it may still hold the game before.
+pub record Agrees (reading : ReaderState) (part : Part) : Type 0 where
+  pub stage : reading.stage ≡ part.stage
+  pub pairs : HoldsPairs reading.stage reading.tags part
+  pub text : HoldsText reading.stage reading part
+
+-- The reader has just finished the game g, and still holds its pairs, its number of moves, its last
+-- position and its marker.
+pub record IsBehind (reading : ReaderState) (g : Game) : Type 0 where
+  pub agrees : Agrees reading no_part
+  pub pairs : reading.tags.held ≡ g.pairs
+  pub plies : reading.text.plies ≡ plies_of g
+  pub position : reading.text.levels.current.position ≡ last_position g
+  pub marker : reading.marker ≡ g.marker
+  pub probed : IsTrue (has_move g.items) → 0 < reading.most_probes
+
+-- the number of moves outside variations of the finished games; between games the reader still
+-- holds that of the last one
+abbrev pub plies_at_stage : Stage → ℕ → ℕ → ℕ
+plies_at_stage Between earlier plies = earlier + plies
+plies_at_stage _ earlier plies = earlier
+
+-- the same, of a reader
+abbrev pub plies_of_finished_games : ReaderState → ℕ
+plies_of_finished_games reading = plies_at_stage reading.stage reading.earlier_plies reading.text.plies
+
+-- how many moves a token adds to them: those of the game that it finishes
+abbrev pub plies_added : Next → ℕ
+plies_added (going part) = 0
+plies_added (whole g) = plies_of g
+
+-- What a token does that is not rejected: the game goes on, or the token finished it.
+pub data Accepted : Type 0 where
+  More : Accepted
+  Finished : Accepted
+
+-- the reader after a token: it agrees with the part that the token leaves, or has just finished the
+-- game
+abbrev pub Leads : Next → Accepted → ReaderState → Type 0
+Leads (going part) More new = Agrees new part
+Leads (going part) Finished new = ⊥
+Leads (whole g) More new = ⊥
+Leads (whole g) Finished new = IsBehind new g
+
+-- The value by which a reader writes a missing Result: the text that it counts as. If it takes the
+-- marker, it is the announced marker, or empty if none was announced.
+abbrev pub known_text : Missing → Option (List ℕ) → List ℕ
+known_text (counts_as text) announced = text
+known_text takes_the_marker None = []
+known_text takes_the_marker (Some marker) = marker
+
+-- the same, of a reader
+abbrev pub known_of : ReaderState → List ℕ
+known_of reading = known_text reading.profile.missing_result reading.writing.announced
+
+-- the profile by which a reader writes: a missing Result counts as that value
+abbrev pub as_written : ReaderState → Profile
+as_written reading = counting reading.profile (known_of reading)
+
+-- a missing Result counts as a text, so it is known before the marker
+abbrev pub IsKnown : Profile → Type 0
+IsKnown p = p.missing_result ≡ counts_as (known_result p.missing_result)
+
+-- A token is accepted: it leads on, what it adds was appended, and the pairs tried for it are
+-- counted.
+pub record IsAccepted (old : ReaderState) (part : Part) (k : Kind) (new : ReaderState) (accepted : Accepted) (before after : Option (List ℕ)) : Type 0 where
+  pub free : refusal old.profile part k ≡ None
+  pub leads : Leads (next part k) accepted new
+  pub plies : plies_of_finished_games new ≡ plies_of_finished_games old + plies_added (next part k)
+  pub appended : Appends before after (gain (as_written old) part k)
+  pub tried : Raises (Tries old.writing.is_silent old.profile part k) old.most_probes new.most_probes
+
+-- A token is not accepted. The pairs tried for it are counted.
+-- - `refused`: a row of the fault table rejects it, and nothing is appended. If it is rejected as a
+--   move, the reader still holds the position before it.
+-- - `unwritten`: a write failed. A prefix of what the token adds was appended, and not all.
+pub data IsStopped (old : ReaderState) (part : Part) (k : Kind) (new : ReaderState)
+    (before after : Option (List ℕ)) : Reason → Type 0 where
+  refused : (reason : Reason) → refusal old.profile part k ≡ Some reason → Appends before after []
+      → Raises (Tries old.writing.is_silent old.profile part k) old.most_probes new.most_probes
+      → position_if_move reason new.text.levels.current.position ≡ position_if_move reason (position_in part)
+      → IsStopped old part k new before after reason
+  unwritten : refusal old.profile part k ≡ None
+      → AppendsFront before after (gain (as_written old) part k)
+      → Raises (TriesUnwritten old.writing.is_silent old.profile part k) old.most_probes new.most_probes
+      → IsStopped old part k new before after WriteFault
+
+-- What the reader returns for a token after a part that it agrees with: the token is accepted, or
+-- it is not.
+abbrev pub Answers : ReaderState → Part → Kind → ReaderState → Result Accepted Reason → Option (List ℕ)
+    → Option (List ℕ) → Type 0
+Answers old part k new (Ok accepted) before after = IsAccepted old part k new accepted before after
+Answers old part k new (Err reason) before after = IsStopped old part k new before after reason
+
+-- A token after which no game is begun, and that finished none, changes nothing. In movetext, one
+-- that finishes no game leaves the reader there.
+abbrev pub Stays : ReaderState → ReaderState → Result Accepted Reason → Type 0
+Stays old new (Ok More) =
+    (new.stage ≡ Between → new ≡ old) × (old.stage ≡ InMovetext → new.stage ≡ InMovetext)
+Stays old new (Ok Finished) = Unit {0}
+Stays old new (Err reason) = Unit {0}
+
+-- only a marker finishes a game, and no game is begun then
+abbrev pub FinishesAtMarker : Kind → ReaderState → Result Accepted Reason → Type 0
+FinishesAtMarker k new (Ok More) = Unit {0}
+FinishesAtMarker k new (Ok Finished) = IsTrue (is_some (marker_of k)) × (new.stage ≡ Between)
+FinishesAtMarker k new (Err reason) = Unit {0}
+
+-- a reason that is no row of the fault table: 50 to 53 are about a device, the length of the input
+-- or a second reading
+abbrev pub is_outside_the_table : Reason → Bool
+is_outside_the_table reason = nat_le 50 (number_of reason)
+
+-- If the reason is outside the table, it is `WriteFault`, and the sink counts one failure more.
+-- Otherwise the count stays.
+abbrev pub CountsStop : Bool → Reason → ℕ → ℕ → Type 0
+CountsStop false reason old new = new ≡ old
+CountsStop true reason old new = (reason ≡ WriteFault) × (new ≡ one_more old)
+
+-- the same for a result: without an error the count stays
+abbrev pub CountsWrites : Result Accepted Reason → Device → Type 0
+CountsWrites (Ok accepted) sink = IsStill sink
+CountsWrites (Err reason) sink =
+    CountsStop (is_outside_the_table reason) reason sink.failures sink.failures_after
