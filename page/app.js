@@ -11,7 +11,7 @@ import { GameList } from "./game_list.js";
 import { EditList } from "./edit_list.js";
 import { showNotes } from "./notes.js";
 import { NO_MARKER } from "./fixes.js";
-import { MainLine } from "./main_line.js";
+import { GameBoard } from "./game_board.js";
 import { byId, counted, goByKeys, item } from "./elements.js";
 
 // So much of an export is shown as text; all of it can be downloaded.
@@ -35,7 +35,7 @@ function bytesOfBlock(id) {
 class Page {
   constructor(moduleBytes, module) {
     this.moduleBytes = moduleBytes;
-    this.mainLine = new MainLine(module);
+    this.gameBoard = new GameBoard(module);
     const script = new Blob([byId("worker").textContent], { type: "text/javascript" });
     this.workerAddress = URL.createObjectURL(script);
     this.worker = null;
@@ -375,8 +375,8 @@ class Page {
   }
 
   game({ row, bytes }) {
-    this.mainLine.open(bytes);
     this.list.open(row, decodedLines(bytes));
+    this.gameBoard.open(bytes);
   }
 
   async exported({ blob }) {

@@ -20,6 +20,7 @@ const DETAILS = {
   p: "", r: "M13 19h14M13 27.5h14", n: "M17 14.2h.1", b: "M20 13v7M16.8 16.3h6.4M14.5 29.5h11",
   q: "M11.5 27.5h17", k: "M12.5 27.5h15M20 13.2V27",
 };
+export const INITIAL_FEN = "rnbqkbnr/pppppppp/8/8/8/8/PPPPPPPP/RNBQKBNR w KQkq - 0 1";
 const NAMES = { K: "king", Q: "queen", R: "rook", B: "bishop", N: "knight", P: "pawn" };
 const ORDER = "KQRBNP";
 const SIZE = 40;
@@ -82,9 +83,10 @@ export function drawBoard(fen, marks) {
     const shade = (square + Math.floor(square / 8)) % 2 ? "light" : "dark";
     board.append(element("rect", { x, y, width: SIZE, height: SIZE, class: shade }));
     if (marks && marks[square]) {
-      board.append(element("rect", {
-        x: x + 2, y: y + 2, width: SIZE - 4, height: SIZE - 4, class: "mark " + marks[square],
-      }));
+      // a mark has an edge of its own, so that it is seen on squares of both shades
+      board.append(...["edge", "mark " + marks[square]].map((name) => element("rect", {
+        x: x + 4, y: y + 4, width: SIZE - 8, height: SIZE - 8, class: name,
+      })));
     }
     if (piece) {
       board.append(drawPiece(piece, x, y));

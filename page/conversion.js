@@ -2,7 +2,8 @@
 // is in it. It runs in a worker.
 import { FAULT, FULL, MORE, NO_GAME, OK } from "./module.js";
 import {
-  decoded, encoded, latin1, lineAround, lineBegin, lineEnds, startsWithByteOrderMark, symbolAt,
+  decoded, encoded, isAscii, latin1, latin1Bytes, lineAround, lineBegin, lineEnds,
+  startsWithByteOrderMark, symbolAt,
 } from "./text.js";
 import { endOfBadGame } from "./next_section.js";
 import { spellings } from "./spellings.js";
@@ -282,9 +283,9 @@ export class Conversion {
   tagsOfGame(bytes, end) {
     const tags = {};
     for (const found of this.headOfGame(bytes, end).matchAll(TAG_LINE)) {
-      const value = Uint8Array.from(found[2].replace(/\\(["\\])/g, "$1"), (it) => it.charCodeAt(0));
+      const value = found[2].replace(/\\(["\\])/g, "$1");
       if (!(found[1] in tags)) {
-        tags[found[1]] = decoded(value);
+        tags[found[1]] = isAscii(value) ? value : decoded(latin1Bytes(value));
       }
     }
     return tags;

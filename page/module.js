@@ -6,7 +6,7 @@
 //   64-bit integers, which are BigInt here, and a size_t has eight bytes.
 // - Cargo builds for 32-bit memory. The calls of its module take numbers, and a size_t has four.
 
-import { latin1 } from "./text.js";
+import { decodedLines, latin1 } from "./text.js";
 
 // The structs of pgn.h.
 export const STRUCTS = {
@@ -15,14 +15,15 @@ export const STRUCTS = {
     ["status", "uint32_t"], ["fault", "uint32_t"], ["field", "uint32_t"],
     ["san", "uint8_t", 8], ["uci", "uint8_t", 8], ["fen", "uint8_t", 96],
   ],
-  pgn_plies: [
-    ["status", "uint32_t"], ["fault", "uint32_t"], ["field", "uint32_t"], ["place", "uint64_t"],
-    ["written", "size_t"], ["plies", "size_t"],
-  ],
   pgn_game: [
     ["status", "uint32_t"], ["fault", "uint32_t"], ["place", "uint64_t"], ["written", "size_t"],
     ["end", "size_t"], ["marker_at", "size_t"], ["plies", "uint64_t"], ["reason_at", "size_t"],
     ["marker", "uint32_t"], ["message", "uint8_t", 104], ["fen", "uint8_t", 96],
+  ],
+  pgn_item_lines: [
+    ["status", "uint32_t"], ["fault", "uint32_t"], ["place", "uint64_t"], ["written", "size_t"],
+    ["next_item", "uint64_t"], ["end", "size_t"], ["reason_at", "size_t"],
+    ["message", "uint8_t", 104],
   ],
   pgn_tag: [
     ["status", "uint32_t"], ["name_at", "size_t"], ["name_length", "size_t"],
@@ -64,8 +65,10 @@ const SHORT_TEXTS_SIZE = 65536;
 // A pgn_bad_game is put there too.
 const BAD_GAME_SIZE = 64;
 const PAGE_SIZE = 65536;
-// The most bytes that pgn_line writes for a ply.
-const PLY_SIZE = 108;
+// What pgn_items writes of a move: its SAN, its UCI and the FEN after it.
+const ITEM_FIELDS = 1 + 2 + 4;
+// The room for its first lines. Each further call has twice as much.
+const ITEMS_SIZE = 65536;
 // No address of 32 bits is larger. Where a size_t has 32 bits, Rust allows half of it to a text.
 const MOST_PAGES = { wide: 65536, narrow: 32768 };
 
@@ -140,8 +143,8 @@ export class Module {
     });
   }
 
-  // Calls a function of pgn.h, which writes its result. A number in an array is one of uint32_t, and
-  // all others are addresses and lengths.
+  // Calls a function of pgn.h, which writes its result. A number in an array is one of uint32_t, a
+  // BigInt one of uint64_t, and all others are addresses and lengths.
   call(name, ...values) {
     const sized = (value) => this.isWide ? BigInt(value) : value;
     this.calls[name](
@@ -164,7 +167,7 @@ export class Module {
   textField(struct, name) {
     const bytes = this.field(struct, name);
     const end = bytes.indexOf(0);
-    return String.fromCharCode(...bytes.subarray(0, end < 0 ? bytes.length : end));
+    return latin1(bytes.subarray(0, end < 0 ? bytes.length : end));
   }
 
   normalizeFen(fen) {
@@ -175,7 +178,7 @@ export class Module {
     return {
       status: this.field("pgn_text", "status"),
       field: this.field("pgn_text", "field"),
-      fen: String.fromCharCode(...this.bytes.subarray(buffer, buffer + length)),
+      fen: latin1(this.bytes.subarray(buffer, buffer + length)),
     };
   }
 
@@ -192,21 +195,24 @@ export class Module {
     };
   }
 
-  // The plies of a text of moves from the position of a FEN on: SAN, UCI and the FEN after each.
-  line(fen, text) {
-    // each move has a letter, a digit and white space at least
-    const room = PLY_SIZE * (text.length / 3 + 1 | 0);
-    const textAt = this.free + fen.length;
-    const buffer = textAt + text.length;
-    this.reserve(buffer + room);
-    this.bytes.set(fen, this.free);
-    this.bytes.set(text, textAt);
-    this.call("pgn_line", this.free, fen.length, textAt, text.length, [SAN], buffer, room);
-    const written = this.bytes.subarray(buffer, buffer + this.field("pgn_plies", "written"));
-    return latin1(written).split("\n").slice(0, -1).map((line) => {
-      const [san, uci, after] = line.split("\t");
-      return { san, uci, fen: after };
-    });
+  // The items of a game's text in order, as the fields of their lines.
+  items(game) {
+    const buffer = this.free + game.length;
+    const read = (name) => this.field("pgn_item_lines", name);
+    let items = [];
+    for (let first = 0, room = ITEMS_SIZE; ; room *= 2) {
+      this.reserve(buffer + room);
+      this.bytes.set(game, this.free);
+      this.call(
+        "pgn_items", this.free, game.length, 0, BigInt(first), [ITEM_FIELDS], buffer, room);
+      const written = this.bytes.subarray(buffer, buffer + read("written"));
+      const lines = decodedLines(written).split("\n").slice(0, -1);
+      items = items.concat(lines.map((it) => it.split("\t")));
+      first = read("next_item");
+      if (read("status") !== FULL) {
+        return items;
+      }
+    }
   }
 
   explain(fen, text) {

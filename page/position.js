@@ -5,7 +5,7 @@ import { spellings } from "./spellings.js";
 import { boardView } from "./board_view.js";
 import { byId } from "./elements.js";
 import { explained, whyNoPosition } from "./explanation.js";
-import { INITIAL_FEN } from "./main_line.js";
+import { INITIAL_FEN } from "./board.js";
 
 const FIELDS = [
   "", "field 1, the pieces", "field 2, the side to move", "field 3, the castling rights",

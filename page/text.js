@@ -33,14 +33,23 @@ export function decodedLines(bytes) {
   }
 }
 
+// Whether a text has characters of one byte in UTF-8 alone.
+export function isAscii(text) {
+  return !/[^\0-\x7f]/.test(text);
+}
+
 // One character for each byte. TextDecoder would read bytes from 128 to 159 as Windows-1252.
 export function latin1(bytes) {
   const step = 8192;
   let text = "";
   for (let at = 0; at < bytes.length; at += step) {
-    text += String.fromCharCode(...bytes.subarray(at, at + step));
+    text += String.fromCharCode.apply(null, bytes.subarray(at, at + step));
   }
   return text;
+}
+
+export function latin1Bytes(text) {
+  return Uint8Array.from(text, (it) => it.charCodeAt(0));
 }
 
 export function encoded(text) {
@@ -104,7 +113,7 @@ export function lineAround(bytes, place, width) {
   }
   const end = Math.min(lineEnd(bytes, place), place + NEAR);
   const near = bytes.subarray(first, end);
-  const isUtf8 = decoded(near) !== latin1(near);
+  const isUtf8 = !isAscii(latin1(near)) && decoded(near) !== latin1(near);
   const read = (from, to) => Array.from((isUtf8 ? decoded : latin1)(bytes.subarray(from, to)));
   return {
     column: charactersBetween(bytes, begin, place, isUtf8) + 1,

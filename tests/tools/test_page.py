@@ -301,10 +301,10 @@ class States(Case):
         is_of_rt = self.browser.await_script(IS_WIDE)["value"]
         self.assertEqual(
             self.text("proved"),
-            "The converter inside this page is proved for every text, by the same clauses as the "
-            "library for C, in the form that the Rattle toolchain wrote. Another tool then adapts it "
-            "to 32-bit memory and optimizes it. That step and the JavaScript of the page are "
-            "tested, not proved." if is_of_rt else
+            "A prover has checked, for every text, that the converter inside this page keeps the "
+            "promises of the library for C. That holds of the form that the Rattle toolchain wrote. "
+            "Another tool then adapts it to more browsers and optimizes it. This step and the "
+            "JavaScript of the page are tested, not proved." if is_of_rt else
             "Cargo compiled the converter inside this page from the proved sources, without their "
             "contracts. Nothing of this page is proved.")
 
@@ -463,6 +463,28 @@ class States(Case):
                 for ground in grounds:
                     if ground != "rgba(0, 0, 0, 0)":
                         self.assertGreaterEqual(contrast(border, ground), 3, (scheme, name))
+
+    def test_marks_on_the_board(self):
+        """Each mark, or its edge, has a contrast of 3:1 with its square, and with the other."""
+        self.page()
+        self.set("fen", "4r1k1/8/8/8/8/8/4N3/4K1N1 w - - 0 1")
+        self.set("move", "Nc3")
+        for scheme in ("light", "dark"):
+            self.browser.command("Emulation.setEmulatedMedia",
+                                 features=[{"name": "prefers-color-scheme", "value": scheme}])
+            edge, marks, squares = self.browser.run(
+                "const style = getComputedStyle(document.documentElement), all = (...names) => "
+                "names.map(it => 'rgb(' + style.getPropertyValue('--' + it).match(/\\w\\w/g).map("
+                "it => parseInt(it, 16)).join(', ') + ')');"
+                "return [all('edge')[0], all('accent', 'legal', 'pinned'),"
+                " all('light-square', 'dark-square')]")
+            self.assertEqual(edge, self.browser.run(
+                "return getComputedStyle(document.querySelector('.board .edge')).stroke"))
+            for mark in marks:
+                self.assertGreaterEqual(contrast(mark, edge), 3, (scheme, mark))
+                for square in squares:
+                    self.assertGreaterEqual(
+                        max(contrast(mark, square), contrast(edge, square)), 3, (scheme, mark))
 
 
 def contrast(*colours):
@@ -1180,15 +1202,16 @@ class Keyboard(Case):
         self.assertNotIn("Show it", self.text("fault"))
 
 
-class MainLine(Case):
-    """The board on which the main line of a game is played through."""
+class PlayThrough(Case):
+    """The board on which a game is played through, with its comments, NAGs and variations."""
 
-    GAME = ('[White "x"]\n\n1. e4 {a (b) $3 c} e5 (1... c5 2. Nf3 (2. c3 d5) d6) 2. Nf3! $10 Nc6 '
+    GAME = ('[White "x"]\n[Result "1/2-1/2"]\n\n{before all} 1. e4 {a (b) $3 c} {d} e5 '
+            '(1... c5 {why} 2. Nf3 $14 (2. c3 d5) (2. f4!) d6) ({then} 1... e6) 2. Nf3! $10 $255 Nc6 '
             '1/2-1/2')
 
     def open(self, text, number=0):
         self.page()
-        self.convert(("a.pgn", text.encode()))
+        self.convert(("a.pgn", text if isinstance(text, bytes) else text.encode()))
         self.browser.run("document.querySelectorAll('#list button')[arguments[0]].click()", number)
         self.browser.wait_for("return document.activeElement.id === 'game-title'")
 
@@ -1197,55 +1220,196 @@ class MainLine(Case):
         return self.text("line-at"), self.browser.run(
             "return document.querySelector('#line-board svg').getAttribute('aria-label')")
 
+    def variations(self):
+        """What is said of the variations, and each one's first moves."""
+        return self.text("variations-title"), self.browser.run(
+            "return [...document.querySelectorAll('#variations button')].map(it => it.innerText)")
+
+    def enter(self, number):
+        self.browser.run("document.querySelectorAll('#variations button')[arguments[0]].click()",
+                         number)
+
     def test_keys_and_buttons(self):
-        self.open(self.GAME.replace("[White", '[Result "1/2-1/2"]\n[White'))
-        begin = ("The position before the first move: ply 0 of 4", (
+        self.open(self.GAME)
+        begin = ("The position before the first move (ply 0 of 4)", (
             "White: king e1; queen d1; rooks a1, h1; bishops c1, f1; knights b1, g1; "
             "pawns a2, b2, c2, d2, e2, f2, g2, h2. Black: king e8; queen d8; rooks a8, h8; "
             "bishops c8, f8; knights b8, g8; pawns a7, b7, c7, d7, e7, f7, g7, h7. "
             "White to move."))
-        end = ("After 2... Nc6: ply 4 of 4", (
+        end = ("After 2... Nc6 (ply 4 of 4). Result: 1/2-1/2", (
             "White: king e1; queen d1; rooks a1, h1; bishops c1, f1; knights b1, f3; "
             "pawns a2, b2, c2, d2, f2, g2, h2, e4. Black: king e8; queen d8; rooks a8, h8; "
             "bishops c8, f8; knights c6, g8; pawns e5, a7, b7, c7, d7, f7, g7, h7. "
             "White to move."))
         self.assertEqual(self.board(), begin)
         for key, said in (
-                (TO_RIGHT, "After 1. e4: ply 1 of 4"), (TO_RIGHT, "After 1... e5: ply 2 of 4"),
-                (TO_RIGHT, "After 2. Nf3: ply 3 of 4"), (TO_LEFT, "After 1... e5: ply 2 of 4")):
+                (TO_RIGHT, "After 1. e4 (ply 1 of 4)"), (TO_RIGHT, "After 1... e5 (ply 2 of 4)"),
+                (TO_RIGHT, "After 2. Nf3! = $255 (ply 3 of 4)"),
+                (TO_LEFT, "After 1... e5 (ply 2 of 4)")):
             self.press(key)
             self.assertEqual(self.text("line-at"), said)
-        self.picture("main-line")
-        for key, shown in ((END, end), (TO_RIGHT, end), (HOME, begin), (TO_LEFT, begin)):
+        for key, shown in ((END, end), (TO_RIGHT, end), (HOME, begin), (TO_LEFT, begin),
+                           (UP, begin), (DOWN, begin)):
             self.press(key)
             self.assertEqual(self.board(), shown)
         for button, shown in (("to-end", end), ("forward", end), ("to-start", begin),
                               ("back", begin)):
             self.browser.run(CLICK, button)
             self.assertEqual(self.board(), shown)
-        # in the text of the game these keys scroll it
-        self.browser.run("document.getElementById('game-text').focus()")
-        self.press(END)
-        self.assertEqual(self.board(), begin)
+        # in texts these keys scroll
+        for text in ("game-text", "line-words"):
+            self.browser.run("document.getElementById(arguments[0]).focus()", text)
+            self.press(END)
+            self.assertEqual(self.board(), begin)
         self.assertQuiet()
 
     def test_marks(self):
         """The squares that the last move began and ended on."""
-        self.open(self.GAME.replace("[White", '[Result "1/2-1/2"]\n[White'))
+        self.open(self.GAME)
         self.press(TO_RIGHT)
         marked = self.browser.run(
             "return [...document.querySelectorAll('#line-board .moved')].map(it => "
             "[it.getAttribute('x'), it.getAttribute('y')])")
-        # e2 and e4: a square has 40 units, and a mark is 2 inside it
-        self.assertEqual(sorted(marked), [["162", "162"], ["162", "242"]])
+        # e2 and e4: a square has 40 units, and a mark is 4 inside it
+        self.assertEqual(sorted(marked), [["164", "164"], ["164", "244"]])
+
+    def test_comments(self):
+        """Those of a move are shown with it, and those before the first one at the begin."""
+        self.open(self.GAME)
+        self.assertEqual(self.text("line-comments"), "before all")
+        self.press(TO_RIGHT)
+        self.assertEqual(self.text("line-comments"), "a (b) $3 c\nd")
+        self.press(TO_RIGHT)
+        self.assertEqual(self.text("line-comments"), "")
+        self.press(TO_LEFT)
+        self.enter(1)
+        self.assertEqual((self.text("line-at"), self.text("line-comments")), (
+            "After 1... e6 (ply 1 of 1 of a variation, in place of 1... e5)", "then"))
+
+    def test_any_bytes(self):
+        """A comment is shown as UTF-8 where it is that, else as Latin-1."""
+        self.open(b"1. e4 {caf\xe9} e5 {caf\xc3\xa9 <b>&amp;</b>} *")
+        for shown in ("caf\u00e9", "caf\u00e9 <b>&amp;</b>"):
+            self.press(TO_RIGHT)
+            self.assertEqual(self.text("line-comments"), shown)
+
+    def test_variations(self):
+        """They are entered where they begin, by a key or a button, and left the same way."""
+        self.open(self.GAME)
+        self.assertEqual(self.variations(), ("", []))
+        self.press(TO_RIGHT)
+        before = self.board()
+        self.assertEqual(self.variations(), (
+            "Variations, in place of 1... e5:", ["1... c5 2. Nf3 +/= d6", "1... e6"]))
+        self.picture("play-through")
+        instead = " of a variation, in place of 1... e5)"
+        self.press(DOWN)
+        self.assertEqual(self.text("line-at"), "After 1... c5 (ply 1 of 3" + instead)
+        self.assertEqual(self.text("line-comments"), "why")
+        self.assertEqual(self.variations(), (
+            "Variations, in place of 2. Nf3:", ["2. c3 d5", "2. f4!"]))
+        for key, said in (
+                (END, "After 2... d6 (ply 3 of 3" + instead),
+                (TO_RIGHT, "After 2... d6 (ply 3 of 3" + instead),
+                (TO_LEFT, "After 2. Nf3 +/= (ply 2 of 3" + instead),
+                (TO_LEFT, "After 1... c5 (ply 1 of 3" + instead),
+                (DOWN, "After 2. c3 (ply 1 of 2 of a variation, in place of 2. Nf3)"),
+                (TO_RIGHT, "After 2... d5 (ply 2 of 2 of a variation, in place of 2. Nf3)"),
+                (UP, "After 1... c5 (ply 1 of 3" + instead), (TO_LEFT, before[0]), (DOWN, None),
+                (HOME, "The position before the first move (ply 0 of 4)")):
+            self.press(key)
+            if said:
+                self.assertEqual(self.text("line-at"), said)
+        self.press(TO_RIGHT)
+        self.enter(0)
+        self.enter(1)
+        self.assertEqual(self.board(), (
+            "After 2. f4! (ply 1 of 1 of a variation, in place of 2. Nf3)",
+            "White: king e1; queen d1; rooks a1, h1; bishops c1, f1; knights b1, g1; "
+            "pawns a2, b2, c2, d2, g2, h2, e4, f4. Black: king e8; queen d8; rooks a8, h8; "
+            "bishops c8, f8; knights b8, g8; pawns c5, a7, b7, d7, e7, f7, g7, h7. "
+            "Black to move."))
+        self.browser.run(CLICK, "leave")
+        self.browser.run(CLICK, "leave")
+        self.assertEqual(self.board(), before)
+        self.assertTrue(self.browser.run("return document.getElementById('leave').disabled"))
+        self.assertQuiet()
+
+    def test_variations_by_keyboard(self):
+        """The list is one stop of the tab key, and no button takes the focus away with it."""
+        self.open(self.GAME)
+        self.press(TO_RIGHT)
+        at = ("return [...document.querySelectorAll('#variations button')].indexOf("
+              "document.activeElement)")
+        self.browser.run("document.getElementById('line-words').focus()")
+        for key, place in ((TAB, 0), (DOWN, 1), (DOWN, 1), (HOME, 0), (END, 1)):
+            self.press(key)
+            self.assertEqual(self.browser.run(at), place)
+        self.press(ENTER)
+        self.assertEqual(self.text("line-at"),
+                         "After 1... e6 (ply 1 of 1 of a variation, in place of 1... e5)")
+        self.assertEqual(self.focused(), "game-title")
+        self.browser.run("document.getElementById('leave').focus()")
+        self.press(ENTER)
+        self.assertEqual((self.text("line-at"), self.focused()),
+                         ("After 1. e4 (ply 1 of 4)", "game-title"))
+        self.browser.run("document.querySelector('#variations button').focus()")
+        self.press(TO_RIGHT)
+        self.assertEqual((self.text("line-at"), self.focused()),
+                         ("After 1... e5 (ply 2 of 4)", "game-title"))
+
+    def test_tab_key(self):
+        """It reaches each control of a game, and what scrolls, in the order of the page."""
+        self.open(self.GAME)
+        self.press(TO_RIGHT, DOWN)
+        reached = []
+        for _ in range(8):
+            self.press(TAB)
+            reached.append(self.focused() or self.browser.run(
+                "return document.activeElement.innerText"))
+        self.assertEqual(reached, ["to-start", "back", "forward", "to-end", "leave", "line-words",
+                                   "2. c3 d5", "game-text"])
+
+    def test_odd_variations(self):
+        """One without a move, with marks and comments alone, and one that is long."""
+        shuffle = " ".join(["Nf6 Ng1 Ng8 Nf3"] * 4)
+        self.open("1. Nf3 d5 (! {all}) (1... %s) *" % shuffle)
+        self.press(TO_RIGHT)
+        first = " ".join("%d. %s %s" % (it, white, black) for it, white, black in (
+            (2, "Ng1", "Ng8"), (3, "Nf3", "Nf6"), (4, "Ng1", "Ng8"), (5, "Nf3", "Nf6"),
+            (6, "Ng1", "Ng8")))
+        self.assertEqual(self.variations()[1], ["no move!", "1... Nf6 %s 7. Nf3 \u2026" % first])
+        self.press(DOWN)
+        self.assertEqual(self.text("line-at"), "A variation without a move, in place of 1... d5")
+        self.assertEqual(self.text("line-comments"), "all")
+        for key in (TO_RIGHT, END):
+            self.press(key)
+            self.assertEqual(self.text("line-comments"), "all")
+        self.press(TO_LEFT)
+        self.assertEqual(self.text("line-at"), "After 1. Nf3 (ply 1 of 2)")
+
+    def test_signs(self):
+        """The usual signs of NAGs; others have their numbers."""
+        self.open("1. e4 $0 $1 $2 $3 $4 $5 $6 $7 $8 $9 $10 $11 $12 $13 $14 $15 $16 $17 $18 $19 $20 "
+                  "$146 *")
+        self.press(TO_RIGHT)
+        self.assertEqual(
+            self.text("line-at"), "After 1. e4 $0!?!!??!??! \u25a1 $8 $9 = $11 $12 \u221e +/= =/+ "
+            "\u00b1 \u2213 +\u2212 \u2212+ $20 N (ply 1 of 1). Result: *")
 
     def test_from_a_position(self):
-        self.open('[FEN "4k3/P7/8/8/8/8/8/4K3 b - - 0 30"]\n\n30... Kd7 31. a8=Q *\n'
+        self.open('[FEN "4k3/P7/8/8/8/8/8/4K3 b - - 0 30"]\n\n30... Kd7 (Kf7) 31. a8=Q *\n'
                   '[Event "x"]\n\n*\n')
-        self.assertEqual(self.text("line-at"), "The position before the first move: ply 0 of 2")
+        self.assertEqual(self.text("line-at"),
+                         "The position before the first move (ply 0 of 2)")
+        self.press(DOWN)
+        self.assertEqual(self.board(), (
+            "After 30... Kf7 (ply 1 of 1 of a variation, in place of 30... Kd7)",
+            "White: king e1; pawn a7. Black: king f7. White to move."))
+        self.press(HOME)
         self.press(END)
         self.assertEqual(self.board(), (
-            "After 31. a8=Q: ply 2 of 2",
+            "After 31. a8=Q (ply 2 of 2). Result: *",
             "White: king e1; queen a8. Black: king d7. Black to move."))
 
     def test_no_move(self):
@@ -1253,14 +1417,50 @@ class MainLine(Case):
         for key in (TO_RIGHT, END):
             self.press(key)
             self.assertEqual(self.text("line-at"),
-                             "The position before the first move: ply 0 of 0")
+                             "The position before the first move (ply 0 of 0). Result: *")
 
     def test_long_game(self):
-        """More plies than the room for short texts holds."""
+        """More items than the room for the first lines holds, and a comment that is longer."""
         shuffle = "Nf3 Nf6 Ng1 Ng8 "
-        self.open(600 * shuffle + "e4 *")
+        long = " ".join(["word"] * 60000)
+        self.open(600 * shuffle + "e4 (d4 {%s}) {behind} *" % long)
         self.press(END)
-        self.assertEqual(self.text("line-at"), "After 1201. e4: ply 2401 of 2401")
+        self.assertEqual(self.text("line-at"), "After 1201. e4 (ply 2401 of 2401). Result: *")
+        self.assertEqual(self.text("line-comments"), "behind")
+        self.press(TO_LEFT, DOWN)
+        self.assertEqual(self.browser.run(
+            "return document.getElementById('line-comments').textContent"), long)
+
+    def test_many_tags(self):
+        """An export with the roster beside as many tags as a game may have has too many."""
+        tags = "".join('[T%02d "x"]\n' % it for it in range(62))
+        self.open(tags + '[FEN "4k3/8/8/8/8/8/4P3/4K3 w - - 0 1"]\n[Result "1-0"]\n\n1. e4 1-0\n')
+        self.press(END)
+        self.assertEqual(self.board(), (
+            "After 1. e4 (ply 1 of 1). Result: 1-0",
+            "White: king e1; pawn e4. Black: king e8. Black to move."))
+
+    def test_phone(self):
+        """The board, its buttons and a long comment are within the window."""
+        self.page(size=(390, 844))
+        self.browser.command("Emulation.setDeviceMetricsOverride", width=390, height=844,
+                             deviceScaleFactor=1, mobile=True)
+        word = 79 * "w"
+        self.convert(("a.pgn", ("1. e4 {%s} e5 (c5 2. Nf3 d6 3. d4 cxd4 4. Nxd4 Nf6 5. Nc3 a6) *"
+                                % " ".join(40 * [word])).encode()))
+        self.browser.run("document.querySelector('#list button').click()")
+        self.browser.wait_for("return document.activeElement.id === 'game-title'")
+        self.press(TO_RIGHT)
+        self.picture("play-through-phone")
+        self.assertEqual(self.browser.run("return document.documentElement.scrollWidth"), 390)
+        wide = self.browser.run(
+            "return [...document.querySelectorAll('#play-through *')].filter(it => "
+            "it.getBoundingClientRect().right > 390).map(it => it.outerHTML.slice(0, 80))")
+        self.assertEqual(wide, [])
+        seen, all_of_it = self.browser.run("const it = document.getElementById('line-words');"
+                                           "return [it.clientHeight, it.scrollHeight]")
+        self.assertLess(seen, 400)
+        self.assertGreater(all_of_it, seen)
 
 
 class Rest(Case):
@@ -1796,7 +1996,7 @@ target" ] && mkdir -p target/wasm32-unknown-unknown/release &&
         with open(copy + "/page.html", encoding="utf-8") as file:
             text = file.read()
         self.assertIn("Nothing of this page is proved.", text)
-        self.assertNotIn("is proved for every text", text)
+        self.assertNotIn("A prover has checked", text)
         self.assertIn(as_text(b"\0asm\1\0\0\0"), text)
 
     def test_order(self):
@@ -1822,7 +2022,7 @@ target" ] && mkdir -p target/wasm32-unknown-unknown/release &&
             text = re.search(r"STRUCTS = \{(.*?)\n\};", file.read(), re.S)[1]
         header = c_structs()
         found = dict(re.findall(r"^  (\w+): \[(.*?)\],?$(?=\n  \w|\Z)", text, re.S | re.M))
-        not_called = {"pgn_item_lines", "pgn_result"}
+        not_called = {"pgn_plies", "pgn_result"}
         self.assertEqual(sorted(found), sorted(set(header) - not_called))
         for name, body in found.items():
             fields = ["%s %s%s" % (kind, field, "[%s]" % count if count else "") for
