@@ -118,7 +118,7 @@ def _fields_of_plies(fen: str, moves: str, line_format: int) -> List[str]:
 
 
 def texts_of_plies(fen: str, sans: List[str]) -> List[str]:
-    """Plays moves in SAN: the SAN, the UCI and the FEN after it of each, one behind another."""
+    """Plays moves in SAN: the SAN, the UCI and the FEN after it of each, one after another."""
     size = _library.LONGEST_PLY * len(sans)
     lines = _lines_of_plies(fen, " ".join(sans), _library.SAN, size)
     return lines.replace("\n", "\t").split("\t")

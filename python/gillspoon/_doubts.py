@@ -43,7 +43,7 @@ def doubts(text: bytes, plies: int, reader: GameReader) -> Iterator[Doubt]:
     >>> text = b"1. e4 e5 2. Nf3 Nc6 (!) 1. d4 0000 *"
     >>> for it in doubts(text, 5, GameReader()):
     ...     print(it.offset, it.reason)
-    24 move number 1 behind 2: perhaps a marker or moves are missing
+    24 move number 1 after 2: perhaps a marker or moves are missing
     20 a variation has marks and no move
     30 0000 is read as a move number: PGN has no null move
     """
@@ -108,7 +108,7 @@ def _wrong_numbers(text: bytes, begin: int) -> Iterator[Doubt]:
         elif token["period"]:
             number = int(word)
             if last is not None and not last <= number <= last + (plies + 1) // 2:
-                yield Doubt(token.start(), "move number %d behind %d: perhaps a marker or moves "
+                yield Doubt(token.start(), "move number %d after %d: perhaps a marker or moves "
                                            "are missing" % (number, last))
                 return
             last, plies = number, 0

@@ -64,7 +64,7 @@ FIXES: "Tuple[AnyFix, ...]" = SPELLINGS + tuple(_of_data()) + (
     _fix("letter apart", (33,), UNSAFE, "N bd7", "Nbd7", by.letter_apart),
     _fix("odd quotes in a value", (28,), UNSAFE, '""2500"', r'"\"2500"', by.odd_quotes_in_value),
     _fix("missing bracket", (28,), UNSAFE, '[White "a"', '[White "a"]', by.missing_bracket),
-    _fix("sign behind the marker", (32, 42), UNSAFE, "1-0!", "1-0", by.sign_behind_marker),
+    _fix("sign after the marker", (32, 42), UNSAFE, "1-0!", "1-0", by.sign_behind_marker),
     _fix("second marker", (41,), UNSAFE, "1-0 1-0", "1-0", by.second_marker),
     _fix("other Result tag", (41,), UNSAFE, '[Result "*"] … 1-0', '[Result "1-0"] … 1-0',
          by.other_result_tag),

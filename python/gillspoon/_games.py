@@ -13,7 +13,7 @@ from . import _calls, _library
 from ._bad_games import move_at, players_of
 from ._described import described
 from ._faults import PgnFault
-from ._moves import INITIAL_FEN, Habit, Line, Ply, read_moves, write_moves
+from ._moves import INITIAL_FEN, Habit, Line, Ply, read_items, read_moves, write_moves
 from ._places import BYTE_ORDER_MARK
 from ._reading import GameReader
 from ._sections import end_of
@@ -61,6 +61,15 @@ def _export_text(source: bytes, mode: int, missing: int) -> bytes:
         size *= 2
     assert found.status == _library.OK and found.end == len(source), found.message
     return _library.front_of(buffer, found.written)
+
+
+def _has_its_items(source: bytes, mode: int, missing: int) -> bool:
+    """Whether the items of these bytes of a source are those of the export text of its game.
+
+    In reduced format that has no notes, and a missing Result may be another one. A text in another
+    encoding may have bytes that the export leaves out.
+    """
+    return mode == _library.FULL_FORMAT and missing == _library.RESULT_UNKNOWN and is_utf_8(source)
 
 
 class Game:
@@ -175,13 +184,19 @@ class Game:
         (['best'], [Line(d4 d5)])
         """
         if self._moves is None:
-            # without a call of the property, if the text is there
-            text = self._text if self._unwritten is None else self.text
-            self._is_used = True
-            section, _, movetext = text_of(text).partition("\n\n")
+            habit = self._habit or Habit()
             # most games have no such tag, and then no tag is read for it
-            fen = self._first_fen() if '[FEN "' in section else INITIAL_FEN
-            self._moves = read_moves(movetext, fen, self._habit or Habit(), text)
+            fen = self._first_fen() if b'[FEN "' in section_of(self) else INITIAL_FEN
+            unwritten = self._unwritten
+            if habit.trees and unwritten is not None and _has_its_items(*unwritten):
+                self._moves = read_items(unwritten[0], fen, habit)
+                return self._moves
+            # without a call of the property, if the text is there
+            text = self._text if unwritten is None else self.text
+            if not habit.trees:
+                self._is_used = True
+            movetext = text_of(text).partition("\n\n")[2]
+            self._moves = read_moves(movetext, fen, habit, text)
         return self._moves
 
     def position_at(self, ply: int) -> str:
@@ -343,7 +358,7 @@ def games(source: Source, *, checked: bool = False, reduced: bool = False,
     `checked`: a game without a Result tag takes its termination marker. Else a missing Result
     counts as `*`, and another marker is a fault.
     `reduced`: the games have the roster and the main line alone. A FEN tag is then a fault.
-    `on_fault`: is called with each PgnFault, and reading goes on behind the bad game. Without it
+    `on_fault`: is called with each PgnFault, and reading goes on after the bad game. Without it
     the first fault is raised.
 
     >>> text = b"1. e4 e5 2. Ke3 *\\n[White \\"Ada\\"] 1. d4 *"
@@ -527,7 +542,7 @@ def write_game(tags: Mapping[str, str], moves: Union[Line, str], *,
     found = games(whole, checked=True)
     game, other = next(found), next(found, None)
     if other is not None and other.offset < len(text):
-        raise ValueError("the moves have more behind the result of the game: %r"
+        raise ValueError("the moves have more after the result of the game: %r"
                          % text[game.end:].decode(encoding).strip()[:40])
     return game.text
 

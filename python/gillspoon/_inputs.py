@@ -12,7 +12,7 @@ from ._sources import Opened, Source, Window
 
 SUFFIXES = (".pgn", ".pgn.gz", ".pgn.zst", ".pgn.bz2", ".pgn.xz", ".pgn.zip")
 STANDARD_INPUT = "<stdin>"
-NO_FILE = "has no file *.pgn, also with .gz, .bz2, .xz, .zst or .zip behind"
+NO_FILE = "has no file *.pgn, also with .gz, .bz2, .xz, .zst or .zip after it"
 NO_GAMES = "is passed over: it has no file *.pgn inside"
 
 

@@ -28,7 +28,7 @@ class LeftOut(NamedTuple):
     escapes: int
     """How many lines begin with `%` and are in no comment."""
     behind: int
-    """How many bytes are behind the last game, without white space at either end."""
+    """How many bytes are after the last game, without white space at either end."""
 
     def plus(self, other: "LeftOut") -> "LeftOut":
         """The counts of both texts."""
@@ -45,7 +45,7 @@ class LeftOut(NamedTuple):
                 (self.comments, "comment before a game or inside a tag pair",
                  "comments before a game or inside a tag pair"),
                 (self.escapes, "line with '%'", "lines with '%'"),
-                (self.behind, "byte behind the last game", "bytes behind the last game")):
+                (self.behind, "byte after the last game", "bytes after the last game")):
             if count:
                 words.append("%s %s" % (format(count, ","), one if count == 1 else many))
         return ", ".join(words)

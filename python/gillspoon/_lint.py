@@ -33,7 +33,7 @@ HELP = """examples:
   gillspoon lint --json games.pgn | jq -r 'select(.kind == "fault") | .fen'
   vim -q <(gillspoon lint games.pgn)        with :set errorformat=%f:%l:%v:\\ %m
 
-In a folder *.pgn are checked, also with .gz, .bz2, .xz, .zst or .zip behind, in small letters or
+In a folder *.pgn are checked, also with .gz, .bz2, .xz, .zst or .zip after it, in small letters or
 not, and each *.zip with *.pgn inside. Compressed files are known by their first bytes too, and so
 is standard input: --fix - then writes the text plain. Each *.pgn in a zip is a file of its own,
 such as games.zip:a.pgn, in messages and as a FILE. A file of another kind, such as UTF-16, HTML,
@@ -42,7 +42,7 @@ PDF, tar or 7z, is known by its first bytes and refused.
 A column is a character. Where a bad game ends is a guess: before the next line that begins a tag
 section.
 
-A fix changes text at a fault, and only if the library then reads on behind it. It is safe if the
+A fix changes text at a fault, and only if the library then reads on after it. It is safe if the
 text has one reading and nothing is lost; --unsafe-fixes adds the others. What no fix mends stays as
 it is, byte for byte. --fix replaces a file whole, and leaves read-only files alone. What is left is
 reported by the lines of the text after the edits, and warnings are counted alone.

@@ -4,15 +4,15 @@ Export text is a normal form, and what is read here is that form alone: docs/PRO
 grammar. The library has checked every move, so nothing is checked again.
 """
 import re
-from itertools import groupby, repeat, starmap
-from typing import Any, Callable, Iterable, Iterator, List, Optional, Sequence, Tuple, Union
+from itertools import count as numbers, groupby, repeat, starmap
+from typing import Any, Callable, Iterable, Iterator, List, Optional, Tuple, Union
 
 from . import _calls
 from ._commands import (CLOCK, ELAPSED, Arrow, Evaluation, MarkedSquare, arrows_of, evaluation_of,
                         seconds_of, squares_of)
 from ._tags import type_of
 from ._texts import is_utf_8
-from ._views import ViewList, view
+from ._views import ViewList, view, view_of
 
 INITIAL_FEN = "rnbqkbnr/pppppppp/8/8/8/8/PPPPPPPP/RNBQKBNR w KQkq - 0 1"
 Note = Union[int, str, "Line"]
@@ -108,7 +108,7 @@ class _Played:
 
 
 class Ply:
-    """A move of a game, with the position after it and what is noted behind it.
+    """A move of a game, with the position after it and what is noted after it.
 
     It is read with its game, or made by `line.append`. Its `san` and its `notes` can be changed. A
     copy of it, or what pickle makes of it, has the position before it in place of the moves before.
@@ -161,7 +161,7 @@ class Ply:
 
     @property
     def notes(self) -> List[Note]:
-        """NAGs (int), comments (str) and variations (Line) behind the move, in order."""
+        """NAGs (int), comments (str) and variations (Line) after the move, in order."""
         # most plies have none, so the list is made when it is asked for
         if not hasattr(self, "_notes"):
             self._notes = []
@@ -200,12 +200,12 @@ class Ply:
 
     @view
     def nags(self) -> List[int]:
-        """The NAGs behind the move."""
+        """The NAGs after the move."""
         return ViewList([it for it in self.notes if isinstance(it, int)])
 
     @view
     def comments(self) -> List[str]:
-        """The comments behind the move."""
+        """The comments after the move."""
         return ViewList(self._texts())
 
     def _texts(self) -> List[str]:
@@ -243,7 +243,7 @@ class Ply:
 
     def add_variation(self, move: str, *, nags: Iterable[int] = (), comment: Optional[str] = None,
                       uci: bool = False) -> "Line":
-        """Adds a variation behind the notes, of a move that replaces this one; returns its Line.
+        """Adds a variation after the notes, of a move that replaces this one; returns its Line.
 
         The arguments and errors are those of `Line.append`, by which the variation goes on.
 
@@ -269,10 +269,26 @@ class _ReadPly(Ply):
 
 
 class _PlacedPly(_ReadPly):
-    """A ply that was made with its position, in a slot: that is read sooner than a property."""
+    """A ply that was made with its position: that is read without a call of Python code."""
 
-    __slots__ = {"fen": "The FEN of the position after the move, as it was read."}
-    fen: str
+    __slots__ = {"_fen": None}
+    _fen: str
+    fen = view_of("_fen", "The FEN of the position after the move, as it was read.")
+
+
+class _NotedPly(_ReadPly):
+    """A ply that was made with its notes, in a slot: that is read sooner than a property."""
+
+    __slots__ = {"notes": Ply.notes.__doc__, "_fen": None}
+    notes: List[Note]
+    _fen: str
+
+
+class _PlacedNotedPly(_NotedPly):
+    """A ply that was made with its notes and its position."""
+
+    __slots__ = ()
+    fen = view_of("_fen", "The FEN of the position after the move, as it was read.")
 
 
 class _UnnamedPly(_PlacedPly):
@@ -295,7 +311,8 @@ class _UnnamedPly(_PlacedPly):
 
 
 # messages and `help` say Ply
-_ReadPly.__name__ = _PlacedPly.__name__ = _UnnamedPly.__name__ = Ply.__name__
+for _made in (_ReadPly, _NotedPly, _PlacedPly, _PlacedNotedPly, _UnnamedPly):
+    _made.__name__ = Ply.__name__
 
 
 def _ply(at: int, san: str, played: _Played) -> Ply:
@@ -309,29 +326,25 @@ def _ply(at: int, san: str, played: _Played) -> Ply:
 
 
 def _plies(sans: List[str], played: _Played) -> List[Ply]:
+    ply: Ply
     plies: List[Ply] = list(starmap(_ReadPly, repeat((), len(sans))))
-    for at, ply in enumerate(plies):
-        ply._at = at
-        ply.san = sans[at]
+    for ply, ply._at, ply.san in zip(plies, numbers(), sans):
         ply._played = played
     return plies
 
 
-def _placed_plies(sans: List[str], fens: List[str], played: _Played) -> List[_PlacedPly]:
-    plies = list(starmap(_PlacedPly, repeat((), len(fens))))
-    for at, ply in enumerate(plies):
-        ply._at = at
-        ply.san = sans[at]
-        ply.fen = fens[at]
+def _placed_plies(sans: List[str], fens: List[str], played: _Played) -> List[Ply]:
+    ply: _PlacedPly
+    plies: List[Any] = list(starmap(_PlacedPly, repeat((), len(fens))))
+    for ply, ply._at, ply.san, ply._fen in zip(plies, numbers(), sans, fens):
         ply._played = played
     return plies
 
 
-def _unnamed_plies(fens: List[str], played: _Played) -> List[_UnnamedPly]:
-    plies = list(starmap(_UnnamedPly, repeat((), len(fens))))
-    for at, ply in enumerate(plies):
-        ply._at = at
-        ply.fen = fens[at]
+def _unnamed_plies(fens: List[str], played: _Played) -> List[Ply]:
+    ply: _UnnamedPly
+    plies: List[Any] = list(starmap(_UnnamedPly, repeat((), len(fens))))
+    for ply, ply._at, ply._fen in zip(plies, numbers(), fens):
         ply._played = played
     return plies
 
@@ -504,13 +517,19 @@ def read_moves(movetext: str, fen: str, habit: Habit, export: bytes) -> Line:
 def _sans_of(movetext: str) -> List[str]:
     """The moves of a movetext without notes."""
     sans = movetext.split()
-    # the marker; and the numbers, before each move of White and before the first one of a line
+    # the marker
     del sans[-1:]
-    if sans and sans[0][-2:] == "..":
-        del sans[0], sans[1::3]
-    else:
-        del sans[::3]
+    if sans:
+        _leave_out_numbers(sans)
     return sans
+
+
+def _leave_out_numbers(words: List[str]) -> None:
+    """Leaves the moves of words: a number is before each move of White and before the first."""
+    if words[0][-2:] == "..":
+        del words[0], words[1::3]
+    else:
+        del words[::3]
 
 
 def _foreseen_plies(movetext: str, fen: str, habit: Habit) -> List[Ply]:
@@ -523,7 +542,6 @@ def _foreseen_plies(movetext: str, fen: str, habit: Habit) -> List[Ply]:
         # the marker alone
         return []
     habit.fens, fens = False, _calls.fens_of_plies(fen, moves[0])
-    plies: Sequence[Ply]
     if habit.sans:
         sans = _sans_of(movetext)
         played, first = _Played(fen, 1, sans, habit), sans[0]
@@ -533,43 +551,60 @@ def _foreseen_plies(movetext: str, fen: str, habit: Habit) -> List[Ply]:
         played, first = _Played(fen, 1, movetext, habit), movetext.split(None, 2)[1]
         plies = _unnamed_plies(fens, played)
     played.foreseen = fens
-    return [_ply(0, first, played), *plies[1:]]
+    plies[0] = _ply(0, first, played)
+    return plies
 
 
 def _read_noted_moves(movetext: str, fen: str, habit: Habit) -> Line:
     """The same where there are NAGs, comments or variations."""
-    words = movetext.replace("\n", " ").split(" ")
+    # without the marker
+    words = movetext.replace("\n", " ").rstrip().rpartition(" ")[0]
+    for mark in "{($)":
+        words = words.replace(mark, "\n" + mark)
+    # the moves before the first note; then a note, and the moves behind it
+    parts = iter(words.split("\n"))
     sans: List[str] = []
     line, played = _line(fen), _Played(fen, 1, sans, habit)
     opened: List[Tuple[Line, _Played, List[str]]] = []
-    noted: Union[Line, Ply] = line
-    at = 0
-    while True:
-        word = words[at]
-        at += 1
-        first = word[0]
-        if first in "abcdefghKQRBNO":
-            noted = _ply(len(sans), word, played)
-            sans.append(word)
-            line.plies.append(noted)
-        elif word[-1] == ".":
-            pass
-        elif first == "$":
-            noted.notes.append(int(word[1:]))
-        elif first == "{":
-            end = words.index("}", at)
-            noted.notes.append(" ".join(words[at:end]))
-            at = end + 1
-        elif first == "(":
-            opened.append((line, played, sans))
-            noted, number = _variation(line), played.first + len(sans) - 1
-            line, sans = noted, []
-            played = _Played(line.start, number, sans, habit)
-        elif first == ")":
-            line, played, sans = opened.pop()
-            noted = line.plies[-1]
+    notes, plies = line.notes, line.plies
+    for part in parts:
+        kind = part[:1]
+        if kind == "{":
+            # such marks may be in a comment too
+            while "}" not in part:
+                part += next(parts)
+            comment, _, part = part.partition("}")
+            notes.append(comment[2:-1])
+            moves = part.split()
         else:
-            return line
+            moves = part.split()
+            if kind == "(":
+                del moves[0]
+                opened.append((line, played, sans))
+                line = _variation(line)
+                sans, notes, plies = [], line.notes, line.plies
+                played = _Played(line.start, played.first + len(opened[-1][2]) - 1, sans, habit)
+            elif kind == ")":
+                del moves[0]
+                line, played, sans = opened.pop()
+                plies = line.plies
+                notes = plies[-1].notes
+            elif kind == "$":
+                notes.append(int(moves[0][1:]))
+                del moves[0]
+        if moves:
+            _leave_out_numbers(moves)
+            at = len(plies)
+            for san in moves:
+                ply = _NotedPly()
+                ply._at = at
+                ply.san = san
+                ply._played = played
+                ply.notes = notes = []
+                plies.append(ply)
+                at += 1
+            sans += moves
+    return line
 
 
 def read_items(game: bytes, fen: str, habit: Habit) -> Line:
@@ -578,54 +613,53 @@ def read_items(game: bytes, fen: str, habit: Habit) -> Line:
     The first ply has no position, and that of one variation: if these are asked for, so may be
     those of the next game.
     """
-    rows = _calls.items_of(game).decode("utf-8" if is_utf_8(game) else "latin-1").split("\n")
+    rows = _calls.items_of(game).decode("utf-8" if is_utf_8(game) else "latin-1")
     fens: List[str] = []
     sans: List[str] = []
     line, played = _line(fen), _Played(fen, 1, sans, habit)
     played.foreseen, habit.fens = fens, False
-    noted: Any = line
-    plies, at, is_placed = line.plies, 0, False
     opened: List[Tuple[Line, _Played, List[str], List[str]]] = []
+    notes, plies, at = line.notes, line.plies, 0
+    make, usual = _NotedPly, _PlacedNotedPly
     # without a line feed at its end a comment is open there
-    for row in rows if rows[-1] else rows[:-1]:
-        kind = row[0]
+    for row in rows.rstrip("\n").split("\n"):
+        kind = row[:1]
         if kind == "M":
-            _, _, san, after = row.split("\t")
-            if is_placed:
-                noted = _PlacedPly()
-                noted.fen = after
-            else:
-                noted, is_placed = _ReadPly(), True
-            noted._at = at
-            noted.san = san
-            noted._played = played
-            at += 1
+            _, san, after = row.rsplit("\t", 2)
+            ply = make()
+            make = usual
+            ply._at = at
+            ply.san = san
+            ply._fen = after
+            ply._played = played
+            ply.notes = notes = []
             sans.append(san)
             fens.append(after)
-            plies.append(noted)
+            plies.append(ply)
+            at += 1
         elif kind == "C":
-            noted.notes.append(row[2:].replace("\t", " "))
+            notes.append(row[2:].replace("\t", " "))
         elif kind == "G":
-            noted.notes.append(int(row[2:]))
+            notes.append(int(row[2:]))
         elif kind == "(":
             opened.append((line, played, sans, fens))
             line, sans, fens = _variation(line), [], []
             played = _Played(line.start, played.first + at - 1, sans, habit)
-            played.foreseen = fens
-            noted, plies, at = line, line.plies, 0
+            played.foreseen, notes, plies, at = fens, line.notes, line.plies, 0
             if habit.trees and isinstance(line.start, Ply):
-                is_placed = habit.trees = False
+                make, habit.trees = _NotedPly, False
         elif kind == ")":
             line, played, sans, fens = opened.pop()
             plies, at = line.plies, len(sans)
-            noted = plies[-1]
+            notes = plies[-1].notes
     return opened[0][0] if opened else line
 
 
 def _variation(line: Line) -> Line:
     """A new variation, which replaces the last move of a line."""
-    variation = _line(line.plies[-2] if len(line.plies) > 1 else line.start)
-    line.plies[-1].notes.append(variation)
+    plies = line.plies
+    variation = _line(plies[-2] if len(plies) > 1 else line.start)
+    plies[-1].notes.append(variation)
     return variation
 
 

@@ -317,7 +317,7 @@ class Part:
                     sieve.progress.show(sieve.at, before + game.number, game.end,
                                         self.opened.size)
         except PgnFault as fault:
-            raise OSError("byte %d: cannot go on behind it" % fault.offset) from None
+            raise OSError("byte %d: cannot go on after it" % fault.offset) from None
         finally:
             window.close()
         self.counts = self.counts._replace(games=self.games, first_long=self.first_long,
@@ -359,7 +359,7 @@ class Part:
         if end == self.opened.size:
             until = "the end of the file"
         elif fault.offset >= end:
-            beyond = "% the fault is behind these bytes: a comment in them may never be closed\n"
+            beyond = "% the fault is after these bytes: a comment in them may never be closed\n"
         name = " of " + in_a_line(self.name) if self.is_named else ""
         return ("%% byte %d%s: %s; line %d\n%% bytes %d to %d, up to %s\n%s" % (
             fault.offset, name, fault.reason, fault.line, begin, end, until, beyond)).encode(

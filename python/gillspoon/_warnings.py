@@ -19,9 +19,9 @@ if TYPE_CHECKING:
 
 IN_COMMENT = "a comment holds a line that begins a tag section: perhaps it was never closed"
 DROPPED = "comment before a game, which export drops"
-BEHIND = "comment behind the last game, which export drops"
+BEHIND = "comment after the last game, which export drops"
 EMPTY = "there is no game"
-NOTHING = "a game without tags and moves behind a marker"
+NOTHING = "a game without tags and moves after a marker"
 MIXED = "another encoding than that of the games before: a file is UTF-8 or it is not"
 VARIANT = "Variant tag: the moves are checked by the rules of ordinary chess"
 OTHER_NAME = "tag %s: perhaps %s is meant"

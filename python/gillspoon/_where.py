@@ -349,7 +349,7 @@ def describe_game(writer: Writer, text: Text, offset: int) -> None:
         writer.write("in a comment that begins at line %d, column %d (byte %d)" % (
             place.line, place.column, comment))
     elif offset == text.size and is_behind:
-        writer.write("behind the last game, which is game %d" % (number - 1) if begin else
+        writer.write("after the last game, which is game %d" % (number - 1) if begin else
                      "there is no game")
         return
     found = tag_pairs(text.read(begin, TAGS_SIZE))

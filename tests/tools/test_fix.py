@@ -327,7 +327,7 @@ class Warnings(Lint):
     def test_what_export_drops(self):
         self.warned(b"{a} 1. e4 *\n", "1:1: warning: comment before a game, which export drops "
                                       "(game 1, ? \u2013 ?)")
-        self.warned(b"1. e4 * {a}\n", "1:9: warning: comment behind the last game, which export "
+        self.warned(b"1. e4 * {a}\n", "1:9: warning: comment after the last game, which export "
                                       "drops")
 
     def test_forms_of_tags(self):
@@ -357,7 +357,7 @@ class Warnings(Lint):
 
     def test_doubts(self):
         """What is read without a word and may mean something else, and what is like it."""
-        lower = "move number 1 behind 2: perhaps a marker or moves are missing"
+        lower = "move number 1 after 2: perhaps a marker or moves are missing"
         marks, null = "a variation has marks and no move", "0000 is read as a move number: PGN has " \
             "no null move"
         line = "a comment from ; to the end of the line begins with the next moves"
@@ -366,7 +366,7 @@ class Warnings(Lint):
                 ("1. e4 e5 2. Nf3 Nc6 {9.} (2... d6) 1. d4 d6 2. c4 *", "1:36", lower),
                 ('[White "a"]\n\n1.e4 e5 2.Nf3 Nc6\n\n1.d4 d6 *', "5:1", lower),
                 ("1. e4 e5 4. Nf3 Nc6 5. d4 *", "1:10",
-                 "move number 4 behind 1: perhaps a marker or moves are missing"),
+                 "move number 4 after 1: perhaps a marker or moves are missing"),
                 ("1. e4 0000 2. d5 *", "1:7", null), ("1. e4 (1. d4 0000 2. d5) *", "1:14", null),
                 ("1. e4 (!) e5 *", "1:7", marks), ("1. e4 ( $1 !?) e5 *", "1:7", marks),
                 ("1. e4 ; e5 2. Nf3 Nc6\n *", "1:7", line),
@@ -408,7 +408,7 @@ class Warnings(Lint):
             self.warned(b"%s\n\n*\n" % tags.encode())
 
     def test_a_game_of_nothing(self):
-        nothing = "warning: a game without tags and moves behind a marker (game %d, ? \u2013 ?)"
+        nothing = "warning: a game without tags and moves after a marker (game %d, ? \u2013 ?)"
         self.warned(b"****\n", *("1:%d: %s" % (at, nothing % at) for at in (2, 3, 4)))
         self.warned(b"1. e4 *\n\n*\n1. d4 *\n", "3:1: " + nothing % 2)
         for text in (b"*\n", b'*\n\n[White "?"]\n\n*\n', b"* 1. e4 *\n"):

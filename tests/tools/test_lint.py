@@ -584,7 +584,7 @@ class Files(Lint):
         for name, reason in (
                 ("missing.pgn", "No such file or directory"),
                 ("good.pgn/x", "Not a directory"),
-                ("empty", "has no file *.pgn, also with .gz, .bz2, .xz, .zst or .zip behind"),
+                ("empty", "has no file *.pgn, also with .gz, .bz2, .xz, .zst or .zip after it"),
                 ("cut.pgn.gz", "Compressed file ended before the end-of-stream marker was "
                  "reached")):
             for words in ([], ["-j", "2"]):
@@ -808,7 +808,7 @@ class Zips(Lint):
         status, _, told = self.lint("all")
         self.assertEqual((status, told.splitlines()), (3, [
             "gillspoon: all/photos.zip: is passed over: it has no file *.pgn inside",
-            "gillspoon: all: has no file *.pgn, also with .gz, .bz2, .xz, .zst or .zip behind"]))
+            "gillspoon: all: has no file *.pgn, also with .gz, .bz2, .xz, .zst or .zip after it"]))
 
 
 class Options(Lint):

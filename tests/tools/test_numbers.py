@@ -8,7 +8,7 @@ from programs import ROOT, need_package
 
 setUpModule = need_package
 GAMES, LONGEST = 4000, 30
-REASON = re.compile("move number ([0-9]+) behind ([0-9]+): perhaps a marker or moves are missing")
+REASON = re.compile("move number ([0-9]+) after ([0-9]+): perhaps a marker or moves are missing")
 NOTES = ("best", "better is 3. Nf3", "1. e4 (2. d4) 7...", "see game 12.", "a; b", "5.", "100% 4.")
 
 

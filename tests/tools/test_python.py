@@ -659,6 +659,18 @@ class Positions(unittest.TestCase):
         for it in first:
             self.check(it)
 
+    def test_no_text_for_positions_in_variations(self):
+        """Where these are asked for, the items are those of the source, unless it is Latin-1."""
+        text = '{first} e4 {\xfc} e5 (c5 {a  b} (d5! e5) Nf3) Nf3 *'
+        # the second game is read with its text, which the first one was asked for
+        for data, count in ((text.encode("utf-8"), 1), (text.encode("latin-1"), 2)):
+            games = gillspoon.games(b"\n".join([data] * 4))
+            with mock.patch.object(gillspoon._games, "_export_text",
+                                   wraps=gillspoon._games._export_text) as exported:
+                trees = [tree(it.moves()) for it in games]
+            self.assertEqual((trees, exported.call_count), ([trees[0]] * 4, count))
+            self.assertEqual(trees[0][2][0][3][0], "\xfc")
+
     def check_fens(self, line):
         """Each is that after the move."""
         fen = line.fen
@@ -794,6 +806,12 @@ class Keys(unittest.TestCase):
         self.assertEqual(fault_of(gillspoon.FenFault, gillspoon.position_key, "x").field, 1)
 
 
+def tree_plies(line):
+    """The plies of a line and of its variations."""
+    return [it for ply in line for it in (ply, *(
+        it for variation in ply.variations for it in tree_plies(variation)))]
+
+
 class Views(unittest.TestCase):
     """What is a view of what was read cannot be set, and the error says what to do instead."""
 
@@ -817,6 +835,19 @@ class Views(unittest.TestCase):
                 with self.assertRaisesRegex(AttributeError, name + " cannot be set: change the no"):
                     setattr(ply, name, getattr(ply, name))
             self.assertEqual([getattr(ply, it) for it in self.PLY], before)
+
+    def test_a_ply_with_its_position(self):
+        """Where positions were asked for, the plies of the next game are made with theirs."""
+        for text in (b"e4 e5 Nf3 * ", b"e4 (d4 d5 (c5)) e5 {best} Nf3 * "):
+            first, second = (tree_plies(it.moves()) for it in gillspoon.games(text * 2)
+                             if all(ply.fen for ply in tree_plies(it.moves())))
+            made = [it for it in second if hasattr(it, "_fen")]
+            self.assertGreater(len(made), 1)
+            for ply, other in zip(first, second):
+                self.assertEqual(ply.fen, other.fen)
+                with self.assertRaisesRegex(AttributeError, "fen cannot be set: change the no"):
+                    other.fen = ""
+                self.assertEqual(ply.fen, other.fen)
 
     def test_the_lists_of_a_ply(self):
         """Each change of one is refused, and a copy is a list like any other."""
@@ -1975,7 +2006,7 @@ class Written(unittest.TestCase):
         line = next(gillspoon.games(b"e4 e5 *")).moves()
         line.plies[1].san = "e5 * d4"
         for moves in ("e4 * d4", "e4 * *", "e4 1-0 {end}", "* [White \"Bob\"]", line):
-            with self.assertRaisesRegex(ValueError, "more behind the result|not a move|input"):
+            with self.assertRaisesRegex(ValueError, "more after the result|not a move|input"):
                 gillspoon.write_game({}, moves)
 
     def test_what_is_no_text(self):

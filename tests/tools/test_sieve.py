@@ -184,7 +184,7 @@ class SieveTest(programs.Folder, unittest.TestCase):
             done = Sieved(self, sound(b"A") + bad + b"\n" + rest)
             self.check(done, [bad])
             self.assertEqual(done.good, export(sound(b"A") + rest))
-            self.assertIn(b"% the fault is behind these bytes", done.bad)
+            self.assertIn(b"% the fault is after these bytes", done.bad)
 
     def test_brace_in_a_tag_section(self):
         # the rest of the tag section is no game of its own
@@ -229,7 +229,7 @@ class SieveTest(programs.Folder, unittest.TestCase):
                 (kept + b"%c\n" + kept + bad, "1 line with '%'"),
                 (b'{a} ;b\n[Event {c} "x"]\n\n1. e4\n%c\n%d\n*\n' + bad,
                  many + ", 2 lines with '%'"),
-                (kept + b"{end}\n", "5 bytes behind the last game")):
+                (kept + b"{end}\n", "5 bytes after the last game")):
             done = Sieved(self, text)
             self.check(done, [bad] if bad in text else [], told)
             self.assertEqual(done.ran.stderr.count(b"\n"), bool(told), text)

@@ -13,6 +13,28 @@ setUpModule = need_package
 WHERE = [ROOT + "/bin/gillspoon", "where"]
 TAGS = b'[Event "Cup"]\n[White "Ann"]\n[Black "Bob"]\n\n'
 GAME = 'game 1: White "Ann", Black "Bob", Event "Cup"\n'
+NAME, LATIN = '[White "José Łódź"] x', '[White "José"] x'
+MARKED = b"\xef\xbb\xbfe9 *\n"
+# A text, the offset of a byte, its line and its column, and the line that is shown with the caret.
+PLACES = (
+    # mixed line ends, and a byte order mark
+    (b"a\r\nb\rc\n\rd", 8, 5, 1, "d", "^"), (b"a\n\r\nb", 4, 3, 1, "b", "^"),
+    *((MARKED, at, 1, 1, "e9 *", "^") for at in range(4)), (MARKED, 4, 1, 2, "e9 *", " ^"),
+    (b"\xef\xbb\xbf%1-0\ne9 *", 8, 2, 1, "e9 *", "^"),
+    # inside a character, behind others, and in Latin-1
+    *((NAME.encode(), 11 + inside, 1, 12, NAME, " " * 11 + "^") for inside in (0, 1)),
+    (NAME.encode(), len(NAME.encode()) - 1, 1, 21, NAME, " " * 20 + "^"),
+    (LATIN.encode("latin-1"), 15, 1, 16, LATIN, " " * 15 + "^"),
+    # a line is of one encoding, also where what is not UTF-8 stands behind the byte
+    (b"x \xe9", 0, 1, 1, "x é", "^"),
+    # wide characters take two columns of the terminal, combining ones none
+    ("局 x".encode(), 4, 1, 3, "局 x", "   ^"),
+    ("e\u0301 x".encode(), 4, 1, 4, "e\u0301 x", "  ^"),
+    # tabs and control bytes
+    (b"\te4\te9", 4, 1, 5, "\te4\te9", "\t  \t^"),
+    (b"a\x00b\x1b[31mc", 2, 1, 3, "a\ufffdb\ufffd[31mc", "  ^"),
+    (b"a\x00b", 1, 1, 2, "a\ufffdb", " ^"), (b"a\x85b", 2, 1, 3, "a\ufffdb", "  ^"),
+)
 
 
 class WhereTest(Folder, unittest.TestCase):
@@ -31,7 +53,7 @@ class WhereTest(Folder, unittest.TestCase):
         self.assertEqual((ran.returncode, ran.stderr), (0, b""), text)
         return ran.stdout.decode("utf-8").replace(self.file + ": ", "", 1).split("\n")
 
-    def check(self, text, offset, line, column, shown, caret):
+    def place(self, text, offset, line, column, shown, caret):
         """The caret is below the character that the caller expects."""
         lines = self.lines(text, offset)
         told = "line %d, column %d (byte %d" % (line, column, offset)
@@ -51,61 +73,34 @@ class WhereTest(Folder, unittest.TestCase):
             text = end.join((b"ab", b"", b"cde", b""))
             first = text.index(b"c")
             for n in range(3):
-                self.check(text, first + n, 3, 1 + n, "cde", " " * n + "^")
-            self.check(text, 1, 1, 2, "ab", " ^")
+                self.place(text, first + n, 3, 1 + n, "cde", " " * n + "^")
+            self.place(text, 1, 1, 2, "ab", " ^")
             # a line end is behind its line
             for n in range(len(end)):
-                self.check(text, 2 + n, 1, 3 + n, "ab", "  ^")
-            self.check(text, 2 + len(end), 2, 1, "", "^")
-            self.check(text, len(text), 4, 1, "", "^")
-
-    def test_mixed_line_ends(self):
-        self.check(b"a\r\nb\rc\n\rd", 8, 5, 1, "d", "^")
-        self.check(b"a\n\r\nb", 4, 3, 1, "b", "^")
+                self.place(text, 2 + n, 1, 3 + n, "ab", "  ^")
+            self.place(text, 2 + len(end), 2, 1, "", "^")
+            self.place(text, len(text), 4, 1, "", "^")
 
     def test_line_end_over_the_border_of_a_block(self):
         block = 1 << 20  # CHUNK of gillspoon._sources
         for end, lines in ((b"\r\n", 2), (b"\r", 2), (b"\n", 2), (b"\r\r", 3), (b"\n\r", 3)):
             text = b"a" * (block - 1) + end + b"x"
-            self.check(text, len(text) - 1, lines, 1, "x", "^")
+            self.place(text, len(text) - 1, lines, 1, "x", "^")
 
     def test_end_of_the_file(self):
-        lines = self.check(TAGS + b"1. e4", len(TAGS) + 5, 5, 6, "1. e4", "     ^")
+        lines = self.place(TAGS + b"1. e4", len(TAGS) + 5, 5, 6, "1. e4", "     ^")
         self.assertIn("the end of the file", lines[0])
         self.assertEqual(lines[3], 'game 1: White "Ann", Black "Bob", Event "Cup"')
         self.assertEqual(self.lines(TAGS + b"*\n", len(TAGS) + 2)[3],
-                         "behind the last game, which is game 1")
+                         "after the last game, which is game 1")
         self.assertEqual(self.lines(b"", 0),
                          ["line 1, column 1 (byte 0, the end of the file)", "", "^",
                           "there is no game", ""])
 
-    def test_byte_order_mark(self):
-        text = b"\xef\xbb\xbfe9 *\n"
-        for offset in (0, 1, 2, 3):
-            self.check(text, offset, 1, 1, "e9 *", "^")
-        self.check(text, 4, 1, 2, "e9 *", " ^")
-        self.check(b"\xef\xbb\xbf%1-0\ne9 *", 8, 2, 1, "e9 *", "^")
-
-    def test_encodings(self):
-        name = "[White \"José Łódź\"] x"
-        text = name.encode("utf-8")
-        self.check(text, text.index(b"x"), 1, 21, name, " " * 20 + "^")
-        accent = text.index("é".encode())
-        for inside in (0, 1):
-            self.check(text, accent + inside, 1, 12, name, " " * 11 + "^")
-        latin = "[White \"José\"] x"
-        self.check(latin.encode("latin-1"), 15, 1, 16, latin, " " * 15 + "^")
-        # a line is of one encoding, also where what is not UTF-8 stands behind the byte
-        self.check(b"x \xe9", 0, 1, 1, "x é", "^")
-        # wide characters take two columns of the terminal, combining ones none
-        self.check("局 x".encode(), 4, 1, 3, "局 x", "   ^")
-        self.check("e\u0301 x".encode(), 4, 1, 4, "e\u0301 x", "  ^")
-
-    def test_tabs_and_control_bytes(self):
-        self.check(b"\te4\te9", 4, 1, 5, "\te4\te9", "\t  \t^")
-        self.check(b"a\x00b\x1b[31mc", 2, 1, 3, "a\ufffdb\ufffd[31mc", "  ^")
-        self.check(b"a\x00b", 1, 1, 2, "a\ufffdb", " ^")
-        self.check(b"a\x85b", 2, 1, 3, "a\ufffdb", "  ^")
+    def test_places(self):
+        for row in PLACES:
+            with self.subTest(row[0]):
+                self.place(*row)
 
     def test_long_lines(self):
         text = b"e4 " * 1000 + b"Kd9" + b" e5" * 1000
@@ -130,12 +125,21 @@ class WhereTest(Folder, unittest.TestCase):
                  b'[Event "a"b"]\n{1/2-1/2} 1. e4 1-0\n')
         text = TAGS + b"1. e4 {1-0} 0-0-0 *\n" + other + TAGS
         at = text.index(b"1. e4 1-0")
-        for offset, line in ((text.index(b"0-0-0"),
-                              'game 1: White "Ann", Black "Bob", Event "Cup"'),
-                             (at, 'game 2: White "C", Black "D"1", Event "a"'),
-                             (at + 6, 'game 2: White "C", Black "D"1", Event "a"'),
-                             (len(text), 'game 3: White "Ann", Black "Bob", Event "Cup"')):
+        first, second = 'game %d: White "Ann", Black "Bob", Event "Cup"', \
+            'game 2: White "C", Black "D"1", Event "a"'
+        for offset, line in ((text.index(b"0-0-0"), first % 1), (at, second), (at + 6, second),
+                             (len(text), first % 3)):
             self.assertEqual(self.lines(text, offset)[3], line)
+        bad = b'[Event "x"]\n\n1. e9 {1-0} e5'
+        text = bad + b"\n\n" + TAGS + b"1. e4 e5 1-0\n\n" + bad + b" 0-1\n" + TAGS + b"1. d4 *\n"
+        bad_line = 'game %d: White "?", Black "?", Event "x"'
+        for place, line in ((b"e9", bad_line % 1), (b"e4", first % 2), (b"0-1", bad_line % 3),
+                            (b"d4", first % 4)):
+            self.assertEqual(self.lines(text, text.index(place))[3], line)
+        # a byte order mark just behind a game
+        text = b"e4 *\xef\xbb\xbf" + TAGS + b"e4 *\n"
+        for place in (4, text.rindex(b"e4")):
+            self.assertEqual(self.lines(text, place)[3], first % 2)
 
     def test_comment_that_is_not_closed(self):
         text = TAGS + b"1. e4 {why\n\n" + TAGS + b"1-0"
@@ -172,28 +176,22 @@ class WhereTest(Folder, unittest.TestCase):
                              'game 2: White "Ann", Black "Bob", Event "Cup"\n')
 
     def test_other_lines_are_passed_on(self):
-        """A sound file has no message, so all lines are passed on, and the status is 0."""
+        """A sound file has no message. The status says whether a line names a failure."""
         self.put("a.pgn", TAGS + b"1. e4 *\n")
-        told = subprocess.run([need_program(), "check", self.file], stdout=subprocess.PIPE,
-                              stderr=subprocess.STDOUT, check=False).stdout
-        self.assertEqual(told, b"games: 1, plies: 1\n")
-        for told in (told, b"", b"a\xff\n\r\nb", b"x" * (1 << 21) + b"\n", b"byte 3:\n",
+        counts = subprocess.run([need_program(), "check", self.file], stdout=subprocess.PIPE,
+                                stderr=subprocess.STDOUT, check=False).stdout
+        self.assertEqual(counts, b"games: 1, plies: 1\n")
+        for told in (counts, b"", b"a\xff\n\r\nb", b"x" * (1 << 21) + b"\n", b"byte 3:\n",
                      b"a byte 3: no\n", b'{"kind": "fault", "file": 1}\n',
                      b"a.pgn:3: move is not legal (game 1, A - B)\n", b"a.pgn\n",
                      b"gillspoonx: a\n", b'{"kind": "fault", \n'):
-            ran = self.call([self.file], input=told)
-            self.assertEqual((ran.returncode, ran.stdout, ran.stderr), (0, told, b""))
-
-    def test_lines_that_say_that_something_failed(self):
-        """They are passed on, and the status says so."""
-        self.put("a.pgn", TAGS + b"1. e4 *\n")
+            self.check(self.call([self.file], input=told), 0, told)
         for told in (b"byte 0: input cannot be read\n", b"byte 3: output cannot be written\n",
                      b"output cannot be written\n", b"out of memory\n",
                      b"arguments cannot be read\n", b"gillspoon: x: No such file or directory\n",
                      b"gillspoon lint: argument --max: x\n", b"pgn_tool: x\n",
                      b"error: unexpected argument 'x' found\n"):
-            ran = self.call([self.file], input=told + b"more\n")
-            self.assertEqual((ran.returncode, ran.stdout, ran.stderr), (1, told + b"more\n", b""))
+            self.check(self.call([self.file], input=told + b"more\n"), 1, told + b"more\n")
 
     def test_each_message_is_shown(self):
         self.put("a.pgn", TAGS + b"1. e4 *\n")
@@ -366,21 +364,6 @@ class WhereTest(Folder, unittest.TestCase):
                              ("auto", "%s: line 1, column 4 (byte 3): no\n1. e9 *\n   ^\n")):
             ran = self.call(["--color", when, self.file], input=b"byte 3: no\n")
             self.assertTrue(ran.stdout.decode().startswith(wanted % self.file), ran.stdout)
-
-    def test_bad_games_before_the_byte_count(self):
-        bad = b'[Event "x"]\n\n1. e9 {1-0} e5'
-        text = bad + b"\n\n" + TAGS + b"1. e4 e5 1-0\n\n" + bad + b" 0-1\n" + TAGS + b"1. d4 *\n"
-        for place, line in ((b"e9", 'game 1: White "?", Black "?", Event "x"'),
-                            (b"e4", 'game 2: White "Ann", Black "Bob", Event "Cup"'),
-                            (b"0-1", 'game 3: White "?", Black "?", Event "x"'),
-                            (b"d4", 'game 4: White "Ann", Black "Bob", Event "Cup"')):
-            self.assertEqual(self.lines(text, text.index(place))[3], line)
-
-    def test_a_byte_order_mark_just_behind_a_game(self):
-        text = b"e4 *\xef\xbb\xbf" + TAGS + b"e4 *\n"
-        for place, number in ((4, 2), (text.rindex(b"e4"), 2)):
-            self.assertEqual(self.lines(text, place)[3],
-                             'game %d: White "Ann", Black "Bob", Event "Cup"' % number)
 
     def test_without_the_library(self):
         self.put("a.pgn", b"*\n")
