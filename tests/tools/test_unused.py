@@ -6,9 +6,6 @@ import unittest
 
 from programs import ROOT, Folder, need, run
 
-# Names the files of the repository, new ones too.
-WORKING = ["git", "ls-files", "--cached", "--others", "--exclude-standard"]
-
 # A small repository in which everything is used.
 FILES = {
     "crates/pgn_lexer/src/lib.rt": """//! A library.
@@ -122,119 +119,95 @@ say yes
 }
 
 
-class RealTree(unittest.TestCase):
-    def test_nothing_is_unused(self):
-        need("vulture")
-        ran = run([sys.executable, "bin/unused"])
-        self.assertEqual((ran.returncode, ran.stdout.decode()), (0, ""), ran.stderr)
+TOKEN = "crates/pgn_lexer/src/token.rt"
+TOKENS = "crates/pgn_lexer/specs/Tokens.antt"
+SUMS = "crates/pgn_lexer/proofs/Sums.antt"
+ANSWERS = "crates/pgn_lexer/proofs/token/sum_of/Answers.antt"
+WORDS = "crates/pgn_lexer/proofs/Words.antt"
+BY_IMPORT = "use Rattle.pgn_lexer.proofs.Sums.{total_small}\n"
+# Changes of files, (file, old, new), and what is then listed. What has no old text is added.
+ROWS = (
+    ([], []),
+    ([(TOKENS, "", "\nabbrev pub spare : ℕ\nspare = 3\n")], ["definition spare"]),
+    ([(TOKENS, "", "\npub record Spare : Type 0 where\n")], ["definition Spare"]),
+    ([(SUMS, "", "\nspare : 1 ≡ 1\nspare = refl\n")], ["lemma spare"]),
+    ([(SUMS, "", "\n  -- one\n  spare : 1 ≡ 1\n  spare = refl\n")], ["lemma spare"]),
+    ([(TOKEN, "", "\nfn spare() -> usize {\n    1\n}\n")], ["fn spare"]),
+    ([(TOKEN, "", "\nconst SPARE: [u8; 2] = [1, 2];\n")], ["const SPARE"]),
+    ([(TOKEN, "", "\npub(crate) enum Spare {\n    One,\n}\n")], ["enum Spare"]),
+    # a public call of a type that the root shows is for others
+    ([(TOKEN, "", "\nimpl Token {\n    pub fn spare(&self) {}\n\n    fn left(&self) {}\n}\n")],
+     ["fn left"]),
+    ([("bin/tool", "", "\n\ndef spare():\n    return 1\n")], ["function spare"]),
+    ([("bin/shared.py", "", "\n    def spare(self):\n        return 1\n")], ["method spare"]),
+    ([("bin/shared.py", "", "\n\nSPARE = 4\n")], ["variable SPARE"]),
+    ([("bin/shell", "", "spare() {\n  echo no\n}\n")], ["function spare"]),
+    # what only itself or an import names
+    ([(TOKENS, "", "\npub spare : List ℕ → ℕ\nspare [] = 0\nspare (n ∷ l) = spare l\n"),
+      (SUMS, "{Token,", "{Token, spare,")], ["definition spare"]),
+    # a name by its whole path is a use
+    ([(ANSWERS, BY_IMPORT, "")], ["lemma nothing", "lemma total_small"]),
+    ([(ANSWERS, BY_IMPORT, ""),
+      (ANSWERS, "= total_small", "= Rattle.pgn_lexer.proofs.Sums.total_small")], []),
+    # what a later file passes on is used
+    ([(WORDS, "", "-- Words.\npub use Rattle.pgn_lexer.specs.Tokens.{Token, total}\n"),
+      (SUMS, "pgn_lexer.specs.Tokens.", "pgn_lexer.proofs.Words.")], []),
+    # what only unused things name
+    ([(ANSWERS, "total_small c.ts c.is", "omega arith")], ["lemma nothing", "lemma total_small"]),
+    ([(ANSWERS, "total_small c.ts c.is", "omega arith"), (TOKEN, "    sum_of(tokens)\n", "    0\n")],
+     ["fn sum_of", "lemma nothing", "lemma nothing_behind", "lemma sums", "lemma total_small",
+      "lemma small"]),
+    # a word in a comment or a text is no use
+    ([(TOKEN, "self.len.min(MOST)", 'self.len // MOST\n            .min(count("MOST"))')],
+     ["const MOST"]),
+    ([("bin/shared.py", "return WORDS", 'return "WORDS"  # WORDS')], ["variable WORDS"]),
+)
 
 
-class MadeTree(Folder, unittest.TestCase):
+class Unused(Folder, unittest.TestCase):
     def setUp(self):
         need("vulture")
         super().setUp()
-        for name, text in FILES.items():
+
+    def listed(self, *words):
+        ran = run([sys.executable, "bin/unused", *words])
+        self.assertEqual((ran.returncode, ran.stderr), (1 if ran.stdout else 0, b""))
+        return ran.stdout.decode().splitlines()
+
+    def test_nothing_is_unused_in_the_repository(self):
+        self.assertEqual(self.listed(), [])
+
+    def test_the_changes_of_each_row(self):
+        for changes, expected in ROWS:
+            texts = dict(FILES)
+            for name, old, new in changes:
+                text = texts.get(name, "")
+                self.assertTrue(not old or text.count(old) == 1, old)
+                texts[name] = text.replace(old, new) if old else text + new
+            self.put_only(texts)
+            with self.subTest(changes):
+                found = self.listed("--root", self.folder)
+                self.assertEqual([it.split(": ")[1] for it in found], expected)
+
+    def put_only(self, texts):
+        """Puts these files, and takes away another one of the row before."""
+        if os.path.exists(self.folder + "/" + WORDS):
+            os.remove(self.folder + "/" + WORDS)
+        for name, text in texts.items():
             self.put(name, text)
 
-    def unused(self, *words):
-        ran = run([sys.executable, "bin/unused", "--root", self.folder, *words])
-        self.assertEqual(ran.stderr, b"")
-        lines = ran.stdout.decode().splitlines()
-        self.assertEqual(ran.returncode, 1 if lines else 0)
-        return [it.split(": ")[1] for it in lines]
-
-    def change(self, name, old, new):
-        self.assertEqual(FILES[name].count(old), 1, old)
-        self.put(name, FILES[name].replace(old, new))
-
-    def add(self, name, text):
-        self.put(name, FILES[name] + text)
-
-    def test_what_is_used_is_not_listed(self):
-        self.assertEqual(self.unused(), [])
-
     def test_a_place_is_shown(self):
-        self.add("crates/pgn_lexer/specs/Tokens.antt", "\npub spare : ℕ\nspare = 3\n")
-        ran = run([sys.executable, "bin/unused", "--root", self.folder])
-        line = FILES["crates/pgn_lexer/specs/Tokens.antt"].count("\n") + 2
-        place = "crates/pgn_lexer/specs/Tokens.antt:%d: definition spare\n" % line
-        self.assertEqual(ran.stdout.decode(), place)
+        self.put_only({**FILES, TOKENS: FILES[TOKENS] + "\npub spare : ℕ\nspare = 3\n"})
+        line = FILES[TOKENS].count("\n") + 2
+        self.assertEqual(self.listed("--root", self.folder),
+                         ["%s:%d: definition spare" % (TOKENS, line)])
 
-    def test_planted_items_are_listed(self):
-        planted = [
-            ("crates/pgn_lexer/specs/Tokens.antt", "\nabbrev pub spare : ℕ\nspare = 3\n",
-             ["definition spare"]),
-            ("crates/pgn_lexer/specs/Tokens.antt", "\npub record Spare : Type 0 where\n",
-             ["definition Spare"]),
-            ("crates/pgn_lexer/proofs/Sums.antt", "\nspare : 1 ≡ 1\nspare = refl\n",
-             ["lemma spare"]),
-            ("crates/pgn_lexer/proofs/Sums.antt", "\n  -- one\n  spare : 1 ≡ 1\n  spare = refl\n",
-             ["lemma spare"]),
-            ("crates/pgn_lexer/src/token.rt", "\nfn spare() -> usize {\n    1\n}\n", ["fn spare"]),
-            ("crates/pgn_lexer/src/token.rt", "\nconst SPARE: [u8; 2] = [1, 2];\n",
-             ["const SPARE"]),
-            ("crates/pgn_lexer/src/token.rt", "\npub(crate) enum Spare {\n    One,\n}\n",
-             ["enum Spare"]),
-            # A public call of a type that the root shows is for others.
-            ("crates/pgn_lexer/src/token.rt",
-             "\nimpl Token {\n    pub fn spare(&self) {}\n\n    fn left(&self) {}\n}\n",
-             ["fn left"]),
-            ("bin/tool", "\n\ndef spare():\n    return 1\n", ["function spare"]),
-            ("bin/shared.py", "\n    def spare(self):\n        return 1\n", ["method spare"]),
-            ("bin/shared.py", "\n\nSPARE = 4\n", ["variable SPARE"]),
-            ("bin/shell", "spare() {\n  echo no\n}\n", ["function spare"]),
-        ]
-        for name, text, expected in planted:
-            self.add(name, text)
-            self.assertEqual(self.unused(), expected, text)
-            self.put(name, FILES[name])
-
-    def test_what_only_itself_or_an_import_names_is_listed(self):
-        name = "crates/pgn_lexer/specs/Tokens.antt"
-        self.add(name, "\npub spare : List ℕ → ℕ\nspare [] = 0\nspare (n ∷ l) = spare l\n")
-        self.change("crates/pgn_lexer/proofs/Sums.antt", "{Token,", "{Token, spare,")
-        self.assertEqual(self.unused(), ["definition spare"])
-
-    def test_a_name_by_its_whole_path_is_used(self):
-        answers = "crates/pgn_lexer/proofs/token/sum_of/Answers.antt"
-        self.change(answers, "use Rattle.pgn_lexer.proofs.Sums.{total_small}\n", "")
-        self.assertEqual(self.unused(), ["lemma nothing", "lemma total_small"])
-        path = "Rattle.pgn_lexer.proofs.Sums.total_small"
-        text = FILES[answers].replace("use Rattle.pgn_lexer.proofs.Sums.{total_small}\n", "")
-        self.put(answers, text.replace("= total_small", "= " + path))
-        self.assertEqual(self.unused(), [])
-
-    def test_what_a_later_file_passes_on_is_used(self):
-        self.put("crates/pgn_lexer/proofs/Words.antt",
-                   "-- Words.\npub use Rattle.pgn_lexer.specs.Tokens.{Token, total}\n")
-        name = "crates/pgn_lexer/proofs/Sums.antt"
-        self.change(name, "pgn_lexer.specs.Tokens.", "pgn_lexer.proofs.Words.")
-        self.assertEqual(self.unused(), [])
-
-    def test_what_only_unused_things_name_is_listed(self):
-        answers = "crates/pgn_lexer/proofs/token/sum_of/Answers.antt"
-        self.change(answers, "total_small c.ts c.is", "omega arith")
-        self.assertEqual(self.unused(), ["lemma nothing", "lemma total_small"])
-        self.change("crates/pgn_lexer/src/token.rt", "    sum_of(tokens)\n", "    0\n")
-        self.assertEqual(self.unused(), [
-            "fn sum_of", "lemma nothing", "lemma nothing_behind", "lemma sums", "lemma total_small",
-            "lemma small"])
-
-    def test_a_word_in_a_comment_or_a_text_is_no_use(self):
-        self.change("crates/pgn_lexer/src/token.rt", "self.len.min(MOST)",
-                    'self.len // MOST\n            .min(count("MOST"))')
-        self.assertEqual(self.unused(), ["const MOST"])
-        self.put("crates/pgn_lexer/src/token.rt", FILES["crates/pgn_lexer/src/token.rt"])
-        self.change("bin/shared.py", "return WORDS", 'return "WORDS"  # WORDS')
-        self.assertEqual(self.unused(), ["variable WORDS"])
-
-
-class Scripts(unittest.TestCase):
     def test_pyflakes(self):
         """No file of Python imports or assigns what it does not use."""
         need("pyflakes3")
         files = []
-        for name in run(WORKING).stdout.decode().split("\n")[:-1]:
+        listed = run(["git", "ls-files", "--cached", "--others", "--exclude-standard"]).stdout
+        for name in listed.decode().split("\n")[:-1]:
             if os.path.isfile(os.path.join(ROOT, name)):
                 with open(os.path.join(ROOT, name), "rb") as file:
                     first = file.readline()
