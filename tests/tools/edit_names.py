@@ -18,7 +18,7 @@ from programs import ROOT
 
 # what needs no import, and what std has that no source of some crate uses
 PRELUDE = set("Drop Err None Ok Option Result Self Some String Vec drop matches".split())
-STD = set("and copied is_some is_some_and map max min or rposition saturating_add "
+STD = set("and copied is_some is_some_and map max min or rposition saturating_add saturating_sub "
           "shrink_to_fit trim_start try_reserve".split())
 # what a type may have by a derive or by std
 GIVEN = set("clone cmp default eq fmt from hash into max min ne partial_cmp".split())
@@ -33,7 +33,7 @@ CHAIN = re.compile(r"(?<![\w.'])([a-z_]\w*)((?:\.[a-z_]\w*)+)")
 HEAD = re.compile(r"(?:pub(?:\(\w+\))? )?(struct|enum|trait|impl)\b(?:<.*?>)? ?"
                   r"(?:(\w+)(?:<.*>)? for )?(\w+)(?:<.*?>)?(?:: ([\w +]+))?")
 ITEM = re.compile(r" {4}(?:pub(?:\(\w+\))? )?(?:const )?(?:fn|const|type) (\w+)")
-FIELD = re.compile(r" {4}(?:pub(?:\(\w+\))? )?(\w+)(?:: (.*))?(?:,$| ?[({])")
+FIELD = re.compile(r" {4}(?:pub(?:\(\w+\))? )?(\w+)(?:: (.*)| = \d+)?(?:,$| ?[({])")
 PARAMETER = re.compile(r"\b(\w+): ((?:&(?:'\w+ )?)?(?:mut )?(?:\w+::)?[A-Z]\w*)")
 ARGUMENT = re.compile(r"(\w+): ([\w +]+)")
 

@@ -161,10 +161,15 @@ PACKERS = {"gz": gzip.compress, "bz2": bz2.compress, "xz": lzma.compress, "zst":
            "zip": lambda text: zip_of(("games.pgn", text))}
 
 
+def text_of(*path):
+    """The text of a file, by its path from the root of the repository, or by its whole path."""
+    with open(os.path.join(ROOT, *path), encoding="utf-8") as file:
+        return file.read()
+
+
 def vectors():
     """The worked inputs, as vectors/vectors.json has them."""
-    with open(os.path.join(ROOT, "vectors", "vectors.json"), encoding="utf-8") as file:
-        return json.load(file)["vectors"]
+    return json.loads(text_of("vectors", "vectors.json"))["vectors"]
 
 
 def archive(games, style, lines=20):

@@ -164,10 +164,10 @@ SAFE = [
     *((old + "]\n\n1. e4 *\n", [(old, '[White "a, b"', QUOTES)], '[White "a, b"]\n\n1. e4 *\n')
       for old in ("[White \u201ca, b\u201d", "[White \u201ea, b\u201c", '[White \u201ca, b"',
                   '[White "a, b\u201d', "[White 'a, b'", "[White \u2018a, b\u2019")),
-    *((it + end.join(('"a"]', "", "1. e4 *", "")), [(it, "[White ", "sign behind a tag's name")],
+    *((it + end.join(('"a"]', "", "1. e4 *", "")), [(it, "[White ", "sign after a tag's name")],
        end.join(('[White "a"]', "", "1. e4 *", "")))
       for it in ("[White: ", "[White=", "[White = ", "[White :") for end in ("\n", "\r\n")),
-    *((old + "]\n\n1. e4 *\n", [(old, '[White "a"', "sign behind a tag's name, " + QUOTES)],
+    *((old + "]\n\n1. e4 *\n", [(old, '[White "a"', "sign after a tag's name, " + QUOTES)],
        '[White "a"]\n\n1. e4 *\n')
       for old in ("[White: \u201ca\u201d", "[White:\u201ea\u201c", "[White='a'",
                   '[White : "a\u201d', "[White = \u2018a\u2019")),
@@ -204,7 +204,7 @@ SAFE = [
 
 CUT, NULL, CLOSED = "marker cut short", "null move", "comment never closed"
 APART, OUT_OF_TURN = "letter apart", "joined number out of turn"
-BRACKET, BEHIND = "missing bracket", "sign behind the marker"
+BRACKET, BEHIND = "missing bracket", "sign after the marker"
 UNSAFE = [
     ("1. e4 e5 (1... c5 2. -- Nf6) 2. Nf3 *", [("-- Nf6", "{-- Nf6}", NULL)],
      "1. e4 e5 (1... c5 2. {-- Nf6}) 2. Nf3 *"),

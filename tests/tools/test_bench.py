@@ -10,7 +10,7 @@ import unittest
 from unittest import mock
 
 import documents
-from programs import ROOT, Folder, load, need, new_folder, not_tried, run
+from programs import ROOT, Folder, load, need, new_folder, not_tried, run, text_of
 
 sys.dont_write_bytecode = True
 sys.path.insert(0, ROOT + "/bench")
@@ -165,19 +165,15 @@ class TheStart(unittest.TestCase):
             if (ran.returncode, ran.stdout, ran.stderr) != (0, b"", b""):
                 raise AssertionError("%s: %s" % (words, ran))
 
-    def read(self, path):
-        with open(path, encoding="utf-8") as file:
-            return file.read()
-
     def test_it_is_the_start(self):
         ran = run(["git", "rev-parse", "HEAD"], cwd=self.old)
         self.assertEqual(ran.stdout.decode().strip(), self.start)
         for name in ("run", "workloads.txt"):
             path = "%s/bench/" + name
-            self.assertEqual(self.read(path % self.old), self.read(path % self.new))
+            self.assertEqual(text_of(path % self.old), text_of(path % self.new))
 
     def test_each_crate_of_its_list_is_there(self):
-        listed = dict(CRATE.findall(self.read(self.old + "/crates.txt")))
+        listed = dict(CRATE.findall(text_of(self.old + "/crates.txt")))
         self.assertIn("workloads", listed)
         self.assertGreater(len(listed), 10)
         for name in listed:
@@ -187,16 +183,16 @@ class TheStart(unittest.TestCase):
 
     def lacking(self, names):
         """Those of the pairs of a crate and a name that the start does not have at its root."""
-        roots = {crate: shown(self.read("%s/crates/%s/src/lib.rt" % (self.old, crate)))
+        roots = {crate: shown(text_of("%s/crates/%s/src/lib.rt" % (self.old, crate)))
                  for crate in {it for it, _ in names}}
         return [it for it in names if it[1] not in roots[it[0]]]
 
     def test_the_jobs_call_nothing_that_it_lacks(self):
-        uses = dict(CRATE.findall(self.read(ROOT + "/crates.txt")))["workloads"].split()
+        uses = dict(CRATE.findall(text_of("crates.txt")))["workloads"].split()
         libraries = [it for it in uses if os.path.isdir("%s/crates/%s" % (ROOT, it))]
         folder = ROOT + "/crates/workloads/src"
         names = sorted({it for file in os.listdir(folder)
-                        for it in imported(self.read(os.path.join(folder, file)))
+                        for it in imported(text_of(os.path.join(folder, file)))
                         if it[0] in libraries})
         self.assertGreater(len(names), 15)
         self.assertEqual({crate for crate, _ in names}, set(libraries))
@@ -216,7 +212,7 @@ class TheStart(unittest.TestCase):
             self.assertTrue(os.path.exists(os.path.join(self.new, it[1], it[2])), it[0])
 
 
-class Words(unittest.TestCase):
+class Words(Folder, unittest.TestCase):
     def test_help(self):
         ran = run([ROOT + "/bench/run", "--help"])
         self.assertEqual((ran.returncode, ran.stderr), (0, b""))
@@ -233,17 +229,12 @@ class Words(unittest.TestCase):
 
     def test_two_builds(self):
         """Programs that print their words and what they read stand for the builds."""
-        folder = new_folder(self)
         for build, prints in (("old", "cat -"), ("new", "cat -"), ("other", "echo other")):
-            os.makedirs("%s/%s/bench" % (folder, build))
-            os.makedirs("%s/%s/crates/jobs/out" % (folder, build))
-            for name, text in (("bench/workloads.txt", "# a\nfirst jobs a SEED <in.txt\nnext jobs b\n"),
-                               ("bench/in.txt", "read\n"),
-                               ("crates/jobs/out/jobs", "#!/bin/sh\necho $*\n%s\n" % prints)):
-                with open("%s/%s/%s" % (folder, build, name), "w", encoding="ascii") as file:
-                    file.write(text)
-            os.chmod("%s/%s/crates/jobs/out/jobs" % (folder, build), 0o755)
-        call = lambda *words: run([ROOT + "/bench/run", *words], cwd=folder)
+            self.put(build + "/bench/workloads.txt", "# a\nfirst jobs a SEED <in.txt\nnext jobs b\n")
+            self.put(build + "/bench/in.txt", "read\n")
+            job = self.put(build + "/crates/jobs/out/jobs", "#!/bin/sh\necho $*\n%s\n" % prints)
+            os.chmod(job, 0o755)
+        call = lambda *words: run([ROOT + "/bench/run", *words], cwd=self.folder)
         ran = call("old", "new", "7")
         self.assertEqual((ran.returncode, ran.stderr.split()), (0, [b"a", b"7", b"read", b"b"]))
         rows = [re.match(r"\| (\w+) \| [0-9.]+ \| [0-9.]+ \| [0-9.]+ \|$", it)
@@ -258,12 +249,10 @@ class Words(unittest.TestCase):
 
     def test_nothing_is_installed(self):
         """Of the tools only apt-get is there, which would fail, and bench/run does not call it."""
-        folder = new_folder(self)
+        folder = self.folder
         shutil.copytree(ROOT + "/bench", folder + "/bench", ignore=shutil.ignore_patterns("out"))
         for name in ("strace", "apt-get"):
-            with open(os.path.join(folder, name), "w", encoding="ascii") as file:
-                file.write("#!/bin/sh\ntouch %s/called\n" % folder)
-            os.chmod(os.path.join(folder, name), 0o755)
+            os.chmod(self.put(name, "#!/bin/sh\ntouch %s/called\n" % folder), 0o755)
         words = [sys.executable, "-c", MISSING, folder]
         ran = run(words, env=dict(os.environ, PATH=folder))
         self.assertEqual((ran.returncode, ran.stdout), (1, b""))
@@ -276,11 +265,9 @@ class Words(unittest.TestCase):
 
 
 class Readers(unittest.TestCase):
-    def read(self, text=CALLGRIND):
-        return measure.read_callgrind(text.splitlines(True))
-
     def test_callgrind(self):
-        totals, own, by_call = self.read()
+        """The totals, the parts, and what is inlined."""
+        totals, own, by_call = costs = measure.read_callgrind(CALLGRIND.splitlines(True))
         self.assertEqual(totals, {"Ir": 215, "Bc": 40, "Bcm": 6, "Bi": 3, "Bim": 2})
         loop = "pgn_game::converter::Converter::feed::<#12ab>"
         self.assertEqual(own, {"(below main)": 7, "main": 3, loop: 100, "memcpy": 35,
@@ -289,14 +276,9 @@ class Readers(unittest.TestCase):
         self.assertEqual(by_call[loop, "memcpy"], 30)
         self.assertEqual(by_call["main", loop], 205)
         self.assertEqual(by_call["chess_rules::legal::allows", "memcpy"], 5)
-
-    def test_the_parts(self):
-        spent = measure.by_part(self.read())
-        self.assertEqual({part: it for part, it in spent.items() if it},
-                         {"converter's loop": 130, "find": 75, "rest": 10})
-
-    def test_what_is_inlined(self):
-        missing = measure.inlined(self.read())
+        spent = {part: it for part, it in measure.by_part(costs).items() if it}
+        self.assertEqual(spent, {"converter's loop": 130, "find": 75, "rest": 10})
+        missing = measure.inlined(costs)
         self.assertEqual(missing["lexer"], ["Lexer::whole_token"])
         self.assertNotIn("find", missing)
 
@@ -317,6 +299,11 @@ class Readers(unittest.TestCase):
     def test_strace(self):
         self.assertEqual(measure.read_strace(STRACE.splitlines(True)), 84)
 
+    def test_a_call_that_ends_its_words_with_a_carriage_return(self):
+        """Behind these is what `time` says of it."""
+        spent = measure.memory(["sh", "-c", "printf 'Games: 1000\\r' >&2"])
+        self.assertTrue(0.1 < spent < 100, spent)
+
 
 class OtherWork(unittest.TestCase):
     def test_how_much(self):
@@ -329,19 +316,16 @@ class OtherWork(unittest.TestCase):
         self.assertEqual(len(before), 3)
         self.assertTrue(all(a <= b for a, b in zip(before, after)), (before, after))
 
-    def stops(self, other, allowed):
-        try:
-            measure.check_quiet(other, allowed)
-        except SystemExit as stopped:
-            self.assertIn("other work keeps %.1f processors busy" % other, str(stopped))
-            self.assertIn("--busy", str(stopped))
-            return True
-        return False
-
     def test_when_it_stops(self):
-        self.assertEqual([self.stops(it, False) for it in (0, 0.19, 0.21, 3)],
-                         [False, False, True, True])
-        self.assertEqual([self.stops(it, True) for it in (0, 0.21, 3)], [False] * 3)
+        for other, allowed, stops in ((0, False, False), (0.19, False, False), (0.21, False, True),
+                                      (3, False, True), (0, True, False), (0.21, True, False),
+                                      (3, True, False)):
+            with self.subTest((other, allowed)):
+                if not stops:
+                    measure.check_quiet(other, allowed)
+                    continue
+                said = "other work keeps %.1f processors busy.*--busy" % other
+                self.assertRaisesRegex(SystemExit, said, measure.check_quiet, other, allowed)
 
     @mock.patch.object(measure, "SECONDS", 0)
     def test_before_it_begins(self):
@@ -444,14 +428,6 @@ class Tables(unittest.TestCase):
         self.assertEqual(line, "The least that was measured is 132 KiB, and 180 KiB with --checked,")
 
 
-class Memory(unittest.TestCase):
-    """What `time` says of a call, behind what the call itself says."""
-
-    def test_a_call_that_ends_its_words_with_a_carriage_return(self):
-        spent = measure.memory(["sh", "-c", "printf 'Games: 1000\\r' >&2"])
-        self.assertTrue(0.1 < spent < 100, spent)
-
-
 class Builds(Folder, unittest.TestCase):
     """How calls are compared, with small programs in place of those that cargo builds."""
 
@@ -465,23 +441,18 @@ class Builds(Folder, unittest.TestCase):
         self.addCleanup(patched.stop)
 
     def archive(self, style, games):
-        with open("%s/%s-%d" % (self.folder, style, games), "w", encoding="ascii") as file:
-            file.write(games * 10 * "a")
-        return file.name
+        return self.put("%s-%d" % (style, games), games * 10 * "a")
 
     def test_the_instructions_of_a_game(self):
-        calls = {"one": (["cat"], measure.same, measure.same),
-                 "two": (["head", "-c", "7"], measure.same, lambda text: text[:7])}
-        spent = measure.instructions(calls, ("plain", "server"))
-        self.assertEqual(spent, {(name, style): 10 for name in calls
+        """What a call must write is a part of what the first one writes."""
+        one, calls = (["cat"], measure.same, measure.same), ["head", "-c", "7"]
+        two = (calls, measure.same, lambda text: text[:7])
+        spent = measure.instructions({"one": one, "two": two}, ("plain", "server"))
+        self.assertEqual(spent, {(name, style): 10 for name in ("one", "two")
                                  for style in ("plain", "server")})
-
-    def test_what_each_must_write(self):
-        calls = {"one": (["cat"], measure.same, measure.same),
-                 "two": (["head", "-c", "7"], measure.same, measure.same)}
-        with self.assertRaises(SystemExit) as stopped:
-            measure.instructions(calls, ("plain",))
-        self.assertIn("two does not write what it should", str(stopped.exception))
+        two = (calls, measure.same, measure.same)
+        self.assertRaisesRegex(SystemExit, "two does not write what it should",
+                               measure.instructions, {"one": one, "two": two}, ("plain",))
 
     def test_without_a_cargo(self):
         self.assertEqual(builds.built(), {})
@@ -502,8 +473,7 @@ class Records(Folder, unittest.TestCase):
             tables.record(path, lines, script)
         except ValueError:
             lines = None
-        with open(path, encoding="utf-8") as file:
-            after = file.read()
+        after = text_of(path)
         self.assertEqual(os.listdir(self.folder), [name])
         if lines is None:
             self.assertEqual(after, text)
@@ -529,8 +499,7 @@ class Records(Folder, unittest.TestCase):
             self.assertIsNone(self.record("A.md", text, ["b"]), text)
 
     def expect_markers(self, name, script):
-        with open(os.path.join(ROOT, name), encoding="utf-8") as file:
-            text = file.read()
+        text = text_of(name)
         shutil.rmtree(self.folder)
         os.mkdir(self.folder)
         after = self.record(os.path.basename(name), text, ["one new line"], script)

@@ -5,7 +5,7 @@ import time
 import unittest
 
 import programs
-from programs import Folder, full_device, need_program, not_tried, run, vectors
+from programs import Folder, need_program, not_tried, run, vectors
 
 HEAD = programs.HEAD.replace(b"*", b"%s")
 DIFFERS = b"byte %d: second reading differs\n"
@@ -31,8 +31,7 @@ class CheckedTest(Folder, unittest.TestCase):
         wanted = game(b"1. e4 e5 1-0", b"1-0") + game(b"0-1", b"0-1")
         self.check(self.export(path), 0, wanted)
         # the export has its Result tags, and is written again as it is
-        with open(path, "wb") as file:
-            file.write(wanted)
+        self.write(wanted)
         self.check(run([self.program, "export", path]), 0, wanted)
         self.check(self.export(path), 0, wanted)
 
@@ -138,8 +137,3 @@ class CheckedTest(Folder, unittest.TestCase):
         # the complete lines of the game
         self.assertTrue(whole.startswith(begun + out) and len(out) > 100000, len(out))
         self.assertTrue((begun + out).startswith(HEAD % b"1-0"))
-
-    def test_full_device(self):
-        with full_device() as full:
-            ran = run([self.program, "export", "--checked", self.write(b"1-0")], stdout=full)
-        self.assertEqual((ran.returncode, ran.stderr), (1, b"output cannot be written\n"))

@@ -7,12 +7,11 @@ import itertools
 import os
 import re
 import subprocess
-import tempfile
 import threading
 import unittest
 
 from edit_names import missing_names
-from programs import ROOT, load
+from programs import ROOT, Folder, load, text_of
 
 SCRIPT = os.path.join(ROOT, "bin", "try_edits")
 # Rows of docs/PROVED.md that the proof alone holds, by some of their names. Those with conditions
@@ -31,11 +30,6 @@ def loaded():
 
 def call(*words):
     return subprocess.run([SCRIPT, *words], capture_output=True, text=True)
-
-
-def text_of(*path):
-    with open(os.path.join(ROOT, *path), encoding="utf-8") as file:
-        return file.read()
 
 
 class Edits(unittest.TestCase):
@@ -216,19 +210,21 @@ class Names(unittest.TestCase):
              ["nothing of Reader"]),
         ):
             self.assertEqual(self.planted("pgn_game", "reader.rt", old, new), missing, new)
+        # a variant with its number
+        for it, missing in ("Space", []), ("Nothing", ["Nothing of Set"]):
+            new = "is_in(byte, Set::%s)" % it
+            found = self.planted("pgn_lexer", "class.rt", "is_in(byte, Set::LineEnd)", new)
+            self.assertEqual(found, missing, new)
 
 
 HEAD = "edit: lib-f-is-wrong\nguards: f, text\nfile: src/lib.rt\n"
 
 
-class Reading(unittest.TestCase):
+class Reading(Folder, unittest.TestCase):
     """How an edit is written."""
 
     def read(self, text):
-        with tempfile.TemporaryDirectory() as room:
-            with open(os.path.join(room, "low.edits"), "w", encoding="utf-8") as file:
-                file.write(text)
-            return loaded().read_guards(os.path.join(room, "low.edits"), "low")
+        return loaded().read_guards(self.put("low.edits", text), "low")
 
     def test_lines_of_an_edit(self):
         edits = self.read("# low\n\n" + HEAD + "# a reason\nold:  a\nnew:  b: c\nold: d\nnew:\n\n\n"
@@ -384,19 +380,15 @@ No edit and no test is named for:
                              " as function and clause" % (count, said))
 
 
-class Fitting(unittest.TestCase):
+class Fitting(Folder, unittest.TestCase):
     """What an edit makes of the files of a crate."""
 
     def edited(self, *changes):
-        script = loaded()
-        edit = script.Edit("low", "lib-f-is-wrong", "low.edits:1")
+        edit = loaded().Edit("low", "lib-f-is-wrong", "low.edits:1")
         edit.changes = list(changes)
-        with tempfile.TemporaryDirectory() as room:
-            os.mkdir(os.path.join(room, "src"))
-            for name, text in (("src/lib.rt", "one\ntwo\ntwo\n"), ("other", "one\n")):
-                with open(os.path.join(room, name), "w", encoding="utf-8") as file:
-                    file.write(text)
-            return script.edited(edit, room)
+        self.put("src/lib.rt", "one\ntwo\ntwo\n")
+        self.put("other", "one\n")
+        return loaded().edited(edit, self.folder)
 
     def test_pairs_apply_in_turn(self):
         self.assertEqual(self.edited(("src/lib.rt", "one", "three"), ("src/lib.rt", "three", "")),
@@ -431,59 +423,57 @@ class Verdicts(unittest.TestCase):
             self.check("refused", 1, line, "fn a::f: not proved", "only=2 proved=1")
 
     def test_only_a_proof_names_what_is_gone(self):
-        gone = "./proofs/A.antt:4:2: error: `returns`: `x` is not in scope"
-        cites = ("./proofs/A.antt:9:1: error: 1 declaration that depends on `returns`, which was "
+        """A message goes on on indented lines, which say of what it is, not of the line after it.
+
+        The prover prints a term with a variable that the text binds as `_`: that is not gone.
+        """
+        place, note = "./proofs/A.antt:4:2: error: ", "note: src/a.rt:3:1: it is not proved that"
+        cites = ["./proofs/A.antt:9:1: error: 1 declaration that depends on `returns`, which was "
                  "rejected, was not checked: b",
                  "./proofs/C.antt:1:1: error: 2 declarations that depend on `b`, which was not "
-                 "admitted, were not checked: c, d")
-        self.check("refused, but", 1, gone, *cites, "logic=not-proved")
-        note = "note: src/a.rt:3:1: it is not proved that the index is in range"
-        self.check("refused", 1, gone, *cites, note, "logic=not-proved")
-        other = "./proofs/A.antt:4:2: error: `a`: expected type `b`, but this has type `c`"
-        self.check("refused", 1, other, *cites, "logic=not-proved")
-
-    def test_a_message_goes_on_on_indented_lines(self):
-        gone = ("./proofs/A.antt:4:2: error: `returns`: the record `a → (b : c) × d` of",
-                "  `in-B` has no field", "    `step`")
-        cites = ("./proofs/C.antt:1:1: error: 1 declaration that depends on `A`, which",
-                 "  was not admitted, was not checked: b")
-        self.check("refused, but", 1, *gone, *cites, "logic=not-proved")
-        note = ("note: src/a.rt:3:1: it is not proved that", "  the index is in range")
-        self.check("refused", 1, *gone, *cites, *note, "logic=not-proved")
-        # what goes on says of what it is, not of the line after it
-        other = ("./proofs/A.antt:4:2: error: `returns`: expected type", "  `a`, but this has `b`")
-        self.check("refused", 1, *other, "a line that has no field", "logic=not-proved")
-        unread = ("src/a.rt:3:1: error: `f`: the record `a`", "  has no field")
-        self.check("BAD EDIT", 1, *unread, "logic=not-proved")
-
-    def test_a_name_that_is_only_printed_is_not_gone(self):
-        """The prover prints a term with a variable that the text binds as `_`."""
-        shown = ("error: `returns`: computed as a goal is, one side reads `a` (expected)",
+                 "admitted, were not checked: c, d"]
+        field = [place + "`returns`: the record `a → (b : c) × d` of", "  `in-B` has no field",
+                 "    `step`", "./proofs/C.antt:1:1: error: 1 declaration that depends on `A`, which",
+                 "  was not admitted, was not checked: b"]
+        shown = ["error: `returns`: computed as a goal is, one side reads `a` (expected)",
                  "  but this has type `b out`",
-                 "  `out` is not in scope here, so what is shown does not paste back as it stands")
-        for path in ("src/a.rt", "./proofs/A.antt"):
-            self.check("refused", 1, "%s:4:2: %s" % (path, shown[0]), *shown[1:],
-                       "logic=not-proved")
+                 "  `out` is not in scope here, so what is shown does not paste back as it stands"]
+        for word, lines in (
+            ("refused, but", [place + "`returns`: `x` is not in scope", *cites]),
+            ("refused", [place + "`returns`: `x` is not in scope", *cites,
+                         note + " the index is in range"]),
+            ("refused", [place + "`a`: expected type `b`, but this has type `c`", *cites]),
+            ("refused, but", field),
+            ("refused", [*field, note, "  the index is in range"]),
+            ("refused", [place + "`returns`: expected type", "  `a`, but this has `b`",
+                         "a line that has no field"]),
+            ("BAD EDIT", ["src/a.rt:3:1: error: `f`: the record `a`", "  has no field"]),
+            ("refused", ["src/a.rt:4:2: " + shown[0], *shown[1:]]),
+            ("refused", ["./proofs/A.antt:4:2: " + shown[0], *shown[1:]]),
+        ):
+            self.check(word, 1, *lines, "logic=not-proved")
 
     def test_not_refused(self):
         self.check("NOT REFUSED", 0, "logic=proved functions=2 sum=1 incremental=trusted")
 
     def test_nothing_was_tried(self):
-        proved, refused = "logic=proved functions=2 sum=1", "logic=not-proved"
-        unread = "error: expected the end of the item"
-        # a source, a definition and what the edit changes are to be read; another proof may not be
-        for file in ("src/a.rt", "./specs/A.antt", "./proofs/B.antt"):
-            self.check("BAD EDIT", 1, "%s:1:1: %s" % (file, unread), refused)
-        self.check("refused", 1, "./proofs/A.antt:1:1: " + unread, refused)
-        self.check("BAD EDIT", 1, "src/a.rt:1:1: error: `f`: `x` is not in scope", refused)
-        self.check("refused", 1, "./specs/A.antt:1:1: error: `f`: expected type `a`", refused)
+        unread = "1:1: error: expected the end of the item"
         cites = "error: 1 declaration that depends on `f`, which was rejected, was not checked: g"
-        self.check("refused", 1, "./proofs/B.antt:1:1: error: `f`: expected type `a`",
-                   "./proofs/B.antt:9:1: " + cites, refused)
-        stale = "error: module `Rattle-low-a` has changed. Run the lower steps again"
-        self.check("BAD EDIT", 1, stale, refused)
-        for status, last in ((1, proved), (2, refused), (-9, refused), (1, "error[E0308]"),
-                             (0, "")):
+        for word, lines in (
+            # a source, a definition and what the edit changes are to be read
+            ("BAD EDIT", ["src/a.rt:" + unread]), ("BAD EDIT", ["./specs/A.antt:" + unread]),
+            ("BAD EDIT", ["./proofs/B.antt:" + unread]),
+            # another proof may not be
+            ("refused", ["./proofs/A.antt:" + unread]),
+            ("BAD EDIT", ["src/a.rt:1:1: error: `f`: `x` is not in scope"]),
+            ("refused", ["./specs/A.antt:1:1: error: `f`: expected type `a`"]),
+            ("refused", ["./proofs/B.antt:1:1: error: `f`: expected type `a`",
+                         "./proofs/B.antt:9:1: " + cites]),
+            ("BAD EDIT", ["error: module `Rattle-low-a` has changed. Run the lower steps again"]),
+        ):
+            self.check(word, 1, *lines, "logic=not-proved")
+        for status, last in ((1, "logic=proved functions=2 sum=1"), (2, "logic=not-proved"),
+                             (-9, "logic=not-proved"), (1, "error[E0308]"), (0, "")):
             self.check("BAD EDIT", status, last)
 
 
@@ -511,7 +501,7 @@ impl T {
 """
 
 
-class Sharing(unittest.TestCase):
+class Sharing(Folder, unittest.TestCase):
     """Which edits share a check, and what that says of each."""
 
     def edit(self, name, *changes):
@@ -530,21 +520,18 @@ class Sharing(unittest.TestCase):
             self.assertEqual(loaded().function_at(SOURCE, place), found, text)
 
     def test_edits_of_bodies_alone_share_a_check(self):
-        with tempfile.TemporaryDirectory() as room:
-            for path in ("src/lib.rt", "specs/A.antt"):
-                os.mkdir(os.path.join(room, path.split("/")[0]))
-                with open(os.path.join(room, path), "w", encoding="utf-8") as file:
-                    file.write(SOURCE)
-            body, other = ("src/lib.rt", "self.is", "true"), ("src/lib.rt", "self.one()", "2")
-            for changes, does in (
-                ([body], True), ([other], False), ([body, other], False),
-                ([("src/lib.rt", "result ≡ 1", "result ≡ 2")], False),
-                ([("src/lib.rt", "A: u8 = 1", "A: u8 = 2")], False),
-                ([("specs/A.antt", "self.is", "true")], False),
-                ([("src/lib.rt", "u8", "u16")], False), ([("src/no.rt", "u8", "u16")], False),
-            ):
-                edit = self.edit("lib-one-is-wrong", *changes)
-                self.assertEqual(loaded().changes_a_body(edit, room), does, changes)
+        for path in ("src/lib.rt", "specs/A.antt"):
+            self.put(path, SOURCE)
+        body, other = ("src/lib.rt", "self.is", "true"), ("src/lib.rt", "self.one()", "2")
+        for changes, does in (
+            ([body], True), ([other], False), ([body, other], False),
+            ([("src/lib.rt", "result ≡ 1", "result ≡ 2")], False),
+            ([("src/lib.rt", "A: u8 = 1", "A: u8 = 2")], False),
+            ([("specs/A.antt", "self.is", "true")], False),
+            ([("src/lib.rt", "u8", "u16")], False), ([("src/no.rt", "u8", "u16")], False),
+        ):
+            edit = self.edit("lib-one-is-wrong", *changes)
+            self.assertEqual(loaded().changes_a_body(edit, self.folder), does, changes)
 
     def test_the_functions_of_an_edit(self):
         paths = ["low::a::T::one", "low::a::U::one", "low::b::T::one", "low::ab::one", "low::alone"]
@@ -621,7 +608,7 @@ class Sharing(unittest.TestCase):
             self.assertEqual(self.reason(line, no_proof), None, line)
 
 
-class Lanes(unittest.TestCase):
+class Lanes(Folder, unittest.TestCase):
     def test_one_a_processor_where_each_has_4_gb(self):
         lanes = loaded().lanes_for
         self.assertEqual(lanes(4, 24000000), 4)
@@ -688,15 +675,12 @@ class Lanes(unittest.TestCase):
             "crates/low/out/incremental/a", "crates/top/src/lib.rt", "crates/top/out/incremental/b",
             "crates/top/out/rlib/top", "crates/other/src/lib.rt", "crates/other/out/rlib/other",
         )
-        with tempfile.TemporaryDirectory() as room:
-            for name in files:
-                os.makedirs(os.path.dirname(os.path.join(room, "a", name)), exist_ok=True)
-                with open(os.path.join(room, "a", name), "w", encoding="utf-8") as file:
-                    file.write("low:\nother:\ntop staticlib: low std\n")
-            copy = os.path.join(room, "b")
-            loaded().copy_repository("top", os.path.join(room, "a"), copy)
-            there = [os.path.relpath(os.path.join(at, it), copy)
-                     for at, _, found in os.walk(copy) for it in found]
+        for name in files:
+            self.put("a/" + name, "low:\nother:\ntop staticlib: low std\n")
+        copy = self.folder + "/b"
+        loaded().copy_repository("top", self.folder + "/a", copy)
+        there = [os.path.relpath(os.path.join(at, it), copy)
+                 for at, _, found in os.walk(copy) for it in found]
         self.assertEqual(sorted(there), sorted([
             "HANDLES", "crates.txt", "crates/low/src/lib.rt", "crates/low/out/rlib/low",
             "crates/top/src/lib.rt", "crates/top/out/incremental/b", "crates/other/src/lib.rt",

@@ -87,7 +87,7 @@ class FmtTest(Folder, unittest.TestCase):
             b"1 line with '%'\n"
         self.check(self.call("-o", "all.pgn", "tidy.pgn", "a.pgn", "b.pgn", "c.pgn"), 0, b"", told)
         self.check(self.call("-o", "all.pgn", "-", "c.pgn", input=b"1. e4 * {end}"), 0, b"",
-                   b"gillspoon: all.pgn: dropped 5 bytes behind the last game\n")
+                   b"gillspoon: all.pgn: dropped 5 bytes after the last game\n")
         self.check(self.call("-o", "all.pgn", "tidy.pgn", "c.pgn"), 0, b"")
 
     def test_file_with_a_fault_adds_nothing(self):
@@ -301,8 +301,8 @@ class FmtTest(Folder, unittest.TestCase):
                 (b"{a} [White {; b} \"A\"] e4 e5 *", b"", two),
                 (b"; a\n;b\n" + LOOSE, b"", two),
                 (b'[White "A"] e4\n%c\n{% d\n%e} e5 *', b" { % d %e } 1...", "1 line with '%'"),
-                (b"%a\n" + LOOSE + b"\n%b\n", b"", "1 line with '%', 2 bytes behind the last game"),
-                (LOOSE + b" {ab}\n;c\n", b"", "7 bytes behind the last game")):
+                (b"%a\n" + LOOSE + b"\n%b\n", b"", "1 line with '%', 2 bytes after the last game"),
+                (LOOSE + b" {ab}\n;c\n", b"", "7 bytes after the last game")):
             with self.subTest(text):
                 self.put("a.pgn", text)
                 ran = self.call("--write", "a.pgn")
@@ -340,7 +340,7 @@ class FmtTest(Folder, unittest.TestCase):
             self.check(self.call("--check", "all", "--exclude", glob), 1, b"all/loose.pgn\n")
         self.check(self.call("--check", "--exclude", "old", "--exclude", "*.pgn", "all",
                              "tidy.pgn"), 3, b"", b"gillspoon: all: has no file *.pgn, also with "
-                   b".gz, .bz2, .xz, .zst or .zip behind\n")
+                   b".gz, .bz2, .xz, .zst or .zip after it\n")
         # what is named is read
         self.check(self.call("--check", "--exclude", "*", "loose.pgn"), 1, b"loose.pgn\n")
         self.check(self.call("--write", "all"), 1, both, told)

@@ -4,7 +4,7 @@ import re
 import unittest
 
 import programs
-from programs import ROOT, run
+from programs import ROOT, run, text_of
 from small_repository import CARGO, Repository
 
 INSTALL, UNINSTALL, LIST = "bin/install", "bin/uninstall", "share/pgn_tool/files"
@@ -36,11 +36,6 @@ def folders(folder):
                   for it in names)
 
 
-def read(path):
-    with open(path, encoding="utf-8") as lines:
-        return lines.read()
-
-
 class Small(unittest.TestCase):
     """In a small repository, whose commands build nothing real."""
 
@@ -51,6 +46,13 @@ class Small(unittest.TestCase):
     def call(self, *words, script=INSTALL, **more):
         return self.here.told(*words, script=script, **more)
 
+    def said(self, *words, status=0, **more):
+        """What a call says that has this status; where that is not 0, nothing is installed."""
+        ended, out, told = self.call(*words, **more)
+        self.assertEqual(ended, status, told)
+        self.assertTrue(status == 0 or out == "")
+        return told
+
     def is_built(self):
         return self.here.call("--built", script="bin/build_program").returncode == 0
 
@@ -59,7 +61,7 @@ class Small(unittest.TestCase):
             status, out, told = self.call(self.prefix)
             self.assertEqual(status, 0, told)
             self.assertEqual(files(self.prefix), FILES)
-            listed = read(self.prefix + "/" + LIST).splitlines()
+            listed = text_of(self.prefix + "/" + LIST).splitlines()
             self.assertEqual(sorted(listed), FILES)
             self.assertEqual(out.splitlines(), [self.prefix + "/" + it for it in listed])
         self.assertEqual(run([self.prefix + "/bin/pgn_tool", "x"]).stdout,
@@ -71,8 +73,7 @@ class Small(unittest.TestCase):
                  "built by Cargo from the proved sources; not proved itself"),
                 (["--proved"], "rt proves and builds it, which takes 12 to 25 minutes",
                  "proved and built by rt")):
-            status, _, told = self.call(*options, self.prefix)
-            self.assertEqual(status, 0, told)
+            told = self.said(*options, self.prefix)
             self.assertIn(first, told)
             self.assertRegex(told, "is installed under %s: %s\n" % (self.prefix, kind))
             ran = run([self.prefix + "/bin/pgn_tool", "x"])
@@ -80,17 +81,16 @@ class Small(unittest.TestCase):
 
     def libraries(self):
         """What the installed libraries say, and the lines of the file for pkg-config."""
-        lines = read(self.prefix + "/lib/pkgconfig/pgn_c.pc").splitlines()
-        return (read(self.prefix + "/lib/libpgn_c.a").strip(),
-                read(self.prefix + "/lib/libpgn_c.so").strip(), lines)
+        lines = text_of(self.prefix + "/lib/pkgconfig/pgn_c.pc").splitlines()
+        return (text_of(self.prefix + "/lib/libpgn_c.a").strip(),
+                text_of(self.prefix + "/lib/libpgn_c.so").strip(), lines)
 
     def test_the_library_is_built_as_the_program(self):
         for options, static, shared, needs in (
                 ([], "cargo built static", "cargo built shared", "-lpthread"),
                 (["--proved"], "rt built static", "cc built shared", ""),
                 (["--cargo"], "cargo built static", "cargo built shared", "-lpthread")):
-            status, _, told = self.call(*options, self.prefix)
-            self.assertEqual(status, 0, told)
+            told = self.said(*options, self.prefix)
             built = self.libraries()
             self.assertEqual(built[:2], (static, shared), options)
             self.assertEqual(os.readlink(self.prefix + "/lib/libpgn_c.so"), "libpgn_c.so.1.2")
@@ -100,8 +100,7 @@ class Small(unittest.TestCase):
 
     def test_each_build_is_said_where_they_differ(self):
         self.assertEqual(self.here.call("--proved", script="bin/build_program").returncode, 0)
-        status, _, told = self.call(self.prefix)
-        self.assertEqual(status, 0, told)
+        told = self.said(self.prefix)
         self.assertIn("is installed under %s: proved and built by rt\n" % self.prefix, told)
         self.assertIn("libpgn_c is built by Cargo from the proved sources; not proved itself", told)
 
@@ -120,18 +119,14 @@ class Small(unittest.TestCase):
     def test_a_library_that_is_not_built(self):
         self.here.write("crates/pgn_c/src/lib.rt", "broken")
         for options in ([], ["--proved"]):
-            status, out, told = self.call(*options, self.prefix)
-            self.assertEqual((status, out), (127, ""))
-            self.assertIn("the library was not built", told)
+            self.assertIn("the library was not built", self.said(*options, self.prefix, status=127))
             self.assertFalse(os.path.exists(self.prefix))
 
     def test_the_proved_library_needs_a_c_compiler(self):
         os.unlink(self.here.root + "/path/cc")
-        status, out, told = self.call("--proved", self.prefix)
-        self.assertEqual((status, out), (127, ""))
-        self.assertIn("the shared library needs a C compiler, and cc is not on the PATH", told)
-        status, _, told = self.call("--proved", self.prefix, env={"CC": "rt"})
-        self.assertEqual(status, 127)
+        self.assertIn("the shared library needs a C compiler, and cc is not on the PATH",
+                      self.said("--proved", self.prefix, status=127))
+        self.said("--proved", self.prefix, env={"CC": "rt"}, status=127)
 
     def test_the_command_says_what_to_run_without_the_library(self):
         self.call(self.prefix)
@@ -147,14 +142,12 @@ class Small(unittest.TestCase):
 
     def test_package(self):
         env = {"DESTDIR": self.here.root + "/package"}
-        status, _, told = self.call("/usr", env=env)
-        self.assertEqual(status, 0, told)
-        self.assertIn("prefix=/usr\n", read(env["DESTDIR"] + "/usr/lib/pkgconfig/pgn_c.pc"))
+        told = self.said("/usr", env=env)
+        self.assertIn("prefix=/usr\n", text_of(env["DESTDIR"] + "/usr/lib/pkgconfig/pgn_c.pc"))
         self.assertEqual(files(self.here.root + "/package/usr"), FILES)
         # where the package goes, no shell looks
         self.assertNotIn("completes", told)
-        status, _, told = self.call("/usr", script=UNINSTALL, env=env)
-        self.assertEqual((status, told), (0, ""))
+        self.assertEqual(self.said("/usr", script=UNINSTALL, env=env), "")
         self.assertEqual(files(self.here.root + "/package"), [])
         self.assertEqual(folders(self.here.root + "/package"), ["usr"])
 
@@ -170,9 +163,8 @@ class Small(unittest.TestCase):
         self.assertEqual(files(self.prefix), own)
         self.assertEqual(folders(self.prefix),
                          ["bin", "share", "share/man", "share/man/man1", "share/pgn_tool"])
-        status, out, told = self.call(self.prefix, script=UNINSTALL)
-        self.assertEqual((status, out), (1, ""))
-        self.assertIn("so bin/install put nothing there", told)
+        self.assertIn("so bin/install put nothing there",
+                      self.said(self.prefix, script=UNINSTALL, status=1))
 
     def test_uninstall_stays_below_the_prefix(self):
         self.here.write("other", "mine")
@@ -198,8 +190,7 @@ class Small(unittest.TestCase):
         for prefix, at in ((self.here.root + "/file", "/file"),
                            (self.here.root + "/file/below", "/file"),
                            ("/dev/null/x", "/dev/null")):
-            status, out, told = self.call(prefix)
-            self.assertEqual((status, out), (1, ""))
+            told = self.said(prefix, status=1)
             self.assertRegex(told, "%s is not a folder that you can write to\n" % at)
             self.assertIn('bin/install "$HOME/.local"', told)
             self.assertIn('or as root: bin/install "%s"\n' % prefix, told)
@@ -225,9 +216,7 @@ class Small(unittest.TestCase):
 
     def test_a_build_that_fails(self):
         self.here.write("crates/pgn_tool/src/main.rt", "broken")
-        status, out, told = self.call(self.prefix)
-        self.assertEqual((status, out), (127, ""))
-        self.assertIn("the program was not built", told)
+        self.assertIn("the program was not built", self.said(self.prefix, status=127))
         self.assertFalse(os.path.exists(self.prefix))
 
     def test_neither_cargo_nor_rt(self):
@@ -241,8 +230,7 @@ class Small(unittest.TestCase):
 
     def test_an_old_cargo(self):
         env = {"CARGO_VERSION": "1.65.0", "RUSTC_VERSION": "1.63.0"}
-        status, _, told = self.call(self.prefix, env=env)
-        self.assertEqual(status, 0, told)
+        told = self.said(self.prefix, env=env)
         self.assertIn("/path/rustc is 1.63.0, and 1.74 is needed", told)
         self.assertIn("proved and built by rt", told)
 
@@ -254,8 +242,7 @@ class Small(unittest.TestCase):
         self.here.command("apt-get", "#!/bin/sh\n[ $1 = update ] && exit\n"
                           "cp %s/cargo-of-debian %s/path/cargo\nchmod 755 %s/path/cargo\n"
                           % ((self.here.root,) * 3))
-        status, _, told = self.call("--deps", self.prefix)
-        self.assertEqual(status, 0, told)
+        told = self.said("--deps", self.prefix)
         self.assertIn("built by Cargo", told)
 
     def test_advice(self):
@@ -276,8 +263,7 @@ class Small(unittest.TestCase):
                                         (":", ":", False)):
             self.here.command("ldconfig", "#!/bin/sh\ncase $* in '-N -X -v') %s ;; -p) %s ;;\n"
                               "*) exit 9 ;; esac\n" % (folders_of, cache))
-            status, _, told = self.call(self.prefix)
-            self.assertEqual(status, 0, told)
+            told = self.said(self.prefix)
             self.assertEqual("as root: ldconfig\n" in told, asks, told)
 
     def test_arguments(self):
@@ -285,8 +271,7 @@ class Small(unittest.TestCase):
             for words in (["--no"], ["a", "b"], ["--cargo", "--proved"]):
                 status, out, told = self.call(*words, script=script)
                 self.assertEqual((status, out, told.count("\n")), (2, "", 1), words)
-            status, _, told = self.call("--help", script=script)
-            self.assertEqual((status, told), (0, ""))
+            self.assertEqual(self.said("--help", script=script), "")
 
 
 class Installed(unittest.TestCase):
@@ -326,7 +311,7 @@ class Installed(unittest.TestCase):
         texts = {it: self.shell("gillspoon %s --help" % it).stdout.decode()
                  for it in ("", "lint", "fmt", "where", "sieve")}
         for page in PAGES:
-            source = read("%s/share/man/man1/%s.1" % (self.prefix, page))
+            source = text_of("%s/share/man/man1/%s.1" % (self.prefix, page))
             texts[page + ".1"] = re.sub(r'(?m)^\.\\".*', "", source)
         for name, text in texts.items():
             self.assertGreater(len(text), 500)

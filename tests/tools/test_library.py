@@ -8,7 +8,7 @@ import tempfile
 import unittest
 
 from documents import printed_by
-from programs import ROOT, need, need_library, need_program, run
+from programs import ROOT, need, need_library, need_program, run, text_of
 from small_repository import Repository
 
 CRATE = ROOT + "/crates/pgn_c"
@@ -16,8 +16,7 @@ NO_SUCH_MOVE = ROOT + "/examples/no-such-move.pgn"
 
 
 def source(name):
-    with open(CRATE + "/" + name, encoding="utf-8") as file:
-        return file.read()
+    return text_of(CRATE, name)
 
 
 class Built:
@@ -110,10 +109,9 @@ def exported():
     """Name, result and parameter types, as C has them, of each export."""
     found_in = {}
     for file in glob.glob(CRATE + "/src/*.rt"):
-        with open(file, encoding="utf-8") as text:
-            rows = re.findall(
-                r'#\[unsafe\(no_mangle\)\]\s*pub (?:unsafe )?extern "C" fn (\w+)\((.*?)\) -> (\w+)',
-                text.read(), re.S)
+        rows = re.findall(
+            r'#\[unsafe\(no_mangle\)\]\s*pub (?:unsafe )?extern "C" fn (\w+)\((.*?)\) -> (\w+)',
+            text_of(file), re.S)
         for name, parameters, result in rows:
             found_in[name] = (STRUCTS.get(result) or C_TYPES[result], c_parameters(parameters))
     return found_in
@@ -134,10 +132,9 @@ def rust_structs():
     """The fields of each struct that crosses, in order, as C has them."""
     structs = {}
     for file in glob.glob(CRATE + "/src/*.rt"):
-        with open(file, encoding="utf-8") as text:
-            rows = re.findall(
-                r"#\[repr\(C\)\]\s*#\[derive\([^)]*\)\]\s*pub struct (\w+) \{(.*?)\n\}",
-                text.read(), re.S)
+        rows = re.findall(
+            r"#\[repr\(C\)\]\s*#\[derive\([^)]*\)\]\s*pub struct (\w+) \{(.*?)\n\}",
+            text_of(file), re.S)
         for name, body in rows:
             fields = []
             for field, kind in re.findall(r"^    pub (\w+): ([^,]+),", body, re.M):

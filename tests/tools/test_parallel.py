@@ -33,6 +33,20 @@ def archive(games=600):
     return "".join(text % (it, it * it, moves[it % 4]) for it in range(games))
 
 
+def put_before(text, added, *events):
+    """The text with this before these games."""
+    for event in events:
+        text = text.replace('[Event "%d"]' % event, added + '[Event "%d"]' % event, 1)
+    return text
+
+
+def with_comment(event):
+    """An archive whose game has a long comment of what looks like the place of a cut."""
+    text = archive()
+    at = text.index("\n\n", text.index('[Event "%d"]' % event)) + 2
+    return text[:at] + LOOKALIKE * 300 + text[at:]
+
+
 class Spread(Folder, unittest.TestCase):
     """Runs blocks of the recipe on archives, beside one run of the program."""
 
@@ -69,11 +83,15 @@ class OneMachine(Spread):
         self.assertEqual(len(blocks()), COUNTS + 1)
 
     def test_the_short_form(self):
-        self.put("games.pgn", archive())
-        ran = self.shell(blocks()[SHORT])
-        self.assertEqual((ran.returncode, ran.stderr), (0, b""))
-        one = self.shell("pgn_tool export games.pgn | cmp - export.pgn")
-        self.assertEqual((one.returncode, one.stderr), (0, b""))
+        """Also of lines of DOS, where the cut is said otherwise."""
+        for text, block in ((archive(), blocks()[SHORT]), (
+                archive().replace("\n", "\r\n"),
+                blocks()[SHORT].replace(r"'\n\n'", r"'\r\n\r\n'"))):
+            self.put("games.pgn", text)
+            ran = self.shell(block)
+            self.assertEqual((ran.returncode, ran.stderr), (0, b""))
+            one = self.shell("pgn_tool export games.pgn | cmp - export.pgn")
+            self.assertEqual((one.returncode, one.stderr), (0, b""))
 
     def test_a_plain_file(self):
         jobs = self.agrees(archive())
@@ -85,44 +103,22 @@ class OneMachine(Spread):
             self.agrees(text)
 
     def test_faults_at_their_places(self):
+        """One fault, two, and an input that breaks off."""
         text = archive()
-        for event in (0, 250, 599):
-            at = text.index('[Event "%d"]' % event)
-            for fault in ("e9 ", '[Event "'):
-                self.agrees(text[:at] + fault + text[at:], status=1)
-
-    def test_two_faults(self):
-        text = archive()
-        for event in (500, 200):
-            at = text.index('[Event "%d"]' % event)
-            text = text[:at] + "] " + text[at:]
-        self.agrees(text, status=1)
-
-    def test_an_input_that_breaks_off(self):
-        self.agrees(archive() + '[Event "x"]\n\n1. e4', status=1)
-        self.agrees(archive()[:-4], status=1)
+        bad = [put_before(text, fault, it) for it in (0, 250, 599) for fault in ("e9 ", '[Event "')]
+        bad += [put_before(text, "] ", 500, 200), text + '[Event "x"]\n\n1. e4', text[:-4]]
+        for it in bad:
+            self.agrees(it, status=1)
 
     def test_a_cut_inside_a_comment(self):
-        text = archive()
         for event in (1, 599):
-            at = text.index("\n\n", text.index('[Event "%d"]' % event)) + 2
-            jobs = self.agrees(text[:at] + LOOKALIKE * 300 + text[at:])
+            jobs = self.agrees(with_comment(event))
             # A block really ended there and was refused.
             self.assertTrue(any(job[6] != b"0" for job in jobs), event)
-
-    def test_a_cut_inside_a_comment_and_a_fault_behind_it(self):
-        text = archive()
-        at = text.index("\n\n", text.index('[Event "300"]')) + 2
-        self.agrees(text[:at] + LOOKALIKE * 300 + text[at:] + "e9", status=1)
+        self.agrees(with_comment(300) + "e9", status=1)
 
     def test_games_without_an_event(self):
         self.agrees(archive().replace("[Event", "[Annotator"))
-
-    def test_lines_of_dos(self):
-        self.put("games.pgn", archive().replace("\n", "\r\n"))
-        self.shell(blocks()[SHORT].replace(r"'\n\n'", r"'\r\n\r\n'"))
-        one = self.shell("pgn_tool export games.pgn | cmp - export.pgn")
-        self.assertEqual((one.returncode, one.stderr), (0, b""))
 
     def test_a_full_disk(self):
         self.put("games.pgn", archive(4000))
@@ -131,8 +127,7 @@ class OneMachine(Spread):
         self.assertEqual((ran.returncode, ran.stderr), (1, b"output cannot be written\n"))
 
     def test_counts_and_lists(self):
-        text = archive()
-        self.put("games.pgn", text)
+        self.put("games.pgn", archive())
         self.shell("pgn_tool export games.pgn > export.pgn")
         ran = self.shell(blocks()[COUNTS])
         lines = ran.stdout.splitlines(True)
@@ -142,13 +137,11 @@ class OneMachine(Spread):
         one = self.shell("pgn_tool list games.pgn")
         self.assertEqual(b"".join(lines[2:]), one.stdout)
         self.assertGreater(len(self.get("counts.txt").splitlines()), 3)
-
-    def test_counts_after_a_fault(self):
+        # The output before a fault is counted, and the blocks are not.
         self.put("games.pgn", archive() + "e9")
         self.shell("pgn_tool export games.pgn > export.pgn")
         ran = self.shell(blocks()[COUNTS])
         self.assertNotEqual(ran.returncode, 0)
-        # The output before the fault is counted, and the blocks are not.
         self.assertEqual(ran.stdout, b"games: 600, plies: 1500\n")
 
 
@@ -163,15 +156,11 @@ class Streams(Spread):
 
     def test_faults_at_their_places(self):
         text = archive()
-        for event in (0, 300, 599):
-            at = text.index('[Event "%d"]' % event)
-            self.agrees(text[:at] + "e9 " + text[at:], STREAM, 1)
-        self.agrees(text[:-4], STREAM, 1)
+        for it in (*(put_before(text, "e9 ", event) for event in (0, 300, 599)), text[:-4]):
+            self.agrees(it, STREAM, 1)
 
     def test_a_cut_inside_a_comment(self):
-        text = archive()
-        at = text.index("\n\n", text.index('[Event "300"]')) + 2
-        jobs = self.agrees(text[:at] + LOOKALIKE * 300 + text[at:], STREAM)
+        jobs = self.agrees(with_comment(300), STREAM)
         self.assertTrue(any(job[6] != b"0" for job in jobs))
 
 
@@ -239,9 +228,7 @@ class SeveralMachines(Spread):
     def test_over_ssh(self):
         jobs = self.agrees(archive(), REMOTE, PARALLEL_SSH=self.server.client)
         self.assertTrue({b"alpha", b"beta"} & {job[1] for job in jobs})
-        text = archive()
-        at = text.index('[Event "300"]')
-        broken = text[:at] + "e9 " + text[at:]
+        broken = put_before(archive(), "e9 ", 300)
         self.agrees(broken, REMOTE, 1, PARALLEL_SSH=self.server.client)
 
     def test_a_machine_without_the_program(self):

@@ -3,33 +3,28 @@ import os
 import shutil
 import unittest
 
-from programs import need_program, run
+from programs import HEAD, need_program, run, text_of
 from small_repository import CARGO, Repository
 
 BUILD = "bin/build_program"
 
 
-HEAD = (b'[Event "?"]\n[Site "?"]\n[Date "????.??.??"]\n[Round "?"]\n[White "?"]\n[Black "?"]\n'
-        b'[Result "*"]\n')
 FEN = b'[FEN "4k3/8/8/8/8/8/8/4K3 w - - 0 1"]'
 
 
 class Examples(unittest.TestCase):
-    def check(self, task, text, status, out, err):
-        ran = run([need_program(), task], input=text)
-        self.assertEqual((ran.returncode, ran.stdout, ran.stderr), (status, out, err))
-
-    def test_a_tag_pair_alone(self):
-        self.check("check", b'[A "1"]', 1, b"", b"byte 7: unexpected end of input\n")
-
-    def test_a_value_of_256_bytes_without_a_game(self):
-        text = b'[A "' + b"x" * 256 + b'"]'
-        self.check("check", text, 1, b"", b"byte 3: string is too long\n")
-
-    def test_pairs_before_a_space_and_the_marker(self):
+    def test_examples(self):
+        """A task, a text, and what it is answered with."""
         pairs = b'[ECO "A00"]\n' + FEN + b'\n[SetUp "1"]\n[Zeta "z"]\n'
-        self.check("export", b'[Zeta "z"] ' + FEN + b' [ECO "A00"] *', 0,
-                   HEAD + pairs + b"\n*\n\n", b"")
+        for task, text, *answer in (
+                ("check", b'[A "1"]', 1, b"", b"byte 7: unexpected end of input\n"),
+                # a value of 256 bytes, and no game
+                ("check", b'[A "%s"]' % (b"x" * 256), 1, b"", b"byte 3: string is too long\n"),
+                # pairs before a space and the marker
+                ("export", b'[Zeta "z"] ' + FEN + b' [ECO "A00"] *', 0,
+                 HEAD[:-1] + pairs + b"\n*\n\n", b"")):
+            ran = run([need_program(), task], input=text)
+            self.assertEqual([ran.returncode, ran.stdout, ran.stderr], answer)
 
 
 class EachBuild:
@@ -147,6 +142,12 @@ class Choice(unittest.TestCase):
         for it in told:
             self.assertIn(it, built[2])
 
+    def fails(self, *words):
+        """What a call says that builds nothing."""
+        status, out, told = self.build(*words)
+        self.assertEqual((status, out), (127, ""))
+        return told
+
     def remove(self, *names):
         for name in names:
             os.unlink(self.here.root + "/path/" + name)
@@ -169,10 +170,8 @@ class Choice(unittest.TestCase):
 
     def test_proved_without_rt(self):
         self.remove("rt")
-        status, out, told = self.build("--proved")
-        self.assertEqual((status, out), (127, ""))
-        self.assertEqual(told, "bin/build_program: --proved needs rt, the command of the Rattle"
-                               " toolchain, which is not on the PATH\n")
+        self.assertEqual(self.fails("--proved"), "bin/build_program: --proved needs rt, the command"
+                         " of the Rattle toolchain, which is not on the PATH\n")
 
     def test_what_is_too_old(self):
         for name, version in (("cargo", "1.73.9"), ("rustc", "1.9.0"), ("rustc", "0.99.0")):
@@ -187,8 +186,7 @@ class Choice(unittest.TestCase):
 
     def test_nothing_to_build_with(self):
         self.remove("rt", "cargo", "python3")
-        status, out, told = self.build()
-        self.assertEqual((status, out), (127, ""))
+        told = self.fails()
         lines = [it.split(": ", 1)[1] for it in told.splitlines()]
         self.assertEqual(lines[:3], ["cargo is not on the PATH", "python3 is not on the PATH",
                                      "so the program cannot be built; do one of these:"])
@@ -207,8 +205,7 @@ class Choice(unittest.TestCase):
         self.check(self.build(), self.by_rt, told, "rt proves and builds it")
         os.unlink(self.by_rt.strip())
         self.remove("rt")
-        status, out, said = self.build()
-        self.assertEqual((status, out), (127, ""))
+        said = self.fails()
         self.assertIn(told, said)
         self.assertIn("to install these, as root: bin/install --deps\n", said)
         self.assertIn("the program was not built", said)
@@ -230,8 +227,7 @@ class Choice(unittest.TestCase):
                           "chmod 755 $here/path/cargo\n" % self.here.root)
 
     def asked(self):
-        with open(self.here.root + "/asked", encoding="ascii") as lines:
-            return lines.read().splitlines()
+        return text_of(self.here.root, "asked").splitlines()
 
     def test_deps(self):
         self.apt()
@@ -267,9 +263,7 @@ class Choice(unittest.TestCase):
     def test_deps_that_are_not_had(self):
         self.apt()
         self.here.write("broken", "")
-        status, out, told = self.build("--deps")
-        self.assertEqual((status, out), (127, ""))
-        self.assertIn("apt-get could not install them", told)
+        self.assertIn("apt-get could not install them", self.fails("--deps"))
 
     def check_hint(self, told, again=""):
         """Root installs packages and nothing else: what root builds, only root can replace."""
@@ -280,8 +274,7 @@ class Choice(unittest.TestCase):
     def test_deps_without_root(self):
         self.apt(user="1000")
         self.remove("rt")
-        status, out, told = self.build("--deps")
-        self.assertEqual((status, out), (127, ""))
+        told = self.fails("--deps")
         self.assertRegex(told, "--deps needs root on Debian: there it installs cargo\\b")
         self.check_hint(told)
         # so it is said where --deps is not given

@@ -108,21 +108,20 @@ class Whole(Recipe):
         wanted = games[1] + games[2] + games[0] + games[3]
         self.assertEqual(self.get("sorted.pgn").decode(), wanted)
 
-    def test_sort_for_a_comparison(self):
-        games = [game(Event=it, Date="1999.01.01") for it in "cab"]
-        for order in ((0, 1, 2), (2, 0, 1)):
-            self.put("games.pgn", "".join(games[it] for it in order))
-            self.shell(sections()["Sort by date"][0].replace("sort -s", "sort"))
-            self.assertEqual(self.get("sorted.pgn").decode(), games[1] + games[2] + games[0])
-
-    def test_sort_by_another_tag(self):
-        games = [game(Event=it, Round="3", Date="1999.01.0%d" % at) for at, it in enumerate("cab")]
-        self.put("games.pgn", "".join(games))
+    def test_sort_otherwise(self):
+        """For a comparison, where the order of equal dates does not matter, and by another tag."""
         script = sections()["Sort by date"][0]
-        script = script.replace("Date", "Event").replace("RSTART + 8", "RSTART + 9")
-        script = script.replace("RLENGTH - 8", "RLENGTH - 9")
-        self.shell(script)
-        self.assertEqual(self.get("sorted.pgn").decode(), games[1] + games[2] + games[0])
+        by_event = script.replace("Date", "Event").replace("RSTART + 8", "RSTART + 9") \
+            .replace("RLENGTH - 8", "RLENGTH - 9")
+        alike = [game(Event=it, Date="1999.01.01") for it in "cab"]
+        other = [game(Event=it, Round="3", Date="1999.01.0%d" % at) for at, it in enumerate("cab")]
+        for games, call in ((alike, script.replace("sort -s", "sort")),
+                            (alike[2:] + alike[:2], script.replace("sort -s", "sort")),
+                            (other, by_event)):
+            self.put("games.pgn", "".join(games))
+            self.shell(call)
+            self.assertEqual(self.get("sorted.pgn").decode(), "".join(
+                sorted(games, key=lambda it: it.split("\n")[0])))
 
     def test_sort_by_players(self):
         games = [game(White="B", Black="A"), game("1. d4 { a word } *", White="A", Black="B"),

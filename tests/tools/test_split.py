@@ -4,8 +4,8 @@ import subprocess
 import tempfile
 import unittest
 
-from programs import (HEAD, Folder, files_up_to, full_device, need_program, opens_closed_streams,
-                      run, without_rights)
+from programs import (HEAD, Folder, files_up_to, full_device, need_program, run,
+                      without_rights)
 
 UNKNOWN = HEAD + b"*\n\n"
 UNWRITTEN = b"byte %d: output cannot be written\n"
@@ -26,34 +26,30 @@ class SplitTest(Folder, unittest.TestCase):
         super().check(ran, status, b"", err)
         self.assertEqual(self.files(), files)
 
-    def test_two_games(self):
-        self.check(self.split(b"* *"), 0, b"", {"000001.pgn": UNKNOWN, "000002.pgn": UNKNOWN})
+    def test_games_and_faults(self):
+        """The text, the status, the message, and the files."""
+        one, two = {"000001.pgn": UNKNOWN}, {"000001.pgn": UNKNOWN, "000002.pgn": UNKNOWN}
+        for text, status, err, files in (
+                (b"* *", 0, b"", two),
+                (b"* 1. e4", 1, b"byte 7: unexpected end of input\n", {**one, "000002.pgn": HEAD}),
+                # a fault before movetext
+                (b"* 1-0", 1, b"byte 2: result differs from the Result tag\n", one)):
+            self.check(self.split(text), status, err, files)
+            for name in files:
+                os.remove(self.folder + "/" + name)
 
     def test_file(self):
-        with tempfile.NamedTemporaryFile() as games:
-            games.write(b"1. e4 e5 *")
-            games.flush()
-            ran = self.split(b"* * *", games.name)
-        self.check(ran, 0, b"", {"000001.pgn": HEAD + b"1. e4 e5 *\n\n"})
+        path = self.put("../%s.pgn" % os.path.basename(self.folder), b"1. e4 e5 *")
+        self.addCleanup(os.remove, path)
+        self.check(self.split(b"* * *", path), 0, b"", {"000001.pgn": HEAD + b"1. e4 e5 *\n\n"})
 
-    def test_missing_file(self):
-        ran = self.split(b"*", self.folder + "/missing")
-        self.check(ran, 1, b"byte 0: input cannot be read\n", {})
-
-    def test_folder_as_file(self):
-        self.check(self.split(b"*", self.folder), 1, b"byte 0: input cannot be read\n", {})
+    def test_input_that_cannot_be_read(self):
+        for path in (self.folder + "/missing", self.folder):
+            self.check(self.split(b"*", path), 1, b"byte 0: input cannot be read\n", {})
 
     def test_no_games(self):
         for folder in (self.folder, self.folder + "/missing"):
             self.check(self.split(b"{nothing}\n", folder=folder), 0, b"", {})
-
-    def test_fault(self):
-        self.check(self.split(b"* 1. e4"), 1, b"byte 7: unexpected end of input\n",
-                   {"000001.pgn": UNKNOWN, "000002.pgn": HEAD})
-
-    def test_fault_before_movetext(self):
-        self.check(self.split(b"* 1-0"), 1, b"byte 2: result differs from the Result tag\n",
-                   {"000001.pgn": UNKNOWN})
 
     def test_old_files(self):
         old = b"old " * 100
@@ -62,14 +58,10 @@ class SplitTest(Folder, unittest.TestCase):
         self.check(self.split(b"* *"), 0, b"", {"000001.pgn": UNKNOWN, "000002.pgn": UNKNOWN,
                                                 "000003.pgn": old, "other": old})
 
-    def test_missing_folder(self):
-        ran = self.split(b" *", folder=self.folder + "/missing")
-        self.check(ran, 1, UNWRITTEN % 1, {})
-
     def test_no_folder(self):
         with tempfile.NamedTemporaryFile() as other:
-            ran = self.split(b"*", folder=other.name)
-        self.check(ran, 1, UNWRITTEN % 0, {})
+            for folder, text in ((self.folder + "/missing", b" *"), (other.name, b"*")):
+                self.check(self.split(text, folder=folder), 1, UNWRITTEN % (len(text) - 1), {})
 
     def test_folder_that_is_not_writable(self):
         os.chmod(self.folder, 0o555)
@@ -131,17 +123,3 @@ class InputTest(Folder, unittest.TestCase):
             for name in ("/missing/file", "/"):
                 self.check(run([self.program, command, name], input=b"*"), 1, b"",
                            b"byte 0: input cannot be read\n")
-
-    def test_closed_standard_input(self):
-        for command in ("export", "check", "list"):
-            ran = run(["sh", "-c", 'exec "$@" <&-', "sh", self.program, command])
-            answer = (1, b"", b"byte 0: input cannot be read\n")
-            if opens_closed_streams(self.program):
-                answer = (0, b"games: 0, plies: 0\n" if command == "check" else b"", b"")
-            self.check(ran, *answer)
-
-    def test_full_standard_output(self):
-        for command in ("export", "check", "list", "--help"):
-            with full_device() as full:
-                ran = run([self.program, command], input=b"*", stdout=full)
-            self.assertEqual((ran.returncode, ran.stderr), (1, b"output cannot be written\n"))

@@ -69,10 +69,15 @@ class StreamTest(Folder, unittest.TestCase):
         for task in WRITTEN:
             self.check(run([self.program, task, path], input=TWO), 1, b"", UNREAD)
 
-    def test_closed_standard_input_with_a_file(self):
+    def test_closed_standard_input(self):
         path = self.put("two.pgn", TWO)
         for task, text in WRITTEN.items():
             self.check(self.closing("<&-", task, path), 0, text, b"")
+            # without a file it is what is read
+            answer = (1, b"", UNREAD)
+            if opens_closed_streams(self.program):
+                answer = (0, b"games: 0, plies: 0\n" if task == "check" else b"", b"")
+            self.check(self.closing("<&-", task), *answer)
 
     def test_closed_standard_output(self):
         path = self.put("two.pgn", TWO)
@@ -131,16 +136,14 @@ class StreamTest(Folder, unittest.TestCase):
     def test_full_standard_output_at_the_end(self):
         """What fits into the buffer is written by the last flush."""
         path = self.put("two.pgn", TWO)
-        for words in (["--help"], ["--version"], ["export", "--checked", path],
-                      *[[it] for it in WRITTEN], *[[it, path] for it in WRITTEN]):
-            with full_device() as full:
-                ran = run([self.program, *words], input=TWO, stdout=full)
-            self.assertEqual((ran.returncode, ran.stderr), (1, UNWRITTEN), words)
+        calls = [(words, text, UNWRITTEN) for text in (TWO, b"*") for words in (
+            ["--help"], ["--version"], ["export", "--checked", path], *([it] for it in WRITTEN),
+            *([it, path] for it in WRITTEN))]
         # a fault comes first, and the flush behind it tells nothing more
-        for task in WRITTEN:
+        for words, text, told in calls + [([task], b"* e9", NO_MOVE) for task in WRITTEN]:
             with full_device() as full:
-                ran = run([self.program, task], input=b"* e9", stdout=full)
-            self.assertEqual((ran.returncode, ran.stderr), (1, NO_MOVE), task)
+                ran = run([self.program, *words], input=text, stdout=full)
+            self.assertEqual((ran.returncode, ran.stderr), (1, told), (words, text))
 
     def test_output_goes_out_before_the_report(self):
         path = self.put("bad.pgn", b"* e9")
