@@ -167,6 +167,18 @@ def text_of(*path):
         return file.read()
 
 
+def bytes_of(*path):
+    """The bytes of a file, by its path as `text_of` takes it."""
+    with open(os.path.join(ROOT, *path), "rb") as file:
+        return file.read()
+
+
+def write_file(path, data):
+    """Writes bytes, or a text as UTF-8, to a file."""
+    with open(path, "wb") as file:
+        file.write(data if isinstance(data, bytes) else data.encode())
+
+
 def vectors():
     """The worked inputs, as vectors/vectors.json has them."""
     return json.loads(text_of("vectors", "vectors.json"))["vectors"]
@@ -196,14 +208,12 @@ class Folder:
         """Writes a file, perhaps in a new folder of that one, and gives its path."""
         path = os.path.join(os.fsencode(self.folder), os.fsencode(name))
         os.makedirs(os.path.dirname(path), exist_ok=True)
-        with open(path, "wb") as file:
-            file.write(data if isinstance(data, bytes) else data.encode())
+        write_file(path, data)
         return os.fsdecode(path)
 
     def get(self, name):
         """The bytes of a file."""
-        with open(os.path.join(self.folder, name), "rb") as file:
-            return file.read()
+        return bytes_of(self.folder, name)
 
     def check(self, ran, status, out, err=b""):
         """A program ended so."""

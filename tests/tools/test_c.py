@@ -7,8 +7,8 @@ from ctypes import c_char, c_size_t, c_uint8, c_uint32, c_uint64, c_void_p
 
 import test_library
 from documents import samples
-from programs import (ROOT, archive, need, need_library, need_program, need_proved_program,
-                      new_folder, run, vectors)
+from programs import (ROOT, archive, bytes_of, need, need_library, need_program,
+                      need_proved_program, new_folder, run, text_of, vectors, write_file)
 
 OK, FAULT, FULL, NO_MODE, NO_GAME, MORE, BAD_PLACE = range(7)
 SAN, UCI, SAN_FEN, UCI_FEN, SAN_KEY, UCI_KEY = range(6)
@@ -217,8 +217,7 @@ class Installed:
     def written(self, name, data):
         """The path of a new file."""
         path = os.path.join(self.folder, name)
-        with open(path, "wb") as file:
-            file.write(data)
+        write_file(path, data)
         return path
 
     # ---- a program in C
@@ -238,8 +237,7 @@ class Installed:
         texts = [archive(30, style, 30) for style in ("plain", "annotated")]
         for name in sorted(os.listdir(ROOT + "/examples")):
             if name.endswith(".pgn"):
-                with open(ROOT + "/examples/" + name, "rb") as file:
-                    texts.append(file.read())
+                texts.append(bytes_of("examples/" + name))
         self.assertGreater(len(texts), 7)
         for text in [*texts, b"", b"\n\n; nothing\n"]:
             ours, theirs = loop(text), run([program, "export"], input=text)
@@ -274,9 +272,8 @@ class Installed:
 
     def test_version(self):
         """That of the header, which is in the name of the shared library too."""
-        with open(self.prefix + "/include/pgn.h", encoding="utf-8") as header:
-            minor, number = re.search(r'PGN_VERSION "(\d+\.\d+).*"\n.*_NUMBER (\d+)',
-                                      header.read()).groups()
+        minor, number = re.search(r'PGN_VERSION "(\d+\.\d+).*"\n.*_NUMBER (\d+)',
+                                  text_of(self.prefix + "/include/pgn.h")).groups()
         self.assertEqual(self.library.calls.pgn_version(), int(number))
         self.assertEqual(os.readlink(self.prefix + "/lib/libpgn_c.so"), "libpgn_c.so." + minor)
 
@@ -693,11 +690,9 @@ class Installed:
             yield style, archive(20, style)
         for name in sorted(os.listdir(ROOT + "/examples")):
             if name.endswith(".pgn"):
-                with open(ROOT + "/examples/" + name, "rb") as file:
-                    yield name, file.read()
+                yield name, bytes_of("examples/" + name)
         for name in ("puzzles", "queens"):
-            with open("%s/bench/%s.txt" % (ROOT, name), "rb") as file:
-                rows = [it.split(b" ", 4) for it in file.read().splitlines()[:100]]
+            rows = [it.split(b" ", 4) for it in bytes_of("bench/%s.txt" % name).splitlines()[:100]]
             yield name, b"\n".join(b'[FEN "%s 0 1"]\n%s *' % (b" ".join(it[:4]), it[4])
                                    for it in rows)
 

@@ -11,7 +11,7 @@ import unittest
 
 import programs
 from documents import blocks_of, code_of, lines_of, printed_by, table
-from programs import ROOT, Folder, need_cargo, run
+from programs import ROOT, Folder, need_cargo, run, text_of, write_file
 
 # One folder for all runs, so that only the first one builds everything.
 OUT = os.path.join(ROOT, "cargo/out")
@@ -185,11 +185,6 @@ def built():
     return OUT + "/target/debug/pgn_tool"
 
 
-def read(path):
-    with open(path, encoding="utf-8") as lines:
-        return lines.read()
-
-
 # Changes that bin/to_cargo does not understand: the file, the text, what stands for it, and why.
 CLAUSE = "        ensures done { result ≡ Ok tt }\n"
 COUNT = "    ghost failures = { λ _. 0 };"
@@ -224,7 +219,7 @@ class Built(unittest.TestCase):
 
     def check_tests(self, package, least, place="tests/*", words=("--lib",)):
         files = glob.glob("%s/crates/%s/src/%s.rt" % (ROOT, package, place))
-        wanted = sum(read(it).count("#[test]") for it in files)
+        wanted = sum(text_of(it).count("#[test]") for it in files)
         self.assertGreaterEqual(wanted, least)
         ran = cargo("test", "--package", package, *words)
         said = (ran.stdout + ran.stderr).decode()
@@ -246,7 +241,7 @@ class Built(unittest.TestCase):
         pages = glob.glob(ROOT + "/cargo/*/lib.md")
         self.assertEqual(len(pages), len(WITHOUT_STD))
         files += glob.glob(ROOT + "/cargo/*/*.rs")
-        fences = sum(len(re.findall(r"^(?: *//[/!] )?```", read(it), re.M)) for it in files + pages)
+        fences = sum(len(re.findall("(?m)^(?: *//[/!] )?```", text_of(it))) for it in files + pages)
         self.assertGreaterEqual(fences, 52)
         ran = cargo("test", "--doc", *("--package=" + it for it in LIBRARIES))
         said = (ran.stdout + ran.stderr).decode()
@@ -266,11 +261,11 @@ class Built(unittest.TestCase):
 
     def test_a_call_that_breaks_a_condition_panics(self):
         files = glob.glob(ROOT + "/cargo/*/*/*.rs")
-        wanted = sum(read(it).count("#[test]") for it in files)
+        wanted = sum(text_of(it).count("#[test]") for it in files)
         self.assertGreaterEqual(wanted, 18)
         self.check_conditions({}, wanted)
         # In release builds all but those of debug_assert!.
-        checked_in_debug = sum(read(it).count("#[cfg(debug_assertions)]\nfn ") for it in files)
+        checked_in_debug = sum(text_of(it).count("#[cfg(debug_assertions)]\nfn ") for it in files)
         self.assertEqual(checked_in_debug, 4)
         self.check_conditions({"CARGO_PROFILE_DEV_DEBUG_ASSERTIONS": "false"},
                               wanted - checked_in_debug)
@@ -303,8 +298,7 @@ class Built(unittest.TestCase):
         lines += ['%s = { path = "%s/crates/%s", %s }' % (it, OUT, it, features)
                   for it in WITHOUT_STD]
         for name, text in (("Cargo.toml", "\n".join(lines) + "\n"), ("src/lib.rs", BARE)):
-            with open("%s/%s" % (folder, name), "w", encoding="utf-8") as file:
-                file.write(text)
+            write_file("%s/%s" % (folder, name), text)
         env = dict(os.environ, PATH=programs.PATH, CARGO_TARGET_DIR=OUT + "/bare")
         return run(["cargo", "build", "--offline", "--quiet", *words], cwd=folder, env=env,
                    timeout=300)
@@ -371,8 +365,7 @@ class Built(unittest.TestCase):
         files = sorted(glob.glob(ROOT + "/examples/*.pgn"))
         for style in ("plain", "annotated"):
             file = "%s/%s.pgn" % (folder, style)
-            with open(file, "wb") as out:
-                out.write(programs.archive(60, style, 60))
+            write_file(file, programs.archive(60, style, 60))
             files.append(file)
         calls = [["export"], ["export", "--reduced"], ["export", "--checked"], ["check"], ["list"]]
         for words in [it + [file] for file in files + [folder + "/none"] for it in calls]:
@@ -386,18 +379,17 @@ class Built(unittest.TestCase):
         """What `split` answers and leaves."""
         to = tempfile.mkdtemp(dir=folder)
         ran = run([program, "split", to, file])
-        left = {os.path.basename(it): read(it) for it in glob.glob(to + "/*")}
+        left = {os.path.basename(it): text_of(it) for it in glob.glob(to + "/*")}
         return shown(ran), left
 
     def cases_of(self, file, name):
         """The names of the cases of an enum."""
-        found = re.search(r"(?s)\npub enum %s \{\n(.*?)\n\}" % name, read(ROOT + "/crates/" + file))
+        found = re.search(r"(?s)\npub enum %s \{\n(.*?)\n\}" % name, text_of("crates", file))
         return re.findall(r"(?m)^    (\w+)(?:\(\w+\))?,$", found[1])
 
     def compiled(self, text):
         """What rustc says of a program with the libraries."""
-        with open(OUT + "/target/sample.rs", "w", encoding="utf-8") as file:
-            file.write(text)
+        write_file(OUT + "/target/sample.rs", text)
         words = ["rustc", "--edition=2021", "-Dwarnings", "-Ltarget/debug/deps", "target/sample.rs",
                  "-otarget/sample"]
         words += ["--extern=%s=target/debug/lib%s.rlib" % (it, it) for it in LIBRARIES]
@@ -431,8 +423,7 @@ class Built(unittest.TestCase):
         begin = lines.index("### A program of your own")
         blocks = [it for number, _, it in blocks_of(lines) if number > begin]
         for name, block in zip(("Cargo.toml", "src/main.rs"), blocks):
-            with open("%s/mine/%s" % (folder, name), "w", encoding="utf-8") as file:
-                file.write("\n".join(block) + "\n")
+            write_file("%s/mine/%s" % (folder, name), "\n".join(block) + "\n")
         env = dict(os.environ, PATH=programs.PATH, CARGO_TARGET_DIR=OUT + "/dependent")
         words = ["cargo", "run", "--offline", "--quiet", "--", "examples/two-games.pgn"]
         words[-1] = os.path.join(ROOT, words[-1])
@@ -517,7 +508,7 @@ class Release(Folder, unittest.TestCase):
 
     def test_the_page_of_changes_has_the_version(self):
         version = programs.load("bin/to_cargo").version()
-        heads = re.findall(r"^## (\S+?),? ", read(ROOT + "/CHANGELOG.md"), re.MULTILINE)
+        heads = re.findall(r"^## (\S+?),? ", text_of("CHANGELOG.md"), re.MULTILINE)
         self.assertEqual(heads[0], version)
         changes = programs.load("bin/dist").check_changes
         with self.assertRaises(SystemExit):
@@ -560,13 +551,13 @@ class Workspace(unittest.TestCase):
         for crate in crates:
             folder = "%s/crates/%s/src/" % (self.out, crate)
             for path in glob.glob(folder + "**/*.rs", recursive=True):
-                first, text = read(path).split("\n", 1)
+                first, text = text_of(path).split("\n", 1)
                 if first.startswith("// From "):
                     name = path[len(folder) : -3]
                     other, copied = copies.get(crate, (None, ()))
                     source = "crates/%s/src/%s.rt" % (other if name in copied else crate, name)
                     self.assertTrue(first.startswith("// From %s, without its " % source), first)
-                    yield path, text.split("\n"), read(os.path.join(ROOT, source))
+                    yield path, text.split("\n"), text_of(source)
 
     def test_lines_only_go(self):
         """But for the assertions and the modules that are written for Cargo."""
@@ -599,36 +590,36 @@ class Workspace(unittest.TestCase):
             self.assertNotRegex("\n".join(lines), r"(?m)^\s*(?:ghost|requires|ensures)\b", path)
 
     def test_each_exception_of_clippy_has_its_reason(self):
-        lints = read(self.out + "/Cargo.toml").split("[workspace.lints.clippy]\n")[1]
+        lints = text_of(self.out + "/Cargo.toml").split("[workspace.lints.clippy]\n")[1]
         for line in lints.split("\n\n")[0].split("\n"):
             self.assertRegex(line, r'^\w+ = "allow" # .')
 
     def test_dead_code_is_a_warning(self):
         """With which the tests of what Cargo builds fail. bin/unused does not look for it."""
-        self.assertNotIn("dead_code", read(self.out + "/Cargo.toml"))
+        self.assertNotIn("dead_code", text_of(self.out + "/Cargo.toml"))
 
     def test_what_is_not_proved_says_so(self):
-        text = read(self.out + "/crates/rattle_std/src/lib.rs")
+        text = text_of(self.out + "/crates/rattle_std/src/lib.rs")
         self.assertIn("**Not proved.**", text.split("\n", 1)[0])
         self.assertLess(text.count("\n"), 110)
         for file in ("src/ffi.rs", "build.rs"):
-            text = read(self.out + "/crates/pgn_c/" + file)
+            text = text_of(self.out + "/crates/pgn_c/" + file)
             self.assertIn("**Not proved.**", text.split("\n", 1)[0])
-        self.assertIn("**Nothing in this folder is proved", read(self.out + "/README.md"))
+        self.assertIn("**Nothing in this folder is proved", text_of(self.out + "/README.md"))
 
     def test_one_file_has_unsafe_code(self):
         files = glob.glob(self.out + "/crates/**/*.rs", recursive=True)
-        found = [it for it in files if re.search(r"(?m)^[^/]*\bunsafe\b", read(it))]
+        found = [it for it in files if re.search(r"(?m)^[^/]*\bunsafe\b", text_of(it))]
         self.assertEqual(found, [self.out + "/crates/pgn_c/src/ffi.rs"])
-        self.assertIn('unsafe_code = "forbid"', read(self.out + "/Cargo.toml"))
+        self.assertIn('unsafe_code = "forbid"', text_of(self.out + "/Cargo.toml"))
         for file in glob.glob(self.out + "/crates/*/Cargo.toml"):
             is_face = "/pgn_c/" in file
-            self.assertEqual("[lints]\nworkspace = true\n" in read(file), not is_face, file)
-            self.assertEqual('unsafe_code = "deny"' in read(file), is_face, file)
+            self.assertEqual("[lints]\nworkspace = true\n" in text_of(file), not is_face, file)
+            self.assertEqual('unsafe_code = "deny"' in text_of(file), is_face, file)
 
     def test_the_header_is_the_same(self):
         header = "/crates/pgn_c/pgn.h"
-        self.assertEqual(read(self.out + header), read(ROOT + header))
+        self.assertEqual(text_of(self.out + header), text_of(ROOT + header))
 
     def test_each_line_that_is_another_has_its_row(self):
         """In the README of the workspace, with the reason."""
@@ -639,11 +630,11 @@ class Workspace(unittest.TestCase):
                 for name, (line, others) in lines.items()]
         self.assertEqual(sorted(it[:4] for it in rows), sorted(made))
         for _, file, line, other, reason in rows:
-            text = " ".join(read(self.out + "/crates/" + file).split())
+            text = " ".join(text_of(self.out + "/crates/" + file).split())
             self.assertIn("// Written for Cargo. The source has `%s` %s" % (line, other), text)
             self.assertRegex(reason, r"\w+ \w+")
         files = glob.glob(self.out + "/crates/*/src/**/*.rs", recursive=True)
-        self.assertEqual(sum(read(it).count("// Written for Cargo. The source") for it in files),
+        self.assertEqual(sum(text_of(it).count("// Written for Cargo. The source") for it in files),
                          len(rows))
 
     def test_laws_are_not_in_the_documents(self):
@@ -651,7 +642,7 @@ class Workspace(unittest.TestCase):
         files = glob.glob(self.out + "/crates/*/src/laws.rs")
         self.assertEqual(len(files), 5)
         for file in files:
-            root = read(os.path.dirname(file) + "/lib.rs")
+            root = text_of(os.path.dirname(file) + "/lib.rs")
             self.assertIn("\n#[doc(hidden)]\npub mod laws;\n", root, file)
 
     def test_each_function_of_the_libraries_has_a_hint(self):
@@ -677,8 +668,7 @@ class Written(Folder, unittest.TestCase):
 
     def test_another_folder_is_left_alone(self):
         os.mkdir(self.folder + "/out")
-        with open(self.folder + "/out/Cargo.toml", "w", encoding="utf-8") as lines:
-            lines.write("[package]\n")
+        write_file(self.folder + "/out/Cargo.toml", "[package]\n")
         out, status, said = self.write()
         self.assertEqual(status, 2)
         self.assertIn("was not written by this script", said)
@@ -733,10 +723,9 @@ class Written(Folder, unittest.TestCase):
         for name in names:
             os.makedirs(os.path.dirname(os.path.join(copy, name)), exist_ok=True)
             shutil.copy(os.path.join(ROOT, name), os.path.join(copy, name))
-        text = read(os.path.join(copy, file))
+        text = text_of(os.path.join(copy, file))
         assert text.count(old) == 1, old
-        with open(os.path.join(copy, file), "w", encoding="utf-8") as lines:
-            lines.write(text.replace(old, new))
+        write_file(os.path.join(copy, file), text.replace(old, new))
         return copy
 
 
@@ -797,7 +786,7 @@ def without_first_page(crate, lines):
     """The lines without the documentation of cargo/CRATE/lib.md, which ends that of the crate."""
     if crate not in WITHOUT_STD:
         return lines
-    page = ["", *read("%s/cargo/%s/lib.md" % (ROOT, crate)).splitlines()]
+    page = ["", *text_of("cargo/%s/lib.md" % crate).splitlines()]
     page = [("//! " + it).rstrip() for it in page]
     end = max(at for at, it in enumerate(lines) if it.startswith("//!")) + 1
     assert lines[end - len(page) : end] == page, crate

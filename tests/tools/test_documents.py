@@ -14,7 +14,7 @@ import unittest
 
 import programs
 from documents import blocks_of, code_of, documents, is_console, lines_of, prose_of, table
-from programs import ROOT, on_a_terminal, run
+from programs import ROOT, on_a_terminal, run, text_of
 
 MARK = re.compile(r"<!-- *not run\b:? *(.*?) *-->")
 LINK = re.compile(r"\[(?:[^\]`]|`[^`]*`)*\]\(([^)\s]+)\)")
@@ -300,8 +300,7 @@ class Way(unittest.TestCase):
         found = {}
         for path in glob.glob(ROOT + "/crates/*/src/**/*.rt", recursive=True):
             crate = os.path.relpath(path, ROOT).split(os.sep)[1]
-            with open(path, encoding="utf-8") as file:
-                parts = re.split(r"\bfn (\w+)", file.read())
+            parts = re.split(r"\bfn (\w+)", text_of(path))
             for name, text in zip(parts[1::2], parts[2::2]):
                 calls = set(re.findall(r"(\w+)(?:::<[^>]*>)?\(", text))
                 found.setdefault((crate, name), set()).update(calls)

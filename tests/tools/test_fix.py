@@ -11,7 +11,8 @@ import subprocess
 import sys
 import unittest
 
-from programs import PACKAGE, ROOT, files_up_to, need, need_package, not_tried, run, signalled
+from programs import (PACKAGE, ROOT, bytes_of, files_up_to, need, need_package, not_tried, run,
+                      signalled, text_of)
 from spellings import DOUBTFUL, LEFT, SAFE, UNSAFE
 from test_lint import LINT, Lint
 
@@ -229,8 +230,7 @@ class Damaged(unittest.TestCase):
         rng = random.Random(79)
         pool = [row[0].encode() for row in SAFE + UNSAFE] + [it.encode() for it in LEFT]
         for path in sorted(glob.glob(ROOT + "/examples/*.pgn")):
-            with open(path, "rb") as file:
-                pool.append(file.read())
+            pool.append(bytes_of(path))
         for _ in range(1500):
             text = damaged(rng, pool)
             applied(text, gillspoon.fixes(text, unsafe=True))
@@ -660,8 +660,8 @@ class Command(Lint):
                          ["yes" if it.is_safe else "no" for it in LISTED])
 
     def test_the_table_of_the_document(self):
-        with open(ROOT + "/docs/TOOLS.md", encoding="utf-8") as page:
-            found = re.search(r"<!-- gillspoon lint --fixes: begin -->\n\n(.*?)\n<!--", page.read(), re.S)
+        found = re.search(r"<!-- gillspoon lint --fixes: begin -->\n\n(.*?)\n<!--",
+                          text_of("docs/TOOLS.md"), re.S)
         self.assertEqual(found[1], self.lint("--fixes")[1])
 
     def test_json(self):

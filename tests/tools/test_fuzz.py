@@ -13,7 +13,7 @@ import unittest
 
 import programs
 import test_cargo
-from programs import ROOT, run
+from programs import ROOT, run, write_file
 
 CORPUS = ROOT + "/fuzz/corpus"
 OUT = ROOT + "/fuzz/out/test"
@@ -92,8 +92,7 @@ class Corpus(unittest.TestCase):
                 self.assertIn("%s: " % law, ran.stderr.decode())
 
     def write(self, path, text):
-        with open(path, "w", encoding="utf-8") as file:
-            file.write(text)
+        write_file(path, text)
 
 
 class Files(unittest.TestCase):
@@ -111,8 +110,7 @@ class Files(unittest.TestCase):
         fuzz.OUT, fuzz.CORPUS, fuzz.seeds = folder + "/out", folder + "/corpus", lambda: folder
         os.makedirs(fuzz.CORPUS)
         for name in ("09e2b5bc40dfc0980b9be3410625549275e492eb", "two-backslashes"):
-            with open(os.path.join(fuzz.CORPUS, name), "w", encoding="ascii") as file:
-                file.write("*")
+            write_file(os.path.join(fuzz.CORPUS, name), "*")
         with contextlib.redirect_stdout(io.StringIO()) as said:
             fuzz.keep("true")
         self.assertEqual(said.getvalue(), "1 inputs, 1 bytes\n")

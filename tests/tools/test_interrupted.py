@@ -3,7 +3,7 @@ import os
 import subprocess
 import unittest
 
-from programs import HEAD, Folder, need, need_program, run
+from programs import HEAD, Folder, need, need_program, run, write_file
 
 # Interrupts one call of read, of write, or of open for a file of games: CALL is its name, AT its
 # number from 1. The file MET is made when that happens. Standard error is left alone.
@@ -93,8 +93,7 @@ class InterruptedTest(Folder, unittest.TestCase):
 
     def test_a_read_is_not_tried_again(self):
         text = b"*\n" * 5000
-        with open(self.file, "wb") as file:
-            file.write(text)
+        write_file(self.file, text)
         answers = []
         for at in range(1, 9):
             is_met, answer = self.call("read", at, "check", self.file)
@@ -112,8 +111,7 @@ class InterruptedTest(Folder, unittest.TestCase):
 
     def test_the_last_flush_writes_the_block_in_hand_once_more(self):
         text = 1000 * UNKNOWN
-        with open(self.file, "wb") as file:
-            file.write(1000 * b"* ")
+        write_file(self.file, 1000 * b"* ")
         is_met, (status, out, err) = self.call("write", 1, "export", self.file)
         self.assertTrue(is_met and text.startswith(out))
         # the block of 64 KiB, which has no room for the next line

@@ -8,7 +8,7 @@ import tempfile
 import unittest
 
 from documents import printed_by
-from programs import ROOT, need, need_library, need_program, run, text_of
+from programs import ROOT, need, need_library, need_program, run, text_of, write_file
 from small_repository import Repository
 
 CRATE = ROOT + "/crates/pgn_c"
@@ -250,8 +250,7 @@ class CExample:
         return Built.path(self.build, name)
 
     def run_sample(self, text):
-        with open(self.path("sample.c"), "w", encoding="ascii") as file:
-            file.write(c_program(text))
+        write_file(self.path("sample.c"), c_program(text))
         words = ["cc", "-O2", "-Wall", "-Werror", "-I" + CRATE, self.path("sample.c"),
                  need_library(self.build), "-o", self.path("sample")]
         # a few lines need not use all that they say

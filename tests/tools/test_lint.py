@@ -16,8 +16,8 @@ import unittest
 
 import programs
 from documents import blocks_of, lines_of, table
-from programs import (PACKAGE, PACKERS, ROOT, Folder, full_device, need, need_module, need_package,
-                      not_tried, run, vectors, zip_of)
+from programs import (PACKAGE, PACKERS, ROOT, Folder, bytes_of, full_device, need, need_module,
+                      need_package, not_tried, run, text_of, vectors, zip_of)
 from test_python import REAL
 
 setUpModule = need_package
@@ -400,8 +400,7 @@ class NoTraceback(Lint):
     def games(self, count, seed):
         """Games of bench/games.txt, of which each has one token that is junk."""
         rng, games = random.Random(seed), []
-        with open(ROOT + "/bench/games.txt", encoding="utf-8") as file:
-            lines = file.read().splitlines()
+        lines = text_of("bench/games.txt").splitlines()
         for number in range(count):
             words = rng.choice(lines).split()[:rng.randint(2, 60)]
             words[rng.randrange(1, len(words))] = self.junk(rng)
@@ -482,8 +481,7 @@ class Files(Lint):
         paths += glob.glob("/usr/share/pgn-extract/eco.pgn") or not_tried("pgn-extract is missing")
         texts, games = {}, 0
         for number, path in enumerate(paths):
-            with open(path, "rb") as file:
-                texts["real/%02d.pgn" % number] = file.read()
+            texts["real/%02d.pgn" % number] = bytes_of(path)
         # the rest of the 58 are some of them once more, compressed
         packed = list(texts)[:58 - len(texts)]
         for number, name in enumerate(packed):
@@ -518,8 +516,8 @@ class Files(Lint):
         ran = run([LINT[0], "sieve", name, "/dev/null", "bad"], cwd=self.folder, env=self.env)
         self.assertEqual(ran.stderr, b"")
         good, bad = map(int, re.findall(rb"(?m)^[\w/.]+: (\d+) (?:bad )?games?\b", ran.stdout))
-        with open(self.folder + "/bad", "rb") as file:
-            notes = re.findall(r"(?m)^% byte (\d+): (.*); line \d+$", file.read().decode("latin-1"))
+        notes = re.findall(r"(?m)^% byte (\d+): (.*); line \d+$",
+                           self.get("bad").decode("latin-1"))
         self.assertEqual(len(notes), bad)
         return good + bad, [(int(at), reason, 1 + len(re.findall(rb"\r\n?|\n", text[:int(at)])))
                             for at, reason in notes]
@@ -866,8 +864,7 @@ class Options(Lint):
                          "tag is given twice")
 
     def test_the_fields_are_documented(self):
-        with open(ROOT + "/share/man/man1/gillspoon.1", encoding="utf-8") as page:
-            rows = re.findall(r"(?m)^\.It Cm (.*)$", page.read())
+        rows = re.findall(r"(?m)^\.It Cm (.*)$", text_of("share/man/man1/gillspoon.1"))
         self.assertEqual([it.replace("Cm ", "") for row in rows for it in row.split(" , ")],
                          FIELDS[1:])
         rows = table("docs/TOOLS.md", "Field of `--json`")
@@ -1098,8 +1095,7 @@ class Others(Lint):
              "cfirst | echo line('.') getline('.')[col('.') - 1 : col('.') + 1]", "-c",
              "cnext | echo line('.') getline('.')[col('.') - 1 : col('.') + 1]", "-c", "qa!"],
             cwd=self.folder, env=self.env)
-        with open(self.folder + "/seen", encoding="utf-8") as seen:
-            lines = [it for it in seen.read().split("\n") if it]
+        lines = [it for it in text_of(self.folder + "/seen").split("\n") if it]
         self.assertIn("a b.pgn 3 move is not legal (game 1, M\u00fcller \u2013 ?)", lines)
         self.assertEqual([it for it in lines if it.endswith("Ke3")], ["3 Ke3", "8 Ke3"])
 
@@ -1145,8 +1141,7 @@ class Others(Lint):
 
     def test_the_configuration_of_the_hook(self):
         """What the recipe says of pre-commit names the hooks of this repository."""
-        with open(ROOT + "/.pre-commit-hooks.yaml", encoding="utf-8") as hooks:
-            said = hooks.read()
+        said = text_of(".pre-commit-hooks.yaml")
         names = re.findall(r"(?m)^- id: ([\w-]+)$", said)
         text = next(it for it in self.recipe("yaml") if "repos:" in it)
         self.assertEqual(re.findall(r"- id: ([\w-]+)", text), names)

@@ -10,7 +10,7 @@ import unittest
 
 import programs
 import test_library
-from programs import ROOT, Folder, run
+from programs import ROOT, Folder, run, text_of, write_file
 
 PAGES = ROOT + "/share/man/man1/"
 PAGE = PAGES + "pgn_tool.1"
@@ -36,11 +36,6 @@ compadd() {
 """
 # What a shell says of a process that a signal ended: 11, or 6, which Rust sends itself.
 KILLED = (-11, 128 + 11, -6, 128 + 6)
-
-
-def text_of(file):
-    with open(file, encoding="utf-8") as lines:
-        return lines.read()
 
 
 def reasons():
@@ -175,8 +170,7 @@ class Page(Shell):
         programs.need("parallel")
         block = re.search(r"^\$ (parallel .*?)^\.Ed", text_of(PAGE), re.M | re.S)[1]
         game = '[Event "x"]\n\n1. e4 {a word} e5 *\n\n'
-        with open(self.folder + "/games.pgn", "w", encoding="utf-8") as file:
-            file.write(game * 2000)
+        write_file(self.folder + "/games.pgn", game * 2000)
         command = block.replace("\\e", "\\").replace("10M", "10k")
         ran = self.shell(command)
         self.assertEqual((ran.returncode, ran.stdout), (0, b""), ran.stderr)
@@ -213,8 +207,7 @@ class LibraryPage(Folder, unittest.TestCase):
         programs.need("cc")
         text, said = re.findall(r"^\.Bd -literal.*?\n(.*?)^\.Ed", self.section("EXAMPLES"),
                                 re.M | re.S)
-        with open(self.folder + "/example.c", "w", encoding="ascii") as file:
-            file.write(text)
+        write_file(self.folder + "/example.c", text)
         ran = run(["cc", "-std=c99", "-Wall", "-Wextra", "-Werror", "example.c", "-o", "example",
                    "-I%s/crates/pgn_c" % ROOT, programs.need_library("--cargo")], cwd=self.folder)
         self.assertEqual((ran.returncode, ran.stderr), (0, b""))
@@ -439,8 +432,7 @@ class Completions(Shell):
         """What zsh completes as the last word of a line: it runs on a terminal."""
         folder = programs.new_folder(self)
         open(folder + "/some games.pgn", "wb").close()
-        with open(folder + "/.zshrc", "w", encoding="ascii") as file:
-            file.write(ZSHRC % COMPLETIONS)
+        write_file(folder + "/.zshrc", ZSHRC % COMPLETIONS)
         env = dict(os.environ, ZDOTDIR=folder, TERM="xterm")
         ours, its = pty.openpty()
         with subprocess.Popen(["zsh", "-d", "-i"], stdin=its, stdout=its, stderr=its, env=env,
@@ -455,8 +447,7 @@ class Completions(Shell):
                 while os.read(ours, 4096):
                     pass
         os.close(ours)
-        with open(folder + "/words", encoding="utf-8") as file:
-            return sorted(set(file.read().split("\n")) - {""})
+        return sorted(set(text_of(folder + "/words").split("\n")) - {""})
 
     def test_zsh_for_the_scripts(self):
         programs.need("zsh")

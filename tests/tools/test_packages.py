@@ -10,7 +10,7 @@ import unittest
 import zipfile
 
 import programs
-from programs import ROOT, Folder, run
+from programs import ROOT, Folder, bytes_of, run, text_of, write_file
 
 PACKAGES = ("libpgn-c-dev", "libpgn-c0", "pgn-tool", "python3-gillspoon")
 # A game, and what PGN 3.2 and 8 ask for.
@@ -91,8 +91,7 @@ class Debian(unittest.TestCase):
     def test_a_program_in_c(self):
         """It is built by what pkg-config says, with the shared library and with the static one."""
         source = self.folder + "/a.c"
-        with open(source, "w", encoding="ascii") as file:
-            file.write(SOURCE)
+        write_file(source, SOURCE)
         env = dict(os.environ, PKG_CONFIG_LIBDIR=self.libraries, PKG_CONFIG_SYSROOT_DIR=self.root)
         for number, static in enumerate(([], ["--static"])):
             words = run(["pkg-config", "--cflags", "--libs", *static, "pgn_c"], env=env).stdout
@@ -115,8 +114,7 @@ class Sources(unittest.TestCase):
     """What debian/ says beside what is built."""
 
     def test_the_build_depends_on_what_the_build_by_cargo_needs(self):
-        with open(ROOT + "/debian/control", encoding="ascii") as file:
-            control = file.read()
+        control = text_of("debian/control")
         named = re.search(r"^Build-Depends:\n((?: .*\n)+)", control, re.MULTILINE)[1]
         names = [it.strip().rstrip(",") for it in named.splitlines()]
         oldest = "%d.%d" % programs.OLDEST_CARGO
@@ -180,15 +178,13 @@ class Others(Folder, unittest.TestCase):
         with tarfile.open(path) as archive:
             self.assertEqual(sorted(archive.getnames()), sorted(
                 name + it for it in ("/pgn_tool", "/pgn_tool.1", "/LICENSE-MIT")))
-            with open(program, "rb") as file:
-                self.assertTrue(archive.extractfile(name + "/pgn_tool").read() == file.read())
+            self.assertTrue(archive.extractfile(name + "/pgn_tool").read() == bytes_of(program))
             self.assertTrue(archive.getmember(name + "/pgn_tool").mode & 0o111)
         programs.need("sha256sum")
         ran = run(["sha256sum", "-c", path + ".sha256"], cwd=self.folder)
         self.assertEqual(ran.returncode, 0, ran.stderr)
-        with open(path, "rb") as file:
-            self.assertIn(hashlib.sha256(file.read()).hexdigest(),
-                          self.get(os.path.basename(path) + ".sha256").decode())
+        self.assertIn(hashlib.sha256(bytes_of(path)).hexdigest(),
+                      self.get(os.path.basename(path) + ".sha256").decode())
 
     def test_the_wheel(self):
         wheel = self.dist.loaded("python/build_wheel.py")

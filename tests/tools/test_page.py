@@ -16,7 +16,7 @@ import damage
 import programs
 from browser import Browser
 from documents import lines_of
-from programs import PACKERS, ROOT, need_program, run
+from programs import PACKERS, ROOT, bytes_of, need_program, run, text_of, write_file
 from spellings import DOUBTFUL, LEFT, SAFE, UNSAFE
 from test_fix import damaged
 from test_library import c_structs
@@ -226,8 +226,7 @@ class Case(unittest.TestCase):
 
 
 def example(name):
-    with open("%s/examples/%s.pgn" % (ROOT, name), "rb") as file:
-        return file.read()
+    return bytes_of("examples/%s.pgn" % name)
 
 
 class Vectors(Case):
@@ -558,8 +557,7 @@ class Large(Case):
     def test_long_game(self):
         """A game that is longer than the parts in which a file is read, and one behind it."""
         self.archive = self.folder + "/long.pgn"
-        with open(self.archive, "wb") as file:
-            file.write(b"1. e4 {" + b"word " * 2000000 + b"} *\n1. d4 *\n")
+        write_file(self.archive, b"1. e4 {" + b"word " * 2000000 + b"} *\n1. d4 *\n")
         self.page()
         self.open_path(self.archive)
         self.assertEqual(self.browser.wait_for(IS_SHOWN), "done")
@@ -588,8 +586,7 @@ class Files(Case):
         self.path = self.folder + "/in.pgn"
 
     def put(self, text):
-        with open(self.path, "wb") as file:
-            file.write(text)
+        write_file(self.path, text)
 
     def convert_again(self):
         """Chooses another format, for which the file is read again."""
@@ -1547,8 +1544,7 @@ class Rest(Case):
     def told_by_lint(self, text, *words):
         """What gillspoon lint writes for a file a.pgn."""
         with tempfile.TemporaryDirectory() as folder:
-            with open(folder + "/a.pgn", "wb") as file:
-                file.write(text)
+            write_file(folder + "/a.pgn", text)
             ran = run([ROOT + "/bin/gillspoon", "lint", *words, "a.pgn"], cwd=folder)
         self.assertEqual(ran.stderr, b"")
         return ran.stdout.decode()
@@ -1659,8 +1655,7 @@ class Rest(Case):
         self.assertEqual(name, "games.faults.txt")
         with tempfile.TemporaryDirectory() as folder:
             for name, text in files:
-                with open(folder + "/" + name, "wb") as file:
-                    file.write(text)
+                write_file(folder + "/" + name, text)
             told = run([ROOT + "/bin/gillspoon", "lint", "--quiet", "a.pgn", "b.pgn"], cwd=folder)
         self.assertEqual((told.returncode, told.stderr), (1, b""))
         self.assertEqual(lines.decode().split("\n"), told.stdout.decode().split("\n"))
@@ -1725,13 +1720,10 @@ class Rest(Case):
 
     def check_sieve(self, text):
         with self.subTest(text[:60]), tempfile.TemporaryDirectory() as folder:
-            with open(folder + "/in.pgn", "wb") as file:
-                file.write(text)
+            write_file(folder + "/in.pgn", text)
             run(["bin/gillspoon", "sieve", *(folder + it for it in ("/in.pgn", "/good", "/bad"))])
-            with open(folder + "/good", "rb") as file:
-                good = file.read()
-            with open(folder + "/bad", "rb") as file:
-                bad = file.read()
+            good = bytes_of(folder + "/good")
+            bad = bytes_of(folder + "/bad")
             if self.convert(("in.pgn", text)) == "refused":
                 self.browser.run(CLICK, "go-on-always")
                 self.browser.wait_for(IS_SHOWN.replace(".shown", ".shown === 'done'"))
@@ -1942,12 +1934,10 @@ class Builder(unittest.TestCase):
 
     def test_another_module(self):
         """The page then says that nothing of it is proved."""
-        with open(self.folder + "/module", "wb") as file:
-            file.write(b"\0asm\1\0\0\0")
+        write_file(self.folder + "/module", b"\0asm\1\0\0\0")
         out = self.folder + "/page.html"
         self.assertEqual(self.build("--module", self.folder + "/module", out)[0], 0)
-        with open(out, encoding="utf-8") as file:
-            text = file.read()
+        text = text_of(out)
         self.assertIn("Nothing of it is proved.", text)
         self.assertIn(as_text(b"\0asm\1\0\0\0"), text)
         # nothing in the page is fetched from elsewhere
@@ -1966,14 +1956,12 @@ class Builder(unittest.TestCase):
         for name in os.listdir(ROOT + "/page"):
             if os.path.isfile(ROOT + "/page/" + name):
                 shutil.copy(ROOT + "/page/" + name, copy + "/page")
-        with open(copy + "/bin/to_cargo", "w", encoding="utf-8") as file:
-            file.write("import os, sys\nos.makedirs(sys.argv[1], exist_ok=True)\n")
+        write_file(copy + "/bin/to_cargo", "import os, sys\nos.makedirs(sys.argv[1], exist_ok=True)\n")
         words = [sys.executable, copy + "/bin/build_page", "--cargo", copy + "/page.html"]
         env = {"PATH": copy + "/commands:/usr/bin:/bin"}
 
         def command(name, script):
-            with open("%s/commands/%s" % (copy, name), "w", encoding="utf-8") as file:
-                file.write("#!/bin/sh\n" + script)
+            write_file("%s/commands/%s" % (copy, name), "#!/bin/sh\n" + script)
             os.chmod("%s/commands/%s" % (copy, name), 0o755)
 
         command("rustc", "echo %s/none\n" % copy)
@@ -1993,33 +1981,28 @@ class Builder(unittest.TestCase):
 target" ] && mkdir -p target/wasm32-unknown-unknown/release &&
             printf '\\0asm\\1\\0\\0\\0' >target/wasm32-unknown-unknown/release/pgn_c.wasm\n""")
         self.assertEqual(run(words, env=env).returncode, 0)
-        with open(copy + "/page.html", encoding="utf-8") as file:
-            text = file.read()
+        text = text_of(copy + "/page.html")
         self.assertIn("Nothing of this page is proved.", text)
         self.assertNotIn("A prover has checked", text)
         self.assertIn(as_text(b"\0asm\1\0\0\0"), text)
 
     def test_order(self):
         """Each part of a script is behind those that it imports: constants are made of theirs."""
-        with open(self.folder + "/module", "wb") as file:
-            file.write(b"\0asm\1\0\0\0")
+        write_file(self.folder + "/module", b"\0asm\1\0\0\0")
         out = self.folder + "/page.html"
         self.assertEqual(self.build("--module", self.folder + "/module", out)[0], 0)
-        with open(out, encoding="utf-8") as file:
-            scripts = re.findall(r'<script(?: type="text/plain" id="worker")?>(.*?)</script>',
-                                 file.read(), re.S)
+        scripts = re.findall(r'<script(?: type="text/plain" id="worker")?>(.*?)</script>',
+                             text_of(out), re.S)
         orders = [re.findall(r"(?m)^// ---- (\w+)$", it) for it in scripts]
         self.assertEqual([it[-1] for it in orders if it], ["worker", "app"])
         for order in orders:
             for at, name in enumerate(order):
-                with open("%s/page/%s.js" % (ROOT, name), encoding="utf-8") as file:
-                    imports = re.findall(r'(?m) from "\./(\w+)\.js";$', file.read())
+                imports = re.findall(r'(?m) from "\./(\w+)\.js";$', text_of("page/%s.js" % name))
                 self.assertLessEqual(set(imports), set(order[:at]), name)
 
     def test_structs(self):
         """Those of the JavaScript are those of the header, but for calls that it does not make."""
-        with open(ROOT + "/page/module.js", encoding="utf-8") as file:
-            text = re.search(r"STRUCTS = \{(.*?)\n\};", file.read(), re.S)[1]
+        text = re.search(r"STRUCTS = \{(.*?)\n\};", text_of("page/module.js"), re.S)[1]
         header = c_structs()
         found = dict(re.findall(r"^  (\w+): \[(.*?)\],?$(?=\n  \w|\Z)", text, re.S | re.M))
         not_called = {"pgn_plies", "pgn_result"}

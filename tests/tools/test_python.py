@@ -29,8 +29,8 @@ from unittest import mock
 sys.path.insert(0, os.path.dirname(os.path.realpath(__file__)))
 import programs
 from documents import blocks_of, lines_of, samples, table
-from programs import (PACKAGE, PACKERS, ROOT, archive, library, need, need_program, not_tried, run,
-                      vectors, zip_of)
+from programs import (PACKAGE, PACKERS, ROOT, archive, bytes_of, library, need, need_program,
+                      not_tried, run, text_of, vectors, write_file, zip_of)
 from test_sieve import BAD, sound
 
 # Debian's, which has the modules of Debian's packages.
@@ -1187,8 +1187,7 @@ class Pickled(unittest.TestCase):
 
 class Faults(Folder):
     def test_attributes(self):
-        with open(ROOT + "/examples/no-such-move.pgn", "rb") as file:
-            data = file.read()
+        data = bytes_of("examples/no-such-move.pgn")
         fault = fault_of(gillspoon.PgnFault, list, gillspoon.games(data))
         self.assertEqual(str(fault), "line 4, column 37: move is not legal: Bd4 "
                                      "(game 1, Nowak, A. - Silva, J.)")
@@ -1812,11 +1811,9 @@ class Sieve(Folder):
         found = seen(path)
         games = [it for it in found if len(it) == 7]
         faults = [it for it in found if len(it) == 13]
-        with open(good, "rb") as kept:
-            self.assertEqual(b"".join(it[6] for it in games), kept.read())
-        with open(bad, "rb") as set_aside:
-            notes = re.findall(rb"(?m)^% byte (\d+): (.*); line (\d+)\n% bytes (\d+) to (\d+),",
-                               set_aside.read())
+        self.assertEqual(b"".join(it[6] for it in games), bytes_of(good))
+        notes = re.findall(rb"(?m)^% byte (\d+): (.*); line (\d+)\n% bytes (\d+) to (\d+),",
+                           bytes_of(bad))
         told = [(int(offset), reason.decode(), int(line), int(begin), int(end))
                 for offset, reason, line, begin, end in notes]
         # a byte order mark between games is a fault, and no bad game
@@ -2258,8 +2255,7 @@ class Wheel(Folder):
         ran = run([python, "-c", text], env=env, cwd=self.folder)
         folder = os.path.dirname(programs_of)
         self.assertEqual(ran.stdout.decode().count(folder + "/lib/"), 2, ran.stderr)
-        with open(ROOT + "/README.md", encoding="utf-8") as file:
-            self.assertIn("import gillspoon\nfor game in gillspoon.games(", file.read())
+        self.assertIn("import gillspoon\nfor game in gillspoon.games(", text_of("README.md"))
         text = "import gillspoon; print(gillspoon.__version__)"
         ran = run([python, "-c", text], env=env, cwd=self.folder)
         self.assertEqual(ran.stdout.decode(), gillspoon.__version__ + "\n", ran.stderr)
@@ -2360,8 +2356,7 @@ class Typed(unittest.TestCase):
                    "next(gillspoon.games(path)).result = '1-0'", "line.plies[0].nags = [1]")
         lines += [*changes, *("read(%s, bad.append)" % it for it in bad)]
         with tempfile.TemporaryDirectory() as folder:
-            with open(folder + "/caller.py", "w", encoding="utf-8") as file:
-                file.write("\n".join(lines) + "\n")
+            write_file(folder + "/caller.py", "\n".join(lines) + "\n")
             ran = run(["mypy", "--strict", "--cache-dir", folder + "/cache", folder + "/caller.py"],
                       env=dict(os.environ, PATH=programs.PATH, MYPYPATH=PACKAGE))
         told = re.findall(r"(?m)^.*caller\.py:(\d+): error", ran.stdout.decode())
@@ -2414,8 +2409,7 @@ class Documents(Folder):
         super().setUp()
         text = b""
         for name in ("annotated", "one-bad-game"):
-            with open("%s/examples/%s.pgn" % (ROOT, name), "rb") as file:
-                text += file.read()
+            text += bytes_of("examples/%s.pgn" % name)
         need("zstd")
         self.assertEqual(run(["zstd", "-q", self.put("games.pgn", text)]).returncode, 0)
         shutil.copytree(ROOT + "/examples", self.folder + "/examples")
@@ -2470,8 +2464,7 @@ class Documents(Folder):
     def test_there_are_ten_recipes(self):
         lines = lines_of("docs/PYTHON.md")
         self.assertGreaterEqual(sum(it.startswith("### ") for it in lines), 10)
-        with open(__file__, encoding="utf-8") as file:
-            tested = set(re.findall(r'self\.(?:whole_)?sample\("(.*?)"', file.read()))
+        tested = set(re.findall(r'self\.(?:whole_)?sample\("(.*?)"', text_of(__file__)))
         self.assertEqual({it[4:] for it in lines if it.startswith("### ")} - tested, set())
 
     def test_filter(self):
@@ -2481,8 +2474,7 @@ class Documents(Folder):
 
     def test_an_older_output_is_kept(self):
         """Every sample that writes a file does so when its input was read."""
-        with open(ROOT + "/docs/PYTHON.md", encoding="utf-8") as file:
-            parts = re.split(r"(?m)^### (.*)$", file.read())
+        parts = re.split(r"(?m)^### (.*)$", text_of("docs/PYTHON.md"))
         writing = {head: re.findall(r'"(\w+\.pgn)"[,)]', text) for head, text
                    in zip(parts[1::2], parts[2::2]) if '"wb"' in text}
         self.assertGreater(len(writing), 2)

@@ -5,7 +5,7 @@ import shutil
 import unittest
 
 import programs
-from programs import ROOT, Folder, run
+from programs import ROOT, Folder, run, text_of
 
 RECIPES = ROOT + "/docs/RECIPES.md"
 
@@ -59,8 +59,7 @@ class Recipe(Folder, unittest.TestCase):
 
 class Whole(Recipe):
     def test_every_block_has_a_test(self):
-        with open(os.path.realpath(__file__), encoding="utf-8") as lines:
-            text = lines.read()
+        text = text_of(os.path.realpath(__file__))
         for title, blocks in sections().items():
             for number in range(len(blocks)):
                 call = r'(recipe|mend)\(\s*"%s"' % re.escape(title)

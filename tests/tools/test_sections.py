@@ -8,7 +8,7 @@ import random
 import unittest
 
 import section_rule
-from programs import ROOT, archive, need_package, vectors
+from programs import ROOT, archive, bytes_of, need_package, vectors
 
 SEED = 20261128
 MUTATIONS = 10000
@@ -29,8 +29,7 @@ def setUpModule():
 def texts():
     """The texts without mutations. Of a long one the rule reads the front."""
     for name in sorted(glob.glob(ROOT + "/fuzz/corpus/*") + glob.glob(ROOT + "/examples/*.pgn")):
-        with open(name, "rb") as file:
-            yield file.read()
+        yield bytes_of(name)
     for row in vectors():
         if "input" in row:
             yield row["input"].encode()

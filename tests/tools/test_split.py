@@ -4,8 +4,7 @@ import subprocess
 import tempfile
 import unittest
 
-from programs import (HEAD, Folder, files_up_to, full_device, need_program, run,
-                      without_rights)
+from programs import HEAD, Folder, files_up_to, full_device, need_program, run, without_rights
 
 UNKNOWN = HEAD + b"*\n\n"
 UNWRITTEN = b"byte %d: output cannot be written\n"

@@ -5,7 +5,7 @@ import subprocess
 import threading
 import unittest
 
-from programs import (HEAD, Folder, full_device, need, need_program, not_tried,
+from programs import (HEAD, Folder, bytes_of, full_device, need, need_program, not_tried,
                       opens_closed_streams, run, without_rights)
 
 UNKNOWN = HEAD + b"*\n\n"
@@ -104,8 +104,7 @@ class StreamTest(Folder, unittest.TestCase):
         os.mkdir(games)
         self.check(self.closing("2>&-", "split", games, path), 1, b"", b"")
         for name, text in (("000001.pgn", UNKNOWN), ("000002.pgn", HEAD)):
-            with open(os.path.join(games, name), "rb") as file:
-                self.assertEqual(file.read(), text)
+            self.assertEqual(bytes_of(os.path.join(games, name)), text)
 
     def test_reader_that_stops_early(self):
         text = b"*\n" * 20000

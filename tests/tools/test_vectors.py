@@ -8,7 +8,7 @@ import sys
 import unittest
 
 import programs
-from programs import ROOT, run
+from programs import ROOT, bytes_of, run, text_of, write_file
 
 DATA = ("vectors", "crates/pgn_vectors/src", "crates/pgn_game/src/reason.rt", "bin/write_vectors",
         "bin/pgn_conform", "bin/build_program", "python/gillspoon",
@@ -45,14 +45,12 @@ class Copy:
             copy(os.path.join(ROOT, path), to)
 
     def text(self, file):
-        with open(os.path.join(self.root, file), encoding="utf-8") as lines:
-            return lines.read()
+        return text_of(os.path.join(self.root, file))
 
     def change(self, file, old, new):
         text = self.text(file)
         assert old in text, (file, old)
-        with open(os.path.join(self.root, file), "w", encoding="utf-8") as lines:
-            lines.write(text.replace(old, new, 1))
+        write_file(os.path.join(self.root, file), text.replace(old, new, 1))
 
     def run(self, *words):
         ran = run([sys.executable, self.root + "/bin/write_vectors", *words], cwd=self.root)
@@ -75,14 +73,12 @@ class Files(unittest.TestCase):
         rows = []
         for file in glob.glob(ROOT + "/vectors/*.toml"):
             theme = os.path.basename(file)[:-5]
-            with open(file, encoding="utf-8") as lines:
-                rows += [theme] * lines.read().count(".rows]]\nname = ")
+            rows += [theme] * text_of(file).count(".rows]]\nname = ")
         self.assertGreater(len(rows), 250)
         self.assertEqual(sorted(rows), sorted(it["theme"] for it in programs.vectors()))
 
     def test_numbers_and_words_are_those_of_the_fault_table(self):
-        with open(ROOT + "/docs/PROFILE.md", encoding="utf-8") as lines:
-            rows = re.findall(r"^\| (\d+) \|.*?\|.*?\| `([^`]+)` \|", lines.read(), re.MULTILINE)
+        rows = re.findall(r"(?m)^\| (\d+) \|.*?\|.*?\| `([^`]+)` \|", text_of("docs/PROFILE.md"))
         words = {int(number): text for number, text in rows}
         self.assertGreater(len(words), 35)
         faults = [it["fault"] for it in programs.vectors() if "fault" in it]
@@ -151,8 +147,7 @@ class Writer(unittest.TestCase):
     def test_a_theme_and_a_table_are_added_in_one_place(self):
         copy = Copy(self)
         text = 'shows = "More."\n\n[words]\nshows = "Words."\n\n' + ONE_MORE
-        with open(copy.root + "/vectors/more.toml", "w", encoding="utf-8") as file:
-            file.write(text.replace("few_tokens", "words"))
+        write_file(copy.root + "/vectors/more.toml", text.replace("few_tokens", "words"))
         self.assertEqual(copy.run()[0], 0)
         self.assertIn("more.one-more", copy.vectors())
         themes = copy.text("crates/pgn_vectors/src/themes.rt")
@@ -303,8 +298,7 @@ class Conform(unittest.TestCase):
             wanted[vector["file"] + ".out"] = vector["output"].encode()
         found = {}
         for name in os.listdir(folder):
-            with open(os.path.join(folder, name), "rb") as file:
-                found[name] = file.read()
+            found[name] = bytes_of(os.path.join(folder, name))
         self.assertEqual(found, wanted)
         self.assertEqual(found["faults.2-in-movetext.in"], b"e4 \x01")
 
@@ -313,8 +307,7 @@ class Conform(unittest.TestCase):
         said = run(["pgn-extract", "--version"])
         if b"v19-04" not in said.stdout + said.stderr:
             programs.not_tried("the table of pgn-extract is that of another version")
-        with open(ROOT + "/vectors/README.md", encoding="utf-8") as lines:
-            text = lines.read()
+        text = text_of("vectors/README.md")
         command = re.search(r"^bin/pgn_conform --refusal (?:.*\\\n)*.*$", text, re.MULTILINE)[0]
         ran = run(["sh", "-c", command])
         self.assertEqual(ran.returncode, 1)
@@ -377,12 +370,10 @@ class Conform(unittest.TestCase):
         """The status is 3, and what is there stays as it is."""
         folder = programs.new_folder(self)
         old = folder + "/limits.tag-pairs.in"
-        with open(old, "w", encoding="ascii") as file:
-            file.write("old")
+        write_file(old, "old")
         ran = run(["bin/pgn_conform", "--files", folder], preexec_fn=programs.files_up_to(64))
         self.assertEqual((ran.returncode, ran.stdout, ran.stderr.count(b"\n")), (3, b"", 1))
-        with open(old, encoding="ascii") as file:
-            self.assertEqual((os.listdir(folder), file.read()), (["limits.tag-pairs.in"], "old"))
+        self.assertEqual((os.listdir(folder), text_of(old)), (["limits.tag-pairs.in"], "old"))
         ran = run(["bin/pgn_conform", "--files", old])
         self.assertEqual((ran.returncode, ran.stdout, ran.stderr.count(b"\n")), (3, b"", 1))
 
