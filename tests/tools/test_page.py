@@ -3,6 +3,7 @@
 Each state that is compared here is also written as a picture, to page/out/pictures.
 """
 import base64
+import functools
 import json
 import os
 import random
@@ -46,6 +47,7 @@ EDGES = [
 # Scripts that the tests run in the page.
 IS_READY = ("return document.documentElement.dataset.state === 'ready' || "
             "!document.getElementById('unable').hidden")
+FORGET = "delete document.getElementById('work').dataset.shown;"
 IS_SHOWN = "return document.getElementById('work').dataset.shown"
 TEXT = "return document.getElementById(arguments[0]).innerText"
 IS_VISIBLE = "return document.getElementById(arguments[0]).offsetParent !== null"
@@ -157,7 +159,13 @@ def need_page():
 class Case(unittest.TestCase):
     """A test with the page in a browser."""
 
+    @functools.cached_property
+    def browser(self):
+        """The window, which is opened when it is first asked for."""
+        return self.page()
+
     def page(self, *flags, **more):
+        """Opens the page in a window with these flags and this size."""
         address = need_page()
         self.browser = Browser(self, *flags, **more)
         self.browser.get(address)
@@ -171,13 +179,25 @@ class Case(unittest.TestCase):
 
     def open_path(self, path):
         """Opens a file by its path, as a person does by a dialog."""
-        self.browser.run("delete document.getElementById('work').dataset.shown")
+        self.browser.run(FORGET)
         self.browser.open_file(path)
 
+    def converted_from(self, path):
+        """Opens a file by its path, and gives the state at the end of the conversion."""
+        self.open_path(path)
+        return self.browser.wait_for(IS_SHOWN)
+
     def paste(self, text):
-        self.browser.run("delete document.getElementById('work').dataset.shown")
         self.set("paste", text)
-        self.browser.run(CLICK, "convert-paste")
+        return self.converted_by("#convert-paste")
+
+    def converted_by(self, selector, *keys):
+        """The state at the end of the conversion that a click or keys on an element begin."""
+        self.browser.run(FORGET)
+        if keys:
+            self.press_at(selector, *keys)
+        else:
+            self.click(selector)
         return self.browser.wait_for(IS_SHOWN)
 
     def press(self, *keys):
@@ -213,6 +233,45 @@ class Case(unittest.TestCase):
         return self.browser.run(
             "return [...document.querySelectorAll('#list tr')].map(row => "
             "[...row.cells].map(cell => cell.innerText))")
+
+    def assertText(self, identity, wanted):
+        self.assertEqual(self.text(identity), wanted)
+
+    def texts(self, selector):
+        """What is shown in each element of a selector."""
+        return self.browser.run("return [...document.querySelectorAll(arguments[0])]"
+                                ".map(it => it.innerText)", selector)
+
+    def value(self, identity, name="value"):
+        """What an element has by a name: of a field its text."""
+        return self.browser.run("return document.getElementById(arguments[0])[arguments[1]]",
+                                identity, name)
+
+    def press_at(self, selector, *keys):
+        """Presses keys while the first element of a selector has the focus."""
+        self.browser.run("document.querySelector(arguments[0]).focus()", selector)
+        self.press(*keys)
+
+    def click(self, selector, number=0):
+        """Clicks an element of a selector, which are counted from 0."""
+        self.browser.run("document.querySelectorAll(arguments[0])[arguments[1]].click()", selector,
+                         number)
+
+    def open_game(self, selector, number=0):
+        """Clicks a button of a list, which shows a game."""
+        self.click(selector, number)
+        self.browser.wait_for("return !document.getElementById('game').hidden")
+
+    def phone(self, width, height, scale):
+        """Opens the page in a window of a phone."""
+        self.page(size=(width, height))
+        self.browser.command("Emulation.setDeviceMetricsOverride", width=width, height=height,
+                             deviceScaleFactor=scale, mobile=True)
+
+    def colours(self, scheme):
+        """Has the page shown in dark or light colours, as its reader wants it."""
+        self.browser.command("Emulation.setEmulatedMedia",
+                             features=[{"name": "prefers-color-scheme", "value": scheme}])
 
     def picture(self, name):
         os.makedirs(PICTURES, exist_ok=True)
@@ -251,7 +310,6 @@ class Vectors(Case):
 
     def test_page(self):
         """The same through the page, which keeps nothing of the game at fault."""
-        self.page()
         mode = "full"
         for vector in programs.vectors():
             if vector["mode"] != mode:
@@ -270,7 +328,7 @@ class Vectors(Case):
             place, reason = re.fullmatch(r"byte (\d+): (.*)", fault["message"]).groups()
             self.assertRegex(told[1], r"\(byte %s[,)].*: %s$" % (place, re.escape(reason)))
         else:
-            self.assertEqual(self.text("counts"), "%d %s, %d %s." % (
+            self.assertText("counts", "%d %s, %d %s." % (
                 vector["games"], "game" if vector["games"] == 1 else "games",
                 vector["plies"], "ply" if vector["plies"] == 1 else "plies"))
         games = self.downloaded("download")
@@ -286,33 +344,28 @@ class Vectors(Case):
 
 class States(Case):
     def test_empty(self):
-        self.page()
         self.picture("empty")
         for part in ("work", "faults", "result", "unable"):
             self.assertFalse(self.browser.run(IS_VISIBLE, part), part)
-        self.assertEqual(self.text("privacy"),
-                         "Nothing leaves your browser. This page makes no request. It works from a "
-                         "disk, and without a network.")
+        self.assertText("privacy", "Nothing leaves your browser. This page makes no request. It "
+                        "works from a disk, and without a network.")
         self.assertQuiet()
 
     def test_what_is_proved(self):
-        self.page()
         is_of_rt = self.browser.await_script(IS_WIDE)["value"]
-        self.assertEqual(
-            self.text("proved"),
+        self.assertText("proved", (
             "A prover has checked, for every text, that the converter inside this page keeps the "
             "promises of the library for C. That holds of the form that the Rattle toolchain wrote. "
             "Another tool then adapts it to more browsers and optimizes it. This step and the "
             "JavaScript of the page are tested, not proved." if is_of_rt else
             "Cargo compiled the converter inside this page from the proved sources, without their "
-            "contracts. Nothing of this page is proved.")
+            "contracts. Nothing of this page is proved."))
 
     def test_converted(self):
-        self.page()
         self.convert(("annotated.pgn", example("annotated")), ("two.pgn", example("two-games")))
         self.picture("converted")
         self.assertRegex(self.text("work"), r"^Progress\nDone, after \d+\.\d s\.$")
-        self.assertEqual(self.text("counts"), "3 games, 7 plies.")
+        self.assertText("counts", "3 games, 7 plies.")
         self.assertEqual(self.rows(), [
             ["annotated.pgn"], ["1", "Silva, J.", "Nowak, A.", "1-0", "7"],
             ["two.pgn"], ["1", "Amaral, Rita", "Okafor, Ben", "1-0", "0"],
@@ -320,19 +373,16 @@ class States(Case):
         readme = "\n".join(lines_of("README.md"))
         first = re.search(r"\$ pgn_tool export examples/annotated\.pgn\n(.*?\n\n.*?\n\n)```",
                           readme, re.S)[1]
-        shown = self.browser.run("return document.getElementById('export').textContent")
+        shown = self.value("export", "textContent")
         self.assertTrue(shown.startswith(first))
-        self.browser.run("document.querySelector('#list button').click()")
-        self.browser.wait_for("return !document.getElementById('game').hidden")
-        self.assertEqual(self.text("game-title"), "Game 1 of annotated.pgn")
-        self.assertEqual(
-            self.browser.run("return document.getElementById('game-text').textContent"), first)
+        self.open_game("#list button")
+        self.assertText("game-title", "Game 1 of annotated.pgn")
+        self.assertEqual(self.value("game-text", "textContent"), first)
         name, text = self.download("download")
         self.assertEqual((name, text.decode()), ("games.export.pgn", shown))
         self.assertQuiet()
 
     def test_fault(self):
-        self.page()
         self.convert(("one-bad-game.pgn", example("one-bad-game")))
         self.picture("fault")
         self.assertEqual(self.text("fault").split("\nThe position in words")[0], "\n".join([
@@ -351,11 +401,11 @@ class States(Case):
             "White: king e1; queen d1; rooks a1, h1; bishops c1, f1; knights b1, g1; pawns a2, b2, "
             "c2, d2, f2, g2, h2, e4. Black: king e8; queen d8; rooks a8, h8; bishops c8, f8; "
             "knights b8, g8; pawns e5, a7, b7, c7, d7, f7, g7, h7. White to move."))
-        self.assertEqual(self.text("counts"), "1 game, 4 plies.")
-        self.assertEqual(self.text("go-on"), "Skip this game Skip every bad game")
+        self.assertText("counts", "1 game, 4 plies.")
+        self.assertText("go-on", "Skip this game Skip every bad game")
         self.browser.run(CLICK, "go-on-once")
         self.browser.wait_for("return document.getElementById('work').dataset.shown === 'done'")
-        self.assertEqual(self.text("counts"), "2 games, 5 plies; 1 bad game set aside.")
+        self.assertText("counts", "2 games, 5 plies; 1 bad game set aside.")
         name, text = self.download("download-bad")
         self.assertEqual(name, "one-bad-game.bad.pgn")
         self.assertIn(b"2. Bd4", text)
@@ -363,8 +413,7 @@ class States(Case):
 
     def test_dark(self):
         self.page("--force-dark-mode")
-        self.browser.command("Emulation.setEmulatedMedia",
-                             features=[{"name": "prefers-color-scheme", "value": "dark"}])
+        self.colours("dark")
         self.convert(("one-bad-game.pgn", example("one-bad-game")))
         self.picture("dark")
         shades = self.browser.run(
@@ -375,37 +424,31 @@ class States(Case):
 
     def test_no_module(self):
         """A browser without one of the things that the page needs."""
-        self.page()
         for lacking in ("Worker", "BigInt", "WebAssembly"):
             identifier = self.browser.command("Page.addScriptToEvaluateOnNewDocument",
                                               source="delete window.%s" % lacking)["identifier"]
             self.browser.get(need_page())
             self.browser.wait_for(IS_READY)
             self.browser.command("Page.removeScriptToEvaluateOnNewDocument", identifier=identifier)
-            self.assertEqual(
-                self.text("unable"),
-                "This browser cannot run the converter: it has no %s. Use a newer browser, or the "
-                "program pgn_tool." % lacking.replace("Worker", "workers"))
+            self.assertText("unable", "This browser cannot run the converter: it has no %s. Use a "
+                            "newer browser, or the program pgn_tool."
+                            % lacking.replace("Worker", "workers"))
             self.assertFalse(self.browser.run(IS_VISIBLE, "main"))
         self.picture("no-module")
 
     def test_module_is_refused(self):
         """A browser that has WebAssembly, and does not take this module."""
-        self.page()
         self.browser.command("Page.addScriptToEvaluateOnNewDocument", source=(
             "WebAssembly.instantiate = () => Promise.reject(new Error('no BigInt in calls'))"))
         self.browser.get(need_page())
         self.browser.wait_for(IS_READY)
-        self.assertEqual(
-            self.text("unable"),
-            "This browser cannot run the converter: its WebAssembly does not take this module (no "
-            "BigInt in calls). Use a newer browser, or the program pgn_tool.")
+        self.assertText("unable", "This browser cannot run the converter: its WebAssembly does "
+                        "not take this module (no BigInt in calls). Use a newer browser, or the "
+                        "program pgn_tool.")
         self.assertFalse(self.browser.run(IS_VISIBLE, "main"))
 
     def test_phone(self):
-        self.page(size=(360, 740))
-        self.browser.command("Emulation.setDeviceMetricsOverride", width=360, height=740,
-                             deviceScaleFactor=2, mobile=True)
+        self.phone(360, 740, 2)
         self.convert(("one-bad-game.pgn", example("one-bad-game")))
         self.picture("phone")
         wide = self.browser.run(
@@ -416,23 +459,18 @@ class States(Case):
 
     def test_phone_with_long_names(self):
         """The page is as wide as the window, and of each game the result and the plies are seen."""
-        self.page(size=(390, 844))
-        self.browser.command("Emulation.setDeviceMetricsOverride", width=390, height=844,
-                             deviceScaleFactor=1, mobile=True)
+        self.phone(390, 844, 1)
         name = "Wolfeschlegelsteinhausenbergerdorff"
         tags = '[White "%s, Hubert Blaine"]\n[Black "%s"]\n' % (name, name)
         text = tags + '[Termination "forfeit"]\n\n1. e4 *\n\n' + 2 * (tags + "\n1. e2-e4 *\n\n")
         file = "archive-of-%s-and-others.pgn" % (3 * name)
         self.convert((file, text.encode()), ("a%s.zip" % file, b"PK\3\4"))
-        self.browser.run("delete document.getElementById('work').dataset.shown;"
-                         "document.getElementById('go-on-always').click()")
-        self.assertEqual(self.browser.wait_for(IS_SHOWN), "done")
+        self.assertEqual(self.converted_by("#go-on-always"), "done")
         self.browser.run(CLICK, "mend")
         self.browser.wait_for(
             "return document.getElementById('mending').dataset.state === 'listed'")
-        self.browser.run("document.querySelectorAll('details').forEach(it => it.open = true);"
-                         "document.querySelector('#list button').click()")
-        self.browser.wait_for("return !document.getElementById('game').hidden")
+        self.browser.run("document.querySelectorAll('details').forEach(it => it.open = true)")
+        self.open_game("#list button")
         self.picture("phone-table")
         for part in ("chosen", "left-out", "all-faults", "mending", "notes", "list", "game"):
             self.assertTrue(self.browser.run(IS_VISIBLE, part), part)
@@ -446,12 +484,10 @@ class States(Case):
 
     def test_borders(self):
         """Those of fields, buttons and boxes have a contrast of 3:1 (WCAG 2.2, 1.4.11)."""
-        self.page()
         bad = b'[Event "x"]\n\n1. e2-e4 *\n\n'
         self.convert(("in.pgn", 2 * bad))
         for scheme in ("light", "dark"):
-            self.browser.command("Emulation.setEmulatedMedia",
-                                 features=[{"name": "prefers-color-scheme", "value": scheme}])
+            self.colours(scheme)
             found = self.browser.run(
                 "return ['textarea', 'pre', 'input[type=text]', 'select', 'button', 'fieldset',"
                 " '#drop', '.box', 'th', 'h2'].map(name => {"
@@ -465,12 +501,10 @@ class States(Case):
 
     def test_marks_on_the_board(self):
         """Each mark, or its edge, has a contrast of 3:1 with its square, and with the other."""
-        self.page()
         self.set("fen", "4r1k1/8/8/8/8/8/4N3/4K1N1 w - - 0 1")
         self.set("move", "Nc3")
         for scheme in ("light", "dark"):
-            self.browser.command("Emulation.setEmulatedMedia",
-                                 features=[{"name": "prefers-color-scheme", "value": scheme}])
+            self.colours(scheme)
             edge, marks, squares = self.browser.run(
                 "const style = getComputedStyle(document.documentElement), all = (...names) => "
                 "names.map(it => 'rgb(' + style.getPropertyValue('--' + it).match(/\\w\\w/g).map("
@@ -515,7 +549,6 @@ class Large(Case):
         program = need_program()
         size = os.path.getsize(self.archive)
         self.assertGreater(size, 19 * MEGABYTE)
-        self.page()
         self.browser.run(BEAT)
         self.open_path(self.archive)
         self.browser.wait_for("return document.getElementById('work-bar').value > 0.3")
@@ -532,19 +565,16 @@ class Large(Case):
         self.browser.run(CLICK, "next")
         self.browser.wait_for("return document.getElementById('shown').innerText === arguments[0]",
                               "Rows 51 to 100 of {:,}".format(ARCHIVE_GAMES))
-        self.assertEqual(self.browser.run("return document.querySelector('#list button').innerText"),
-                         "51")
+        self.assertEqual(self.texts("#list button")[0], "51")
         exported = run([program, "export", self.archive]).stdout
         self.assertEqual(self.download("download")[1], exported)
         self.assertQuiet()
 
     def test_stop(self):
-        self.page()
         self.open_path(self.archive)
         self.browser.wait_for("return document.getElementById('work-bar').value > 0.1 && "
                               "document.getElementById('work-text').innerText.startsWith('Conv')")
-        self.browser.run("document.getElementById('stop').focus()")
-        self.press(ENTER)
+        self.press_at("#stop", ENTER)
         self.assertEqual(self.browser.wait_for(IS_SHOWN), "stopped")
         self.assertEqual(self.focused(), "result-title")
         self.assertRegex(self.text("work-text"),
@@ -558,10 +588,8 @@ class Large(Case):
         """A game that is longer than the parts in which a file is read, and one behind it."""
         self.archive = self.folder + "/long.pgn"
         write_file(self.archive, b"1. e4 {" + b"word " * 2000000 + b"} *\n1. d4 *\n")
-        self.page()
-        self.open_path(self.archive)
-        self.assertEqual(self.browser.wait_for(IS_SHOWN), "done")
-        self.assertEqual(self.text("counts"), "2 games, 2 plies.")
+        self.assertEqual(self.converted_from(self.archive), "done")
+        self.assertText("counts", "2 games, 2 plies.")
         exported = run([need_program(), "export", self.archive]).stdout
         self.assertEqual(self.download("download")[1], exported)
 
@@ -570,12 +598,10 @@ class Large(Case):
         self.archive = self.folder + "/sparse.pgn"
         with open(self.archive, "wb") as file:
             file.truncate(5000 * MEGABYTE)
-        self.page()
-        self.open_path(self.archive)
-        self.assertEqual(self.browser.wait_for(IS_SHOWN), "failed")
-        self.assertEqual(self.text("work-text"), (
-            "sparse.pgn does not fit into the memory that the browser gives to a page. Convert it "
-            "in parts, or with the program pgn_tool, which takes under 3 MiB for any size."))
+        self.assertEqual(self.converted_from(self.archive), "failed")
+        self.assertText("work-text", "sparse.pgn does not fit into the memory that the browser "
+                        "gives to a page. Convert it in parts, or with the program pgn_tool, "
+                        "which takes under 3 MiB for any size.")
 
 
 class Files(Case):
@@ -590,94 +616,77 @@ class Files(Case):
 
     def convert_again(self):
         """Chooses another format, for which the file is read again."""
-        self.browser.run("delete document.getElementById('work').dataset.shown")
+        self.browser.run(FORGET)
         self.set("mode", "reduced")
         return self.browser.wait_for(IS_SHOWN)
 
     def test_same_file_again(self):
         """A file that was mended, and is then chosen a second time."""
         self.put(b"1. e4 e5 2. Bd4 *\n")
-        self.page()
-        self.open_path(self.path)
-        self.assertEqual(self.browser.wait_for(IS_SHOWN), "refused")
-        self.assertEqual(self.text("chosen"), "Chosen: in.pgn.")
+        self.assertEqual(self.converted_from(self.path), "refused")
+        self.assertText("chosen", "Chosen: in.pgn.")
         self.put(b"1. e4 e5 2. Bc4 *\n")
-        self.open_path(self.path)
-        self.assertEqual(self.browser.wait_for(IS_SHOWN), "done")
-        self.assertEqual(self.text("counts"), "1 game, 3 plies.")
+        self.assertEqual(self.converted_from(self.path), "done")
+        self.assertText("counts", "1 game, 3 plies.")
         self.assertIn(b"2. Bc4 *", self.download("download")[1])
 
     def test_chosen(self):
         """The names of the first files."""
-        self.page()
         self.convert(*(("%d.pgn" % it, b"1. e4 *") for it in range(7)))
-        self.assertEqual(
-            self.text("chosen"),
-            "Chosen: 0.pgn, 1.pgn, 2.pgn, 3.pgn, 4.pgn and 2 more files.")
+        self.assertText("chosen", "Chosen: 0.pgn, 1.pgn, 2.pgn, 3.pgn, 4.pgn and 2 more files.")
         self.convert(("0.pgn", b"1. e4 *"), ("1.pgn", b"1. e4 *"))
-        self.assertEqual(self.text("chosen"), "Chosen: 0.pgn, 1.pgn.")
+        self.assertText("chosen", "Chosen: 0.pgn, 1.pgn.")
         self.paste("1. e4 *")
         self.assertFalse(self.browser.run(IS_VISIBLE, "chosen"))
 
     def test_changed_file(self):
         """A file that is another one by the time it is read again."""
         self.put(b"1. e4 *\n")
-        self.page()
-        self.open_path(self.path)
-        self.assertEqual(self.browser.wait_for(IS_SHOWN), "done")
+        self.assertEqual(self.converted_from(self.path), "done")
         self.put(b"1. e4 e5 *\n")
         self.assertEqual(self.convert_again(), "failed")
-        self.assertEqual(self.text("work-text"),
-                         "in.pgn has changed since you chose it. Choose it again.")
-        self.open_path(self.path)
-        self.assertEqual(self.browser.wait_for(IS_SHOWN), "done")
-        self.assertEqual(self.text("counts"), "1 game, 2 plies.")
+        self.assertText("work-text", "in.pgn has changed since you chose it. Choose it again.")
+        self.assertEqual(self.converted_from(self.path), "done")
+        self.assertText("counts", "1 game, 2 plies.")
 
     def test_file_that_has_gone(self):
         self.put(b"1. e4 *\n")
-        self.page()
-        self.open_path(self.path)
-        self.assertEqual(self.browser.wait_for(IS_SHOWN), "done")
+        self.assertEqual(self.converted_from(self.path), "done")
         os.remove(self.path)
         self.assertEqual(self.convert_again(), "failed")
-        self.assertEqual(self.text("work-text"),
-                         "in.pgn is no longer where it was when you chose it. Choose it again.")
+        self.assertText("work-text", "in.pgn is no longer where it was when you chose it. Choose "
+                        "it again.")
 
     def test_changed_before_it_is_mended(self):
         """The search for edits reads the file too."""
         self.put(b"1. e2-e4 *\n")
-        self.page()
-        self.open_path(self.path)
-        self.assertEqual(self.browser.wait_for(IS_SHOWN), "refused")
+        self.assertEqual(self.converted_from(self.path), "refused")
         self.put(b"1. e2-e4 e5 *\n")
         self.browser.run(CLICK, "mend")
         self.browser.wait_for(
             "return document.getElementById('mending').dataset.state === 'failed'")
-        self.assertEqual(self.text("mending-text"), (
-            "The edits were not found. in.pgn has changed since you chose it. Choose it again."))
+        self.assertText("mending-text", "The edits were not found. in.pgn has changed since you "
+                        "chose it. Choose it again.")
 
     def test_the_last_choice_counts(self):
         """Games that are pasted while the page looks at files."""
-        self.page()
         self.set("paste", "1. e4 e5 *")
         self.browser.run(OPEN + "document.getElementById('convert-paste').click()",
                          [["in.pgn", as_text(b"1. e4 e5 2. Bd4 *")]])
         self.assertEqual(self.browser.wait_for(IS_SHOWN), "done")
         self.browser.await_script("await new Promise((resolve) => setTimeout(resolve, 300))")
-        self.assertEqual(self.text("counts"), "1 game, 2 plies.")
+        self.assertText("counts", "1 game, 2 plies.")
         self.assertFalse(self.browser.run(IS_VISIBLE, "chosen"))
 
     def test_unreadable(self):
         """A file that the browser has never read."""
-        self.page()
         self.browser.run("Blob.prototype.arrayBuffer = async () => {"
                          "throw new DOMException('no', 'NotReadableError'); }")
         self.assertEqual(self.convert(("in.pgn", b"1. e4 *")), "failed")
-        self.assertEqual(self.text("work-text"), "in.pgn cannot be read.")
+        self.assertText("work-text", "in.pgn cannot be read.")
 
     def test_other_kinds(self):
         """Each is known by its first bytes, and the page says what to do."""
-        self.page()
         game = b"1. e4 *\n"
         compressed = ("a is compressed with %s. Unpack it, by %s -d, and choose the file that comes "
                       "out. The command gillspoon fmt reads it as it is.")
@@ -698,16 +707,16 @@ class Files(Case):
         for text, said in rows:
             with self.subTest(said):
                 self.assertEqual(self.convert(("a", text)), "failed")
-                self.assertEqual(self.text("left-out"), said)
-                self.assertEqual(self.text("work-text"), "Nothing was converted.")
+                self.assertText("left-out", said)
+                self.assertText("work-text", "Nothing was converted.")
                 self.assertEqual(self.focused(), "work-title")
                 self.assertFalse(self.browser.run(IS_VISIBLE, "result"))
         self.picture("other-kind")
         # the others of several files are converted
         self.assertEqual(self.convert(("a", rows[0][0]), ("b", game), ("a", rows[-1][0])), "done")
         self.assertEqual(self.text("left-out").split("\n"), [rows[0][1], rows[-1][1]])
-        self.assertEqual(self.text("chosen"), "Chosen: b.")
-        self.assertEqual(self.text("counts"), "1 game, 1 ply.")
+        self.assertText("chosen", "Chosen: b.")
+        self.assertText("counts", "1 game, 1 ply.")
         # an escape line, a move and a comment are none of these
         for text in (b"%PDF\n1. e4 *", b"Rd1 *", b"{PK} *"):
             self.convert(("a", text))
@@ -715,28 +724,24 @@ class Files(Case):
 
     def test_without_a_game(self):
         """A file that has none is named, and so is a text."""
-        self.page()
         for text in (b"", b"\n", b"{a comment}\n% an escape\n"):
             self.assertEqual(self.convert(("a.pgn", text), ("b.pgn", b"1. e4 *")), "done")
-            self.assertEqual(self.text("left-out"), "a.pgn has no game.")
-            self.assertEqual(self.text("counts"), "1 game, 1 ply.")
+            self.assertText("left-out", "a.pgn has no game.")
+            self.assertText("counts", "1 game, 1 ply.")
         # a bad game is one
         self.assertEqual(self.convert(("a.pgn", b"1. e5 *")), "refused")
         self.assertFalse(self.browser.run(IS_VISIBLE, "left-out"))
         self.assertEqual(self.paste(";nothing"), "done")
-        self.assertEqual(self.text("left-out"), "The text has no game.")
+        self.assertText("left-out", "The text has no game.")
 
     def test_gzip(self):
         """It is unpacked, and places are those of the text."""
-        self.page()
         packed = PACKERS["gz"](b"1. e4 *\n\n1. e5 *\n")
         self.assertEqual(self.convert(("in.pgn.gz", packed), ("b.pgn", b"1. d4 *")), "refused")
         self.assertIn("in.pgn.gz: line 3, column 4 (byte 12): move is not legal",
                       self.text("fault"))
-        self.browser.run("delete document.getElementById('work').dataset.shown;"
-                         "document.getElementById('go-on-always').click()")
-        self.assertEqual(self.browser.wait_for(IS_SHOWN), "done")
-        self.assertEqual(self.text("counts"), "2 games, 2 plies; 1 bad game set aside.")
+        self.assertEqual(self.converted_by("#go-on-always"), "done")
+        self.assertText("counts", "2 games, 2 plies; 1 bad game set aside.")
         self.assertEqual(self.convert(("in.pgn.gz", PACKERS["gz"](example("annotated")))), "done")
         name, text = self.download("download")
         self.assertEqual(name, "in.export.pgn")
@@ -745,32 +750,30 @@ class Files(Case):
 
     def test_bad_gzip(self):
         """What cannot be unpacked is left out, whole."""
-        self.page()
         packed = PACKERS["gz"](b"1. e4 *\n" * 100)
         wanted = ("a.gz cannot be unpacked here: it is damaged, or more data follows its end. "
                   "Unpack it, by gzip -d, and choose the file that comes out.")
         for text in (packed[:-9], packed[:30] + b"\xff\xff" + packed[32:], packed + packed, packed[:3]):
             with self.subTest(text):
                 self.assertEqual(self.convert(("a.gz", text)), "failed")
-                self.assertEqual(self.text("left-out"), wanted)
-                self.assertEqual(self.text("work-text"), "Nothing was converted.")
+                self.assertText("left-out", wanted)
+                self.assertText("work-text", "Nothing was converted.")
         # what comes out is said to be longer than a memory of 32 bits
         self.browser.run(
             "window.DecompressionStream = function () { return new TransformStream({"
             "transform(_, it) { it.enqueue({length: 2 ** 33}); }}); }")
         self.assertEqual(self.convert(("a.gz", packed)), "failed")
-        self.assertEqual(self.text("left-out"), (
-            "a.gz does not fit into the memory that the browser gives to a page. Convert it in "
-            "parts, or with the program pgn_tool, which takes under 3 MiB for any size."))
+        self.assertText("left-out", "a.gz does not fit into the memory that the browser gives to "
+                        "a page. Convert it in parts, or with the program pgn_tool, which takes "
+                        "under 3 MiB for any size.")
         # a browser that cannot unpack
         self.browser.run("delete window.DecompressionStream")
         self.assertEqual(self.convert(("a.gz", packed)), "failed")
-        self.assertEqual(self.text("left-out"), (
-            "a.gz is compressed with gzip. Unpack it, by gzip -d, and choose the file that comes "
-            "out. The command gillspoon fmt reads it as it is."))
+        self.assertText("left-out", "a.gz is compressed with gzip. Unpack it, by gzip -d, and "
+                        "choose the file that comes out. The command gillspoon fmt reads it as it "
+                        "is.")
 
     def test_stop_of_unpacking(self):
-        self.page()
         self.browser.run(
             "const pass = TransformStream.prototype.constructor;"
             "window.TransformStream = function ({transform}) { return new pass({"
@@ -780,9 +783,9 @@ class Files(Case):
         self.browser.wait_for("return window.passed")
         self.assertRegex(self.text("work-text"), r"^Unpacking a\.gz: \d+\.\d MB so far\.$")
         self.browser.run(CLICK, "stop")
-        self.assertEqual(self.text("work-text"), "Nothing was converted.")
+        self.assertText("work-text", "Nothing was converted.")
         self.browser.await_script("await new Promise((resolve) => setTimeout(resolve, 1000))")
-        self.assertEqual(self.text("work-text"), "Nothing was converted.")
+        self.assertText("work-text", "Nothing was converted.")
         self.assertFalse(self.browser.run(IS_VISIBLE, "result"))
 
 
@@ -801,18 +804,11 @@ class Mending(Case):
                                  ".map(it => it.textContent)")
         return edits, self.text("mending-text")
 
-    def apply(self):
-        self.browser.run("delete document.getElementById('work').dataset.shown;"
-                         "document.getElementById('apply').click()")
-        return self.browser.wait_for(IS_SHOWN)
-
     def test_spellings(self):
         """The rows of tests/tools/spellings.py that need the fixes of fixes.json alone."""
-        with open(ROOT + "/python/gillspoon/fixes.json", encoding="utf-8") as file:
-            data = json.load(file)
+        data = json.loads(text_of("python/gillspoon/fixes.json"))
         rows = data["moves"] + data["texts"] + data["functions"]
         names = {it["name"] for it in rows if it.get("safe", True)}
-        self.page()
         tried = set()
         for text, edits, wanted in SAFE:
             needed = {name for _, _, it in edits for name in it.split(", ")}
@@ -825,15 +821,13 @@ class Mending(Case):
                                      ["%s: %s → %s" % (name, shown(old), shown(new))
                                       for old, new, name in edits])
                     self.assertIn("in 1 game. All games are then valid.", told)
-                    self.assertEqual(self.apply(), "done")
-                    self.assertEqual(self.browser.run(
-                        "return document.getElementById('paste').value"), wanted)
+                    self.assertEqual(self.converted_by("#apply"), "done")
+                    self.assertEqual(self.value("paste"), wanted)
         self.assertEqual(tried, names)
         self.assertQuiet()
 
     def test_what_stays(self):
         """What has no single reading is left as it is."""
-        self.page()
         for text in LEFT + DOUBTFUL:
             with self.subTest(text):
                 self.assertEqual(self.convert(("a.pgn", text.encode())), "refused")
@@ -845,7 +839,6 @@ class Mending(Case):
 
     def test_a_fix_must_go_on(self):
         """Of fixes that are planted none is kept behind which the module reads no further."""
-        self.page()
         for new, is_kept in (("K8", False), ("{a", False), ("[", False), ("K9 ", False),
                              ("e5", True)):
             with self.subTest(new):
@@ -858,16 +851,13 @@ class Mending(Case):
 
     def test_phone(self):
         """The text of a long edit is broken, so that the page is as wide as the window."""
-        self.page(size=(360, 740))
-        self.browser.command("Emulation.setDeviceMetricsOverride", width=360, height=740,
-                             deviceScaleFactor=2, mobile=True)
+        self.phone(360, 740, 2)
         self.paste("1. e4 {[%%cal %s]} *" % ",".join(["Ga1a8"] * 24))
         self.assertEqual(len(self.look()[0]), 1)
         self.assertEqual(self.browser.run("return document.documentElement.scrollWidth"), 360)
 
     def test_file(self):
         """Each edit is at its place in its file, and what is left is told after the edits."""
-        self.page()
         first = sound(b"a") + b'[Event "b"]\n\n1. e2-e4 {\xe9} e5 *\n\n' + sound(b"c")
         second = b'[Result "1/2-1/2"]\r\n\r\n1. g1f3 \xbd\r\n\r\n[Event "d"]\r\n\r\n1. e5 *\r\n'
         self.assertEqual(self.convert(("one.pgn", first), ("two.pgn", second)), "refused")
@@ -880,8 +870,8 @@ class Mending(Case):
             "two.pgn: line 3, column 9, spelling of the result: “½” → “1/2-1/2”"])
         self.assertEqual(told, "3 edits in 2 games. 1 game stays bad. gillspoon lint --fix has more "
                                "fixes.")
-        self.assertEqual(self.browser.run("return document.activeElement.id"), "mending-title")
-        self.assertEqual(self.apply(), "refused")
+        self.assertEqual(self.focused(), "mending-title")
+        self.assertEqual(self.converted_by("#apply"), "refused")
         self.assertIn("3 edits applied.", self.text("work-text"))
         self.assertIn("two.pgn: line 7, column 4", self.text("fault"))
         exported = self.download("download")[1]
@@ -889,13 +879,11 @@ class Mending(Case):
         self.assertIn(b"1. Nf3 1/2-1/2", exported)
         self.assertQuiet()
 
-
     def test_missing_results(self):
         """The button at such a fault writes them, as gillspoon lint --fix --unsafe-fixes does."""
         first = (b'[Event "a"]\n[Result "0-1"]\n\n1. e4 e5\n\n[Event "b"]\n\n1. e2-e4\n\n'
                  b'[Event "c"]\n\n1. d4 *\n')
         second = b'[Result "1/2-1/2"]\r\n\r\n1. d4 d5 ; the end\r\n'
-        self.page()
         self.assertEqual(self.convert(("one.pgn", first), ("two.pgn", second)), "refused")
         self.assertIn("Try this: The game before has no result at its end.", self.text("fault"))
         listed, told = self.look(MARKERS_TOO)
@@ -904,8 +892,8 @@ class Mending(Case):
             "one.pgn: line 8, column 4, long notation, no marker: “e2-e4” → “e2e4 *”",
             "two.pgn: line 3, column 19, no marker: nothing → “1/2-1/2”"])
         self.assertEqual(told, "3 edits in 3 games. All games are then valid.")
-        self.assertEqual(self.apply(), "done")
-        self.assertEqual(self.text("counts"), "4 games, 6 plies.")
+        self.assertEqual(self.converted_by("#apply"), "done")
+        self.assertText("counts", "4 games, 6 plies.")
         text = self.download("download")[1]
         self.assertIn(b"1. e4 e5 0-1\n", text)
         self.assertIn(b"1. e4 *\n", text)
@@ -913,8 +901,7 @@ class Mending(Case):
 
     def test_missing_results_are_those_of_lint(self):
         """For texts whose markers are cut off at random places: each edit and its place."""
-        with open(ROOT + "/python/gillspoon/fixes.json", encoding="utf-8") as file:
-            data = json.load(file)
+        data = json.loads(text_of("python/gillspoon/fixes.json"))
         names = [it["name"] for it in data["moves"] + data["texts"] + data["functions"]
                  if it.get("safe", True)]
         rng = random.Random(78)
@@ -923,7 +910,6 @@ class Mending(Case):
         games += [b"1. d4 {one} *", b"1. d4 (1. c4) *", b"1. e4 e5 ;x\n*", b'[White "b"]\n\n*',
                   b'[Event "c"] {x} [Site "y"]\n\n1. e4 *', b'[Result "1-0"]\n\n1. e4 1-0!',
                   b'[Result "*"]\n\n1. e4 * $10 {x}']
-        self.page()
         tried = 0
         for _ in range(60):
             text = b"\n\n".join(
@@ -947,7 +933,6 @@ class Mending(Case):
 
     def test_line_ends_and_heads(self):
         """Rows with CR LF, and tags that no safe fix touches."""
-        self.page()
         rows = [(text, edits, wanted) for text, edits, wanted in SAFE if "\r" in text]
         self.assertGreater(len(rows), 0)
         for text, edits, wanted in rows:
@@ -955,7 +940,7 @@ class Mending(Case):
             self.assertEqual([it.split(", ", 2)[2] for it in self.look()[0]],
                              ["%s: %s → %s" % (name, shown(old), shown(new))
                               for old, new, name in edits])
-            self.assertEqual(self.apply(), "done")
+            self.assertEqual(self.converted_by("#apply"), "done")
             self.assertEqual(self.download("download")[1],
                              b"".join(it.text for it in gillspoon.games(wanted.encode())))
         for text in ('[Site "a"]\n[Site "b"]\n\n*\n', '[Result "won"]\n\n1. e4 1-0\n',
@@ -986,14 +971,12 @@ class Mending(Case):
         rng = random.Random(80)
         rows = [row[0].encode() for row in SAFE + UNSAFE] + [
             it.encode() for it in LEFT + DOUBTFUL + EDGES]
-        self.page()
         self.assertGreater(self.count_of_edits(rows), sum(len(edits) for _, edits, _ in SAFE))
         self.assertGreater(self.count_of_edits([damaged(rng, rows) for _ in range(200)]), 60)
 
     def test_edits_of_damaged_games_are_those_of_lint(self):
         """For games that damage.py damages by seed."""
         texts = [it.text for it in damage.damaged_texts(damage.sound_games(), 400, 81)]
-        self.page()
         self.assertGreater(self.count_of_edits(texts), 80)
 
 
@@ -1011,64 +994,46 @@ def shown(text):
 class Keyboard(Case):
     """Where the focus is, and what the keys do."""
 
-    def press_on(self, identity, *keys):
-        self.browser.run("delete document.getElementById('work').dataset.shown;"
-                         "document.getElementById(arguments[0]).focus()", identity)
-        self.press(*keys)
-        return self.browser.wait_for(IS_SHOWN)
-
-    def enter_on(self, script):
-        """Presses Enter on a button, and gives the state after the conversion."""
-        self.browser.run(
-            "delete document.getElementById('work').dataset.shown; %s.focus()" % script)
-        self.press(ENTER)
-        return self.browser.wait_for(IS_SHOWN)
-
     def selected(self):
         return self.browser.run(SELECTED)
 
     def test_focus_after_each_button(self):
         """It goes to the heading of what the button results in."""
-        self.page()
         self.set("paste", "1. e4 *")
-        self.assertEqual(self.press_on("convert-paste", ENTER), "done")
+        self.assertEqual(self.converted_by("#convert-paste", ENTER), "done")
         self.assertEqual(self.focused(), "result-title")
         bad = '[Event "x"]\n\n1. e2-e4 *\n\n'
         self.set("paste", 3 * bad)
-        self.assertEqual(self.press_on("convert-paste", ENTER), "refused")
+        self.assertEqual(self.converted_by("#convert-paste", ENTER), "refused")
         self.assertEqual(self.focused(), "faults-title")
-        self.assertEqual(self.press_on("go-on-once", ENTER), "refused")
+        self.assertEqual(self.converted_by("#go-on-once", ENTER), "refused")
         self.assertEqual(self.focused(), "faults-title")
-        self.assertEqual(self.press_on("go-on-always", ENTER), "done")
+        self.assertEqual(self.converted_by("#go-on-always", ENTER), "done")
         self.assertEqual(self.focused(), "result-title")
-        self.browser.run("document.querySelector('#other-faults button').focus()")
-        self.press(ENTER)
+        self.press_at("#other-faults button", ENTER)
         self.assertEqual(self.focused(), "faults-title")
-        self.browser.run("document.getElementById('mend').focus()")
-        self.press(ENTER)
+        self.press_at("#mend", ENTER)
         self.browser.wait_for(
             "return document.getElementById('mending').dataset.state === 'listed'")
         self.assertEqual(self.focused(), "mending-title")
-        self.assertEqual(self.press_on("apply", ENTER), "done")
+        self.assertEqual(self.converted_by("#apply", ENTER), "done")
         self.assertEqual(self.focused(), "result-title")
         self.set("paste", "1. e4 1-0")
-        self.assertEqual(self.press_on("convert-paste", ENTER), "refused")
-        self.assertEqual(self.enter_on("document.querySelector('#fault p button')"), "done")
+        self.assertEqual(self.converted_by("#convert-paste", ENTER), "refused")
+        self.assertEqual(self.converted_by("#fault p button", ENTER), "done")
         self.assertEqual(self.focused(), "result-title")
         self.browser.run("document.getElementById('open').focus()")
         self.convert(("in.pgn", b"1. e4 *"))
         self.assertEqual(self.focused(), "result-title")
-        self.browser.run("document.querySelector('#list button').focus()")
-        self.press(ENTER)
+        self.press_at("#list button", ENTER)
         self.browser.wait_for("return document.activeElement.id === 'game-title'")
 
     def test_what_is_seen(self):
         """Below the heading that gets the focus is room for what it is about."""
-        self.page()
         self.browser.command("Emulation.setDeviceMetricsOverride", width=1280, height=900,
                              deviceScaleFactor=1, mobile=False)
         self.set("paste", "1. e5 *")
-        self.assertEqual(self.press_on("convert-paste", ENTER), "refused")
+        self.assertEqual(self.converted_by("#convert-paste", ENTER), "refused")
         top, style = self.browser.run(
             "const it = document.activeElement;"
             "return [it.getBoundingClientRect().top / innerHeight,"
@@ -1079,16 +1044,14 @@ class Keyboard(Case):
 
     def test_focus_stays_in_an_option(self):
         """Its value changes by the arrow keys, and each one converts again."""
-        self.page()
         for text, state in ((b"1. e4 *", "done"), (b"1. e5 *", "refused")):
             self.assertEqual(self.convert(("in.pgn", text)), state)
             for key in (DOWN, UP):
-                self.assertEqual(self.press_on("mode", key), state)
+                self.assertEqual(self.converted_by("#mode", key), state)
                 self.assertEqual(self.focused(), "mode")
 
     def test_focus_of_a_person_who_went_on(self):
         """A conversion that ends takes it from no other field."""
-        self.page()
         answer = self.browser.await_script(
             OPEN + "while (document.getElementById('work').hidden) {"
             "await new Promise((resolve) => setTimeout(resolve)); }"
@@ -1101,24 +1064,19 @@ class Keyboard(Case):
 
     def test_last_page_of_the_list(self):
         """The button that is no longer of use gives the focus to the list."""
-        self.page()
         self.convert(("in.pgn", b"1. e4 *\n" * 120))
         for shown, focus in (("Rows 51 to 100 of 120", "next"),
                              ("Rows 101 to 120 of 120", "list-title")):
-            self.browser.run("document.getElementById('next').focus()")
-            self.press(ENTER)
+            self.press_at("#next", ENTER)
             self.browser.wait_for("return document.getElementById('shown').innerText === "
                                   "arguments[0]", shown)
             self.assertEqual(self.focused(), focus)
 
     def test_keys_in_lists(self):
         """A list is one stop of the tab key, and other keys go through it."""
-        self.page()
         bad, good = b'[Event "x"]\n\n1. e5 *\n\n', b'[Termination "forfeit"]\n\n1. e4 *\n\n'
         self.convert(("in.pgn", 3 * bad + 3 * good))
-        self.browser.run("delete document.getElementById('work').dataset.shown;"
-                         "document.getElementById('go-on-always').click()")
-        self.assertEqual(self.browser.wait_for(IS_SHOWN), "done")
+        self.assertEqual(self.converted_by("#go-on-always"), "done")
         for name in ("other-faults", "notes-list", "list"):
             with self.subTest(name):
                 place = ("return [...document.querySelectorAll('#%s button')].indexOf("
@@ -1137,24 +1095,21 @@ class Keyboard(Case):
 
     def test_keys_in_the_text_field(self):
         """Ctrl and Enter convert. A fault is selected, so that typing replaces it."""
-        self.page()
         self.browser.run("document.getElementById('paste').focus()")
         self.press(*"1. e4 e5 2. Bd4 *")
-        self.assertEqual(self.press_on("paste", [CONTROL, ENTER]), "refused")
+        self.assertEqual(self.converted_by("#paste", [CONTROL, ENTER]), "refused")
         self.assertEqual((self.focused(), self.selected()), ("paste", [12, "Bd4"]))
-        self.assertEqual(self.text("paste-fault"), "Line 1, column 13: move is not legal.")
+        self.assertText("paste-fault", "Line 1, column 13: move is not legal.")
         self.picture("selected")
         self.press(*"Bc4")
-        self.assertEqual(self.text("paste-fault"), "")
-        self.assertEqual(self.press_on("paste", [CONTROL, ENTER]), "done")
-        self.assertEqual(self.browser.run("return document.getElementById('paste').value"),
-                         "1. e4 e5 2. Bc4 *")
+        self.assertText("paste-fault", "")
+        self.assertEqual(self.converted_by("#paste", [CONTROL, ENTER]), "done")
+        self.assertEqual(self.value("paste"), "1. e4 e5 2. Bc4 *")
         self.assertEqual(self.focused(), "result-title")
-        self.assertEqual(self.text("counts"), "1 game, 3 plies.")
+        self.assertText("counts", "1 game, 3 plies.")
 
     def test_what_is_selected(self):
         """The word at fault, or the character, in a text with characters of any length."""
-        self.page()
         for text, selected in (
                 ("1. e4 {\u00e9 \U0001f600} e9 *", [13, "e9"]), ("1. e4 & *", [6, "&"]),
                 ("1. e4 \U0001f600 *", [6, "\U0001f600"]), ("1. e4\n\n1. \u265e *", [10, "\u265e"]),
@@ -1166,7 +1121,6 @@ class Keyboard(Case):
 
     def test_where_it_is_selected(self):
         """A button goes to it, and its line is within the field."""
-        self.page()
         text = "1. e4 *\n" * 300 + "1. e5 *\n" + "1. d4 *\n" * 300
         self.assertEqual(self.paste(text), "refused")
         self.browser.run("[...document.querySelectorAll('#fault button')].find(it => "
@@ -1184,7 +1138,6 @@ class Keyboard(Case):
 
     def test_text_that_is_another_one(self):
         """In it nothing is selected."""
-        self.page()
         self.assertEqual(self.paste("1. e5 *"), "refused")
         self.assertEqual(self.selected(), [3, "e5"])
         self.set("paste", "1. d4 d5 2. c4 *")
@@ -1207,9 +1160,8 @@ class PlayThrough(Case):
             '1/2-1/2')
 
     def open(self, text, number=0):
-        self.page()
         self.convert(("a.pgn", text if isinstance(text, bytes) else text.encode()))
-        self.browser.run("document.querySelectorAll('#list button')[arguments[0]].click()", number)
+        self.click("#list button", number)
         self.browser.wait_for("return document.activeElement.id === 'game-title'")
 
     def board(self):
@@ -1219,12 +1171,10 @@ class PlayThrough(Case):
 
     def variations(self):
         """What is said of the variations, and each one's first moves."""
-        return self.text("variations-title"), self.browser.run(
-            "return [...document.querySelectorAll('#variations button')].map(it => it.innerText)")
+        return self.text("variations-title"), self.texts("#variations button")
 
     def enter(self, number):
-        self.browser.run("document.querySelectorAll('#variations button')[arguments[0]].click()",
-                         number)
+        self.click("#variations button", number)
 
     def test_keys_and_buttons(self):
         self.open(self.GAME)
@@ -1244,7 +1194,7 @@ class PlayThrough(Case):
                 (TO_RIGHT, "After 2. Nf3! = $255 (ply 3 of 4)"),
                 (TO_LEFT, "After 1... e5 (ply 2 of 4)")):
             self.press(key)
-            self.assertEqual(self.text("line-at"), said)
+            self.assertText("line-at", said)
         for key, shown in ((END, end), (TO_RIGHT, end), (HOME, begin), (TO_LEFT, begin),
                            (UP, begin), (DOWN, begin)):
             self.press(key)
@@ -1273,11 +1223,11 @@ class PlayThrough(Case):
     def test_comments(self):
         """Those of a move are shown with it, and those before the first one at the begin."""
         self.open(self.GAME)
-        self.assertEqual(self.text("line-comments"), "before all")
+        self.assertText("line-comments", "before all")
         self.press(TO_RIGHT)
-        self.assertEqual(self.text("line-comments"), "a (b) $3 c\nd")
+        self.assertText("line-comments", "a (b) $3 c\nd")
         self.press(TO_RIGHT)
-        self.assertEqual(self.text("line-comments"), "")
+        self.assertText("line-comments", "")
         self.press(TO_LEFT)
         self.enter(1)
         self.assertEqual((self.text("line-at"), self.text("line-comments")), (
@@ -1288,7 +1238,7 @@ class PlayThrough(Case):
         self.open(b"1. e4 {caf\xe9} e5 {caf\xc3\xa9 <b>&amp;</b>} *")
         for shown in ("caf\u00e9", "caf\u00e9 <b>&amp;</b>"):
             self.press(TO_RIGHT)
-            self.assertEqual(self.text("line-comments"), shown)
+            self.assertText("line-comments", shown)
 
     def test_variations(self):
         """They are entered where they begin, by a key or a button, and left the same way."""
@@ -1301,8 +1251,8 @@ class PlayThrough(Case):
         self.picture("play-through")
         instead = " of a variation, in place of 1... e5)"
         self.press(DOWN)
-        self.assertEqual(self.text("line-at"), "After 1... c5 (ply 1 of 3" + instead)
-        self.assertEqual(self.text("line-comments"), "why")
+        self.assertText("line-at", "After 1... c5 (ply 1 of 3" + instead)
+        self.assertText("line-comments", "why")
         self.assertEqual(self.variations(), (
             "Variations, in place of 2. Nf3:", ["2. c3 d5", "2. f4!"]))
         for key, said in (
@@ -1316,7 +1266,7 @@ class PlayThrough(Case):
                 (HOME, "The position before the first move (ply 0 of 4)")):
             self.press(key)
             if said:
-                self.assertEqual(self.text("line-at"), said)
+                self.assertText("line-at", said)
         self.press(TO_RIGHT)
         self.enter(0)
         self.enter(1)
@@ -1343,15 +1293,12 @@ class PlayThrough(Case):
             self.press(key)
             self.assertEqual(self.browser.run(at), place)
         self.press(ENTER)
-        self.assertEqual(self.text("line-at"),
-                         "After 1... e6 (ply 1 of 1 of a variation, in place of 1... e5)")
+        self.assertText("line-at", "After 1... e6 (ply 1 of 1 of a variation, in place of 1... e5)")
         self.assertEqual(self.focused(), "game-title")
-        self.browser.run("document.getElementById('leave').focus()")
-        self.press(ENTER)
+        self.press_at("#leave", ENTER)
         self.assertEqual((self.text("line-at"), self.focused()),
                          ("After 1. e4 (ply 1 of 4)", "game-title"))
-        self.browser.run("document.querySelector('#variations button').focus()")
-        self.press(TO_RIGHT)
+        self.press_at("#variations button", TO_RIGHT)
         self.assertEqual((self.text("line-at"), self.focused()),
                          ("After 1... e5 (ply 2 of 4)", "game-title"))
 
@@ -1377,28 +1324,26 @@ class PlayThrough(Case):
             (6, "Ng1", "Ng8")))
         self.assertEqual(self.variations()[1], ["no move!", "1... Nf6 %s 7. Nf3 \u2026" % first])
         self.press(DOWN)
-        self.assertEqual(self.text("line-at"), "A variation without a move, in place of 1... d5")
-        self.assertEqual(self.text("line-comments"), "all")
+        self.assertText("line-at", "A variation without a move, in place of 1... d5")
+        self.assertText("line-comments", "all")
         for key in (TO_RIGHT, END):
             self.press(key)
-            self.assertEqual(self.text("line-comments"), "all")
+            self.assertText("line-comments", "all")
         self.press(TO_LEFT)
-        self.assertEqual(self.text("line-at"), "After 1. Nf3 (ply 1 of 2)")
+        self.assertText("line-at", "After 1. Nf3 (ply 1 of 2)")
 
     def test_signs(self):
         """The usual signs of NAGs; others have their numbers."""
         self.open("1. e4 $0 $1 $2 $3 $4 $5 $6 $7 $8 $9 $10 $11 $12 $13 $14 $15 $16 $17 $18 $19 $20 "
                   "$146 *")
         self.press(TO_RIGHT)
-        self.assertEqual(
-            self.text("line-at"), "After 1. e4 $0!?!!??!??! \u25a1 $8 $9 = $11 $12 \u221e +/= =/+ "
-            "\u00b1 \u2213 +\u2212 \u2212+ $20 N (ply 1 of 1). Result: *")
+        self.assertText("line-at", "After 1. e4 $0!?!!??!??! \u25a1 $8 $9 = $11 $12 \u221e +/= "
+                        "=/+ \u00b1 \u2213 +\u2212 \u2212+ $20 N (ply 1 of 1). Result: *")
 
     def test_from_a_position(self):
         self.open('[FEN "4k3/P7/8/8/8/8/8/4K3 b - - 0 30"]\n\n30... Kd7 (Kf7) 31. a8=Q *\n'
                   '[Event "x"]\n\n*\n')
-        self.assertEqual(self.text("line-at"),
-                         "The position before the first move (ply 0 of 2)")
+        self.assertText("line-at", "The position before the first move (ply 0 of 2)")
         self.press(DOWN)
         self.assertEqual(self.board(), (
             "After 30... Kf7 (ply 1 of 1 of a variation, in place of 30... Kd7)",
@@ -1413,8 +1358,7 @@ class PlayThrough(Case):
         self.open("*\n")
         for key in (TO_RIGHT, END):
             self.press(key)
-            self.assertEqual(self.text("line-at"),
-                             "The position before the first move (ply 0 of 0). Result: *")
+            self.assertText("line-at", "The position before the first move (ply 0 of 0). Result: *")
 
     def test_long_game(self):
         """More items than the room for the first lines holds, and a comment that is longer."""
@@ -1422,11 +1366,10 @@ class PlayThrough(Case):
         long = " ".join(["word"] * 60000)
         self.open(600 * shuffle + "e4 (d4 {%s}) {behind} *" % long)
         self.press(END)
-        self.assertEqual(self.text("line-at"), "After 1201. e4 (ply 2401 of 2401). Result: *")
-        self.assertEqual(self.text("line-comments"), "behind")
+        self.assertText("line-at", "After 1201. e4 (ply 2401 of 2401). Result: *")
+        self.assertText("line-comments", "behind")
         self.press(TO_LEFT, DOWN)
-        self.assertEqual(self.browser.run(
-            "return document.getElementById('line-comments').textContent"), long)
+        self.assertEqual(self.value("line-comments", "textContent"), long)
 
     def test_many_tags(self):
         """An export with the roster beside as many tags as a game may have has too many."""
@@ -1439,13 +1382,11 @@ class PlayThrough(Case):
 
     def test_phone(self):
         """The board, its buttons and a long comment are within the window."""
-        self.page(size=(390, 844))
-        self.browser.command("Emulation.setDeviceMetricsOverride", width=390, height=844,
-                             deviceScaleFactor=1, mobile=True)
+        self.phone(390, 844, 1)
         word = 79 * "w"
         self.convert(("a.pgn", ("1. e4 {%s} e5 (c5 2. Nf3 d6 3. d4 cxd4 4. Nxd4 Nf6 5. Nc3 a6) *"
                                 % " ".join(40 * [word])).encode()))
-        self.browser.run("document.querySelector('#list button').click()")
+        self.click("#list button")
         self.browser.wait_for("return document.activeElement.id === 'game-title'")
         self.press(TO_RIGHT)
         self.picture("play-through-phone")
@@ -1463,7 +1404,6 @@ class PlayThrough(Case):
 class Rest(Case):
     def test_worker_that_reads_no_file(self):
         """A browser that lets the page alone read its files, as WebKit does with one on a disk."""
-        self.page()
         self.browser.command("Page.addScriptToEvaluateOnNewDocument", source="""
             const make = URL.createObjectURL, refusing = "Blob.prototype.arrayBuffer = " +
               "async () => { throw new DOMException('no', 'NotReadableError'); };";
@@ -1473,53 +1413,49 @@ class Rest(Case):
         self.browser.wait_for(IS_READY)
         self.assertEqual(self.convert(("annotated.pgn", example("annotated")),
                                       ("two.pgn", example("two-games"))), "done")
-        self.assertEqual(self.text("counts"), "3 games, 7 plies.")
+        self.assertText("counts", "3 games, 7 plies.")
         self.assertIn(b"Qxf7#", self.download("download")[1])
 
     def test_tags_with_other_names(self):
         """The list has numbers and plies, whatever the tags are."""
-        self.page()
         self.convert(("in.pgn", b'[number "x"] [plies "y"] 1. e4 e5 *'))
-        rows = self.browser.run("return document.querySelector('#list tr').innerText")
+        rows = self.texts("#list tr")[0]
         self.assertEqual(rows.split("\t"), ["1", "?", "?", "*", "2"])
 
     def test_any_bytes(self):
         """Latin-1 is shown as such, and the bytes stay."""
-        self.page()
         text = b'[White "Jos\xe9 \x80"] [Black "J\xc3\xb6rg"] {\xe9 \xff} 1. e4 *'
         self.convert(("bytes.pgn", text))
-        rows = self.browser.run("return document.querySelector('#list tr').innerText")
+        rows = self.texts("#list tr")[0]
         self.assertEqual(rows.split("\t")[1:3], ["José \x80", "Jörg"])
         exported = self.download("download")[1]
         self.assertIn(b'[White "Jos\xe9 \x80"]', exported)
         self.assertIn(b"{ \xe9 \xff }", exported)
 
     def test_drop_and_paste(self):
-        self.page()
         self.browser.run("""
             const transfer = new DataTransfer();
             transfer.items.add(new File(["1. e4 *"], "dropped.pgn"));
             document.body.dispatchEvent(
               new DragEvent("drop", {dataTransfer: transfer, bubbles: true, cancelable: true}));""")
         self.browser.wait_for(IS_SHOWN)
-        self.assertEqual(self.text("counts"), "1 game, 1 ply.")
+        self.assertText("counts", "1 game, 1 ply.")
         self.assertEqual(self.download("download")[0], "dropped.export.pgn")
-        self.browser.run("delete document.getElementById('work').dataset.shown")
+        self.browser.run(FORGET)
         self.set("paste", "1. e4 e5 *\n1. d4 {é} *")
         self.browser.run(CLICK, "convert-paste")
         self.browser.wait_for(IS_SHOWN)
-        self.assertEqual(self.text("counts"), "2 games, 3 plies.")
+        self.assertText("counts", "2 games, 3 plies.")
         self.assertIn("{ é }".encode(), self.download("download")[1])
 
     def test_copy(self):
         """The clipboard gets the whole export, and the page says so if it may not."""
-        self.page()
         self.browser.command("Browser.grantPermissions",
                              permissions=["clipboardReadWrite", "clipboardSanitizedWrite"])
         self.convert(("annotated.pgn", example("annotated")), ("latin.pgn", b"e4 {caf\xe9} *"))
         self.browser.run(CLICK, "copy")
         self.browser.wait_for("return document.getElementById('copied').textContent")
-        self.assertEqual(self.text("copied"), "Copied as text. The download has the exact bytes.")
+        self.assertText("copied", "Copied as text. The download has the exact bytes.")
         found = self.browser.await_script("return navigator.clipboard.readText()")
         text = self.download("download")[1]
         self.assertIn(b"{ caf\xe9 }", text)
@@ -1528,14 +1464,12 @@ class Rest(Case):
         self.browser.run(CLICK, "copy")
         self.browser.wait_for("return !document.getElementById('copied').textContent"
                               ".startsWith('Copied')")
-        self.assertEqual(self.text("copied"),
-                         "The browser does not let the page copy. Use the download.")
+        self.assertText("copied", "The browser does not let the page copy. Use the download.")
 
     def test_reduced(self):
         """The other format converts the same files again."""
-        self.page()
         self.convert(("annotated.pgn", example("annotated")))
-        self.browser.run("delete document.getElementById('work').dataset.shown")
+        self.browser.run(FORGET)
         self.set("mode", "reduced")
         self.browser.wait_for(IS_SHOWN)
         self.assertTrue(self.download("download")[1].decode().endswith(
@@ -1553,7 +1487,6 @@ class Rest(Case):
         """The note of gillspoon lint stands at the fault, and in the list."""
         note = ("Of a forfeit PGN 8.1.1.7 has the result alone, * if there is no winner; a "
                 "Termination tag says why.")
-        self.page()
         self.assertEqual(self.convert(("a.pgn", b'[Result "+:-"]\n\n*\n')), "refused")
         self.assertIn(note, self.text("fault").split("\n"))
         self.assertIn("Try this: Write 1-0, 0-1 or * alone, and put the reason into a Termination "
@@ -1566,27 +1499,22 @@ class Rest(Case):
         game = '[Event "x"]\n[Result "%s"]\n\n1. e4 *\n\n'
         text = "".join(game % it for it in values).encode()
         self.convert(("a.pgn", text))
-        self.browser.run("delete document.getElementById('work').dataset.shown;"
-                         "document.getElementById('go-on-always').click()")
-        self.browser.wait_for(IS_SHOWN)
+        self.converted_by("#go-on-always")
         lines = self.download("download-faults")[1].decode()
         self.assertEqual(lines.count("of a forfeit"), lines.count(note[3:-1]))
         self.assertEqual(lines, self.told_by_lint(text, "--quiet"))
 
     def test_terminations_of_a_forfeit(self):
         """Sound games with other words for it are named, as gillspoon lint does."""
-        self.page()
         self.convert(("a.pgn", (
             b'[White "Ada"]\n[Termination "won by forfeit"]\n\n*\n'
             b'[Termination "time forfeit"]\n\n*\n')))
         self.picture("forfeit")
-        self.assertEqual(self.text("notes"), (
-            "Notes\nIn 1 game the Termination is not time forfeit, or another word of the standard "
-            "(PGN 9.8.1).\nGame 1, “Ada” against “?” “won by forfeit”\n"
-            "The keys Up, Down, Home and End go through the list."))
-        self.browser.run("document.querySelector('#notes button').click()")
-        self.browser.wait_for("return !document.getElementById('game').hidden")
-        self.assertEqual(self.text("game-title"), "Game 1")
+        self.assertText("notes", "Notes\nIn 1 game the Termination is not time forfeit, or "
+                        "another word of the standard (PGN 9.8.1).\nGame 1, “Ada” against “?” "
+                        "“won by forfeit”\nThe keys Up, Down, Home and End go through the list.")
+        self.open_game("#notes button")
+        self.assertText("game-title", "Game 1")
         values = ("won by forfeit", "Forfeit", "time forfeit of both", "default", "no show",
                   "noshow", r"a \"walkover\"", "walk-over", "abandoned", "adjudication", "death",
                   "emergency", "normal", "rules infraction", "time forfeit", "unterminated",
@@ -1598,10 +1526,8 @@ class Rest(Case):
         games += ["1. e4 %s *\n\n" % comment, '[TERMINATION "forfeit"]\n\n*\n\n']
         text = "".join(games).encode()
         self.assertEqual(self.convert(("a.pgn", text)), "done")
-        self.assertIn('\n[Termination "forfeit"]',
-                      self.browser.run("return document.getElementById('export').textContent"))
-        listed = self.browser.run("return [...document.querySelectorAll('#notes button')]"
-                                  ".map(it => it.innerText)")
+        self.assertIn('\n[Termination "forfeit"]', self.value("export", "textContent"))
+        listed = self.texts("#notes button")
         records = map(json.loads, self.told_by_lint(text, "--json").splitlines())
         wanted = ["Game %d" % it["game"] for it in records
                   if it["kind"] == "warning" and it["reason"].startswith("Termination is not time "
@@ -1614,20 +1540,16 @@ class Rest(Case):
     def test_many_terminations(self):
         """They are counted through all parts of an export, and the first 100 games are listed."""
         one, other = b"*\n" * 25000, b'[Termination "default"]\n\n*\n'
-        self.page()
         self.assertEqual(self.convert(("a.pgn", one + other + one), ("b.pgn", other * 100)), "done")
         size = re.search(r"of ([0-9.]+) MB", self.text("export-note"))[1]
         self.assertGreater(float(size), 4.3)
-        self.assertEqual(self.text("notes-text"), (
-            "In 101 games the Termination is not time forfeit, or another word of the standard "
-            "(PGN 9.8.1). The first 100 are listed."))
-        listed = self.browser.run("return [...document.querySelectorAll('#notes button')]"
-                                  ".map(it => it.innerText)")
+        self.assertText("notes-text", "In 101 games the Termination is not time forfeit, or "
+                        "another word of the standard (PGN 9.8.1). The first 100 are listed.")
+        listed = self.texts("#notes button")
         self.assertEqual(
             listed, ["Game 25001: a.pgn"] + ["Game %d: b.pgn" % it for it in range(1, 100)])
-        self.browser.run("document.querySelectorAll('#notes button')[1].click()")
-        self.browser.wait_for("return !document.getElementById('game').hidden")
-        self.assertEqual(self.text("game-title"), "Game 1 of b.pgn")
+        self.open_game("#notes button", 1)
+        self.assertText("game-title", "Game 1 of b.pgn")
 
     def test_list_of_faults(self):
         """Each has its game and its players, and the download has the lines of gillspoon lint."""
@@ -1636,21 +1558,17 @@ class Rest(Case):
              '[Event "b"]\n\n1. e4 *\n\n[White "M\u00fcller"]\n\n1. e4 {\u00e9} e9 *\n'.encode()),
             ("b.pgn", b'[Event "x"]\n\n1. e5 *\n\n'
              b'[Result "+:-"]\n[Black "J\xf6rg \\"J\\""]\n\n*\n'))
-        self.page()
         self.assertEqual(self.convert(*files), "refused")
         self.assertFalse(self.browser.run(IS_VISIBLE, "all-faults"))
-        self.browser.run("delete document.getElementById('work').dataset.shown;"
-                         "document.getElementById('go-on-always').click()")
-        self.assertEqual(self.browser.wait_for(IS_SHOWN), "done")
+        self.assertEqual(self.converted_by("#go-on-always"), "done")
         self.picture("list-of-faults")
-        listed = self.browser.run("return [...document.querySelectorAll('#other-faults button')]"
-                                  ".map(it => it.innerText)")
+        listed = self.texts("#other-faults button")
         self.assertEqual(listed, [
             "Game 1, “Silva, J.” against “Nowak, A.”: a.pgn, line 4, column 13: move is not legal",
             "Game 3, “Müller” against “?”: a.pgn, line 12, column 11: not a move",
             "Game 1: b.pgn, line 3, column 4: move is not legal",
             "Game 2, “?” against “Jörg \"J\"”: b.pgn, line 5, column 9: bad result value"])
-        self.assertEqual(self.text("all-faults-text"), "4 faults.")
+        self.assertText("all-faults-text", "4 faults.")
         name, lines = self.download("download-faults")
         self.assertEqual(name, "games.faults.txt")
         with tempfile.TemporaryDirectory() as folder:
@@ -1662,15 +1580,12 @@ class Rest(Case):
 
     def test_many_faults(self):
         """The first 500 are listed, and the download has all."""
-        self.page()
         self.convert(("in.pgn", b'[Event "x"]\n\n1. e5 *\n\n' * 501))
-        self.browser.run("delete document.getElementById('work').dataset.shown;"
-                         "document.getElementById('go-on-always').click()")
-        self.assertEqual(self.browser.wait_for(IS_SHOWN), "done")
+        self.assertEqual(self.converted_by("#go-on-always"), "done")
         self.assertEqual(
             self.browser.run("return document.querySelectorAll('#other-faults li').length"), 500)
-        self.assertEqual(self.text("all-faults-text"),
-                         "The first 500 of 501 faults are listed. The download has all.")
+        self.assertText("all-faults-text", "The first 500 of 501 faults are listed. The download "
+                        "has all.")
         lines = self.download("download-faults")[1].decode().splitlines()
         self.assertEqual(lines, [
             "in.pgn:%d:4: move is not legal (game %d, ? – ?)" % (4 * it + 3, it + 1)
@@ -1678,20 +1593,16 @@ class Rest(Case):
 
     def test_several_faults(self):
         """Each fault is listed, and opens."""
-        self.page()
         self.convert(("in.pgn", b"".join(it[1] + b"\n" for it in BAD[:3])))
-        self.browser.run("delete document.getElementById('work').dataset.shown;"
-                         "document.getElementById('go-on-always').click()")
-        self.assertEqual(self.browser.wait_for(IS_SHOWN), "done")
+        self.assertEqual(self.converted_by("#go-on-always"), "done")
         listed = self.browser.run("return [...document.querySelectorAll('#other-faults button')]"
                                   ".map(it => it.innerText.split(': ').pop())")
         self.assertEqual(listed, ["stray byte", "control byte", "reserved character"])
-        self.browser.run("document.querySelector('#other-faults button').click()")
-        self.assertEqual(self.text("faults-title"), "Fault 1 of 3")
+        self.click("#other-faults button")
+        self.assertText("faults-title", "Fault 1 of 3")
         self.assertTrue(self.text("fault").startswith("Stray byte\n"))
 
     def test_column_in_characters(self):
-        self.page()
         for text, column in (("{é} 1. e9 *".encode(), 8), ("{é} 1. e9 *".encode("latin-1"), 8),
                              (b"\xef\xbb\xbfe9 *", 1), (b"e4\r\n e9 *", 2),
                              (b"{" + b"\xc3\xa9 " * 9000 + b"} e9 *", 18004)):
@@ -1701,7 +1612,6 @@ class Rest(Case):
     def test_goes_on_as_the_sieve_does(self):
         """Sound and bad games are those of gillspoon sieve."""
         need_program()
-        self.page()
         for name in ("one-bad-game", "no-such-move", "differing-result", "no-result-tag"):
             self.check_sieve(example(name))
         bad = b'[Event "a"]\n\n1. e5 *\n\n'
@@ -1733,26 +1643,22 @@ class Rest(Case):
                              re.sub(notes, b"", bad).split())
 
     def test_position(self):
-        self.page()
         self.set("fen", "rnbqkbnr/pppppppp/44/8/8/8/PPPPPPPP/RNBQKBNR w KQkq - 0 01")
-        self.assertEqual(self.text("fen-answer"), "Canonical: " + INITIAL)
+        self.assertText("fen-answer", "Canonical: " + INITIAL)
         self.set("fen", INITIAL.replace("KQkq", "QK"))
-        self.assertEqual(self.text("fen-answer"),
-                         "This FEN is no position: field 3, the castling rights.")
+        self.assertText("fen-answer", "This FEN is no position: field 3, the castling rights.")
         self.set("fen", INITIAL)
         self.set("move", "g1e2")
-        self.assertEqual(self.text("move-answer"),
-                         "“g1e2” is not legal. No pawn of White can go to e2 from where “g1e2” "
-                         "says.")
+        self.assertText("move-answer", "“g1e2” is not legal. No pawn of White can go to e2 from "
+                        "where “g1e2” says.")
         self.set("move", "Ng1f3")
         after = "rnbqkbnr/pppppppp/8/8/8/5N2/PPPPPPPP/RNBQKB1R b KQkq - 1 1"
-        self.assertEqual(self.text("move-answer"), "Nf3, and then " + after)
+        self.assertText("move-answer", "Nf3, and then " + after)
         self.browser.run(CLICK, "play")
-        self.assertEqual(self.browser.run("return document.getElementById('fen').value"), after)
+        self.assertEqual(self.value("fen"), after)
 
     def test_engine_moves(self):
         """The field for a move takes the notation of engines too."""
-        self.page()
         for fen, move, san in (
                 (INITIAL, "g1f3", "Nf3"), (INITIAL, "e2e4", "e4"),
                 ("4k3/8/8/8/8/8/8/4K2R w K - 0 1", "e1g1", "O-O"),
@@ -1764,7 +1670,6 @@ class Rest(Case):
 
     def test_no_position(self):
         """Which of its rules six good fields break together."""
-        self.page()
         for fen, said in (
                 ("8/8/8/8/8/8/8/4K3 w - - 0 1", "Black has no king"),
                 ("4k3/8/8/8/8/8/8/8 w - - 0 1", "White has no king"),
@@ -1780,32 +1685,24 @@ class Rest(Case):
                 ("4k3/8/8/8/8/8/8/4RK2 w - - 0 1", "Black has moved, and is in check"),
                 ("4rk2/8/8/8/8/8/8/4K3 b - - 0 1", "White has moved, and is in check")):
             self.set("fen", fen)
-            self.assertEqual(
-                self.text("fen-answer"),
-                "This FEN is no position: each field is right by itself, but %s." % said)
+            self.assertText("fen-answer", "This FEN is no position: each field is right by "
+                            "itself, but %s." % said)
 
     def test_numbers_of_games(self):
         """Those that the games have in their file, where bad ones count too."""
-        self.page()
         bad, good = b'[Event "x"]\n\n1. e5 *\n\n', b'[White "%d"]\n\n1. e4 *\n\n'
         self.convert(("a.pgn", good % 1 + bad + bad + good % 4), ("b.pgn", bad + good % 2))
-        self.browser.run("delete document.getElementById('work').dataset.shown;"
-                         "document.getElementById('go-on-always').click()")
-        self.assertEqual(self.browser.wait_for(IS_SHOWN), "done")
+        self.assertEqual(self.converted_by("#go-on-always"), "done")
         self.assertEqual([it[:2] for it in self.rows()], [
             ["a.pgn"], ["1", "1"], ["4", "4"], ["b.pgn"], ["2", "2"]])
-        self.browser.run("document.querySelectorAll('#list button')[1].click()")
-        self.browser.wait_for("return !document.getElementById('game').hidden")
-        self.assertEqual(self.text("game-title"), "Game 4 of a.pgn")
+        self.open_game("#list button", 1)
+        self.assertText("game-title", "Game 4 of a.pgn")
         self.assertIn('[White "4"]', self.text("game-text"))
 
     def test_list_of_faults_in_its_box(self):
         """However long it is, the result is not far below."""
-        self.page()
         self.convert(("in.pgn", b'[Event "x"]\n\n1. e5 *\n\n' * 200))
-        self.browser.run("delete document.getElementById('work').dataset.shown;"
-                         "document.getElementById('go-on-always').click()")
-        self.assertEqual(self.browser.wait_for(IS_SHOWN), "done")
+        self.assertEqual(self.converted_by("#go-on-always"), "done")
         listed, box, apart = self.browser.run(
             "const list = document.getElementById('other-faults'), top = (id) => "
             "document.getElementById(id).getBoundingClientRect().top;"
@@ -1817,13 +1714,11 @@ class Rest(Case):
 
     def test_tags_of_a_bad_game(self):
         """They are no tags of the game behind it."""
-        self.page()
         self.convert(("in.pgn", b'[White "Ada"]\n\ne4 e9 *\n\n[Black "Bob"]\n\n*\n'))
         self.assertIn("Game 1: White “Ada”, Black “?”", self.text("fault"))
 
     def test_explanations(self):
         """What is said of moves that are not legal, each for its reason."""
-        self.page()
         for fen, move, said in (
                 ("4k3/8/8/8/8/8/3P4/N2K1N2 w - - 0 1", "Nb3", "Nb3, and then"),
                 ("4k3/8/8/8/8/5N2/8/1N2K3 w - - 0 1", "Nd2",
@@ -1847,7 +1742,6 @@ class Rest(Case):
 
     def test_advice(self):
         """What a person would try next, by README's table of rejections."""
-        self.page()
         for text, words in (
                 (b"1. e4 e5 (1... -- 2. d4) *", "null move"), (b"1. e4 (1. Z0) *", "null move"),
                 (b"1. Z0 *", "gillspoon lint --fix --unsafe-fixes does it."),
@@ -1875,18 +1769,13 @@ class Rest(Case):
 
     def test_offer(self):
         """A missing result is taken from the end of the game, as by export --checked."""
-        self.page()
         self.convert(("in.pgn", example("no-result-tag")))
-        self.browser.run("delete document.getElementById('work').dataset.shown;"
-                         "document.querySelector('#fault p button').click()")
-        self.assertEqual(self.browser.wait_for(IS_SHOWN), "done")
+        self.assertEqual(self.converted_by("#fault p button"), "done")
         self.assertIn(b'[Result "0-1"]', self.download("download")[1])
-        self.assertEqual(self.browser.run("return document.getElementById('missing').value"),
-                         "fromMarker")
+        self.assertEqual(self.value("missing"), "fromMarker")
 
     def test_keyboard(self):
         """Each control is reached by the tab key, and has a name."""
-        self.page()
         self.convert(("one-bad-game.pgn", example("one-bad-game")))
         wanted = set(self.browser.run(
             "return [...document.querySelectorAll('button, input, select, textarea')]"
@@ -1905,7 +1794,6 @@ class Rest(Case):
 
     def test_policy(self):
         """A request is refused by the page itself."""
-        self.page()
         answer = self.browser.await_script("await fetch('http://127.0.0.1:9/');")
         self.assertIn("Failed to fetch", answer.get("error", ""))
         said = [it["message"] for it in self.browser.get_log("browser")]
@@ -1956,7 +1844,8 @@ class Builder(unittest.TestCase):
         for name in os.listdir(ROOT + "/page"):
             if os.path.isfile(ROOT + "/page/" + name):
                 shutil.copy(ROOT + "/page/" + name, copy + "/page")
-        write_file(copy + "/bin/to_cargo", "import os, sys\nos.makedirs(sys.argv[1], exist_ok=True)\n")
+        write_file(copy + "/bin/to_cargo",
+                   "import os, sys\nos.makedirs(sys.argv[1], exist_ok=True)\n")
         words = [sys.executable, copy + "/bin/build_page", "--cargo", copy + "/page.html"]
         env = {"PATH": copy + "/commands:/usr/bin:/bin"}
 
