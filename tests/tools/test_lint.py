@@ -245,16 +245,32 @@ class Lint(Folder, unittest.TestCase):
         for name in ("NO_COLOR", "INSIDE_EMACS"):
             self.env.pop(name, None)
 
-    def lint(self, *words, **more):
-        """The status, the output and the errors of a call in the folder."""
+    def lint(self, *words, of=None, **more):
+        """The status, the output and the errors of a call in the folder.
+
+        A text `of` a file is first written to the last of the words.
+        """
+        if of is not None:
+            self.put(words[-1], of)
         more.setdefault("env", self.env)
         if "input" not in more:
             more.setdefault("stdin", subprocess.DEVNULL)
         ran = run([*LINT, *words], cwd=self.folder, **more)
         return ran.returncode, (ran.stdout or b"").decode(), (ran.stderr or b"").decode()
 
-    def records(self, *words):
-        _, out, _ = self.lint("--json", *words)
+    def lines(self, *words, **more):
+        """The same with the lines of the output."""
+        status, out, told = self.lint(*words, **more)
+        return status, out.splitlines(), told
+
+    def check_usage(self, *words):
+        """Wrong words are said in one line, which is given."""
+        status, out, told = self.lint(*words)
+        self.assertEqual((status, out, told.count("\n")), (2, "", 1), words)
+        return told
+
+    def records(self, *words, **more):
+        _, out, _ = self.lint("--json", *words, **more)
         return [json.loads(it) for it in out.splitlines()]
 
 
@@ -276,8 +292,7 @@ class Faults(Lint):
         # 29 files have a game each, but one has a second game, and one has five
         wanted.append("29 files, 34 games, 31 faults in 29 files")
         for words in ([], ["-j", "3"]):
-            status, out, told = self.lint("ways", *words)
-            self.assertEqual((status, out.splitlines(), told), (1, wanted, ""))
+            self.assertEqual(self.lines("ways", *words), (1, wanted, ""))
 
     def test_sentences(self):
         from gillspoon._findings import explained
@@ -322,8 +337,7 @@ class Faults(Lint):
         for name, shown in BOARDS.items():
             with self.subTest(name):
                 text, lines = WAYS[name]
-                self.put("a.pgn", text)
-                _, out, _ = self.lint("--board", "--quiet", "a.pgn")
+                _, out, _ = self.lint("--board", "--quiet", "a.pgn", of=text)
                 self.assertEqual(re.sub(r"(?m)^ +$", "", out),
                                  "a.pgn:%s\n%s\n" % (lines[0], board_of(*shown)))
 
@@ -332,8 +346,7 @@ class Faults(Lint):
         promotes = b'[FEN "8/P6k/8/8/8/8/8/K7 w - - 0 1"]\n[SetUp "1"]\n\n1. a8+ *\n'
         for text, said in ((promotes, "A white pawn is promoted on a8: write a8=Q."),
                            (b"1. e4 e5 2. Ke2 e4xh1+ *\n", "No black pawn can go to h1.")):
-            self.put("a.pgn", text)
-            status, out, err = self.lint("--board", "--quiet", "a.pgn")
+            status, out, err = self.lint("--board", "--quiet", "a.pgn", of=text)
             self.assertEqual((status, err), (1, ""), out)
             self.assertEqual(out.rstrip().splitlines()[-1].strip(), said)
 
@@ -465,8 +478,7 @@ class NoTraceback(Lint):
         """Comments among tags have one reading: a search that fails then ends."""
         self.put("a.pgn", b"1. e4 [" + b"{ ; " * 500 + b"\n")
         self.put("b.pgn", b"[" + b"{ " * 500 + b"\n")
-        status, out, told = self.lint("--quiet", "a.pgn", "b.pgn")
-        self.assertEqual((status, out.splitlines(), told), (1, [
+        self.assertEqual(self.lines("--quiet", "a.pgn", "b.pgn"), (1, [
             "a.pgn:1:7: tag in movetext: the game before may have no result at its end "
             "(game 1, ? \u2013 ?)",
             "b.pgn:2:1: comment is not closed: it begins at line 1, column 2 (game 1, ? \u2013 ?)",
@@ -516,8 +528,7 @@ class Files(Lint):
         ran = run([LINT[0], "sieve", name, "/dev/null", "bad"], cwd=self.folder, env=self.env)
         self.assertEqual(ran.stderr, b"")
         good, bad = map(int, re.findall(rb"(?m)^[\w/.]+: (\d+) (?:bad )?games?\b", ran.stdout))
-        notes = re.findall(r"(?m)^% byte (\d+): (.*); line \d+$",
-                           self.get("bad").decode("latin-1"))
+        notes = re.findall(r"(?m)^% byte (\d+): (.*); line \d+$", self.get("bad").decode("latin-1"))
         self.assertEqual(len(notes), bad)
         return good + bad, [(int(at), reason, 1 + len(re.findall(rb"\r\n?|\n", text[:int(at)])))
                             for at, reason in notes]
@@ -534,8 +545,7 @@ class Files(Lint):
             "a.PGN", "below/c.pgn.GZ", "below/d.pgn.bz2", "below/e.pgn.zst")]
         wanted.append("5 files, 5 games, 4 faults in 4 files")
         for words in (["all"], ["-j2", "all"]):
-            status, out, told = self.lint(*words)
-            self.assertEqual((status, out.splitlines(), told), (1, wanted, ""))
+            self.assertEqual(self.lines(*words), (1, wanted, ""))
 
     def test_names(self):
         shown = {"a b.pgn": "a b.pgn", "a\nb.pgn": "a\\nb.pgn", "-c.pgn": "-c.pgn",
@@ -551,8 +561,7 @@ class Files(Lint):
 
     def test_a_leading_dash(self):
         self.put("-c.pgn", BAD)
-        self.put("d.pgn", BAD)
-        self.assertEqual(self.lint("d.pgn", "--quiet", "--", "-c.pgn", "d.pgn")[1],
+        self.assertEqual(self.lint("d.pgn", "--quiet", "--", "-c.pgn", "d.pgn", of=BAD)[1],
                          "".join("%s.pgn:%s\n" % (it, BAD_LINE) for it in ("d", "-c", "d")))
         self.assertEqual(self.lint("--quiet", "--", "-c.pgn"), (1, "-c.pgn:%s\n" % BAD_LINE, ""))
 
@@ -571,8 +580,8 @@ class Files(Lint):
     def test_standard_input(self):
         for words in ([], ["-"], ["-j", "2", "-", "good.pgn"]):
             self.put("good.pgn", GOOD)
-            status, out, told = self.lint("--quiet", *words, input=BAD)
-            self.assertEqual((status, out, told), (1, "<stdin>:%s\n" % BAD_LINE, ""))
+            self.assertEqual(self.lint("--quiet", *words, input=BAD),
+                             (1, "<stdin>:%s\n" % BAD_LINE, ""))
 
     def test_what_cannot_be_read(self):
         self.put("good.pgn", GOOD)
@@ -659,8 +668,8 @@ class OtherKinds(Lint):
         for name in ("mark.pgn", "tape.pgn", "tape.pgn.gz", "page.pgn", "guide.pgn"):
             text, reason = OTHERS[name]
             for words in (["-"], ["--json"], ["--fix", "--unsafe-fixes"], ["--diff", "-"]):
-                status, out, told = self.lint(*words, "--quiet", input=text)
-                self.assertEqual((status, out, told), (3, "", "gillspoon: <stdin>: %s\n" % reason))
+                self.assertEqual(self.lint(*words, "--quiet", input=text),
+                                 (3, "", "gillspoon: <stdin>: %s\n" % reason))
 
     def test_the_other_files_are_read(self):
         self.put("all/a.pgn", BAD)
@@ -680,8 +689,7 @@ class OtherKinds(Lint):
                 (b'\xef\xbb\xbf\n[ White "A"]\n\n1. e4 \0\0 *\n', "4:7: control byte"),
                 (b"<1> *\n", "1:1: reserved character"), (b"<", "1:1: reserved character"),
                 (b"%PDF is an escape line\n1. e9 *\n", "2:4: not a move")):
-            self.put("a.pgn", text)
-            status, out, told = self.lint("--quiet", "a.pgn")
+            status, out, told = self.lint("--quiet", "a.pgn", of=text)
             self.assertEqual((status, told), (1, ""))
             self.assertTrue(out.startswith("a.pgn:%s" % reason), out)
 
@@ -713,8 +721,7 @@ class Zips(Lint):
     def test_members_are_named(self):
         wanted = ["a.zip" + it for it in self.lines]
         for words in ([], ["-j", "2", "a.zip"]):
-            status, out, told = self.lint("--quiet", "a.zip", *words)
-            self.assertEqual((status, out.splitlines(), told), (
+            self.assertEqual(self.lines("--quiet", "a.zip", *words), (
                 1, wanted * (1 + len(words) // 3), ""))
         self.assertEqual(self.lint("a.zip")[1].splitlines()[-1],
                          "3 files, 4 games, 2 faults in 2 files")
@@ -727,8 +734,7 @@ class Zips(Lint):
 
     def test_standard_input(self):
         for words in (["-"], []):
-            status, out, told = self.lint("--quiet", *words, input=self.get("a.zip"))
-            self.assertEqual((status, out.splitlines(), told),
+            self.assertEqual(self.lines("--quiet", *words, input=self.get("a.zip")),
                              (1, ["<stdin>" + it for it in self.lines], ""))
 
     def test_a_member_is_given_by_its_name(self):
@@ -739,8 +745,7 @@ class Zips(Lint):
         self.assertEqual(self.lint("--quiet", "none.zip:a.pgn"), (
             3, "", "gillspoon: none.zip:a.pgn: No such file or directory\n"))
         # the name of a file comes first
-        self.put("a.zip:y.PGN", GOOD)
-        self.assertEqual(self.lint("--quiet", "a.zip:y.PGN"), (0, "", ""))
+        self.assertEqual(self.lint("--quiet", "a.zip:y.PGN", of=GOOD), (0, "", ""))
 
     def test_hidden_members_are_passed_over(self):
         self.put("b.zip", zip_of(("y.pgn", BAD), ("__MACOSX/._y.pgn", b"\0\5\26\7\0\2Mac OS X")))
@@ -755,8 +760,7 @@ class Zips(Lint):
     def test_a_damaged_member(self):
         data = bytearray(zip_of(("x.pgn", GOOD * 50), ("y.pgn", BAD)))
         data[60] ^= 255
-        self.put("b.zip", bytes(data))
-        status, out, told = self.lint("--quiet", "b.zip")
+        status, out, told = self.lint("--quiet", "b.zip", of=bytes(data))
         self.assertEqual((status, out), (3, "b.zip:y.pgn:%s\n" % BAD_LINE))
         self.assertRegex(told, r"\Agillspoon: b\.zip:x\.pgn: (?!b\.zip).+\n\Z")
 
@@ -841,8 +845,7 @@ class Options(Lint):
             self.assertEqual(self.lint(*words, "-j", "3", "all", "missing"), one)
 
     def test_json(self):
-        self.put("a.pgn", WAYS["an exposed king"][0])
-        fault, summary = self.records("a.pgn")
+        fault, summary = self.records("a.pgn", of=WAYS["an exposed king"][0])
         self.assertEqual(list(fault), FIELDS)
         self.assertEqual(list(fault.values()), [
             "fault", "a.pgn", 5, 1, 70, 34, "move is not legal", "", 1, "Ada", "Bob", 0, 76,
@@ -854,8 +857,7 @@ class Options(Lint):
     def test_tags_alone(self):
         """A line has the note in place of a reason that would mislead; a record has both."""
         note = "the game before may have tags alone, without moves and a result"
-        self.put("a.pgn", WAYS["tags alone"][0])
-        fault = self.records("a.pgn")[0]
+        fault = self.records("a.pgn", of=WAYS["tags alone"][0])[0]
         self.assertEqual((fault["number"], fault["reason"], fault["note"]),
                          (22, "tag is given twice", note))
         ran, = json.loads(self.lint("--sarif", "a.pgn")[1])["runs"]
@@ -890,8 +892,7 @@ class Options(Lint):
             {"startLine": 4, "startColumn": 13, "byteOffset": 41},
             {"startLine": 10, "startColumn": 1, "byteOffset": 118},
             {"startLine": 14, "startColumn": 7, "byteOffset": 145}])
-        self.assertEqual({it["artifactLocation"]["uri"] for it in places},
-                         {"my%20games/a%3Ab.pgn"})
+        self.assertEqual({it["artifactLocation"]["uri"] for it in places}, {"my%20games/a%3Ab.pgn"})
         self.assertEqual(ran["results"][0]["message"]["text"],
                          BAD_LINE[6:] + ". The white king cannot go to e3.")
         self.check_that_the_schema_refuses(log, jsonschema)
@@ -937,17 +938,14 @@ class Options(Lint):
         self.assertIn("ways/a%0A%25%C3%BC.pgn", json.dumps(ran["results"]))
 
     def test_sarif_of_sound_files(self):
-        self.put("a.pgn", GOOD)
-        status, out, _ = self.lint("--sarif", "a.pgn")
+        status, out, _ = self.lint("--sarif", "a.pgn", of=GOOD)
         self.assertEqual(status, 0)
         self.assertEqual(json.loads(out)["runs"][0]["results"], [])
 
     def test_wrong_words(self):
         for words in (["--no"], ["--max", "0", "a"], ["--max", "x", "a"], ["-j", "-1", "a"],
                       ["--json", "--sarif", "a"], ["--board", "--json", "a"]):
-            status, out, told = self.lint(*words)
-            self.assertEqual((status, out, told.count("\n")), (2, "", 1), words)
-            self.assertIn("(--help shows the usage)", told)
+            self.assertIn("(--help shows the usage)", self.check_usage(*words))
 
     def test_help(self):
         status, out, told = self.lint("--help")
@@ -1018,8 +1016,7 @@ class Streams(Lint):
 
     def test_an_interrupt_of_processes(self):
         self.put("b.pgn", GOOD)
-        self.assertEqual(self.interrupted("-j", "2", "pipe.pgn", "b.pgn"),
-                         (-signal.SIGINT, b""))
+        self.assertEqual(self.interrupted("-j", "2", "pipe.pgn", "b.pgn"), (-signal.SIGINT, b""))
 
     def check_lost_processes(self, *signals):
         """A call by two processes that get these signals: no fault of a file, no traceback."""
