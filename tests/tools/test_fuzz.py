@@ -13,7 +13,7 @@ import unittest
 
 import programs
 import test_cargo
-from programs import ROOT, run, write_file
+from programs import ROOT, run, text_of, write_file
 
 CORPUS = ROOT + "/fuzz/corpus"
 OUT = ROOT + "/fuzz/out/test"
@@ -81,7 +81,7 @@ class Corpus(unittest.TestCase):
         for law, name, old, new in PLANTED:
             with self.subTest(law):
                 path = "%s/cargo/out/crates/%s" % (copy, name)
-                right = test_cargo.read(path)
+                right = text_of(path)
                 self.assertEqual(right.count(old), 1, old)
                 self.write(path, right.replace(old, new))
                 try:
@@ -118,9 +118,9 @@ class Files(unittest.TestCase):
 
     def test_each_law_has_a_planted_bug(self):
         """The laws of fuzz/src/laws.rs, those that bin/fuzz lists, and the bugs."""
-        text = test_cargo.read(ROOT + "/fuzz/src/laws.rs")
+        text = text_of(ROOT + "/fuzz/src/laws.rs")
         laws = {it.lower() for it in re.findall(r"^/// \*([\w ]+)\*: ", text, re.MULTILINE)}
         self.assertEqual({it[0].lower() for it in PLANTED}, laws)
-        listed = re.findall(r"^    (\w[\w ]+?)  +\w", test_cargo.read(ROOT + "/bin/fuzz").split(
+        listed = re.findall(r"^    (\w[\w ]+?)  +\w", text_of(ROOT + "/bin/fuzz").split(
             "status:")[0], re.MULTILINE)
         self.assertEqual({it.lower() for it in listed if not it.startswith("bin/")}, laws)
