@@ -224,8 +224,7 @@ def load(script):
     """The module that a script without a suffix is, by its path in the repository."""
     loader = importlib.machinery.SourceFileLoader(os.path.basename(script),
                                                   os.path.join(ROOT, script))
-    module = importlib.util.module_from_spec(
-        importlib.util.spec_from_loader(loader.name, loader))
+    module = importlib.util.module_from_spec(importlib.util.spec_from_loader(loader.name, loader))
     loader.exec_module(module)
     return module
 

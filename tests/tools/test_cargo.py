@@ -623,8 +623,7 @@ class Workspace(unittest.TestCase):
 
     def test_each_line_that_is_another_has_its_row(self):
         """In the README of the workspace, with the reason."""
-        rows = [[it.strip("`") for it in row]
-                for row in table("cargo/README.md", *OTHER_LINES)]
+        rows = [[it.strip("`") for it in row] for row in table("cargo/README.md", *OTHER_LINES)]
         made = [[name, file.replace("crates/", "").replace(".rt", ".rs"), line, " ".join(others)]
                 for file, lines in programs.load("bin/to_cargo").OTHER_LINES.items()
                 for name, (line, others) in lines.items()]

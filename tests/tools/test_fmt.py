@@ -323,8 +323,7 @@ class FmtTest(Folder, unittest.TestCase):
         self.put("loose.pgn", LOOSE * 200000)
         for number in (signal.SIGTERM, signal.SIGINT, signal.SIGHUP):
             self.assertEqual(signalled([*FMT, "-w", "loose.pgn"], number, self.folder)[0], -number)
-            self.assertEqual(sorted(os.listdir(self.folder)),
-                             ["bad.pgn", "loose.pgn", "tidy.pgn"])
+            self.assertEqual(sorted(os.listdir(self.folder)), ["bad.pgn", "loose.pgn", "tidy.pgn"])
             self.assertEqual(self.get("loose.pgn"), LOOSE * 200000)
 
     def test_a_folder(self):

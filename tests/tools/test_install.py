@@ -248,8 +248,7 @@ class Small(unittest.TestCase):
     def test_advice(self):
         _, _, told = self.call(self.prefix)
         self.assertIn('export PATH="%s/bin:$PATH"' % self.prefix, told)
-        self.assertIn("bash completes them with this line in ~/.bashrc: . '%s" % self.prefix,
-                      told)
+        self.assertIn("bash completes them with this line in ~/.bashrc: . '%s" % self.prefix, told)
         env = {"PATH": "%s/bin:%s/path" % (self.prefix, self.here.root),
                "XDG_DATA_HOME": self.prefix + "/share"}
         _, _, told = self.call(self.prefix, env=env)

@@ -54,8 +54,7 @@ class Kept(Folder, unittest.TestCase):
         script = [ROOT + "/bin/gillspoon", subcommand]
         if subcommand == "build_page":
             script = [ROOT + "/bin/build_page"]
-        return run([*script, *words], cwd=self.folder,
-                   env=dict(self.env, **(env or {})), **more)
+        return run([*script, *words], cwd=self.folder, env=dict(self.env, **(env or {})), **more)
 
     def stays(self, status, outputs, *words, **more):
         """A call ends with a status and one line, and each output stays; no file is added."""
@@ -83,8 +82,7 @@ class Format(Kept):
             self.stays(3, ["out"], "fmt", "-o", "out", "sound.pgn", name)
             self.stays(3, ["out"], "fmt", "--checked", "--output", "out", name)
             if self.standard_input(name):
-                self.stays(3, ["out"], "fmt", "-o", "out", "-",
-                           input=self.standard_input(name))
+                self.stays(3, ["out"], "fmt", "-o", "out", "-", input=self.standard_input(name))
         for name in [*OTHERS, "bad.pgn"]:
             status = 3 if name in OTHERS else 1
             self.stays(status, ["out"], "fmt", "-o", "out", name)
@@ -150,8 +148,7 @@ class Sieve(Kept):
             self.stays(3, ["g", "b"], "sieve", name, "g", "b")
             self.stays(3, ["g", "b"], "sieve", "--checked", name, "g", "b")
             if self.standard_input(name):
-                self.stays(3, ["g", "b"], "sieve", "-", "g", "b",
-                           input=self.standard_input(name))
+                self.stays(3, ["g", "b"], "sieve", "-", "g", "b", input=self.standard_input(name))
 
     def test_what_is_no_text(self):
         """Also with outputs that are not there: none is made."""
@@ -246,7 +243,6 @@ class Rights(Kept):
                 self.put(name, OLD)
                 os.chmod(os.path.join(self.folder, name), 0o666)
             user = without_rights(self, need_program())[:-1]
-            ran = run([*user, ROOT + "/bin/gillspoon", *words], cwd=self.folder,
-                      env=self.env)
+            ran = run([*user, ROOT + "/bin/gillspoon", *words], cwd=self.folder, env=self.env)
             self.assertEqual((ran.returncode, self.get("g"), self.get("b")), (3, OLD, OLD),
                              ran.stderr)

@@ -86,6 +86,11 @@ def fault_of(error, call, *words, **options):
     raise AssertionError("no %s: %s" % (error.__name__, words))
 
 
+def pickled(value):
+    """What pickle makes of a value again."""
+    return pickle.loads(pickle.dumps(value))
+
+
 def in_threads(call, values):
     """Calls a function of each value, in threads side by side."""
     threads = [threading.Thread(target=call, args=(it,)) for it in values]
@@ -111,8 +116,7 @@ def ever(value):
 
 def tree(line):
     """What is known of a line: its first position, and of each ply its text, position and notes."""
-    return line.fen, notes_of(line), [
-        (ply.number, ply.san, ply.fen, notes_of(ply)) for ply in line]
+    return line.fen, notes_of(line), [(ply.number, ply.san, ply.fen, notes_of(ply)) for ply in line]
 
 
 def notes_of(noted):
@@ -177,8 +181,7 @@ class Games(unittest.TestCase):
         self.assertEqual([one.position_at(it) for it in (0, 1, 3)], [
             INITIAL, "rnbqkbnr/pppppppp/8/8/4P3/8/PPPP1PPP/RNBQKBNR b KQkq e3 0 1", one.fen])
         for ply in (-1, 4):
-            with self.assertRaises(IndexError):
-                one.position_at(ply)
+            self.assertRaises(IndexError, one.position_at, ply)
 
     def test_tree(self):
         line = next(gillspoon.games(self.TEXT)).moves()
@@ -210,11 +213,9 @@ class Games(unittest.TestCase):
             '[Event "?"]\n[Site "?"]\n[Date "????.??.??"]\n[Round "?"]\n[White "x\\"y"]\n'
             '[Black "?"]\n[Result "0-1"]\n[Zz "\\\\"]\n\n{ a %b } $7 1. e4 $1 1... e5 0-1\n\n'))
         line.notes = ["a } b"]
-        with self.assertRaises(ValueError):
-            gillspoon.write_game(tags, line)
+        self.assertRaises(ValueError, gillspoon.write_game, tags, line)
         line.notes, line.plies[1].san = [], "Ke3"
-        with self.assertRaises(gillspoon.PgnFault):
-            gillspoon.write_game(tags, line)
+        self.assertRaises(gillspoon.PgnFault, gillspoon.write_game, tags, line)
 
     def test_a_game_is_read_again_by_its_place(self):
         """What is between `offset` and `end` is the game, and nothing else."""
@@ -258,7 +259,7 @@ class Games(unittest.TestCase):
         for copy in (dict(tags), tags.copy(), tags | {}, json.loads(json.dumps(tags))):
             copy["A"] = "2"
             self.assertEqual((type(copy), copy), (dict, changed))
-        self.assertEqual(pickle.loads(pickle.dumps(tags)), wanted)
+        self.assertEqual(pickled(tags), wanted)
         again = gillspoon.write_game(changed, game.moves())
         self.assertEqual(again, game.text.replace(b'[A "1"]', b'[A "2"]'))
 
@@ -276,7 +277,7 @@ class Games(unittest.TestCase):
 
     def test_pickle(self):
         game = next(gillspoon.games(self.TEXT))
-        copy = pickle.loads(pickle.dumps(game))
+        copy = pickled(game)
         self.assertEqual((copy.text, copy.fen, copy.tags), (game.text, game.fen, game.tags))
 
     def test_long_game(self):
@@ -441,7 +442,7 @@ class LateTexts(Folder):
     def test_pickled_before_and_after(self):
         data = b'e4 (d4) e5 1-0 [FEN "4k3/8/8/8/8/8/4P3/4K3 w - - 5 9"] {a} e4 {b} Kd7 1/2-1/2'
         wanted = self.texts(data, checked=True)
-        for make in (lambda it: pickle.loads(pickle.dumps(it)), copies.copy, copies.deepcopy):
+        for make in (pickled, copies.copy, copies.deepcopy):
             for game, text in zip(gillspoon.games(data, checked=True), wanted):
                 before = make(game)
                 self.assertEqual((before.text, game.text), (text, text))
@@ -597,8 +598,7 @@ class Positions(unittest.TestCase):
                 line = game.moves()
                 foreseen += any(isinstance(it, gillspoon._moves._PlacedPly) for it in line)
                 self.assertEqual([it.fen for it in line], [it[2] for it in plies])
-                for make in (lambda it: it, copies.copy, copies.deepcopy,
-                             lambda it: pickle.loads(pickle.dumps(it))):
+                for make in (lambda it: it, copies.copy, copies.deepcopy, pickled):
                     self.assertEqual([it.fen for it in make(line)], [it[2] for it in plies])
                     self.assertEqual([(it.number, it.san, it.fen) for it in map(make, line)],
                                      [it[:3] for it in plies])
@@ -630,7 +630,7 @@ class Positions(unittest.TestCase):
                 for game, (its_tree, text) in zip(gillspoon.games(data), wanted):
                     line = game.moves()
                     self.assertEqual(tree(line), its_tree)
-                    for make in (copies.copy, lambda it: pickle.loads(pickle.dumps(it))):
+                    for make in (copies.copy, pickled):
                         self.assertEqual(tree(make(line)), its_tree)
                     self.assertEqual(line.plies[-1].fen if line.plies else line.fen, game.fen)
                     self.assertEqual(gillspoon.write_game(game.tags, line, encoding=game.encoding),
@@ -697,7 +697,7 @@ class Positions(unittest.TestCase):
                 self.assertEqual([it.fen for it in plies][-1], game.fen)
                 if game.number == 3:
                     plies[1].san = "d5"
-                    for these in (plies, copies.deepcopy(plies), pickle.loads(pickle.dumps(plies))):
+                    for these in (plies, copies.deepcopy(plies), pickled(plies)):
                         self.assertEqual([it.san for it in these], ["Nf3", "d5", "g3"])
                         self.assertEqual([it.uci for it in these], ["g1f3", "g8f6", "g2g3"])
                 calls.append(sans_of.call_count)
@@ -799,8 +799,7 @@ class Keys(unittest.TestCase):
         replies = plies[1].variations[0].plies
         for ply in (*plies, *replies):
             self.assertEqual(ply.key, gillspoon.position_key(ply.fen))
-        self.assertEqual(replies[0].key,
-                         "rnbqkbnr/pp1ppppp/8/2p5/4P3/8/PPPP1PPP/RNBQKBNR w KQkq -")
+        self.assertEqual(replies[0].key, "rnbqkbnr/pp1ppppp/8/2p5/4P3/8/PPPP1PPP/RNBQKBNR w KQkq -")
         with self.assertRaises(AttributeError):
             plies[0].key = ""
         self.assertEqual(fault_of(gillspoon.FenFault, gillspoon.position_key, "x").field, 1)
@@ -875,13 +874,12 @@ class Views(unittest.TestCase):
         comments = ["[%csl Ga1][%cal Ge2e4]", "b"]
         self.assertEqual((ply.nags, ply.comments), ([1], comments))
         for copy in (ply.comments.copy(), ply.comments + [], list(ply.comments),
-                     pickle.loads(pickle.dumps(ply.comments)), copies.deepcopy(ply.comments)):
+                     pickled(ply.comments), copies.deepcopy(ply.comments)):
             copy.append("c")
             self.assertEqual((type(copy), copy), (list, [*comments, "c"]))
 
     def test_a_ply_is_not_made_by_hand(self):
-        with self.assertRaisesRegex(TypeError, r'line\.append\("Nf3"\) makes one'):
-            gillspoon.Ply()
+        self.assertRaisesRegex(TypeError, r'line\.append\("Nf3"\) makes one', gillspoon.Ply)
 
 
 class Turns(unittest.TestCase):
@@ -899,7 +897,7 @@ class Turns(unittest.TestCase):
         self.assertEqual(self.turns(sicilian), [("c5", "black", 1), ("Nf3", "white", 2)])
         inner, = sicilian.plies[1].variations
         self.assertEqual(self.turns(inner), [("c3", "white", 2), ("d5", "black", 2)])
-        for copy in (pickle.loads(pickle.dumps(inner)), copies.deepcopy(inner)):
+        for copy in (pickled(inner), copies.deepcopy(inner)):
             self.assertEqual(self.turns(copy), self.turns(inner))
         self.assertEqual((inner.plies[1].number, line.plies[2].variations[0].plies[0].side),
                          (4, "white"))
@@ -964,7 +962,7 @@ class Built(unittest.TestCase):
         self.assertEqual(self.movetext(line), (
             "1. e4 ( 1. d4 $5 { or so } 1... Nf6 ( 1... d5 2. c4 $3 ) ) 1... e5 ( 1... c5 )\n"
             "( 1... e6 ) *\n\n"))
-        for copy in (pickle.loads(pickle.dumps(line)), copies.deepcopy(line)):
+        for copy in (pickled(line), copies.deepcopy(line)):
             self.assertEqual(self.movetext(copy), self.movetext(line))
 
     def test_from_a_position(self):
@@ -995,16 +993,13 @@ class Built(unittest.TestCase):
                     (("Nf6",), {"nags": [-1]}, ValueError, "from 0 to 255, not -1"),
                     (("Nf6",), {"comment": 7}, TypeError, "a comment is a str, not int"),
                     (("Nf6",), {"comment": "a}"}, ValueError, "closing brace")):
-                with self.assertRaisesRegex(error, said):
-                    call(*words, **options)
+                self.assertRaisesRegex(error, said, call, *words, **options)
         self.assertEqual((len(line), ply.notes), (1, []))
         self.assertEqual(fault_of(gillspoon.MoveFault, line.append, "e4").fen, ply.fen)
         fault = fault_of(gillspoon.MoveFault, ply.add_variation, "e5")
         self.assertEqual(fault.fen, INITIAL)
-        with self.assertRaises(gillspoon.FenFault):
-            gillspoon.Line("4k3/8 w")
-        with self.assertRaisesRegex(TypeError, "a FEN is a str, not Ply"):
-            gillspoon.Line(ply)
+        self.assertRaises(gillspoon.FenFault, gillspoon.Line, "4k3/8 w")
+        self.assertRaisesRegex(TypeError, "a FEN is a str, not Ply", gillspoon.Line, ply)
 
     def test_a_line_that_was_read_goes_on(self):
         """Also one whose positions were foreseen, and a variation."""
@@ -1136,19 +1131,18 @@ class Pickled(unittest.TestCase):
         last = game.moves().plies[-1]
         self.assertEqual((game.plies, last.number), (1600, 1600))
         self.assertGreater(1600, sys.getrecursionlimit())
-        for copy in (pickle.loads(pickle.dumps(last)), copies.copy(last), copies.deepcopy(last)):
+        for copy in (pickled(last), copies.copy(last), copies.deepcopy(last)):
             self.assertEqual((copy.number, copy.san, copy.fen, copy.comments),
                              (1600, "Ng8", game.fen, ["end"]))
             self.same(copy.variations[0], last.variations[0])
-        for copy in (pickle.loads(pickle.dumps(game.moves())), copies.deepcopy(game.moves()),
-                     pickle.loads(pickle.dumps(game)).moves()):
+        for copy in (pickled(game.moves()), copies.deepcopy(game.moves()), pickled(game).moves()):
             self.same(copy, game.moves())
             # each begins with the move before, as the reader makes it
             self.assertIs(copy.plies[-1].variations[0].start, copy.plies[-2])
 
     def test_positions_that_were_not_asked_for(self):
         game = next(gillspoon.games(b"e4 e5 (c5 Nf3 (c3)) Nf3 *"))
-        copy = pickle.loads(pickle.dumps(game.moves()))
+        copy = pickled(game.moves())
         self.same(copy, game.moves())
         inner, = copy.plies[1].variations[0].plies[1].variations
         self.assertIs(inner.start, copy.plies[1].variations[0].plies[0])
@@ -1157,7 +1151,7 @@ class Pickled(unittest.TestCase):
         """By itself it has the position before it."""
         game = next(gillspoon.games(b"e4 e5 (c5 {good} Nf3 (c3)) Nf3 *"))
         line = game.moves().plies[1].variations[0]
-        copy = pickle.loads(pickle.dumps(line))
+        copy = pickled(line)
         self.same(copy, line)
         self.assertEqual(copy.start, game.position_at(1))
         self.assertIs(copy.plies[1].variations[0].start, copy.plies[0])
@@ -1167,7 +1161,7 @@ class Pickled(unittest.TestCase):
         line = next(gillspoon.games(b"e4 e5 Nf3 (Nc3) Nc6 *")).moves()
         wanted = [it.fen for it in line][2:]
         del line.plies[:2]
-        copy = pickle.loads(pickle.dumps(line))
+        copy = pickled(line)
         self.assertEqual([it.fen for it in copy], wanted)
         self.assertEqual(copy.plies[0].variations[0].plies[0].fen.split()[0],
                          "rnbqkbnr/pppp1ppp/8/4p3/4P3/2N5/PPPP1PPP/R1BQKBNR")
@@ -1175,13 +1169,13 @@ class Pickled(unittest.TestCase):
     def test_archive(self):
         count = 0
         for game in gillspoon.games(archive(50, "annotated")):
-            copy = pickle.loads(pickle.dumps(game.moves()))
+            copy = pickled(game.moves())
             self.same(copy, game.moves())
             self.assertEqual(gillspoon.write_game(game.tags, copy), game.text)
             for ply in game.mainline():
                 for line in ply.variations:
                     count += 1
-                    self.same(pickle.loads(pickle.dumps(line)), line)
+                    self.same(pickled(line), line)
         self.assertGreater(count, 100)
 
 
@@ -1211,8 +1205,7 @@ class Faults(Folder):
                     other.seek(0)
                     fault = fault_of(gillspoon.PgnFault, call, source)
                     self.assertEqual(fault.file, name, (source, call))
-                    self.assertEqual(str(fault),
-                                     said if name else said[said.index("line 1"):])
+                    self.assertEqual(str(fault), said if name else said[said.index("line 1"):])
 
     def test_the_move(self):
         """It is the text of what was rejected as a move, and of nothing else."""
@@ -1257,14 +1250,14 @@ class Faults(Folder):
         faults = []
         path = self.put("a.pgn", b'[White "Ada"]\n1. e4 e9 *\n')
         self.assertEqual(list(gillspoon.games(path, on_fault=faults.append)), [])
-        copy = pickle.loads(pickle.dumps(faults[0]))
+        copy = pickled(faults[0])
         for name in gillspoon.PgnFault.__slots__:
             self.assertEqual(getattr(copy, name), getattr(faults[0], name), name)
         self.assertEqual((copy.args, str(copy)), (faults[0].args, str(faults[0])))
         for call, error in ((lambda: gillspoon.san(INITIAL, "e5"), gillspoon.MoveFault),
                             (lambda: gillspoon.san("x", "e5"), gillspoon.FenFault)):
             fault = fault_of(error, call)
-            copy = pickle.loads(pickle.dumps(fault))
+            copy = pickled(fault)
             self.assertEqual((str(copy), copy.fen), (str(fault), fault.fen))
 
     def test_moves_before(self):
@@ -1292,8 +1285,7 @@ class Faults(Folder):
                 bad = []
                 list(gillspoon.games(before + data, on_fault=bad.append))
                 raised = fault_of(gillspoon.PgnFault, list, gillspoon.games(before + data))
-                for fault in (bad[0], raised, pickle.loads(pickle.dumps(bad[0])),
-                              pickle.loads(pickle.dumps(raised))):
+                for fault in (bad[0], raised, pickled(bad[0]), pickled(raised)):
                     self.assertEqual(tree(fault.moves_before), (start, notes, plies), data)
         for data in (b'[White "Ada"] Kf9 *', b"1. (e4) *", b'[White "a', b'[FEN "x"] e4 *', b"&"):
             fault = fault_of(gillspoon.PgnFault, list, gillspoon.games(data))
@@ -1433,8 +1425,7 @@ class Calls(unittest.TestCase):
             fault = fault_of(gillspoon.FenFault, gillspoon.normalize_fen, fen)
             self.assertEqual((fault.field, fault.fen), (field, fen))
             for call in (gillspoon.san, gillspoon.explain):
-                with self.assertRaises(gillspoon.FenFault):
-                    call(fen, "e4")
+                self.assertRaises(gillspoon.FenFault, call, fen, "e4")
 
     def test_san(self):
         fen = "6k1/5ppp/8/8/8/8/8/R3K2R w KQ - 0 1"
@@ -1449,8 +1440,7 @@ class Calls(unittest.TestCase):
             fault = fault_of(gillspoon.MoveFault, gillspoon.san, fen, move)
             self.assertEqual((fault.number, fault.reason), (number, reason))
         for words in ((b"x", "e4"), (INITIAL, b"e4"), (INITIAL, None)):
-            with self.assertRaises(TypeError):
-                gillspoon.san(*words)
+            self.assertRaises(TypeError, gillspoon.san, *words)
 
     def test_uci(self):
         fen = "r3k3/6P1/8/8/8/8/8/4K2R w Kq - 0 1"
@@ -1470,8 +1460,7 @@ class Calls(unittest.TestCase):
         self.assertEqual(gillspoon.explain(fen, "Nec3")[3:], ((), ("e2",)))
         self.assertEqual(gillspoon.explain(fen, "Qd4"), ("Q", "d4", "", (), ()))
         self.assertEqual(gillspoon.explain(fen, "O-O"), ("K", "g1", "O-O", ("e1",), ()))
-        with self.assertRaises(gillspoon.MoveFault):
-            gillspoon.explain(fen, "hello")
+        self.assertRaises(gillspoon.MoveFault, gillspoon.explain, fen, "hello")
 
 
 # ---- sources
@@ -1600,16 +1589,12 @@ class Sources(Folder):
         path = self.put("a.pgn", b"e4 *")
         with open(path, encoding="ascii") as file:
             for source in (file, io.StringIO("e4 *")):
-                with self.assertRaisesRegex(TypeError, "binary mode"):
-                    gillspoon.games(source)
-        with self.assertRaisesRegex(TypeError, "as bytes"):
-            gillspoon.check('[White "x"]\n1. e4 *\n')
+                self.assertRaisesRegex(TypeError, "binary mode", gillspoon.games, source)
+        self.assertRaisesRegex(TypeError, "as bytes", gillspoon.check, '[White "x"]\n1. e4 *\n')
         for source in (7, None, ["e4 *"]):
-            with self.assertRaisesRegex(TypeError, "path, bytes"):
-                gillspoon.games(source)
+            self.assertRaisesRegex(TypeError, "path, bytes", gillspoon.games, source)
         for call in (gillspoon.games, gillspoon.check, gillspoon.convert):
-            with self.assertRaises(FileNotFoundError):
-                call(self.folder + "/missing.pgn")
+            self.assertRaises(FileNotFoundError, call, self.folder + "/missing.pgn")
 
 
 class InPieces(unittest.TestCase):
@@ -2023,8 +2008,7 @@ class Written(unittest.TestCase):
                 ({}, line.plies[0], "not Ply"),
                 ({}, line, "the san of a ply is a str such as 'Nf3', not bytes"),
                 ({}, noted, "a note is an int .*, a str .* or a Line .*, not float")):
-            with self.assertRaisesRegex(TypeError, said):
-                gillspoon.write_game(tags, moves)
+            self.assertRaisesRegex(TypeError, said, gillspoon.write_game, tags, moves)
 
 
 class WrittenFromPositions(unittest.TestCase):
@@ -2084,8 +2068,7 @@ class WrittenFromPositions(unittest.TestCase):
                 ({"FEN": "4k3"}, line, gillspoon.FenFault, "4k3"),
                 ({"FEN": 7}, line, TypeError, "the tag FEN is a str"),
                 ({"SetUp": "1"}, gillspoon.Line(), gillspoon.PgnFault, "without a FEN")):
-            with self.assertRaisesRegex(error, said):
-                gillspoon.write_game(tags, moves)
+            self.assertRaisesRegex(error, said, gillspoon.write_game, tags, moves)
         initial = gillspoon.Line()
         initial.append("e4")
         self.assertNotIn(b"FEN", gillspoon.write_game({"SetUp": "0"}, initial))
@@ -2110,7 +2093,7 @@ class WrittenFromPositions(unittest.TestCase):
         with self.assertRaisesRegex(ValueError, "a variation of Nf3 begins in another position"):
             gillspoon.write_game({}, moved)
         # a variation in place of the line's own moves, also after pickle
-        for make in (lambda it: it, copies.deepcopy, lambda it: pickle.loads(pickle.dumps(it))):
+        for make in (lambda it: it, copies.deepcopy, pickled):
             longer = make(line())
             longer.plies[2:] = longer.plies[2].variations[0].plies
             longer.append("e5")

@@ -304,8 +304,7 @@ class SieveTest(programs.Folder, unittest.TestCase):
             ran = call([*words])
             self.assertEqual((ran.returncode, ran.stdout, ran.stderr.count(b"\n")), (2, b"", 1),
                              (words, ran.stderr))
-        for words in ([folder + "/none", other, other + "2"],
-                      [file, folder + "/none/g", other]):
+        for words in ([folder + "/none", other, other + "2"], [file, folder + "/none/g", other]):
             ran = call([*words])
             self.assertEqual((ran.returncode, ran.stdout, ran.stderr.count(b"\n")), (3, b"", 1),
                              (words, ran.stderr))
@@ -342,8 +341,7 @@ class SieveTest(programs.Folder, unittest.TestCase):
         ran = run(["sh", "-c", script, "sh", done.paths[0], sys.executable, *SIEVE,
                    done.folder + "/g", done.folder + "/b"])
         self.assertEqual((ran.returncode, ran.stderr), (1, b""))
-        self.assertEqual([done.get(done.folder + it) for it in ("/g", "/b")],
-                         [done.good, done.bad])
+        self.assertEqual([done.get(done.folder + it) for it in ("/g", "/b")], [done.good, done.bad])
 
     def test_many_files(self):
         """Folders, zips and standard input too; BAD names the file of each bad game."""
@@ -363,8 +361,7 @@ class SieveTest(programs.Folder, unittest.TestCase):
                           for line, (name, begin, end) in zip((8, 3), notes))
         outputs = ["--good", done.folder + "/g", "--bad", done.folder + "/b"]
         for jobs in "13":
-            ran = call(["--exclude", "left*", "-j", jobs, *outputs, folder, "-"],
-                       input=sound(b"S"))
+            ran = call(["--exclude", "left*", "-j", jobs, *outputs, folder, "-"], input=sound(b"S"))
             self.assertEqual((ran.returncode, ran.stderr), (1, b""))
             self.assertEqual((done.get(done.folder + "/g"), done.get(done.folder + "/b")),
                              (good, wanted))

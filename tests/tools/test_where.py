@@ -208,8 +208,7 @@ class WhereTest(Folder, unittest.TestCase):
     def messages(self, words, *more):
         """What is shown of the messages of a command that runs in the folder."""
         env = dict(os.environ, LC_ALL="C.UTF-8", COLUMNS="80")
-        told = run([WHERE[0], *words], cwd=self.folder, env=env,
-                   stderr=subprocess.STDOUT).stdout
+        told = run([WHERE[0], *words], cwd=self.folder, env=env, stderr=subprocess.STDOUT).stdout
         ran = run([sys.executable, *WHERE, *more], cwd=self.folder, env=env, input=told)
         self.assertEqual((ran.returncode, ran.stderr), (1, b""), told)
         return ran.stdout.decode()
