@@ -1,6 +1,6 @@
 //! A source that makes the games of an archive as they are read.
 
-use crate::movetext::{Start, add_move_with_rest};
+use crate::movetext::add_move_with_rest;
 use crate::page::{Page, part};
 use crate::random::Random;
 use crate::style::{Style, next_writing};
@@ -90,24 +90,13 @@ impl<'a> Archive<'a> {
         };
         let (head, moves) = cut_behind(line, fields);
         let plies = moves.split(|byte| *byte == b' ').count();
-        let writing = next_writing(self.style, plies, &mut self.random);
         let (_, side) = cut_behind(head, 1);
-        let start = Start {
-            number: 1,
-            is_black: side.starts_with(b"b"),
-        };
+        let writing = next_writing(self.style, side.starts_with(b"b"), plies, &mut self.random);
         let begin = self.written.length();
         let mut cut = begin;
         let mut rest = moves;
         for ply in 0..plies {
-            add_move_with_rest(
-                rest,
-                ply,
-                start,
-                writing,
-                &mut self.random,
-                &mut self.written,
-            );
+            add_move_with_rest(rest, ply, writing, &mut self.random, &mut self.written);
             let (_, behind) = cut_behind(rest, 1);
             rest = behind;
             if ply <= writing.cut {

@@ -5,13 +5,6 @@ use crate::page::Page;
 use crate::random::Random;
 use crate::style::{Style, Writing};
 
-/// Where the first move of a game stands.
-#[derive(Clone, Copy)]
-pub struct Start {
-    pub number: u64,
-    pub is_black: bool,
-}
-
 const PHRASES: [&[u8]; 16] = [
     b"The usual move here.",
     b"White has a little more room, but Black's pieces stand well.",
@@ -47,40 +40,32 @@ const DEPTH: usize = 31;
 pub fn add_move_with_rest(
     rest: &[u8],
     ply: usize,
-    start: Start,
     writing: Writing,
     random: &mut Random,
     page: &mut Page,
 ) {
     let (text, _) = cut_behind(rest, 1);
     let wants_number = ply == 0 || writing.numbers_all;
-    add_ply(ply, text, start, writing, wants_number, page);
+    add_ply(ply, text, writing, wants_number, page);
     match writing.style {
         Style::Plain | Style::Puzzles => {}
         Style::Server => add_clock(ply, writing, random, page),
-        Style::Annotated => add_annotations(rest, ply, start, writing, random, page),
+        Style::Annotated => add_remarks(rest, ply, writing, random, page),
         Style::Stress => {
             if random.once_in(6) {
-                add_nested(text, ply, start, writing, random, page);
+                add_nested(text, ply, writing, random, page);
             }
         }
     }
 }
 
 /// Writes a move, with its number if it is White's or wants one.
-fn add_ply(
-    ply: usize,
-    text: &[u8],
-    start: Start,
-    writing: Writing,
-    wants_number: bool,
-    page: &mut Page,
-) {
-    let from_white = ply as u64 % 0x1_0000 + u64::from(start.is_black);
+fn add_ply(ply: usize, text: &[u8], writing: Writing, wants_number: bool, page: &mut Page) {
+    let from_white = ply as u64 % 0x1_0000 + u64::from(writing.is_black_first);
     let is_black = from_white % 2 == 1;
     page.begin_word();
     if !is_black || wants_number {
-        page.add_number((start.number % 0x1_0000) + from_white / 2);
+        page.add_number(1 + from_white / 2);
         page.add(if is_black {
             b"...".as_slice()
         } else {
@@ -147,14 +132,7 @@ fn add_clock(ply: usize, writing: Writing, random: &mut Random, page: &mut Page)
 }
 
 /// Writes what an annotator puts behind a ply.
-fn add_annotations(
-    rest: &[u8],
-    ply: usize,
-    start: Start,
-    writing: Writing,
-    random: &mut Random,
-    page: &mut Page,
-) {
+fn add_remarks(rest: &[u8], ply: usize, writing: Writing, random: &mut Random, page: &mut Page) {
     match random.below(16) {
         0 => page.add(random.one_of(&SUFFIXES)),
         1 => page.add_word(random.one_of(&GLYPHS)),
@@ -164,7 +142,7 @@ fn add_annotations(
         add_comment(random, page);
     }
     if random.once_in(11) {
-        add_variation(rest, ply, start, writing, random, page);
+        add_variation(rest, ply, writing, random, page);
     }
 }
 
@@ -180,29 +158,22 @@ fn add_comment(random: &mut Random, page: &mut Page) {
 }
 
 /// Writes a variation: the moves that were played from this ply on, as far as it goes.
-fn add_variation(
-    moves: &[u8],
-    from: usize,
-    start: Start,
-    writing: Writing,
-    random: &mut Random,
-    page: &mut Page,
-) {
+fn add_variation(rest: &[u8], from: usize, writing: Writing, random: &mut Random, page: &mut Page) {
     let most = 1 + random.below(9);
     page.add_word(b"(");
-    let mut rest = moves;
+    let mut rest = rest;
     for i in 0..most {
         if rest.is_empty() {
             break;
         }
         let ply = from.saturating_add(i);
         let (text, behind) = cut_behind(rest, 1);
-        add_ply(ply, text, start, writing, i == 0, page);
+        add_ply(ply, text, writing, i == 0, page);
         if random.once_in(10) {
             add_comment(random, page);
         }
         if random.once_in(12) {
-            add_inner(rest, ply, start, writing, random, page);
+            add_inner(rest, ply, writing, random, page);
         }
         rest = behind;
     }
@@ -210,41 +181,27 @@ fn add_variation(
 }
 
 /// Writes a short variation in a variation.
-fn add_inner(
-    moves: &[u8],
-    from: usize,
-    start: Start,
-    writing: Writing,
-    random: &mut Random,
-    page: &mut Page,
-) {
+fn add_inner(rest: &[u8], from: usize, writing: Writing, random: &mut Random, page: &mut Page) {
     let most = 1 + random.below(4);
     page.add_word(b"(");
-    let mut rest = moves;
+    let mut rest = rest;
     for i in 0..most {
         if rest.is_empty() {
             break;
         }
         let (text, behind) = cut_behind(rest, 1);
-        add_ply(from.saturating_add(i), text, start, writing, i == 0, page);
+        add_ply(from.saturating_add(i), text, writing, i == 0, page);
         rest = behind;
     }
     page.add(b")");
 }
 
 /// Writes a variation in a variation, and so on, as deep as the program reads them.
-fn add_nested(
-    text: &[u8],
-    ply: usize,
-    start: Start,
-    writing: Writing,
-    random: &mut Random,
-    page: &mut Page,
-) {
+fn add_nested(text: &[u8], ply: usize, writing: Writing, random: &mut Random, page: &mut Page) {
     let depth = 1 + random.below(DEPTH);
     for _ in 0..depth {
         page.add_word(b"(");
-        add_ply(ply, text, start, writing, true, page);
+        add_ply(ply, text, writing, true, page);
     }
     page.add_word(b"{");
     page.add_word(LONG_WORD);

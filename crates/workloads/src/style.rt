@@ -21,6 +21,8 @@ pub enum Style {
 #[derive(Clone, Copy)]
 pub struct Writing {
     pub style: Style,
+    /// Black has the first move.
+    pub is_black_first: bool,
     /// Behind a number there is no space.
     pub is_compact: bool,
     /// A number stands before each move.
@@ -36,9 +38,15 @@ pub struct Writing {
 }
 
 /// How the next game of an archive is written, of so many plies.
-pub fn next_writing(style: Style, plies: usize, random: &mut Random) -> Writing {
+pub fn next_writing(
+    style: Style,
+    is_black_first: bool,
+    plies: usize,
+    random: &mut Random,
+) -> Writing {
     Writing {
         style,
+        is_black_first,
         is_compact: random.once_in(3),
         numbers_all: style == Style::Server || random.once_in(6),
         drops_marks: random.once_in(8),

@@ -4,52 +4,23 @@ use crate::page::Page;
 use crate::random::Random;
 use crate::style::Style;
 
+#[rattlefmt::skip]
 const NAMES: [&[u8]; 24] = [
-    b"Abreu, M",
-    b"Berger, J",
-    b"Costa, A",
-    b"Dahl, S",
-    b"Endo, K",
-    b"Farkas, P",
-    b"Gomez, R",
-    b"Hale, T",
-    b"Ito, Y",
-    b"Jensen, L",
-    b"Kaya, E",
-    b"Lund, O",
-    b"Meyer, H",
-    b"Nagy, Z",
-    b"Okoro, C",
-    b"Perez, D",
-    b"Quinn, B",
-    b"Roth, F",
-    b"Silva, N",
-    b"Tanaka, H",
-    b"Urban, V",
-    b"Vogel, I",
-    b"Weiss, G",
-    b"Zeman, U",
+    b"Abreu, M", b"Berger, J", b"Costa, A", b"Dahl, S", b"Endo, K", b"Farkas, P", b"Gomez, R",
+    b"Hale, T", b"Ito, Y", b"Jensen, L", b"Kaya, E", b"Lund, O", b"Meyer, H", b"Nagy, Z",
+    b"Okoro, C", b"Perez, D", b"Quinn, B", b"Roth, F", b"Silva, N", b"Tanaka, H", b"Urban, V",
+    b"Vogel, I", b"Weiss, G", b"Zeman, U",
 ];
 
+#[rattlefmt::skip]
 const EVENTS: [&[u8]; 8] = [
-    b"City Championship",
-    b"Autumn Open",
-    b"League, second division",
-    b"Memorial",
-    b"Club Evening",
-    b"Rapid Cup",
-    b"Team Trophy, final",
-    b"Winter Festival Masters",
+    b"City Championship", b"Autumn Open", b"League, second division", b"Memorial", b"Club Evening",
+    b"Rapid Cup", b"Team Trophy, final", b"Winter Festival Masters",
 ];
 
+#[rattlefmt::skip]
 const PLACES: [&[u8]; 8] = [
-    b"Lisbon POR",
-    b"Oslo NOR",
-    b"Porto Alegre BRA",
-    b"Graz AUT",
-    b"Kyoto JPN",
-    b"Leeds ENG",
-    b"?",
+    b"Lisbon POR", b"Oslo NOR", b"Porto Alegre BRA", b"Graz AUT", b"Kyoto JPN", b"Leeds ENG", b"?",
     b"Groningen NED",
 ];
 
@@ -63,17 +34,10 @@ const OPENINGS: [&[u8]; 6] = [
 ];
 
 /// More tags, of which a plain game has the first few.
+#[rattlefmt::skip]
 const MORE: [&[u8]; 10] = [
-    b"WhiteElo",
-    b"BlackElo",
-    b"ECO",
-    b"EventDate",
-    b"Opening",
-    b"WhiteTeam",
-    b"BlackTeam",
-    b"PlyCount",
-    b"Annotator",
-    b"Source",
+    b"WhiteElo", b"BlackElo", b"ECO", b"EventDate", b"Opening", b"WhiteTeam", b"BlackTeam",
+    b"PlyCount", b"Annotator", b"Source",
 ];
 
 /// Writes the tag pairs of a game.
