@@ -18,13 +18,16 @@ use crate::{
 };
 use std::slice;
 
+type Bytes = *const u8;
+type Room = *mut u8;
+
 /// The bytes that C passes. `None` if the pointer is null, and the length is not 0.
 ///
 /// # Safety
 ///
 /// The pointer is null, or it points to so many bytes of one object, at most 2^63 - 1. No one
 /// writes them while the slice lives.
-unsafe fn text_of<'a>(text: *const u8, length: usize) -> Option<&'a [u8]> {
+unsafe fn text_of<'a>(text: Bytes, length: usize) -> Option<&'a [u8]> {
     if text.is_null() {
         return (length == 0).then_some(&[]);
     }
@@ -36,7 +39,7 @@ unsafe fn text_of<'a>(text: *const u8, length: usize) -> Option<&'a [u8]> {
 /// # Safety
 ///
 /// As for `text_of`, and no one reads the bytes either while the slice lives.
-unsafe fn buffer_of<'a>(buffer: *mut u8, capacity: usize) -> Option<&'a mut [u8]> {
+unsafe fn buffer_of<'a>(buffer: Room, capacity: usize) -> Option<&'a mut [u8]> {
     if buffer.is_null() {
         return (capacity == 0).then_some(&mut []);
     }
@@ -48,189 +51,112 @@ extern "C" fn pgn_version() -> u32 {
     crate::pgn_version()
 }
 
-/// # Safety
-///
-/// The conditions of `pgn.h` hold.
-#[no_mangle]
-unsafe extern "C" fn pgn_check(text: *const u8, length: usize) -> PgnResult {
-    match unsafe { text_of(text, length) } {
-        Some(text) => crate::pgn_check(text),
-        None => no_mode(),
-    }
-}
-
-/// # Safety
-///
-/// The conditions of `pgn.h` hold.
-#[no_mangle]
-unsafe extern "C" fn pgn_convert(
-    text: *const u8,
-    length: usize,
-    buffer: *mut u8,
-    capacity: usize,
-    mode: u32,
-) -> PgnResult {
-    match unsafe { (text_of(text, length), buffer_of(buffer, capacity)) } {
-        (Some(text), Some(buffer)) => crate::pgn_convert(text, buffer, mode),
-        _ => no_mode(),
-    }
-}
-
-/// # Safety
-///
-/// The conditions of `pgn.h` hold.
-#[no_mangle]
-unsafe extern "C" fn pgn_fen_normalize(
-    fen: *const u8,
-    length: usize,
-    buffer: *mut u8,
-    capacity: usize,
-) -> PgnText {
-    match unsafe { (text_of(fen, length), buffer_of(buffer, capacity)) } {
-        (Some(fen), Some(buffer)) => crate::pgn_fen_normalize(fen, buffer),
-        _ => PgnText {
-            status: NO_MODE,
-            field: 0,
-            length: 0,
-        },
-    }
-}
-
-/// # Safety
-///
-/// The conditions of `pgn.h` hold.
-#[no_mangle]
-unsafe extern "C" fn pgn_key(
-    fen: *const u8,
-    length: usize,
-    buffer: *mut u8,
-    capacity: usize,
-) -> PgnText {
-    match unsafe { (text_of(fen, length), buffer_of(buffer, capacity)) } {
-        (Some(fen), Some(buffer)) => crate::pgn_key(fen, buffer),
-        _ => PgnText {
-            status: NO_MODE,
-            field: 0,
-            length: 0,
-        },
-    }
-}
-
-/// # Safety
-///
-/// The conditions of `pgn.h` hold.
-#[no_mangle]
-unsafe extern "C" fn pgn_san(
-    fen: *const u8,
-    fen_length: usize,
-    text: *const u8,
-    length: usize,
-    notation: u32,
-) -> PgnMove {
-    match unsafe { (text_of(fen, fen_length), text_of(text, length)) } {
-        (Some(fen), Some(text)) => crate::pgn_san(fen, text, notation),
-        _ => no_notation(),
-    }
-}
-
-/// # Safety
-///
-/// The conditions of `pgn.h` hold.
-#[no_mangle]
-unsafe extern "C" fn pgn_line(
-    fen: *const u8,
-    fen_length: usize,
-    text: *const u8,
-    length: usize,
-    format: u32,
-    buffer: *mut u8,
-    capacity: usize,
-) -> PgnPlies {
-    let texts = unsafe { (text_of(fen, fen_length), text_of(text, length)) };
-    match (texts, unsafe { buffer_of(buffer, capacity) }) {
-        ((Some(fen), Some(text)), Some(buffer)) => crate::pgn_line(fen, text, format, buffer),
-        _ => no_line_in_format(),
-    }
-}
-
-/// # Safety
-///
-/// The conditions of `pgn.h` hold.
-#[no_mangle]
-unsafe extern "C" fn pgn_next_game(
-    text: *const u8,
-    length: usize,
-    from: usize,
-    mode: u32,
-    missing_result: u32,
-    buffer: *mut u8,
-    capacity: usize,
-) -> PgnGame {
-    match unsafe { (text_of(text, length), buffer_of(buffer, capacity)) } {
-        (Some(text), Some(buffer)) => {
-            crate::pgn_next_game(text, from, mode, missing_result, buffer)
+/// Exports a function: what C passes, the slices that are made of it, what this crate's function
+/// gets in turn, and what is returned if a slice cannot be made.
+macro_rules! export {
+    (
+        $name:ident($($word:ident: $type:ty),*) -> $result:ty,
+        ($($slice:ident = $make:ident($pointer:ident, $length:ident)),*) => ($($given:ident),*),
+        else $otherwise:expr
+    ) => {
+        /// # Safety
+        ///
+        /// The conditions of `pgn.h` hold.
+        #[no_mangle]
+        unsafe extern "C" fn $name($($word: $type),*) -> $result {
+            match unsafe { ($($make($pointer, $length),)*) } {
+                ($(Some($slice),)*) => crate::$name($($given),*),
+                _ => $otherwise,
+            }
         }
-        _ => no_game(NO_MODE),
-    }
+    };
 }
 
-/// # Safety
-///
-/// The conditions of `pgn.h` hold.
-#[no_mangle]
-unsafe extern "C" fn pgn_read_game(
-    text: *const u8,
-    length: usize,
-    from: usize,
-    mode: u32,
-    missing_result: u32,
-    buffer: *mut u8,
-    capacity: usize,
-) -> PgnGame {
-    match unsafe { (text_of(text, length), buffer_of(buffer, capacity)) } {
-        (Some(text), Some(buffer)) => {
-            crate::pgn_read_game(text, from, mode, missing_result, buffer)
-        }
-        _ => no_game(NO_MODE),
-    }
-}
+export!(
+    pgn_check(text: Bytes, length: usize) -> PgnResult,
+    (text = text_of(text, length)) => (text),
+    else no_mode()
+);
 
-/// # Safety
-///
-/// The conditions of `pgn.h` hold.
-#[no_mangle]
-unsafe extern "C" fn pgn_items(
-    text: *const u8,
-    length: usize,
-    from: usize,
-    first_item: u64,
-    fields: u32,
-    buffer: *mut u8,
-    capacity: usize,
-) -> PgnItems {
-    match unsafe { (text_of(text, length), buffer_of(buffer, capacity)) } {
-        (Some(text), Some(buffer)) => crate::pgn_items(text, from, first_item, fields, buffer),
-        _ => plain_result(NO_MODE, 0, 0),
-    }
-}
+export!(
+    pgn_convert(text: Bytes, length: usize, buffer: Room, capacity: usize, mode: u32) -> PgnResult,
+    (text = text_of(text, length), buffer = buffer_of(buffer, capacity)) => (text, buffer, mode),
+    else no_mode()
+);
 
-/// # Safety
-///
-/// The conditions of `pgn.h` hold.
-#[no_mangle]
-unsafe extern "C" fn pgn_tag_at(text: *const u8, length: usize, at: usize) -> PgnTag {
-    match unsafe { text_of(text, length) } {
-        Some(text) => crate::pgn_tag_at(text, at),
-        None => PgnTag {
-            status: NO_MODE,
-            name_at: 0,
-            name_length: 0,
-            value_at: 0,
-            value_length: 0,
-            next: 0,
-        },
+export!(
+    pgn_fen_normalize(fen: Bytes, length: usize, buffer: Room, capacity: usize) -> PgnText,
+    (fen = text_of(fen, length), buffer = buffer_of(buffer, capacity)) => (fen, buffer),
+    else PgnText { status: NO_MODE, field: 0, length: 0 }
+);
+
+export!(
+    pgn_key(fen: Bytes, length: usize, buffer: Room, capacity: usize) -> PgnText,
+    (fen = text_of(fen, length), buffer = buffer_of(buffer, capacity)) => (fen, buffer),
+    else PgnText { status: NO_MODE, field: 0, length: 0 }
+);
+
+export!(
+    pgn_san(fen: Bytes, fen_length: usize, text: Bytes, length: usize, notation: u32) -> PgnMove,
+    (fen = text_of(fen, fen_length), text = text_of(text, length)) => (fen, text, notation),
+    else no_notation()
+);
+
+export!(
+    pgn_line(
+        fen: Bytes, fen_length: usize, text: Bytes, length: usize, format: u32, buffer: Room,
+        capacity: usize
+    ) -> PgnPlies,
+    (
+        fen = text_of(fen, fen_length), text = text_of(text, length),
+        buffer = buffer_of(buffer, capacity)
+    ) => (fen, text, format, buffer),
+    else no_line_in_format()
+);
+
+export!(
+    pgn_next_game(
+        text: Bytes, length: usize, from: usize, mode: u32, missing_result: u32, buffer: Room,
+        capacity: usize
+    ) -> PgnGame,
+    (text = text_of(text, length), buffer = buffer_of(buffer, capacity))
+        => (text, from, mode, missing_result, buffer),
+    else no_game(NO_MODE)
+);
+
+export!(
+    pgn_read_game(
+        text: Bytes, length: usize, from: usize, mode: u32, missing_result: u32, buffer: Room,
+        capacity: usize
+    ) -> PgnGame,
+    (text = text_of(text, length), buffer = buffer_of(buffer, capacity))
+        => (text, from, mode, missing_result, buffer),
+    else no_game(NO_MODE)
+);
+
+export!(
+    pgn_items(
+        text: Bytes, length: usize, from: usize, first_item: u64, fields: u32, buffer: Room,
+        capacity: usize
+    ) -> PgnItems,
+    (text = text_of(text, length), buffer = buffer_of(buffer, capacity))
+        => (text, from, first_item, fields, buffer),
+    else plain_result(NO_MODE, 0, 0)
+);
+
+export!(
+    pgn_tag_at(text: Bytes, length: usize, at: usize) -> PgnTag,
+    (text = text_of(text, length)) => (text, at),
+    else PgnTag {
+        status: NO_MODE, name_at: 0, name_length: 0, value_at: 0, value_length: 0, next: 0
     }
-}
+);
+
+export!(
+    pgn_explain(fen: Bytes, fen_length: usize, text: Bytes, length: usize) -> PgnExplanation,
+    (fen = text_of(fen, fen_length), text = text_of(text, length)) => (fen, text),
+    else PgnExplanation { status: NO_MODE, ..no_explanation(0, 0) }
+);
 
 /// # Safety
 ///
@@ -238,7 +164,7 @@ unsafe extern "C" fn pgn_tag_at(text: *const u8, length: usize, at: usize) -> Pg
 #[no_mangle]
 unsafe extern "C" fn pgn_next_section(
     game: *mut PgnBadGame,
-    piece: *const u8,
+    piece: Bytes,
     length: usize,
     is_last: u32,
 ) -> PgnSection {
@@ -247,25 +173,6 @@ unsafe extern "C" fn pgn_next_section(
         _ => PgnSection {
             status: NO_MODE,
             place: 0,
-        },
-    }
-}
-
-/// # Safety
-///
-/// The conditions of `pgn.h` hold.
-#[no_mangle]
-unsafe extern "C" fn pgn_explain(
-    fen: *const u8,
-    fen_length: usize,
-    text: *const u8,
-    length: usize,
-) -> PgnExplanation {
-    match unsafe { (text_of(fen, fen_length), text_of(text, length)) } {
-        (Some(fen), Some(text)) => crate::pgn_explain(fen, text),
-        _ => PgnExplanation {
-            status: NO_MODE,
-            ..no_explanation(0, 0)
         },
     }
 }
