@@ -210,7 +210,19 @@ NOT_UNDERSTOOD = [(file, old, new, why) for file, why, rows in (
 OTHER_LINES = ("Function", "In", "The source has", "Cargo has")
 
 
-class Built(unittest.TestCase):
+class CargoTest(unittest.TestCase):
+    """A test with calls of cargo that have to pass."""
+
+    def passed(self, *words, env=None):
+        """What cargo says, which has no warning."""
+        ran = cargo(*words, env=env)
+        said = (ran.stdout + ran.stderr).decode()
+        self.assertEqual(ran.returncode, 0, said)
+        self.assertNotIn("warning", said)
+        return said
+
+
+class Built(CargoTest):
     """What cargo makes of it."""
 
     def setUp(self):
@@ -221,11 +233,8 @@ class Built(unittest.TestCase):
         files = glob.glob("%s/crates/%s/src/%s.rt" % (ROOT, package, place))
         wanted = sum(text_of(it).count("#[test]") for it in files)
         self.assertGreaterEqual(wanted, least)
-        ran = cargo("test", "--package", package, *words)
-        said = (ran.stdout + ran.stderr).decode()
-        self.assertEqual(ran.returncode, 0, said)
+        said = self.passed("test", "--package", package, *words)
         self.assertIn("test result: ok. %d passed; 0 failed" % wanted, said)
-        self.assertNotIn("warning", said)
 
     def test_the_tests_of_the_vectors_pass(self):
         self.check_tests("pgn_vectors", 28)
@@ -243,20 +252,14 @@ class Built(unittest.TestCase):
         files += glob.glob(ROOT + "/cargo/*/*.rs")
         fences = sum(len(re.findall("(?m)^(?: *//[/!] )?```", text_of(it))) for it in files + pages)
         self.assertGreaterEqual(fences, 52)
-        ran = cargo("test", "--doc", *("--package=" + it for it in LIBRARIES))
-        said = (ran.stdout + ran.stderr).decode()
-        self.assertEqual(ran.returncode, 0, said)
+        said = self.passed("test", "--doc", *("--package=" + it for it in LIBRARIES))
         passed = sum(map(int, re.findall(r"(\d+) passed; 0 failed", said)))
         self.assertEqual(2 * passed, fences)
 
     def check_conditions(self, env, expected):
         """The tests that are written for Cargo: of the libraries, and of pgn_c."""
         packages = ["--package=" + it for it in ("pgn_c", *LIBRARIES)]
-        words = ["test", *packages, "--lib", "--tests"]
-        ran = cargo(*words, env=env)
-        said = (ran.stdout + ran.stderr).decode()
-        self.assertEqual(ran.returncode, 0, said)
-        self.assertNotIn("warning", said)
+        said = self.passed("test", *packages, "--lib", "--tests", env=env)
         self.assertEqual(sum(map(int, re.findall(r"(\d+) passed; 0 failed", said))), expected)
 
     def test_a_call_that_breaks_a_condition_panics(self):
@@ -275,9 +278,7 @@ class Built(unittest.TestCase):
         packages = ["--package=" + it for it in WITHOUT_STD]
         word = "clippy" if programs.found("cargo-clippy") else "check"
         for words in ([word], ["doc", "--no-deps"]):
-            ran = cargo(*words, "--no-default-features", *packages)
-            self.assertEqual(ran.returncode, 0, ran.stderr.decode())
-            self.assertNotIn(b"warning", ran.stderr)
+            self.passed(*words, "--no-default-features", *packages)
         ran = self.bare("default-features = false")
         self.assertEqual((ran.returncode, ran.stderr), (0, b""))
         for target in self.targets_without_std():
@@ -322,8 +323,7 @@ class Built(unittest.TestCase):
         self.assertEqual(rooms, ["1", "1,024", "4,096", "8", "8", "8", "1,032", "1", "2", "8", "8"])
 
     def build_libraries(self):
-        ran = cargo("build", "--lib", *("--package=" + it for it in LIBRARIES))
-        self.assertEqual(ran.returncode, 0, ran.stderr)
+        self.passed("build", "--lib", *("--package=" + it for it in LIBRARIES))
 
     def test_each_reason_has_the_words_of_the_fault_table(self):
         rows = table("docs/PROFILE.md", "No", "Rejected", "Place", "In words", "Name")
@@ -425,16 +425,18 @@ class Built(unittest.TestCase):
         for name, block in zip(("Cargo.toml", "src/main.rs"), blocks):
             write_file("%s/mine/%s" % (folder, name), "\n".join(block) + "\n")
         env = dict(os.environ, PATH=programs.PATH, CARGO_TARGET_DIR=OUT + "/dependent")
-        words = ["cargo", "run", "--offline", "--quiet", "--", "examples/two-games.pgn"]
-        words[-1] = os.path.join(ROOT, words[-1])
-        ran = run(words, cwd=folder + "/mine", env=env, timeout=300)
+
+        def listed_by_mine(path):
+            words = ["cargo", "run", "--offline", "--quiet", "--", path]
+            return run(words, cwd=folder + "/mine", env=env, timeout=300)
+
+        ran = listed_by_mine(ROOT + "/examples/two-games.pgn")
         self.assertEqual((ran.returncode, ran.stderr), (0, b""))
         shown = ran.stdout.decode().splitlines()
         listed = run([built(), "list", "examples/two-games.pgn"]).stdout.decode().splitlines()
         self.assertEqual(shown, ["%s plies: %s" % tuple(it.split("\t")[-2:]) for it in listed])
-        words[-1] = os.path.join(ROOT, "examples/no-such-move.pgn")
-        ran = run(words, cwd=folder + "/mine", env=env, timeout=300)
-        said = "%s: byte 77: move is not legal\n" % words[-1]
+        bad = ROOT + "/examples/no-such-move.pgn"
+        ran, said = listed_by_mine(bad), "%s: byte 77: move is not legal\n" % bad
         self.assertEqual((ran.returncode, ran.stdout, ran.stderr.decode()), (0, b"", said))
 
     def test_the_program_passes_the_tests_of_devices(self):
@@ -471,7 +473,7 @@ class Memory(unittest.TestCase):
             self.assertGreaterEqual(reported, asks, words)
 
 
-class Release(Folder, unittest.TestCase):
+class Release(Folder, CargoTest):
     """What bin/dist writes."""
 
     def setUp(self):
@@ -511,25 +513,19 @@ class Release(Folder, unittest.TestCase):
         heads = re.findall(r"^## (\S+?),? ", text_of("CHANGELOG.md"), re.MULTILINE)
         self.assertEqual(heads[0], version)
         changes = programs.load("bin/dist").check_changes
-        with self.assertRaises(SystemExit):
-            changes("# Changes\n\n## 9.8.7\n", version)
-        with self.assertRaises(SystemExit):
-            changes("# Changes\n", version)
+        for text in ("# Changes\n\n## 9.8.7\n", "# Changes\n"):
+            self.assertRaises(SystemExit, changes, text, version)
         changes("# Changes\n\n## %s, later\n\n## 0.0.9\n" % version, version)
 
     def test_clippy_has_no_warning(self):
         """But for the exceptions."""
         programs.need("cargo-clippy")
         write_out()
-        ran = cargo("clippy", "--workspace", "--all-targets")
-        self.assertEqual(ran.returncode, 0, ran.stderr.decode())
-        self.assertNotIn("warning", ran.stderr.decode())
+        self.passed("clippy", "--workspace", "--all-targets")
 
     def test_the_documentation_has_no_warning(self):
         write_out()
-        ran = cargo("doc", "--workspace", "--no-deps", "--lib")
-        self.assertEqual(ran.returncode, 0, ran.stderr)
-        self.assertNotIn(b"warning", ran.stderr)
+        self.passed("doc", "--workspace", "--no-deps", "--lib")
 
 
 def shown(ran):
