@@ -10,7 +10,7 @@ import timeit
 
 import measure
 import tables
-from measure import HERE, ROOT, archive, output_of, stop
+from measure import HERE, ROOT, archive, output_of, read, stop
 
 TOOLS, OTHERS, VERSIONS = ("hyperfine",), (), ("python3",)
 CALL = "import sys, gillspoon; sys.stdout.buffer.write(gillspoon.convert(sys.argv[1]))"
@@ -24,11 +24,6 @@ def load(*options):
     os.environ["PYTHONPATH"] = ROOT + "/python"
     sys.path.insert(0, ROOT + "/python")
     return importlib.import_module("gillspoon")
-
-
-def read(path):
-    with open(path, "rb") as file:
-        return file.read()
 
 
 def figures(given):

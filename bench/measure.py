@@ -124,6 +124,12 @@ def call(words, to="/dev/null", file="/dev/null"):
         stop("%s failed: %s" % (shlex.join(words), ran.stderr.decode(errors="replace")[-300:]))
 
 
+def read(path):
+    """The bytes of a file."""
+    with open(path, "rb") as file:
+        return file.read()
+
+
 def output_of(name, folder=OUT):
     """Where times and instructions leave what a call of a name writes."""
     return "%s/%s.out" % (folder, re.sub(r"\W+", "-", str(name)).strip("-"))
@@ -176,8 +182,7 @@ def instructions(calls, styles):
         text = None
         for name, (words, change, part) in calls.items():
             call(words, output_of(name), change(large))
-            with open(output_of(name), "rb") as data:
-                written = data.read()
+            written = read(output_of(name))
             text = written if text is None else text
             if written != part(text):
                 stop("%s does not write what it should for %s" % (name, large))

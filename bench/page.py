@@ -12,7 +12,7 @@ import unittest
 
 import measure
 import tables
-from measure import HERE, ROOT, archive, output_of, stop
+from measure import HERE, ROOT, archive, output_of, read, stop
 
 TOOLS, OTHERS, VERSIONS = ("hyperfine",), (), ("chromium",)
 BEGIN = """
@@ -54,8 +54,7 @@ def figures(given):
     import test_page
     file = archive("annotated", given.games)
     program = measure.times({"program": [given.program, "export", file]}, given.rounds)["program"][0]
-    with open(output_of("program"), "rb") as data:
-        digest = hashlib.sha256(data.read()).hexdigest()
+    digest = hashlib.sha256(read(output_of("program"))).hexdigest()
     try:
         with Resources() as resources:
             browser = test_page.Browser(resources)

@@ -9,7 +9,7 @@ import os
 
 import measure
 import tables
-from measure import OUT, ROOT, archive, output_of, stop
+from measure import OUT, ROOT, archive, output_of, read, stop
 
 TOOLS, OTHERS, VERSIONS = ("parallel", "hyperfine", "time"), (), ("parallel",)
 COPIES, BLOCK, PROCESSES = 10, "10M", (1, 2, 4)
@@ -18,8 +18,8 @@ CUT = ["--recend", r"\n\n", "--recstart", '[Event "']
 
 def copied(file):
     """The archive, so many times over."""
-    with open(file, "rb") as data, open(OUT + "/copies.pgn", "wb") as to:
-        to.write(COPIES * data.read())
+    with open(OUT + "/copies.pgn", "wb") as to:
+        to.write(COPIES * read(file))
     return to.name
 
 

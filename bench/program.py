@@ -34,8 +34,7 @@ RECORDS = (
 
 def sized(file, size):
     """A file of so many bytes, to the end of a game: the games of another one, again and again."""
-    with open(file, "rb") as data:
-        text = data.read()
+    text = measure.read(file)
     text *= size // len(text) + 1
     with open(OUT + "/size.pgn", "wb") as data:
         data.write(text[:text.rindex(b"\n\n[Event ", 0, size) + 2])
