@@ -219,6 +219,11 @@ class Folder:
         """A program ended so."""
         self.assertEqual((ran.returncode, ran.stdout, ran.stderr), (status, out, err))
 
+    def check_refused(self, ran, status):
+        """A program wrote nothing, and ended so with a line on standard error."""
+        self.assertEqual((ran.returncode, ran.stdout, ran.stderr.count(b"\n")), (status, b"", 1),
+                         (ran.args, ran.stderr))
+
 
 def load(script):
     """The module that a script without a suffix is, by its path in the repository."""

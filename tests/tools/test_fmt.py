@@ -192,9 +192,7 @@ class FmtTest(Folder, unittest.TestCase):
                               (["--write", "none.pgn"], 3), (["--check", "none.pgn"], 3),
                               (["--output", "none/a", "tidy.pgn"], 3),
                               (["--diff", "none.pgn"], 3)):
-            ran = self.call(*words)
-            self.assertEqual((ran.returncode, ran.stdout, ran.stderr.count(b"\n")),
-                             (status, b"", 1), (words, ran.stderr))
+            self.check_refused(self.call(*words), status)
 
     def test_a_lack_of_memory(self):
         """A comment is held as a whole, so that a game of any length needs memory."""
@@ -258,8 +256,7 @@ class FmtTest(Folder, unittest.TestCase):
         ran = self.call("--checked", "-", input=b"1. e4 1-0")
         self.assertTrue(ran.stdout.endswith(b'[Result "1-0"]\n\n1. e4 1-0\n\n'), ran.stdout)
         for words in (["-", "-"], ["--write", "-"], ["--stdin-name", "a", "-", "tidy.pgn"]):
-            ran = self.call(*words, input=LOOSE)
-            self.assertEqual((ran.returncode, ran.stdout, ran.stderr.count(b"\n")), (2, b"", 1))
+            self.check_refused(self.call(*words, input=LOOSE), 2)
         ran = run(["sh", "-c", '"$@" - <&-', "sh", *FMT], cwd=self.folder)
         self.check(ran, 3, b"", b"gillspoon: <stdin>: Bad file descriptor\n")
 

@@ -301,13 +301,9 @@ class SieveTest(programs.Folder, unittest.TestCase):
         for words in ([file, file, other], [file, other, link], [file, other, other], [file],
                       [file, other, folder], [file, other, "-"], [file, "-", other],
                       [file, "/dev/zero", other]):
-            ran = call([*words])
-            self.assertEqual((ran.returncode, ran.stdout, ran.stderr.count(b"\n")), (2, b"", 1),
-                             (words, ran.stderr))
+            self.check_refused(call([*words]), 2)
         for words in ([folder + "/none", other, other + "2"], [file, folder + "/none/g", other]):
-            ran = call([*words])
-            self.assertEqual((ran.returncode, ran.stdout, ran.stderr.count(b"\n")), (3, b"", 1),
-                             (words, ran.stderr))
+            self.check_refused(call([*words]), 3)
         self.assertEqual(sorted(os.listdir(folder)), ["a.pgn", "link.pgn"])
         self.assertEqual(self.get("a.pgn"), sound(b"A"))
 
@@ -458,7 +454,7 @@ class SieveTest(programs.Folder, unittest.TestCase):
         done = Sieved(self, sound(b"A"))
         env = dict(os.environ, GILLSPOON_LIBRARY=done.folder + "/none")
         ran = run([sys.executable, *SIEVE, *done.paths], env=env)
-        self.assertEqual((ran.returncode, ran.stdout, ran.stderr.count(b"\n")), (127, b"", 1))
+        self.check_refused(ran, 127)
         self.assertIn(b"in the repository run bin/build_program --library", ran.stderr)
         self.assertEqual(sorted(os.listdir(done.folder)), ["bad.pgn", "good.pgn", "in.pgn"])
 

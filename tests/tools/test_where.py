@@ -295,8 +295,7 @@ class WhereTest(Folder, unittest.TestCase):
         ran = self.call([], input=told)
         self.assertEqual((ran.returncode, ran.stdout, ran.stderr), (
             2, told, b"gillspoon: give FILE: this message names no file\n"))
-        ran = self.call([self.folder + "/a: 1.zip:none.pgn", "3"])
-        self.assertEqual((ran.returncode, ran.stdout, ran.stderr.count(b"\n")), (3, b"", 1))
+        self.check_refused(self.call([self.folder + "/a: 1.zip:none.pgn", "3"]), 3)
 
     def test_standard_input(self):
         for pack in (bytes, gzip.compress, bz2.compress):
@@ -304,8 +303,7 @@ class WhereTest(Folder, unittest.TestCase):
             self.assertEqual((ran.returncode, ran.stdout.decode(), ran.stderr), (
                 0, "<stdin>: line 5, column 4 (byte %d)\n1. Ke2 *\n   ^\n%s" % (
                     len(TAGS) + 3, GAME), b""))
-        ran = self.call(["-"], input=b"byte 3: move is not legal\n")
-        self.assertEqual((ran.returncode, ran.stdout, ran.stderr.count(b"\n")), (2, b"", 1))
+        self.check_refused(self.call(["-"], input=b"byte 3: move is not legal\n"), 2)
 
     def test_messages_of_fmt(self):
         self.put("a b.pgn", TAGS + b"1. e4 e5 2. Ke3 *\n")
@@ -340,9 +338,7 @@ class WhereTest(Folder, unittest.TestCase):
                 ([self.file, "3"], b"", 3), ([self.folder + "/none", "3"], b"", 3),
                 ([self.folder, "0"], b"", 3), ([self.folder + "/none"], b"", 3),
                 (["/dev/null", "1"], b"", 3)):
-            ran = self.call(words, input=told)
-            self.assertEqual((ran.returncode, ran.stdout, ran.stderr.count(b"\n")),
-                             (status, b"", 1), (words, ran.stderr))
+            self.check_refused(self.call(words, input=told), status)
         self.assertEqual(self.call(["--help"]).returncode, 0)
         ran = run(["sh", "-c", '"$@" <&-', "sh", *WHERE])
         self.assertEqual((ran.returncode, ran.stdout, ran.stderr), (
@@ -368,7 +364,7 @@ class WhereTest(Folder, unittest.TestCase):
         self.put("a.pgn", b"*\n")
         env = dict(os.environ, GILLSPOON_LIBRARY=self.folder + "/none")
         ran = run([sys.executable, *WHERE, self.file, "0"], env=env)
-        self.assertEqual((ran.returncode, ran.stdout, ran.stderr.count(b"\n")), (127, b"", 1))
+        self.check_refused(ran, 127)
         self.assertIn(b"in the repository run bin/build_program --library", ran.stderr)
 
     def test_closed_output(self):
