@@ -104,9 +104,7 @@ class Page(Shell):
     def test_the_version(self):
         said = re.search(r"^\.Ql (pgn_tool [\d.]+) \.$", text_of(PAGE), re.M)[1]
         for word in ("-V", "--version"):
-            ran = run([programs.need_program(), word])
-            self.assertEqual((ran.returncode, ran.stdout, ran.stderr),
-                             (0, said.encode() + b"\n", b""))
+            self.check(run([programs.need_program(), word]), 0, said.encode() + b"\n", b"")
 
     def test_no_warnings_of_mandoc(self):
         programs.need("mandoc")

@@ -130,9 +130,8 @@ class Format(Kept):
                 ran = self.call("fmt", *words, "sound.pgn", name)
                 self.assertIn(b"gillspoon: %s: %s\n" % (name.encode(), said), ran.stderr)
                 self.assertEqual(ran.returncode, 3)
-            ran = self.call("fmt", "--check", "-", input=self.get(name))
-            self.assertEqual((ran.returncode, ran.stdout, ran.stderr),
-                             (3, b"", b"gillspoon: <stdin>: %s\n" % said))
+            self.check(self.call("fmt", "--check", "-", input=self.get(name)),
+                       3, b"", b"gillspoon: <stdin>: %s\n" % said)
 
     def test_the_name_of_a_packed_file_is_said_once(self):
         ran = self.call("fmt", "--check", "not.pgn.gz")

@@ -94,9 +94,8 @@ class TestToolsTest(Folder, unittest.TestCase):
             status, shown, _ = self.call(*words)
             self.assertNotEqual(status, 0)
             self.assertIn("cannot be loaded", shown)
-        ran = run([self.folder + "/bin/test_tools", "two", "four"])
-        self.assertEqual((ran.returncode, ran.stdout, ran.stderr), (
-            2, b"", b"bin/test_tools: there is no tests/tools/test_four.py\n"))
+        self.check(run([self.folder + "/bin/test_tools", "two", "four"]),
+                   2, b"", b"bin/test_tools: there is no tests/tools/test_four.py\n")
 
     def test_nothing_that_passes(self):
         self.assertNotEqual(self.call("-n0")[0], 0)

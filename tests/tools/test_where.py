@@ -234,9 +234,8 @@ class WhereTest(Folder, unittest.TestCase):
             self.assertEqual((ran.returncode, ran.stderr), (1, b""))
             self.assertTrue(ran.stdout.startswith(
                 self.file.encode() + b": line 1, column 4 (byte 3): not a move"), ran.stdout)
-            ran = self.call([], input=told + b"more\n")
-            self.assertEqual((ran.returncode, ran.stdout, ran.stderr), (
-                2, told + b"more\n", b"gillspoon: give FILE: this message names no file\n"))
+            self.check(self.call([], input=told + b"more\n"),
+                       2, told + b"more\n", b"gillspoon: give FILE: this message names no file\n")
 
     def test_places_of_lint(self):
         """A line and a column are found again, whatever the line ends and the encoding."""
@@ -292,9 +291,8 @@ class WhereTest(Folder, unittest.TestCase):
         ran = run([sys.executable, *WHERE, "a: 1.zip"], cwd=self.folder, input=told, env=env)
         self.assertEqual((ran.returncode, ran.stdout.decode()),
                          (1, name + " (game 1, Ann \u2013 Bob)\n" + lines))
-        ran = self.call([], input=told)
-        self.assertEqual((ran.returncode, ran.stdout, ran.stderr), (
-            2, told, b"gillspoon: give FILE: this message names no file\n"))
+        self.check(self.call([], input=told),
+                   2, told, b"gillspoon: give FILE: this message names no file\n")
         self.check_refused(self.call([self.folder + "/a: 1.zip:none.pgn", "3"]), 3)
 
     def test_standard_input(self):
@@ -340,9 +338,8 @@ class WhereTest(Folder, unittest.TestCase):
                 (["/dev/null", "1"], b"", 3)):
             self.check_refused(self.call(words, input=told), status)
         self.assertEqual(self.call(["--help"]).returncode, 0)
-        ran = run(["sh", "-c", '"$@" <&-', "sh", *WHERE])
-        self.assertEqual((ran.returncode, ran.stdout, ran.stderr), (
-            3, b"", b"gillspoon: standard input is closed\n"))
+        self.check(run(["sh", "-c", '"$@" <&-', "sh", *WHERE]),
+                   3, b"", b"gillspoon: standard input is closed\n")
 
     def test_a_pipe_is_read(self):
         self.put("a.pgn", TAGS + b"1. e4 e9 *\n")
