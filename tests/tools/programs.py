@@ -211,6 +211,11 @@ class Folder:
         write_file(path, data)
         return os.fsdecode(path)
 
+    def put_all(self, files):
+        """Writes files: their texts by their names."""
+        for name, data in files.items():
+            self.put(name, data)
+
     def get(self, name):
         """The bytes of a file."""
         return bytes_of(self.folder, name)

@@ -108,8 +108,7 @@ class Compressed(Folder, unittest.TestCase):
         for kind, pack in PACKERS.items():
             data = pack(TEXT * 50)
             for (script, *words) in calls:
-                self.put("good", b"old")
-                self.put("bad", b"old")
+                self.put_all({"good": b"old", "bad": b"old"})
                 with self.subTest(kind=kind, script=script, words=words):
                     status, out, told = self.call(script, *words, data=data[:len(data) * 3 // 4])
                     lines = told.decode().splitlines()

@@ -386,8 +386,7 @@ class Fitting(Folder, unittest.TestCase):
     def edited(self, *changes):
         edit = loaded().Edit("low", "lib-f-is-wrong", "low.edits:1")
         edit.changes = list(changes)
-        self.put("src/lib.rt", "one\ntwo\ntwo\n")
-        self.put("other", "one\n")
+        self.put_all({"src/lib.rt": "one\ntwo\ntwo\n", "other": "one\n"})
         return loaded().edited(edit, self.folder)
 
     def test_pairs_apply_in_turn(self):

@@ -457,8 +457,7 @@ class Warnings(Lint):
         self.warned(game.encode("latin-1") * 2)
 
     def test_options(self):
-        self.put("a.pgn", SWALLOWED)
-        self.put("b.pgn", SWALLOWED)
+        self.put_all({"a.pgn": SWALLOWED, "b.pgn": SWALLOWED})
         self.assertEqual(self.lint("--quiet", "a.pgn"), (0, "", ""))
         self.assertEqual(self.lint("--strict", "a.pgn")[0], 1)
         self.assertEqual(self.lint("--strict", "-j", "2", "a.pgn", "b.pgn"),
@@ -723,8 +722,7 @@ class Command(Lint):
         """Files that have room are mended all the same."""
         need("unshare", "mount")
         text = BAD * 900
-        self.put("text", text)
-        self.put("small", BAD)
+        self.put_all({"text": text, "small": BAD})
         os.mkdir(self.folder + "/disk")
         # 64 KiB, of which the first file has 40 and the second one 4
         script = ('mount -t tmpfs -o size=64k none disk || exit 77; cp text disk/a.pgn; '
@@ -858,8 +856,7 @@ class Processes(Lint):
         for number in range(12):
             self.put("all/%02d.pgn" % number, b"\n".join(
                 [BAD, MENDED, BAD.replace(b"e5", b"Ke5"), b"1. e4 -- *\n"][:number % 5]))
-        self.put("all/packed.pgn.gz", gzip.compress(BAD, mtime=0))
-        self.put("all/locked.pgn", BAD)
+        self.put_all({"all/packed.pgn.gz": gzip.compress(BAD, mtime=0), "all/locked.pgn": BAD})
         os.chmod(self.folder + "/all/locked.pgn", 0o444)
         self.put("all/one.pgn", BAD)
         os.link(self.folder + "/all/one.pgn", self.folder + "/all/two.pgn")
@@ -892,8 +889,7 @@ class Processes(Lint):
 
     def test_standard_input_among_files(self):
         need("diff")
-        self.put("a.pgn", BAD)
-        self.put("b.pgn", BAD)
+        self.put_all({"a.pgn": BAD, "b.pgn": BAD})
         words = ["--diff", "a.pgn", "-", "b.pgn"]
         one = self.lint(*words, input=BAD)
         self.assertEqual(self.lint("-j", "2", *words, input=BAD), one)

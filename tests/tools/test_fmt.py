@@ -23,9 +23,7 @@ BAD = b'[White "B"] e4 e9 *\n'
 class FmtTest(Folder, unittest.TestCase):
     def setUp(self):
         super().setUp()
-        self.put("loose.pgn", LOOSE)
-        self.put("tidy.pgn", TIDY)
-        self.put("bad.pgn", BAD)
+        self.put_all({"loose.pgn": LOOSE, "tidy.pgn": TIDY, "bad.pgn": BAD})
 
     def call(self, *words, **more):
         return run([sys.executable, *FMT, *words], cwd=self.folder, **more)

@@ -451,8 +451,7 @@ class NoTraceback(Lint):
                   "gillspoon._reports as reports, gillspoon._mend as mend\n"
                   "def failing(*words): raise KeyError('planted')\n"
                   "%s = failing\nfrom gillspoon._command import main\nsys.exit(main())")
-        self.put("a.pgn", BAD)
-        self.put("b.pgn", BAD.replace(b"Ke3", b"Ke4") + GOOD)
+        self.put_all({"a.pgn": BAD, "b.pgn": BAD.replace(b"Ke3", b"Ke4") + GOOD})
         said = "an error of gillspoon, please report it: KeyError: 'planted'"
         first = "a.pgn:%s\n" % BAD_LINE
         for planted, words in (
@@ -535,8 +534,7 @@ class Files(Lint):
 
     def test_a_folder(self):
         need("zstd")
-        self.put("all/b.pgn", GOOD)
-        self.put("all/a.PGN", BAD)
+        self.put_all({"all/b.pgn": GOOD, "all/a.PGN": BAD})
         for name, kind in zip(("c.pgn.GZ", "d.pgn.bz2", "e.pgn.zst"), PACKED):
             self.put("all/below/" + name, PACKERS[kind](BAD))
         for name in ("all/.hidden.pgn", "all/.git/f.pgn", "all/readme.txt", "all/pgn"):
@@ -584,9 +582,8 @@ class Files(Lint):
                              (1, "<stdin>:%s\n" % BAD_LINE, ""))
 
     def test_what_cannot_be_read(self):
-        self.put("good.pgn", GOOD)
-        self.put("bad.pgn", BAD)
-        self.put("cut.pgn.gz", gzip.compress(GOOD * 100)[:-20])
+        self.put_all({"good.pgn": GOOD, "bad.pgn": BAD,
+                      "cut.pgn.gz": gzip.compress(GOOD * 100)[:-20]})
         os.mkdir(self.folder + "/empty")
         for name, reason in (
                 ("missing.pgn", "No such file or directory"),
@@ -672,8 +669,7 @@ class OtherKinds(Lint):
                                  (3, "", "gillspoon: <stdin>: %s\n" % reason))
 
     def test_the_other_files_are_read(self):
-        self.put("all/a.pgn", BAD)
-        self.put("all/z.pgn", BAD)
+        self.put_all({"all/a.pgn": BAD, "all/z.pgn": BAD})
         for name, (text, _) in OTHERS.items():
             self.put("all/" + name, text)
         told = "".join("gillspoon: all/%s: %s\n" % (it, OTHERS[it][1]) for it in sorted(OTHERS))
@@ -785,10 +781,9 @@ class Zips(Lint):
 
     def test_in_a_folder(self):
         """A zip with games is read whatever its name is, and one without is named."""
-        self.put("all/a.pgn", GOOD)
-        self.put("all/games.ZIP", zip_of(("y.pgn", BAD)))
-        self.put("all/photos.zip", zip_of(("readme", b"none")))
-        self.put("all/.hidden.zip", zip_of(("y.pgn", BAD)))
+        self.put_all({"all/a.pgn": GOOD, "all/games.ZIP": zip_of(("y.pgn", BAD)),
+                      "all/photos.zip": zip_of(("readme", b"none")),
+                      "all/.hidden.zip": zip_of(("y.pgn", BAD))})
         said = (1, "all/games.ZIP:y.pgn:%s\n2 files, 2 games, 1 fault in 1 file\n" % BAD_LINE,
                 "gillspoon: all/photos.zip: is passed over: it has no file *.pgn inside\n")
         for words in ([], ["-j", "2"]):
@@ -797,8 +792,7 @@ class Zips(Lint):
         # one that is given, or is said to have games, cannot be read
         self.assertEqual(self.lint("--quiet", "all/photos.zip"), (
             3, "", "gillspoon: all/photos.zip: has no file *.pgn inside\n"))
-        self.put("all/b.pgn.zip", zip_of(("readme", b"none")))
-        self.put("all/c.zip", b"none")
+        self.put_all({"all/b.pgn.zip": zip_of(("readme", b"none")), "all/c.zip": b"none"})
         status, _, told = self.lint("all")
         self.assertEqual((status, told.splitlines()), (3, [
             "gillspoon: all/b.pgn.zip: has no file *.pgn inside",
@@ -1060,8 +1054,7 @@ class Streams(Lint):
         os.mkfifo(self.folder + "/pipe.pgn")
         with subprocess.Popen(["sh", "-c", "exec >pipe.pgn; cat a; sleep 1.2; cat a b"],
                               cwd=self.folder):
-            self.put("a", GOOD * 600)
-            self.put("b", BAD)
+            self.put_all({"a": GOOD * 600, "b": BAD})
             shown = programs.on_a_terminal([*LINT, "pipe.pgn"], cwd=self.folder,
                                            env=dict(self.env, NO_COLOR="1"))
         self.assertRegex(shown, "\\A(\r\x1b\\[Kgillspoon: file 1 of 1, [0-9,]+ games)+\r\x1b\\[K"
@@ -1115,9 +1108,7 @@ class Others(Lint):
         need("pre-commit", "git")
         if run(["git", "rev-parse", "HEAD"]).returncode:
             not_tried("this is no repository of git")
-        self.put("good games.pgn", GOOD)
-        self.put("-c.pgn", BAD)
-        self.put("bad.txt", BAD)
+        self.put_all({"good games.pgn": GOOD, "-c.pgn": BAD, "bad.txt": BAD})
         env = dict(self.env, PRE_COMMIT_HOME=self.folder + "/.home", HOME=self.folder,
                    GIT_CONFIG_COUNT="1", GIT_CONFIG_KEY_0="safe.directory", GIT_CONFIG_VALUE_0="*")
         for words in (["init", "-q"], ["add", "--", "good games.pgn", "-c.pgn", "bad.txt"]):

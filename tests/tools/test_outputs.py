@@ -35,15 +35,11 @@ class Kept(Folder, unittest.TestCase):
         need("zstd")
         super().setUp()
         self.env = dict(os.environ, PATH=programs.PATH, GILLSPOON_LIBRARY=library(), LC_ALL="C.UTF-8")
-        for name, text in OTHERS.items():
-            self.put(name, text)
+        self.put_all(OTHERS)
         for kind, pack in PACKERS.items():
             self.put("cut.pgn." + kind, pack(SOUND * 99)[:-30])
-        self.put("not.pgn.gz", SOUND)
-        self.put("empty.pgn", b"")
-        self.put("words.pgn", b"% none\n\n")
-        self.put("bad.pgn", SOUND + BAD)
-        self.put("sound.pgn", SOUND)
+        self.put_all({"not.pgn.gz": SOUND, "empty.pgn": b"", "words.pgn": b"% none\n\n",
+                      "bad.pgn": SOUND + BAD, "sound.pgn": SOUND})
         os.mkdir(self.folder + "/folder")
 
     def unreadable(self):
@@ -178,9 +174,7 @@ class Sieve(Kept):
 
     def test_all_games_are_bad(self):
         """That is understood: the old text goes."""
-        self.put("all.pgn", BAD * 2)
-        self.put("g", OLD)
-        self.put("b", OLD)
+        self.put_all({"all.pgn": BAD * 2, "g": OLD, "b": OLD})
         self.assertEqual(self.call("sieve", "all.pgn", "g", "b").returncode, 1)
         self.assertEqual((self.get("g"), self.get("b").count(BAD)), (b"", 2))
 

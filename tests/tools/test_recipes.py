@@ -86,16 +86,14 @@ class Whole(Recipe):
         self.assertIn(bad.strip().encode(), self.get("bad.pgn"))
 
     def test_compare(self):
-        self.put("a.pgn", "1.e4 e5 *")
-        self.put("b.pgn", "e4 {} *")
+        self.put_all({"a.pgn": "1.e4 e5 *", "b.pgn": "e4 {} *"})
         self.assertEqual(self.recipe("Compare two collections").returncode, 1)
         self.put("b.pgn", '[Event "?"] 1. e2e4 e7-e5 *')
         self.assertEqual(self.recipe("Compare two collections").returncode, 1)
         self.put("b.pgn", '[Event "?"] 1. e2e4 e7e5 *')
         ran = self.recipe("Compare two collections")
         self.assertEqual((ran.returncode, ran.stdout), (0, b"same\n"))
-        self.put("a.pgn", "1. e4 e9")
-        self.put("b.pgn", "1. e4 e9")
+        self.put_all({"a.pgn": "1. e4 e9", "b.pgn": "1. e4 e9"})
         self.assertNotIn(b"same", self.recipe("Compare two collections").stdout)
 
     def test_sort_by_date(self):
@@ -131,8 +129,7 @@ class Whole(Recipe):
         self.assertEqual(self.get("sorted.pgn").decode(), games[2] + games[1] + games[0])
 
     def test_merge(self):
-        self.put("a.pgn", "\ufeff1. e4 *")
-        self.put("b.pgn", "\ufeff1. d4 *")
+        self.put_all({"a.pgn": "\ufeff1. e4 *", "b.pgn": "\ufeff1. d4 *"})
         self.assertEqual(self.recipe("Merge collections").returncode, 0)
         self.assertEqual(self.get("merged.pgn").decode(), game("1. e4 *") + game("1. d4 *"))
         self.put("a.pgn", "1. e4 {")
@@ -162,10 +159,8 @@ class Whole(Recipe):
         self.assertEqual([self.get(it).decode() for it in parts], games[:3])
 
     def test_folder(self):
-        self.put("in/a b.pgn", "1. e4 *")
-        self.put("in/c.pgn", "1. e9 *")
-        self.put("in/D.PGN", "1. d4 *")
-        self.put("in/E.Pgn", "1. c4 *")
+        self.put_all({"in/a b.pgn": "1. e4 *", "in/c.pgn": "1. e9 *", "in/D.PGN": "1. d4 *",
+                      "in/E.Pgn": "1. c4 *"})
         ran = self.recipe("Convert a whole folder")
         self.assertEqual(ran.stdout.decode(), "in/c.pgn: byte 3: not a move\n1 with a fault\n")
         self.assertEqual(self.get("out/a b.pgn").decode(), game("1. e4 *"))
@@ -176,9 +171,7 @@ class Whole(Recipe):
 
     def test_folder_with_parallel(self):
         programs.need("parallel")
-        self.put("in/a b.pgn", "1. e4 *")
-        self.put("in/c.pgn", "1. e9 *")
-        self.put("in/d.PGN", "1. d4 *")
+        self.put_all({"in/a b.pgn": "1. e4 *", "in/c.pgn": "1. e9 *", "in/d.PGN": "1. d4 *"})
         ran = self.recipe("Convert a whole folder", 1)
         self.assertEqual((ran.returncode, ran.stdout), (
             1, b"in/a b.pgn\tgames: 1, plies: 1\nin/d.PGN\tgames: 1, plies: 1\n"))

@@ -193,8 +193,7 @@ class Unused(Folder, unittest.TestCase):
         """Puts these files, and takes away another one of the row before."""
         if os.path.exists(self.folder + "/" + WORDS):
             os.remove(self.folder + "/" + WORDS)
-        for name, text in texts.items():
-            self.put(name, text)
+        self.put_all(texts)
 
     def test_a_place_is_shown(self):
         self.put_only({**FILES, TOKENS: FILES[TOKENS] + "\npub spare : ℕ\nspare = 3\n"})

@@ -257,8 +257,7 @@ class WhereTest(Folder, unittest.TestCase):
     def test_compressed_files(self):
         need("zstd")
         text = TAGS + b"1. e4 e5 2. Ke3 *\n"
-        self.put("a.pgn.gz", gzip.compress(text))
-        self.put("a.pgn.bz2", bz2.compress(text))
+        self.put_all({"a.pgn.gz": gzip.compress(text), "a.pgn.bz2": bz2.compress(text)})
         self.put("a.pgn.zst", subprocess.run(["zstd", "-qc"], input=text, stdout=subprocess.PIPE,
                                              check=True).stdout)
         self.put("a.pgn.GZ", gzip.compress(text))
@@ -304,9 +303,8 @@ class WhereTest(Folder, unittest.TestCase):
         self.check_refused(self.call(["-"], input=b"byte 3: move is not legal\n"), 2)
 
     def test_messages_of_fmt(self):
-        self.put("a b.pgn", TAGS + b"1. e4 e5 2. Ke3 *\n")
-        self.put("c.pgn", TAGS + b"1. e9 *\n")
-        self.put("d.pgn", TAGS + b"1. e4 *\n")
+        self.put_all({"a b.pgn": TAGS + b"1. e4 e5 2. Ke3 *\n", "c.pgn": TAGS + b"1. e9 *\n",
+                      "d.pgn": TAGS + b"1. e4 *\n"})
         self.assertEqual(self.messages(["fmt", "--check", "a b.pgn", "c.pgn", "d.pgn"]), (
             "a b.pgn: line 5, column 13 (byte 55): move is not legal\n"
             "1. e4 e5 2. Ke3 *\n            ^\n" + GAME +
