@@ -34,8 +34,7 @@ def figures(given):
                  "process": [sys.executable, "-c", CALL, path]}
         took = measure.times(calls, given.rounds)
         (ours, _), (whole, _) = took["program"], took["process"]
-        convert = min(timeit.repeat(lambda: gillspoon.convert(path), number=1,
-                                    repeat=given.rounds))
+        convert = min(timeit.repeat(lambda: gillspoon.convert(path), number=1, repeat=given.rounds))
         if not gillspoon.convert(path) == read(output_of("program")) == read(output_of("process")):
             stop("the outputs differ for " + path)
         size = os.path.getsize(path) / 1e6

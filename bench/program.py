@@ -88,8 +88,7 @@ def size_figures(program, file, rounds):
 
 def archive_figures(given, calls, name):
     """All that is measured of one archive."""
-    file, small, large = (archive(name, it)
-                          for it in (given.games, measure.SMALL, measure.LARGE))
+    file, small, large = (archive(name, it) for it in (given.games, measure.SMALL, measure.LARGE))
     games = games_in(given.program, file)
     check_output(calls["pgn-extract"], given.program, file)
     print("%s: %d games: the output converts to itself" % (name, games), file=sys.stderr)
