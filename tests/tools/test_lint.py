@@ -258,7 +258,7 @@ class Lint(Folder, unittest.TestCase):
         ran = run([*LINT, *words], cwd=self.folder, **more)
         return ran.returncode, (ran.stdout or b"").decode(), (ran.stderr or b"").decode()
 
-    def lines(self, *words, **more):
+    def in_lines(self, *words, **more):
         """The same with the lines of the output."""
         status, out, told = self.lint(*words, **more)
         return status, out.splitlines(), told
@@ -292,7 +292,7 @@ class Faults(Lint):
         # 29 files have a game each, but one has a second game, and one has five
         wanted.append("29 files, 34 games, 31 faults in 29 files")
         for words in ([], ["-j", "3"]):
-            self.assertEqual(self.lines("ways", *words), (1, wanted, ""))
+            self.assertEqual(self.in_lines("ways", *words), (1, wanted, ""))
 
     def test_sentences(self):
         from gillspoon._findings import explained
@@ -477,7 +477,7 @@ class NoTraceback(Lint):
         """Comments among tags have one reading: a search that fails then ends."""
         self.put("a.pgn", b"1. e4 [" + b"{ ; " * 500 + b"\n")
         self.put("b.pgn", b"[" + b"{ " * 500 + b"\n")
-        self.assertEqual(self.lines("--quiet", "a.pgn", "b.pgn"), (1, [
+        self.assertEqual(self.in_lines("--quiet", "a.pgn", "b.pgn"), (1, [
             "a.pgn:1:7: tag in movetext: the game before may have no result at its end "
             "(game 1, ? \u2013 ?)",
             "b.pgn:2:1: comment is not closed: it begins at line 1, column 2 (game 1, ? \u2013 ?)",
@@ -543,7 +543,7 @@ class Files(Lint):
             "a.PGN", "below/c.pgn.GZ", "below/d.pgn.bz2", "below/e.pgn.zst")]
         wanted.append("5 files, 5 games, 4 faults in 4 files")
         for words in (["all"], ["-j2", "all"]):
-            self.assertEqual(self.lines(*words), (1, wanted, ""))
+            self.assertEqual(self.in_lines(*words), (1, wanted, ""))
 
     def test_names(self):
         shown = {"a b.pgn": "a b.pgn", "a\nb.pgn": "a\\nb.pgn", "-c.pgn": "-c.pgn",
@@ -717,7 +717,7 @@ class Zips(Lint):
     def test_members_are_named(self):
         wanted = ["a.zip" + it for it in self.lines]
         for words in ([], ["-j", "2", "a.zip"]):
-            self.assertEqual(self.lines("--quiet", "a.zip", *words), (
+            self.assertEqual(self.in_lines("--quiet", "a.zip", *words), (
                 1, wanted * (1 + len(words) // 3), ""))
         self.assertEqual(self.lint("a.zip")[1].splitlines()[-1],
                          "3 files, 4 games, 2 faults in 2 files")
@@ -730,7 +730,7 @@ class Zips(Lint):
 
     def test_standard_input(self):
         for words in (["-"], []):
-            self.assertEqual(self.lines("--quiet", *words, input=self.get("a.zip")),
+            self.assertEqual(self.in_lines("--quiet", *words, input=self.get("a.zip")),
                              (1, ["<stdin>" + it for it in self.lines], ""))
 
     def test_a_member_is_given_by_its_name(self):
