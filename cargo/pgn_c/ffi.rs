@@ -13,8 +13,8 @@ use crate::line_of_play::no_line_in_format;
 use crate::pgn_result::{no_mode, NO_MODE};
 use crate::san::no_notation;
 use crate::{
-    PgnBadGame, PgnExplanation, PgnGame, PgnItems, PgnMove, PgnPlies, PgnResult, PgnSection, PgnTag,
-    PgnText,
+    PgnBadGame, PgnExplanation, PgnGame, PgnItems, PgnMove, PgnNumber, PgnPlies, PgnResult, PgnSection,
+    PgnTag, PgnText,
 };
 use std::slice;
 
@@ -157,6 +157,22 @@ export!(
     (fen = text_of(fen, fen_length), text = text_of(text, length)) => (fen, text),
     else PgnExplanation { status: NO_MODE, ..no_explanation(0, 0) }
 );
+
+/// # Safety
+///
+/// The conditions of `pgn.h` hold.
+#[no_mangle]
+unsafe extern "C" fn pgn_check_numbers(text: *const u8, length: usize) -> PgnNumber {
+    match unsafe { text_of(text, length) } {
+        Some(text) => crate::pgn_check_numbers(text),
+        None => PgnNumber {
+            status: NO_MODE,
+            place: 0,
+            number: 0,
+            before: 0,
+        },
+    }
+}
 
 /// # Safety
 ///

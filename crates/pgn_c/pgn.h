@@ -162,6 +162,15 @@ typedef struct pgn_tag {
     size_t next;         /* where the next line begins */
 } pgn_tag;
 
+/* The result of pgn_check_numbers. */
+typedef struct pgn_number {
+    uint32_t status; /* PGN_OK: each number runs, and all else is 0. PGN_FAULT: one does not. Or
+                        PGN_NO_MODE for a null pointer */
+    size_t place;    /* the place of the first number that does not run */
+    uint64_t number; /* that number; 4,294,967,295 also for a larger one */
+    uint64_t before; /* the number before it in the main line, in the same way */
+} pgn_number;
+
 /* Which lines can show where a game ends, for pgn_next_section. */
 enum {
     PGN_ENDS_ANYWHERE = 0,    /* all lines, as for a bad game */
@@ -410,6 +419,21 @@ pgn_item_lines pgn_items(const void *text, size_t length, size_t from, uint64_t 
  * there is none at this place, so the pairs of the game are all found.
  */
 pgn_tag pgn_tag_at(const void *text, size_t length, size_t at);
+
+/*
+ * Finds the first move number of a game that does not run.
+ *
+ * The text is that of one valid game, from its first byte to its marker: pgn_next_game and
+ * pgn_read_game say where it ends. A move number is digits with a period after them, white space
+ * between or not, outside comments and variations. It does not run if it is lower than the number
+ * before it, or higher by more than the moves between. The first number of a game always runs. PGN
+ * 8.2.2 lets numbers decide nothing, but one that does not run shows that moves or a result may be
+ * missing.
+ *
+ * Of a text that pgn_check rejects at a byte, a string, a comment or a NAG (faults 1 to 12), the
+ * result says nothing.
+ */
+pgn_number pgn_check_numbers(const void *text, size_t length);
 
 /*
  * Reads the next piece of the text of a bad game, and finds where reading goes on after the game.

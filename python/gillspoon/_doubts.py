@@ -1,25 +1,24 @@
 """What the movetext of a sound game may mean beside what is read: numbers that do not run, and more.
 
 Numbers, periods and comments decide nothing. So a game is read without a word where they show that
-something else was meant.
+something else was meant. The library says which number does not run.
 """
 import re
 from typing import Iterator, NamedTuple, Optional
 
-from . import _calls
+from . import _calls, _library
 from ._faults import MoveFault
 from ._left_out import OF_SIEVE, PART, end_of_head
 from ._reading import GameReader
 from ._sections import PAIR
-from ._suspects import MARKS_ALONE, PAWN_MOVE, has_last_number, has_odd_token, main_line
+from ._suspects import MARKS_ALONE, PAWN_MOVE, has_odd_token
 
 # A string, a comment in braces, or an escape line; a comment to the end of its line; a
-# parenthesis; or a word, which is a number, a move or a marker, and the period behind it.
+# parenthesis; or a word, which is a number, a move or a marker.
 TOKEN = re.compile(
     rb'"(?:[^"\\]|\\.)*"|\{[^}]*\}|(?<![^\r\n])%[^\r\n]*|(?P<line>;[^\r\n]*)'
-    rb'|\$[0-9]*|(?P<bracket>[()])|(?P<word>[^\s{}();"\[\].!?$]+)(?P<period>\.?)',
+    rb'|\$[0-9]*|(?P<bracket>[()])|(?P<word>[^\s{}();"\[\].!?$]+)',
     re.DOTALL)
-FIRST_NUMBER = re.compile(rb"\s*([0-9]+)\.(\.*)")
 # In a comment: a number and its periods, or a word without its marks.
 NUMBER_OR_WORD = re.compile(rb"[\s;]*(?:([0-9]+)(\.*)|([^\s.;!?]+)[!?]*)")
 MAY_BE_MOVES = re.compile(rb";[\s;]*(?:[0-9]+[\s.]*)?[KQRBNPO]?[a-hx1-8O-]*[1-8O]")
@@ -37,19 +36,20 @@ class Doubt(NamedTuple):
     reason: str
 
 
-def doubts(text: bytes, plies: int, reader: GameReader) -> Iterator[Doubt]:
-    """The doubts of a sound game with so many plies.
+def doubts(text: bytes, reader: GameReader) -> Iterator[Doubt]:
+    """The doubts of a sound game, which has nothing before its first byte and behind its marker.
 
     >>> text = b"1. e4 e5 2. Nf3 Nc6 (!) 1. d4 0000 *"
-    >>> for it in doubts(text, 5, GameReader()):
+    >>> for it in doubts(text, GameReader()):
     ...     print(it.offset, it.reason)
     24 move number 1 after 2: perhaps a marker or moves are missing
     20 a variation has marks and no move
     30 0000 is read as a move number: PGN has no null move
     """
-    begin = end_of_head(text)
-    if not _ends_with_its_number(text, begin, plies):
-        yield from _wrong_numbers(text, begin)
+    begin, wrong = end_of_head(text), _library.check_numbers(text, len(text))
+    if wrong.status != _library.OK:
+        yield Doubt(wrong.place, "move number %d after %d: perhaps a marker or moves are missing"
+                    % (wrong.number, wrong.before))
     if has_odd_token(text, begin):
         for token in TOKEN.finditer(text, begin):
             reason = _reason_of(text, token, reader)
@@ -72,46 +72,6 @@ def _reason_of(text: bytes, token: "re.Match[bytes]", reader: GameReader) -> str
         return "%s is read as a pawn's move, and N%s is legal too" % (
             pawn[0].decode("ascii"), pawn[1].decode("ascii"))
     return ""
-
-
-# ---- move numbers
-
-
-def _ends_with_its_number(text: bytes, begin: int, plies: int) -> bool:
-    """Whether the main line has the number of its last move, counted from the first, and no higher.
-
-    A game without numbers needs none.
-    """
-    first = FIRST_NUMBER.match(text, begin)
-    if not first:
-        return text.find(b".", begin) < 0
-    last = int(first[1]) + (plies - 1 + bool(first[2])) // 2
-    return has_last_number(text, begin, last) \
-        or b"(" in text and has_last_number(main_line(text[begin:]), 0, last)
-
-
-def _wrong_numbers(text: bytes, begin: int) -> Iterator[Doubt]:
-    """The first number of the main line that does not run, if there is one.
-
-    Numbers with a period behind count. One does not run if it is lower than the number before it,
-    or higher by more than the moves between.
-    """
-    depth = plies = 0
-    last: Optional[int] = None
-    for token in TOKEN.finditer(text, begin):
-        word = token["word"]
-        depth += (token["bracket"] == b"(") - (token["bracket"] == b")")
-        if depth or not word:
-            continue
-        if not word.isdigit():
-            plies += 1
-        elif token["period"]:
-            number = int(word)
-            if last is not None and not last <= number <= last + (plies + 1) // 2:
-                yield Doubt(token.start(), "move number %d after %d: perhaps a marker or moves "
-                                           "are missing" % (number, last))
-                return
-            last, plies = number, 0
 
 
 # ---- comments to the end of a line

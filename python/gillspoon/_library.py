@@ -164,6 +164,21 @@ class ItemLines(ctypes.Structure):
     ]
 
 
+class Number(ctypes.Structure):
+    """struct pgn_number"""
+
+    status: int
+    place: int
+    number: int
+    before: int
+    _fields_ = [
+        ("status", ctypes.c_uint32),
+        ("place", ctypes.c_size_t),
+        ("number", ctypes.c_uint64),
+        ("before", ctypes.c_uint64),
+    ]
+
+
 class Explanation(ctypes.Structure):
     """struct pgn_explanation"""
 
@@ -244,6 +259,7 @@ _CALLS = {
     "pgn_read_game": (NextGame, (*_TEXT, ctypes.c_size_t, ctypes.c_uint32, ctypes.c_uint32,
                                  *_TEXT)),
     "pgn_items": (ItemLines, (*_TEXT, ctypes.c_size_t, ctypes.c_uint64, ctypes.c_uint32, *_TEXT)),
+    "pgn_check_numbers": (Number, _TEXT),
     "pgn_next_section": (Section, (ctypes.POINTER(BadGame), *_TEXT, ctypes.c_uint32)),
     "pgn_explain": (Explanation, (*_TEXT, *_TEXT)),
 }
@@ -292,6 +308,7 @@ next_game: Callable[[_Bytes, _Size, _Size, _Number, _Number, _Room, _Size],
 read_game: Callable[[_Bytes, _Size, _Size, _Number, _Number, _Room, _Size],
                     NextGame] = _library.pgn_read_game
 items: Callable[[bytes, int, int, int, int, Buffer, int], ItemLines] = _library.pgn_items
+check_numbers: Callable[[bytes, int], Number] = _library.pgn_check_numbers
 next_section: Callable[[BadGame, bytes, int, bool], Section] = _library.pgn_next_section
 explain: Callable[[bytes, int, bytes, int], Explanation] = _library.pgn_explain
 

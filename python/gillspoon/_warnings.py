@@ -112,14 +112,15 @@ class Watcher:
             found += _games_in_comments(text)
         if not USUAL_SECTION.match(section) and OTHER_FORM.search(section):
             found += _of_tags(text, section)
+        has_comments = not begin or find(b"{", 0, begin) >= 0 or find(b";", 0, begin) >= 0
         if not plies:
             found += _of_nothing(game, text)
-        elif is_suspect(text, begin, plies):
-            found += self._doubts(text, plies)
+        elif is_suspect(text, begin, has_comments):
+            found += self._doubts(text)
         percent = find(b"%")
         if percent >= 0 and _may_have_escapes(text, percent):
             self._count_escapes(game.offset, game.end)
-        if not begin or find(b"{", 0, begin) >= 0 or find(b";", 0, begin) >= 0:
+        if has_comments:
             self._count_in_pairs(game.offset, text)
         if not text.isascii() and self._is_other_encoding(text):
             found.append((len(text) - len(text.lstrip(ASCII)), MIXED))
@@ -130,11 +131,11 @@ class Watcher:
         base = self._window.base
         return self._window.data[game.offset - base:game.end - base]
 
-    def _doubts(self, text: bytes, plies: int) -> "List[Doubt]":
+    def _doubts(self, text: bytes) -> "List[Doubt]":
         """What is in doubt about the movetext of a game."""
         # most files need none of it
         from ._doubts import doubts
-        return list(doubts(text, plies, self._reader))
+        return list(doubts(text, self._reader))
 
     def _count_in_pairs(self, offset: int, text: bytes) -> None:
         """Counts the comments inside the tag pairs of a game at an offset."""

@@ -522,6 +522,22 @@ class Installed:
             tag = self.library.calls.pgn_tag_at(text, len(text), at)
             self.assertEqual(fields(tag), (FAULT, 0, 0, 0, 0, 0))
 
+    def test_move_numbers(self):
+        """The first number that does not run, with its place; and what is no such number."""
+        for text, wanted in (
+                (b"1. e4 e5 2. Nf3 Nc6 1. d4 *", (20, 1, 2)), (b"1. e4 e5 4. Nf3 5. d4 9. c4 *", (9, 4, 1)),
+                (b"1. e4 e5 3. Nf3 Nc6 3. d4 *", (9, 3, 1)), (b"30. Kd2 Kd7 29. Kd3 *", (12, 29, 30)),
+                (b"1. e4 (1. d4 9. c4) e5 {9. a} 3. Nf3 *", (30, 3, 1)),
+                (b'[White "2. a"]\n\n1. e4 e5 ; 2. Nf3\n\n3 . Nf3 *', (35, 3, 1)),
+                (b"\xef\xbb\xbf%9.\n1. e4 5. Nf3 *", (13, 5, 1)),
+                (b"1. e4 5000000000. e5 *", (6, (1 << 32) - 1, 1)),
+                (b"", None), (b"e4 e5 Nf3 *", None), (b"1 e4 e5 9 Nf3 *", None),
+                (b"1. e4 1... e5 2. Nf3 2... Nc6 *", None), (b"1. e4 e5 Nf3 Nc6 3. d4 *", None),
+                (b"1. e4 2. e5 3. Nf3 4. Nc6 *", None), (b"30. Kd2 Kd7 31. Kd3 *", None),
+                (b"1. e4 (1. d4 (9. a)) e5 $9 {7. ( 8.} ! 2. Nf3 ; 9.\n%9.\nNc6 3. d4 *", None)):
+            found = self.library.calls.pgn_check_numbers(text, len(text))
+            self.assertEqual(fields(found), (FAULT, *wanted) if wanted else (OK, 0, 0, 0), text)
+
     # ---- moves, and lines of play
 
     def san(self, fen, text, notation=0):
@@ -902,6 +918,7 @@ class InstalledByCargo(Installed, unittest.TestCase):
         self.assertEqual(calls.pgn_items(None, 0, 0, 0, 0, None, 0).status, NO_GAME)
         self.assertEqual(calls.pgn_items(b"*", 1, 0, 0, 0, None, 0).status, FULL)
         self.assertEqual(calls.pgn_tag_at(None, 0, 0).status, FAULT)
+        self.assertEqual(calls.pgn_check_numbers(None, 0).status, OK)
         self.assertEqual(calls.pgn_san(None, 0, None, 0, 0).fault, 26)
         self.assertEqual(calls.pgn_line(None, 0, None, 0, 0, None, 0).fault, 26)
         self.assertEqual(calls.pgn_line(INITIAL, len(INITIAL), None, 0, 0, None, 0).status, OK)
@@ -926,6 +943,7 @@ class InstalledByCargo(Installed, unittest.TestCase):
                  "pgn_san": (*fen, *move, 0),
                  "pgn_line": (*fen, *move, 0, *room), "pgn_next_game": (*text, 0, 0, 0, *room),
                  "pgn_read_game": (*text, 0, 0, 0, *room), "pgn_tag_at": (*text, 0),
+                 "pgn_check_numbers": text,
                  "pgn_items": (*text, 0, 0, 1, *room),
                  "pgn_explain": fen + move, "pgn_next_section": (game, *text, 1)}
         self.assertEqual({*calls, "pgn_version"}, set(test_library.declared()))
@@ -941,7 +959,7 @@ class InstalledByCargo(Installed, unittest.TestCase):
                                  (name, at, others))
                 tried += 1
         self.assertEqual((buffer.raw, bytes(bad)), before)
-        self.assertEqual(tried, 23)
+        self.assertEqual(tried, 24)
         for name, words in calls.items():
             self.assertEqual(getattr(self.library.calls, name)(*words).status, OK, name)
 

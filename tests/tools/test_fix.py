@@ -366,6 +366,9 @@ class Warnings(Lint):
                 ('[White "a"]\n\n1.e4 e5 2.Nf3 Nc6\n\n1.d4 d6 *', "5:1", lower),
                 ("1. e4 e5 4. Nf3 Nc6 5. d4 *", "1:10",
                  "move number 4 after 1: perhaps a marker or moves are missing"),
+                # also if the last number is right
+                ("1. e4 e5 7. Nf3 Nc6 3. d4 *", "1:10",
+                 "move number 7 after 1: perhaps a marker or moves are missing"),
                 ("1. e4 0000 2. d5 *", "1:7", null), ("1. e4 (1. d4 0000 2. d5) *", "1:14", null),
                 ("1. e4 (!) e5 *", "1:7", marks), ("1. e4 ( $1 !?) e5 *", "1:7", marks),
                 ("1. e4 ; e5 2. Nf3 Nc6\n *", "1:7", line),
@@ -385,8 +388,6 @@ class Warnings(Lint):
                 "1. e4 2. e5 3. Nf3 4. Nc6 *",
                 "1. e4 1... e5 2. Nf3 2... Nc6 3. d4 (3. c3 a6 4. d4) *",
                 "1. e4 e5 Nf3 Nc6 3. d4 *",
-                # the last one is right
-                "1. e4 e5 7. Nf3 Nc6 3. d4 *",
                 "1. e4 {0000} *", '[White "0000"]\n\n1. e4 *', "1. e4 00000 e5 *",
                 "1. e4 (1. d4!) {(!)} *", "1. e4 () *", "1. e4 ({!}) *",
                 # too few plies, other numbers, no legal moves, words, or no such comment

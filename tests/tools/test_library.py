@@ -80,7 +80,8 @@ C_TYPES = {"u8": "uint8_t", "u32": "uint32_t", "u64": "uint64_t", "usize": "size
 STRUCTS = {"PgnResult": "pgn_result", "PgnText": "pgn_text", "PgnMove": "pgn_move",
            "PgnPlies": "pgn_plies", "PgnGame": "pgn_game", "PgnTag": "pgn_tag",
            "PgnItems": "pgn_item_lines", "PgnExplanation": "pgn_explanation",
-           "PgnBadGame": "pgn_bad_game", "PgnSection": "pgn_section"}
+           "PgnBadGame": "pgn_bad_game", "PgnSection": "pgn_section",
+           "PgnNumber": "pgn_number"}
 
 
 def bare_header():
@@ -158,7 +159,7 @@ def c_structs():
 class HeaderTest(unittest.TestCase):
     def test_functions(self):
         self.assertEqual(declared(), exported())
-        self.assertEqual(len(exported()), 13)
+        self.assertEqual(len(exported()), 14)
 
     def test_version(self):
         """That of the program, as text and as a number."""

@@ -15,7 +15,8 @@ NOTES = ("best", "better is 3. Nf3", "1. e4 (2. d4) 7...", "see game 12.", "a; b
 def numbers_of(movetext):
     """The place of each number of the main line with a period behind, and the plies before it.
 
-    It reads letter by letter: a comment ends at its brace, and one from `;` at the line's end.
+    White space may be before the period (PGN 8.2.2.1). It reads letter by letter: a comment ends at
+    its brace, and one from `;` at the line's end.
     """
     found, plies, depth, at = [], 0, 0, 0
     while at < len(movetext):
@@ -30,7 +31,7 @@ def numbers_of(movetext):
             while end < len(movetext) and (movetext[end].isalnum() or movetext[end] in "+#=:/-"):
                 end += 1
             word = movetext[at:end]
-            if depth == 0 and word.isdigit() and movetext[end:end + 1] == ".":
+            if depth == 0 and word.isdigit() and movetext[end:].lstrip().startswith("."):
                 found.append((at, int(word), plies))
             plies += depth == 0 and letter.isalpha()
         at = end
@@ -83,7 +84,7 @@ class Maker:
 
 
 def games(rng):
-    """The tag section, the movetext and the plies of made games."""
+    """The tag section and the movetext of made games."""
     with open(ROOT + "/bench/games.txt", encoding="ascii") as file:
         lines = [it.split()[1:] for it in file]
     with open(ROOT + "/bench/puzzles.txt", encoding="ascii") as file:
@@ -100,34 +101,25 @@ def games(rng):
         maker = Maker(rng, first, is_black)
         for move in moves:
             maker.add(move)
-        yield '[Event "a"]\n%s\n' % tags, "".join(maker.words), len(moves)
+        yield '[Event "a"]\n%s\n' % tags, "".join(maker.words)
 
 
 class Numbers(test_lint.Lint):
     def test_made_games(self):
-        """What is warned of is wrong, and what is wrong is warned of if no last number is there."""
+        """The first number that is wrong is warned of, and nothing else is."""
         made = list(games(random.Random(1994)))
-        self.put("a.pgn", "".join("%s%s*\n\n" % it[:2] for it in made).encode())
+        self.put("a.pgn", "".join("%s%s*\n\n" % it for it in made).encode())
         records = self.records("a.pgn")
         self.assertNotIn("fault", [it["kind"] for it in records])
         warned = {it["game"]: it for it in records
                   if it["kind"] == "warning" and REASON.fullmatch(it["reason"])}
-        seen, offset = [0, 0, 0], 0
-        for game, (tags, movetext, plies) in enumerate(made, 1):
-            numbers = numbers_of(movetext)
-            found, it = wrong(numbers), warned.get(game)
+        seen, offset = [0, 0], 0
+        for game, (tags, movetext) in enumerate(made, 1):
+            found, it = wrong(numbers_of(movetext)), warned.get(game)
             begin, offset = offset + len(tags), offset + len(tags) + len(movetext) + 3
-            if it:
-                self.assertEqual((it["offset"] - begin, *REASON.fullmatch(it["reason"]).groups()),
-                                 (found[0], str(found[1]), str(found[2])), movetext)
-                seen[0] += 1
-            elif found and numbers[0][2] == 0:
-                _, first, _ = numbers[0]
-                is_black = movetext.startswith("%d.." % first)
-                last = first + (plies - 1 + is_black) // 2
-                self.assertIn("%d." % last, movetext, movetext)
-                seen[1] += 1
-            seen[2] += not found
+            said = it and (it["offset"] - begin, *map(int, REASON.fullmatch(it["reason"]).groups()))
+            self.assertEqual(said, found, movetext)
+            seen[found is None] += 1
         self.assertTrue(all(it > GAMES // 40 for it in seen), seen)
 
 

@@ -1894,7 +1894,7 @@ target" ] && mkdir -p target/wasm32-unknown-unknown/release &&
         text = re.search(r"STRUCTS = \{(.*?)\n\};", text_of("page/module.js"), re.S)[1]
         header = c_structs()
         found = dict(re.findall(r"^  (\w+): \[(.*?)\],?$(?=\n  \w|\Z)", text, re.S | re.M))
-        not_called = {"pgn_plies", "pgn_result"}
+        not_called = {"pgn_number", "pgn_plies", "pgn_result"}
         self.assertEqual(sorted(found), sorted(set(header) - not_called))
         for name, body in found.items():
             fields = ["%s %s%s" % (kind, field, "[%s]" % count if count else "") for

@@ -1,8 +1,8 @@
 //! The structs as the C compiler has them. The test calls it: `CC`, or `cc`.
 
 use crate::{
-    PgnBadGame, PgnExplanation, PgnGame, PgnItems, PgnMove, PgnPlies, PgnResult, PgnSection, PgnTag,
-    PgnText,
+    PgnBadGame, PgnExplanation, PgnGame, PgnItems, PgnMove, PgnNumber, PgnPlies, PgnResult, PgnSection,
+    PgnTag, PgnText,
 };
 use std::mem::{align_of, align_of_val, size_of, size_of_val};
 use std::path::Path;
@@ -47,7 +47,7 @@ const NO_GAME: PgnBadGame = PgnBadGame {
     has_escapes: 0,
 };
 
-fn structs() -> [Struct; 10] {
+fn structs() -> [Struct; 11] {
     [
         layout!(
             "pgn_result",
@@ -85,6 +85,11 @@ fn structs() -> [Struct; 10] {
             "pgn_tag",
             PgnTag { status, name_at, name_length, value_at, value_length, next },
             crate::pgn_tag_at(b"", 0)
+        ),
+        layout!(
+            "pgn_number",
+            PgnNumber { status, place, number, before },
+            crate::pgn_check_numbers(b"")
         ),
         layout!(
             "pgn_bad_game",

@@ -1,4 +1,5 @@
--- Lemmas on the memory that a caller is given, and on the lines of tag pairs and of plies.
+-- Lemmas on the memory that a caller is given, on the lines of tag pairs and of plies, and on the
+-- bytes between move numbers.
 pub mod ConversionToBuffer
 pub mod MarkerTaken
 pub mod ReadingGoesOn
@@ -17,3 +18,5 @@ pub mod ItemTexts
 pub mod ItemsGiven
 pub mod PutTwice
 pub mod TextAhead
+pub mod NumbersRead
+pub mod NumberRows

@@ -11,3 +11,5 @@ pub mod NextSection
 pub mod NextLine
 pub mod ItemLines
 pub mod ItemSteps
+pub mod MoveNumbers
+pub mod MoveNumberSteps

@@ -12,11 +12,13 @@
 #![tactic(auto)]
 
 ghost use Rattle.std.specs.Prelude.{◌≡◌};
+ghost use Rattle.pgn_lexer.specs.TokensOf.{tokens_of};
 ghost use Rattle.chess_text.specs.Fen.{read};
 ghost use Rattle.pgn_c.specs.Explanation.{explanation};
 ghost use Rattle.pgn_c.specs.Positions.{Normalizes, WritesKey, notation_of, san_result_in};
 ghost use Rattle.pgn_c.specs.ItemLines.{WritesItemsIn, fields_of};
 ghost use Rattle.pgn_c.specs.LinesOfPlay.{WritesLineIn, format_of};
+ghost use Rattle.pgn_c.specs.MoveNumbers.{AreAccepted, number_result, wrong_number};
 ghost use Rattle.pgn_c.specs.NextGame.{NextGameIn, ReadGameIn};
 ghost use Rattle.pgn_c.specs.NextSection.{NextSection, ends_with_number, is_set};
 ghost use Rattle.pgn_c.specs.Results.{Checks, Converts, ConvertsIn, mode_of, result_of};
@@ -28,6 +30,7 @@ mod fen;
 mod game_result;
 mod items;
 mod line_of_play;
+mod move_numbers;
 mod next_game;
 mod next_section;
 mod pgn_result;
@@ -46,6 +49,8 @@ pub use crate::items::PgnItems;
 use crate::items::{fields_with_number, plain_result, write_items};
 pub use crate::line_of_play::PgnPlies;
 use crate::line_of_play::{format_with_number, no_first_position, no_line_in_format, write_line};
+pub use crate::move_numbers::PgnNumber;
+use crate::move_numbers::check_numbers;
 use crate::next_game::next_game;
 use crate::next_section::next_section;
 pub use crate::next_section::{PgnBadGame, PgnSection};
@@ -303,6 +308,25 @@ pub extern "C" fn pgn_tag_at(text: &[u8], at: usize) -> PgnTag
     ensures { TagResult text.now at result }
 {
     tag_at(text, at)
+}
+
+/// Finds the first move number of a game that does not run (PGN 8.2.2).
+///
+/// The text is that of one game, from its first byte to its marker. A move number is a symbol of
+/// digits with a period behind it, outside comments and variations. It runs if it is not lower than
+/// the number before it, and higher by at most the moves between, of which a single ply counts as
+/// one. The first number of a game runs, whatever it is.
+///
+/// - Status 0: each number runs. All else is 0.
+/// - Status 1: one does not. The result has its place, the number, and the one before it.
+///
+/// Of a text that the lexer rejects (PGN 7) the result says nothing. `pgn_check` rejects it too.
+#[unsafe(no_mangle)]
+pub extern "C" fn pgn_check_numbers(text: &[u8]) -> PgnNumber
+    ensures { AreAccepted (tokens_of text.now)
+        → result ≡ number_result (wrong_number (tokens_of text.now)) }
+{
+    check_numbers(text)
 }
 
 /// Reads the next piece of the text of a bad game, and finds where reading goes on behind it.

@@ -1,0 +1,6 @@
+use Rattle.std.proofs.Common.{◌≡◌, ◌+◌, drop}
+use Rattle.pgn_c.specs.MoveNumberSteps.{to_brace}
+use Rattle.pgn_c.proofs.move_numbers.length_to_brace.Given as goal
+
+abbrev pub invariant-loop-index : goal.invariant-loop-index
+invariant-loop-index l = to_brace l.text ≡ l.index + to_brace (drop l.index l.text)

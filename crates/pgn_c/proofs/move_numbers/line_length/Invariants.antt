@@ -1,0 +1,6 @@
+use Rattle.std.proofs.Common.{◌≡◌, ◌+◌, drop}
+use Rattle.pgn_c.specs.MoveNumberSteps.{to_line_end}
+use Rattle.pgn_c.proofs.move_numbers.line_length.Given as goal
+
+abbrev pub invariant-loop-index : goal.invariant-loop-index
+invariant-loop-index l = to_line_end l.text ≡ l.index + to_line_end (drop l.index l.text)

@@ -1,0 +1,6 @@
+use Rattle.std.proofs.Common.{◌≡◌, ◌+◌, drop, false}
+use Rattle.pgn_c.specs.MoveNumberSteps.{to_quote}
+use Rattle.pgn_c.proofs.move_numbers.string_length.Given as goal
+
+abbrev pub invariant-loop-index : goal.invariant-loop-index
+invariant-loop-index l = to_quote false l.text ≡ l.index + to_quote l.is_behind_backslash (drop l.index l.text)
