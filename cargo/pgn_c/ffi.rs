@@ -167,6 +167,7 @@ unsafe extern "C" fn pgn_check_numbers(text: *const u8, length: usize) -> PgnNum
         Some(text) => crate::pgn_check_numbers(text),
         None => PgnNumber {
             status: NO_MODE,
+            unusual: 0,
             place: 0,
             number: 0,
             before: 0,

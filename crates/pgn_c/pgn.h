@@ -164,11 +164,13 @@ typedef struct pgn_tag {
 
 /* The result of pgn_check_numbers. */
 typedef struct pgn_number {
-    uint32_t status; /* PGN_OK: each number runs, and all else is 0. PGN_FAULT: one does not. Or
-                        PGN_NO_MODE for a null pointer */
-    size_t place;    /* the place of the first number that does not run */
-    uint64_t number; /* that number; 4,294,967,295 also for a larger one */
-    uint64_t before; /* the number before it in the main line, in the same way */
+    uint32_t status;  /* PGN_OK: each number runs, and the last three fields are 0. PGN_FAULT: one
+                         does not. Or PGN_NO_MODE for a null pointer */
+    uint32_t unusual; /* 1 if a number does not run, or if the game has a part that may mean
+                         something else than what is read. Else 0 */
+    size_t place;     /* the place of the first number that does not run */
+    uint64_t number;  /* that number; 4,294,967,295 also for a larger one */
+    uint64_t before;  /* the number before it in the main line, in the same way */
 } pgn_number;
 
 /* Which lines can show where a game ends, for pgn_next_section. */
@@ -421,7 +423,8 @@ pgn_item_lines pgn_items(const void *text, size_t length, size_t from, uint64_t 
 pgn_tag pgn_tag_at(const void *text, size_t length, size_t at);
 
 /*
- * Finds the first move number of a game that does not run.
+ * Finds the first move number of a game that does not run, and says whether a closer look at the
+ * game pays.
  *
  * The text is that of one valid game, from its first byte to its marker: pgn_next_game and
  * pgn_read_game say where it ends. A move number is digits with a period after them, white space
@@ -429,6 +432,10 @@ pgn_tag pgn_tag_at(const void *text, size_t length, size_t at);
  * before it, or higher by more than the moves between. The first number of a game always runs. PGN
  * 8.2.2 lets numbers decide nothing, but one that does not run shows that moves or a result may be
  * missing.
+ *
+ * unusual tells of more, outside comments, strings and lines that begin with %: a symbol that begins
+ * with P; one of four bytes that begins with 0, as 0000; a comment to the end of a line; a line that
+ * begins with %; and a ( with a NAG or a suffix after it.
  *
  * Of a text that pgn_check rejects at a byte, a string, a comment or a NAG (faults 1 to 12), the
  * result says nothing.

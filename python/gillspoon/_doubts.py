@@ -1,7 +1,8 @@
 """What the movetext of a sound game may mean beside what is read: numbers that do not run, and more.
 
 Numbers, periods and comments decide nothing. So a game is read without a word where they show that
-something else was meant. The library says which number does not run.
+something else was meant. The library says which number does not run, and which games have nothing
+that is in doubt.
 """
 import re
 from typing import Iterator, NamedTuple, Optional
@@ -11,7 +12,6 @@ from ._faults import MoveFault
 from ._left_out import OF_SIEVE, PART, end_of_head
 from ._reading import GameReader
 from ._sections import PAIR
-from ._suspects import MARKS_ALONE, PAWN_MOVE, has_odd_token
 
 # A string, a comment in braces, or an escape line; a comment to the end of its line; a
 # parenthesis; or a word, which is a number, a move or a marker.
@@ -19,6 +19,9 @@ TOKEN = re.compile(
     rb'"(?:[^"\\]|\\.)*"|\{[^}]*\}|(?<![^\r\n])%[^\r\n]*|(?P<line>;[^\r\n]*)'
     rb'|\$[0-9]*|(?P<bracket>[()])|(?P<word>[^\s{}();"\[\].!?$]+)',
     re.DOTALL)
+# A variation that has marks alone, and a pawn's move with its letter.
+MARKS_ALONE = re.compile(rb"\(\s*[!?$][!?$0-9\s]*\)")
+PAWN_MOVE = re.compile(rb"P([a-h]?[1-8]?x?[a-h][1-8][+#]*)")
 # In a comment: a number and its periods, or a word without its marks.
 NUMBER_OR_WORD = re.compile(rb"[\s;]*(?:([0-9]+)(\.*)|([^\s.;!?]+)[!?]*)")
 MAY_BE_MOVES = re.compile(rb";[\s;]*(?:[0-9]+[\s.]*)?[KQRBNPO]?[a-hx1-8O-]*[1-8O]")
@@ -50,11 +53,10 @@ def doubts(text: bytes, reader: GameReader) -> Iterator[Doubt]:
     if wrong.status != _library.OK:
         yield Doubt(wrong.place, "move number %d after %d: perhaps a marker or moves are missing"
                     % (wrong.number, wrong.before))
-    if has_odd_token(text, begin):
-        for token in TOKEN.finditer(text, begin):
-            reason = _reason_of(text, token, reader)
-            if reason:
-                yield Doubt(token.start(), reason)
+    for token in TOKEN.finditer(text, begin):
+        reason = _reason_of(text, token, reader)
+        if reason:
+            yield Doubt(token.start(), reason)
 
 
 def _reason_of(text: bytes, token: "re.Match[bytes]", reader: GameReader) -> str:

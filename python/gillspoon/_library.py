@@ -168,11 +168,13 @@ class Number(ctypes.Structure):
     """struct pgn_number"""
 
     status: int
+    unusual: int
     place: int
     number: int
     before: int
     _fields_ = [
         ("status", ctypes.c_uint32),
+        ("unusual", ctypes.c_uint32),
         ("place", ctypes.c_size_t),
         ("number", ctypes.c_uint64),
         ("before", ctypes.c_uint64),

@@ -8,10 +8,10 @@ from functools import lru_cache
 from typing import TYPE_CHECKING, Iterator, List, NamedTuple, Optional, Tuple
 
 from ._games import Game, section_of
+from ._library import check_numbers
 from ._reading import GameReader
 from ._sections import game_in_comment, tag_pairs
 from ._sources import Window
-from ._suspects import is_suspect
 from ._texts import is_utf_8
 
 if TYPE_CHECKING:
@@ -102,24 +102,32 @@ class Watcher:
         unwritten, plies = game._unwritten, game._plies
         text = unwritten[0] if unwritten else self._text_of(game)
         find, section = text.find, game._section or section_of(game)
-        begin = find(b'"]\n\n') + 4
-        if begin < 4:
-            begin = _begin_behind_carriage_return(text)
+        # most sections are as export writes them, and have no comment
+        begin, has_comments, is_read_whole = len(section) + 2, False, False
+        if not text.startswith(section + EMPTY_LINE):
+            begin = find(b'"]\n\n') + 4
+            if begin < 4:
+                begin = _begin_behind_carriage_return(text)
+            has_comments = not begin or find(b"{", 0, begin) >= 0 or find(b";", 0, begin) >= 0
+            is_read_whole = has_comments or find(b"%", 0, begin) >= 0
+        movetext = text[begin:]
         found: List[Tuple[int, str]] = []
-        if text[:1] in COMMENT_SIGNS:
+        if text[0] in COMMENT_SIGNS:
             found.append((0, DROPPED))
-        if find(b'"', begin) >= 0:
+        if QUOTE in movetext:
             found += _games_in_comments(text)
         if not USUAL_SECTION.match(section) and OTHER_FORM.search(section):
             found += _of_tags(text, section)
-        has_comments = not begin or find(b"{", 0, begin) >= 0 or find(b";", 0, begin) >= 0
         if not plies:
             found += _of_nothing(game, text)
-        elif is_suspect(text, begin, has_comments):
-            found += self._doubts(text)
-        percent = find(b"%")
-        if percent >= 0 and _may_have_escapes(text, percent):
-            self._count_escapes(game.offset, game.end)
+        # without its tags, a game is read in less time
+        read = text if is_read_whole else movetext
+        if check_numbers(read, len(read)).unusual:
+            if plies:
+                found += self._doubts(text)
+            percent = find(b"%")
+            if percent >= 0 and _may_have_escapes(text, percent):
+                self._count_escapes(game.offset, game.end)
         if has_comments:
             self._count_in_pairs(game.offset, text)
         if not text.isascii() and self._is_other_encoding(text):
@@ -179,7 +187,9 @@ class Watcher:
 # ---- the text of a game
 
 ASCII = bytes(range(128))
-COMMENT_SIGNS = (b"{", b";")
+COMMENT_SIGNS, EMPTY_LINE = b"{;", b"\n\n"
+# A byte is found in less time by its number.
+QUOTE = ord('"')
 # What an escape line is behind: a line end, or nothing at the begin of a text.
 BEFORE_ESCAPE = (b"\n", b"\r", b"")
 # So many are looked at one by one; of more an expression finds one in less time than bytes.find.

@@ -536,7 +536,26 @@ class Installed:
                 (b"1. e4 2. e5 3. Nf3 4. Nc6 *", None), (b"30. Kd2 Kd7 31. Kd3 *", None),
                 (b"1. e4 (1. d4 (9. a)) e5 $9 {7. ( 8.} ! 2. Nf3 ; 9.\n%9.\nNc6 3. d4 *", None)):
             found = self.library.calls.pgn_check_numbers(text, len(text))
-            self.assertEqual(fields(found), (FAULT, *wanted) if wanted else (OK, 0, 0, 0), text)
+            self.assertEqual((found.status, found.place, found.number, found.before),
+                             (FAULT, *wanted) if wanted else (OK, 0, 0, 0), text)
+            # a number that does not run is unusual
+            if wanted:
+                self.assertEqual(found.unusual, 1, text)
+
+    def test_unusual_parts_of_a_game(self):
+        """Whether a closer look pays: outside comments, strings and escape lines."""
+        for unusual, texts in (
+                (1, (b"1. Pe4 *", b"1. e4 (1. Pd4) *", b"1. e4 0000 *", b"1. e4 (1. d4 0000) *",
+                     b"1. e4 ;a\n*", b"1. e4;", b"%a\n*", b"1. e4\n%a\n*", b"\xef\xbb\xbf%a\n*",
+                     b"1. e4 (!) *", b"1. e4 ( \n\t$1) *", b"1. e4 (?", b"1. e4 {a} ;b\n*",
+                     b'[White "a"] ; b\n*', b"1. e4 e5 1. d4 2. c4 0. b4 *")),
+                (0, (b"", b"*", b"1. e4! (1. d4 $1) e5 10. O-O 1/2-1/2", b"00000 000 1000 *",
+                     b"e8=P *", b"aP0000 *", b"1. e4 {P ; % (! 0000 \n%a} *", b"1. e4 () *",
+                     b"1. e4 (", b"1. e4 ({!}) *", b'[White "P ; % (! 0000 \\" ;"] 1. e4 *',
+                     b"\xef\xbb\xbf1. e4 *", b"1. e4 $1 ! (1. d4) *"))):
+            for text in texts:
+                found = self.library.calls.pgn_check_numbers(text, len(text))
+                self.assertEqual(found.unusual, unusual, text)
 
     # ---- moves, and lines of play
 

@@ -88,7 +88,7 @@ fn structs() -> [Struct; 11] {
         ),
         layout!(
             "pgn_number",
-            PgnNumber { status, place, number, before },
+            PgnNumber { status, unusual, place, number, before },
             crate::pgn_check_numbers(b"")
         ),
         layout!(

@@ -1,5 +1,5 @@
--- Lemmas on the memory that a caller is given, on the lines of tag pairs and of plies, and on the
--- bytes between move numbers.
+-- Lemmas on the memory that a caller is given, on the lines of tag pairs and of plies, on the bytes
+-- between move numbers, and on what is unusual in a game.
 pub mod ConversionToBuffer
 pub mod MarkerTaken
 pub mod ReadingGoesOn
@@ -20,3 +20,5 @@ pub mod PutTwice
 pub mod TextAhead
 pub mod NumbersRead
 pub mod NumberRows
+pub mod UnusualRead
+pub mod UnusualRows

@@ -21,7 +21,8 @@ use Rattle.pgn_c.specs.declared.move_numbers.Digits.{Digits}
 use Rattle.pgn_lexer.specs.declared.token.LexReason.TheVariants.{SymbolTooLong}
 use Rattle.pgn_c.specs.declared.move_numbers.WrongNumber.{WrongNumber}
 use Rattle.pgn_c.specs.MoveNumbers.{AreAccepted, Mark, digits_with, main_line, mark_of_period, mark_of_symbol, marks_behind, number_in, numbered, runs, wrong_behind, wrong_number}
-use Rattle.pgn_c.specs.MoveNumberSteps.{skipped, depth_after, with_other, numbered_by, plies_after, with_period, with_symbol, wrong_at_period, wrong_of, wrong_in, to_brace, to_line_end, to_quote, has_brace, with_ply}
+use Rattle.pgn_c.specs.MoveNumberSteps.{depth_after, with_other, numbered_by, plies_after, with_period, with_symbol, wrong_at_period, wrong_of, wrong_in, has_brace, with_ply}
+use Rattle.pgn_c.specs.UnusualParts.{begins_unusual, skipped, to_brace, to_line_end, to_quote}
 
 -- ---- a table of bytes
 
@@ -347,7 +348,7 @@ take_while_is : (p : ℕ → Bool) (s : List ℕ) → take_while p s ≡ take (p
 take_while_is p [] = refl
 take_while_is p (b ∷ bs) = take_while-cons p b bs ∙ run_by p b bs (p b) (take_while_is p bs)
 
-continues : (b : ℕ) → starts_symbol b ≡ true → continues_symbol b ≡ true
+pub continues : (b : ℕ) → starts_symbol b ≡ true → continues_symbol b ≡ true
 continues b e = rw e refl
 
 front_of_run : (p : ℕ → Bool) (b : ℕ) (bs : List ℕ) → p b ≡ true → b ∷ take_while p bs ≡ take (prefix_len p (b ∷ bs)) (b ∷ bs)
@@ -684,17 +685,18 @@ pub record IsWhite (b : ℕ) : Type 0 where
   pub symbol : starts_symbol b ≡ false
   pub period : (b == 46) ≡ false
   pub behind : (s : List ℕ) → skipped b s ≡ 0
+  pub usual : (s : List ℕ) → begins_unusual b s ≡ false
 
-white : (b : ℕ) → is_space b ≡ true → IsWhite b
+pub white : (b : ℕ) → is_space b ≡ true → IsWhite b
 white b e = elim (or_cases (is_line_end b) (is_blank b) e) [
-  | inl f ↦ ends_line IsWhite b f (record { symbol = refl; period = refl; behind = λ s. refl }) (record { symbol = refl; period = refl; behind = λ s. refl })
+  | inl f ↦ ends_line IsWhite b f (record { symbol = refl; period = refl; behind = λ s. refl; usual = λ s. refl }) (record { symbol = refl; period = refl; behind = λ s. refl; usual = λ s. refl })
   | inr f ↦ elim (or_cases ((b == 9) || (b == 11) || (b == 12)) (b == 32) f) [
-    | inr is ↦ rw (eqb-true b 32 is) (record { symbol = refl; period = refl; behind = λ s. refl })
+    | inr is ↦ rw (eqb-true b 32 is) (record { symbol = refl; period = refl; behind = λ s. refl; usual = λ s. refl })
     | inl g ↦ elim (or_cases ((b == 9) || (b == 11)) (b == 12) g) [
-      | inr is ↦ rw (eqb-true b 12 is) (record { symbol = refl; period = refl; behind = λ s. refl })
+      | inr is ↦ rw (eqb-true b 12 is) (record { symbol = refl; period = refl; behind = λ s. refl; usual = λ s. refl })
       | inl h ↦ elim (or_cases (b == 9) (b == 11) h) [
-        | inl is ↦ rw (eqb-true b 9 is) (record { symbol = refl; period = refl; behind = λ s. refl })
-        | inr is ↦ rw (eqb-true b 11 is) (record { symbol = refl; period = refl; behind = λ s. refl })
+        | inl is ↦ rw (eqb-true b 9 is) (record { symbol = refl; period = refl; behind = λ s. refl; usual = λ s. refl })
+        | inr is ↦ rw (eqb-true b 11 is) (record { symbol = refl; period = refl; behind = λ s. refl; usual = λ s. refl })
       ]
     ]
   ]

@@ -13,3 +13,4 @@ pub mod ItemLines
 pub mod ItemSteps
 pub mod MoveNumbers
 pub mod MoveNumberSteps
+pub mod UnusualParts

@@ -1,8 +1,8 @@
--- **Bookkeeping**: what the code keeps of a game's numbers, and which bytes it passes over.
+-- **Bookkeeping**: what the code keeps of a game's numbers, and how it looks for a brace.
 -- Letters: k is what is kept, b a byte, s the bytes behind it.
-use Rattle.std.specs.Prelude.{ℕ, zero, suc, ◌+◌, ◌-◌, Bool, true, false, ◌||◌, not, List, [], ◌∷◌, Option, None, Some, ◌==◌, if◌then◌else◌}
-use Rattle.std.specs.List.{list_any, prefix_len}
-use Rattle.pgn_lexer.specs.Bytes.{is_digit, is_line_end, is_space, is_suffix}
+use Rattle.std.specs.Prelude.{ℕ, zero, suc, ◌+◌, ◌-◌, Bool, ◌||◌, List, Option, None, Some, ◌==◌, if◌then◌else◌}
+use Rattle.std.specs.List.{list_any}
+use Rattle.pgn_lexer.specs.Bytes.{is_space}
 use Rattle.pgn_lexer.specs.Tokens.{Token}
 use Rattle.pgn_c.specs.declared.move_numbers.Digits.{Digits}
 use Rattle.pgn_c.specs.declared.move_numbers.Numbering.{Numbering}
@@ -58,32 +58,6 @@ with_other k b =
     if is_space b || (b == 37) then k
     else record { depth = depth_after b k.depth; plies = k.plies; before = k.before; digits = None }
 
--- how many bytes there are up to the closing brace (125), with it
-abbrev pub to_brace : List ℕ → ℕ
-to_brace [] = 0
-to_brace (b ∷ s) = if b == 125 then 1 else to_brace s + 1
-
 -- whether a closing brace is among the bytes
 abbrev pub has_brace : List ℕ → Bool
 has_brace s = list_any (λ b. b == 125) s
-
--- how many bytes are before the end of the line
-abbrev pub to_line_end : List ℕ → ℕ
-to_line_end s = prefix_len (λ b. not (is_line_end b)) s
-
--- How many bytes there are up to the closing quote (34), with it. A backslash (92) may be just
--- before them.
-abbrev pub to_quote : Bool → List ℕ → ℕ
-to_quote escaping [] = 0
-to_quote true (b ∷ s) = to_quote false s + 1
-to_quote false (b ∷ s) = if b == 34 then 1 else to_quote (b == 92) s + 1
-
--- How many bytes belong to this one: { (123) ; (59) % (37) " (34) $ (36), and a suffix.
-abbrev pub skipped : ℕ → List ℕ → ℕ
-skipped b s =
-    if b == 123 then to_brace s
-    else (if (b == 59) || (b == 37) then to_line_end s
-    else (if b == 34 then to_quote false s
-    else (if b == 36 then prefix_len is_digit s
-    else (if is_suffix b then prefix_len is_suffix s
-    else 0))))

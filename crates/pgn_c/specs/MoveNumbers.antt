@@ -95,7 +95,11 @@ abbrev pub AreAccepted : List Token → Type 0
 AreAccepted [] = Unit {0}
 AreAccepted (t ∷ ts) = IsAccepted t.kind × AreAccepted ts
 
--- what C gets
-abbrev pub number_result : Option WrongNumber → PgnNumber
-number_result None = record { status = 0; place = 0; number = 0; before = 0 }
-number_result (Some wrong) = record { status = 1; place = wrong.at; number = wrong.number; before = wrong.before }
+-- 1 for yes
+abbrev pub flag_of : Bool → ℕ
+flag_of is = if is then 1 else 0
+
+-- What C gets, where the game has something unusual or not. A number that does not run is unusual.
+abbrev pub number_result : Option WrongNumber → Bool → PgnNumber
+number_result None unusual = record { status = 0; unusual = flag_of unusual; place = 0; number = 0; before = 0 }
+number_result (Some wrong) unusual = record { status = 1; unusual = 1; place = wrong.at; number = wrong.number; before = wrong.before }

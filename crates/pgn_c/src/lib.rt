@@ -23,6 +23,7 @@ ghost use Rattle.pgn_c.specs.NextGame.{NextGameIn, ReadGameIn};
 ghost use Rattle.pgn_c.specs.NextSection.{NextSection, ends_with_number, is_set};
 ghost use Rattle.pgn_c.specs.Results.{Checks, Converts, ConvertsIn, mode_of, result_of};
 ghost use Rattle.pgn_c.specs.TagAt.{TagResult};
+ghost use Rattle.pgn_c.specs.UnusualParts.{is_unusual};
 
 mod buffer_sink;
 mod explanation;
@@ -310,21 +311,28 @@ pub extern "C" fn pgn_tag_at(text: &[u8], at: usize) -> PgnTag
     tag_at(text, at)
 }
 
-/// Finds the first move number of a game that does not run (PGN 8.2.2).
+/// Finds the first move number of a game that does not run (PGN 8.2.2), and says whether a closer
+/// look at the game pays.
 ///
 /// The text is that of one game, from its first byte to its marker. A move number is a symbol of
 /// digits with a period behind it, outside comments and variations. It runs if it is not lower than
 /// the number before it, and higher by at most the moves between, of which a single ply counts as
 /// one. The first number of a game runs, whatever it is.
 ///
-/// - Status 0: each number runs. All else is 0.
+/// - Status 0: each number runs. All else is 0, but `unusual`.
 /// - Status 1: one does not. The result has its place, the number, and the one before it.
+///
+/// `unusual` is 1 with status 1. It is 1 too if the game has a part that may mean something else
+/// than what is read, outside comments, strings and escape lines. Such is a symbol that begins with
+/// `P`, or one of four bytes that begins with 0: some write a pawn's move and a null move so. A
+/// comment to the end of a line (PGN 5) is one too, an escape line (PGN 6), and a `(` with a NAG or
+/// a suffix after it. Else it is 0.
 ///
 /// Of a text that the lexer rejects (PGN 7) the result says nothing. `pgn_check` rejects it too.
 #[unsafe(no_mangle)]
 pub extern "C" fn pgn_check_numbers(text: &[u8]) -> PgnNumber
     ensures { AreAccepted (tokens_of text.now)
-        → result ≡ number_result (wrong_number (tokens_of text.now)) }
+        → result ≡ number_result (wrong_number (tokens_of text.now)) (is_unusual text.now) }
 {
     check_numbers(text)
 }

@@ -1,10 +1,11 @@
 //! The first move number of a game that does not run, as C gets it.
-ghost use Rattle.std.specs.Prelude.{◌≡◌, ◌+◌, ◌<◌, ◌≤◌, ◌^◌, IsTrue, drop, false, length};
+ghost use Rattle.std.specs.Prelude.{◌≡◌, ◌+◌, ◌<◌, ◌≤◌, ◌^◌, IsTrue, None, drop, false, length};
 ghost use Rattle.std.specs.List.{prefix_len};
 ghost use Rattle.pgn_lexer.specs.Bytes as of_bytes;
 ghost use Rattle.pgn_lexer.specs.TokensOf as tokens;
 ghost use Rattle.pgn_c.specs.MoveNumbers as spec;
 ghost use Rattle.pgn_c.specs.MoveNumberSteps as steps;
+ghost use Rattle.pgn_c.specs.UnusualParts as parts;
 
 use pgn_lexer::{is_digit, is_line_end, is_space};
 
@@ -14,6 +15,9 @@ use pgn_lexer::{is_digit, is_line_end, is_space};
 pub struct PgnNumber {
     /// 0: each number runs. 1: one does not.
     pub status: u32,
+    /// 1 if one does not, or if the game has a part that may mean something else than what is read,
+    /// as `pgn_check_numbers` says. Else 0.
+    pub unusual: u32,
     /// The place of the first number that does not run: the offset of a byte, from 0. 0 if each
     /// number runs, as the numbers below are.
     pub place: usize,
@@ -43,6 +47,13 @@ pub struct WrongNumber {
     pub before: u64,
 }
 
+/// What is found in a game. What is behind a wrong number is not looked at.
+#[derive(Clone, Copy)]
+pub struct Findings {
+    pub wrong: Option<WrongNumber>,
+    pub is_unusual: bool,
+}
+
 /// What was read of a game so far.
 #[derive(Clone, Copy)]
 pub struct Numbering {
@@ -56,20 +67,24 @@ pub struct Numbering {
     pub digits: Option<Digits>,
 }
 
-/// Finds the first move number of a game that does not run.
+/// Finds the first move number of a game that does not run, and whether it has what is unusual.
 pub fn check_numbers(text: &[u8]) -> PgnNumber
     ensures { spec.AreAccepted (tokens.tokens_of text.now)
-        → result ≡ spec.number_result (spec.wrong_number (tokens.tokens_of text.now)) }
+        → result ≡ spec.number_result (spec.wrong_number (tokens.tokens_of text.now))
+        (parts.is_unusual text.now) }
 {
-    match first_wrong(text) {
+    let found = read_numbers(text);
+    match found.wrong {
         Some(wrong) => PgnNumber {
             status: 1,
+            unusual: 1,
             place: wrong.at,
             number: wrong.number,
             before: wrong.before,
         },
         None => PgnNumber {
             status: 0,
+            unusual: found.is_unusual as u32,
             place: 0,
             number: 0,
             before: 0,
@@ -77,10 +92,11 @@ pub fn check_numbers(text: &[u8]) -> PgnNumber
     }
 }
 
-// The first number that does not run.
-fn first_wrong(text: &[u8]) -> Option<WrongNumber>
-    ensures { spec.AreAccepted (tokens.tokens_of text.now)
-        → result ≡ spec.wrong_number (tokens.tokens_of text.now) }
+// The first number that does not run, and what is unusual if there is none.
+fn read_numbers(text: &[u8]) -> Findings
+    ensures wrong { spec.AreAccepted (tokens.tokens_of text.now)
+        → result.wrong ≡ spec.wrong_number (tokens.tokens_of text.now) }
+    ensures unusual { result.wrong ≡ None → result.is_unusual ≡ parts.is_unusual text.now }
 {
     let mut numbering = Numbering {
         depth: 0,
@@ -88,30 +104,76 @@ fn first_wrong(text: &[u8]) -> Option<WrongNumber>
         before: None,
         digits: None,
     };
+    let mut is_unusual = false;
     let mut at = if has_mark(text) { 3 } else { 0 };
     while at < text.len() {
         let byte = text[at];
         if is_letter(byte) {
+            is_unusual |= is_unusual_letter(byte);
             numbering = with_ply(numbering);
             at += symbol_length(&text[at..]);
         } else if is_space(byte) {
             at += 1;
         } else if is_digit(byte) {
             let length = symbol_length(&text[at..]);
+            is_unusual |= is_unusual_number(byte, length);
             numbering = with_symbol(numbering, at, &text[at..at + length]);
             at += length;
         } else if byte == b'.' {
             if let Some(wrong) = wrong_at_period(&numbering) {
-                return Some(wrong);
+                return Findings {
+                    wrong: Some(wrong),
+                    is_unusual,
+                };
             }
             numbering = with_period(numbering);
             at += 1;
         } else {
+            is_unusual |= is_unusual_other(byte, &text[at + 1..]);
             numbering = with_other(numbering, byte);
             at += 1 + skipped_length(byte, &text[at + 1..]);
         }
     }
-    None
+    Findings {
+        wrong: None,
+        is_unusual,
+    }
+}
+
+// Whether no move of PGN begins with the letter, but some write a pawn's with it.
+#[inline(always)]
+fn is_unusual_letter(byte: u8) -> bool
+    ensures { result ≡ parts.unusual_letter byte }
+{
+    byte == b'P'
+}
+
+// Whether a symbol of so many bytes may be 0000, as some write a null move.
+#[inline(always)]
+fn is_unusual_number(byte: u8, length: usize) -> bool
+    ensures { result ≡ parts.unusual_number byte length }
+{
+    byte == b'0' && length == 4
+}
+
+// Whether a comment to the end of a line, an escape line, or a variation of marks begins.
+#[inline(always)]
+fn is_unusual_other(byte: u8, behind: &[u8]) -> bool
+    ensures { result ≡ parts.unusual_other byte behind.now }
+{
+    byte == b';' || byte == b'%' || byte == b'(' && begins_glyph(behind)
+}
+
+// Whether a NAG or a suffix comes next.
+fn begins_glyph(text: &[u8]) -> bool
+    ensures { result ≡ parts.begins_glyph text.now }
+{
+    for byte in text {
+        if !is_space(*byte) {
+            return *byte == b'!' || *byte == b'?' || *byte == b'$';
+        }
+    }
+    false
 }
 
 // What is known behind a symbol that begins with a letter, and so is no number.
@@ -300,7 +362,7 @@ fn symbol_length(text: &[u8]) -> usize
 
 // How many bytes behind this one belong to it, as a comment to its brace.
 fn skipped_length(byte: u8, behind: &[u8]) -> usize
-    ensures value { result ≡ steps.skipped byte behind.now }
+    ensures value { result ≡ parts.skipped byte behind.now }
     ensures within { result ≤ length behind.now }
 {
     match byte {
@@ -316,7 +378,7 @@ fn skipped_length(byte: u8, behind: &[u8]) -> usize
 // How many bytes there are up to the brace that closes a comment, with it (PGN 5).
 #[inline(always)]
 fn comment_length(text: &[u8]) -> usize
-    ensures value { result ≡ steps.to_brace text.now }
+    ensures value { result ≡ parts.to_brace text.now }
     ensures within { result ≤ length text.now }
 {
     let at = length_before_brace(text);
@@ -328,7 +390,7 @@ fn comment_length(text: &[u8]) -> usize
 // The bytes of a step are compared at once.
 #[inline(always)]
 fn length_before_brace(text: &[u8]) -> usize
-    ensures value { steps.to_brace text.now ≡ result + steps.to_brace (drop result text.now) }
+    ensures value { parts.to_brace text.now ≡ result + parts.to_brace (drop result text.now) }
     ensures within { result ≤ length text.now }
 {
     let mut at = 0;
@@ -341,7 +403,7 @@ fn length_before_brace(text: &[u8]) -> usize
 // How many bytes there are up to the first closing brace, with it.
 #[inline(always)]
 fn length_to_brace(text: &[u8]) -> usize
-    ensures value { result ≡ steps.to_brace text.now }
+    ensures value { result ≡ parts.to_brace text.now }
     ensures within { result ≤ length text.now }
 {
     for (index, byte) in text.iter().enumerate() {
@@ -366,7 +428,7 @@ fn has_brace(bytes: &[u8]) -> bool
 
 // How many bytes are before the end of the line.
 fn line_length(text: &[u8]) -> usize
-    ensures value { result ≡ steps.to_line_end text.now }
+    ensures value { result ≡ parts.to_line_end text.now }
     ensures within { result ≤ length text.now }
 {
     for (index, byte) in text.iter().enumerate() {
@@ -379,7 +441,7 @@ fn line_length(text: &[u8]) -> usize
 
 // How many bytes there are up to the quote that closes a string, with it (PGN 7).
 fn string_length(text: &[u8]) -> usize
-    ensures value { result ≡ steps.to_quote false text.now }
+    ensures value { result ≡ parts.to_quote false text.now }
     ensures within { result ≤ length text.now }
 {
     let mut is_behind_backslash = false;

@@ -1,5 +1,5 @@
 use Rattle.std.proofs.Common.{◌≡◌, ◌+◌, drop}
-use Rattle.pgn_c.specs.MoveNumberSteps.{to_line_end}
+use Rattle.pgn_c.specs.UnusualParts.{to_line_end}
 use Rattle.pgn_c.proofs.move_numbers.line_length.Given as goal
 
 abbrev pub invariant-loop-index : goal.invariant-loop-index

@@ -1,0 +1,6 @@
+use Rattle.std.proofs.Common.{◌≡◌, drop}
+use Rattle.pgn_c.specs.UnusualParts.{begins_glyph}
+use Rattle.pgn_c.proofs.move_numbers.begins_glyph.Given as goal
+
+abbrev pub invariant-loop-byte : goal.invariant-loop-byte
+invariant-loop-byte l = begins_glyph l.text ≡ begins_glyph (drop l.byte-index l.text)
