@@ -293,6 +293,9 @@ class Kept(unittest.TestCase):
 SWALLOWED = b'[White "Ada"]\n\n1. e4 {Black resigns\n\n[White "Bob"]\n\n1. d4 {good} *\n'
 
 
+# as export writes it
+ROSTER = (b'[Event "?"]\n[Site "?"]\n[Date "????.??.??"]\n[Round "?"]\n[White "?"]\n[Black "?"]\n'
+          b'[Result "*"]\n')
 FORFEIT = "Termination is not time forfeit, or another word of the standard (PGN 9.8.1)"
 
 
@@ -422,6 +425,10 @@ class Warnings(Lint):
                     "and export drops it")
         self.warned(b'[White {x} "a"] 1. e4 *\n', "1:8: warning: 1 comment is inside a tag pair, "
                     "and export drops it")
+        self.warned(b'[White "a"]\n%a\n[Black "b"]\n\n1. e4 *\n',
+                    "2:1: warning: 1 line begins with %, and export drops it")
+        self.warned(ROSTER + b"\n1. e4\n%a\n{%b} e5 *\n",
+                    "10:1: warning: 1 line begins with %, and export drops it")
         self.warned(3 * (game % ()) + b"%d\n",
                     "1:1: warning: 7 lines begin with %, and export drops them",
                     "2:8: warning: 3 comments are inside tag pairs, and export drops them")

@@ -4,7 +4,7 @@ import re
 import unittest
 
 import test_lint
-from programs import ROOT, need_package
+from programs import ROOT, archive, need_package
 
 setUpModule = need_package
 GAMES, LONGEST = 4000, 30
@@ -121,6 +121,13 @@ class Numbers(test_lint.Lint):
             self.assertEqual(said, found, movetext)
             seen[found is None] += 1
         self.assertTrue(all(it > GAMES // 40 for it in seen), seen)
+
+    def test_archives(self):
+        """No game of bench/make_archive.py has a warning."""
+        for style in ("plain", "annotated", "server"):
+            self.put("a.pgn", archive(100, style))
+            self.assertEqual(self.lint("--strict", "a.pgn"),
+                             (0, "1 file, 100 games, 0 faults\n", ""), style)
 
 
 if __name__ == "__main__":
