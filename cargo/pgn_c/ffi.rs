@@ -153,27 +153,16 @@ export!(
 );
 
 export!(
+    pgn_check_numbers(text: Bytes, length: usize) -> PgnNumber,
+    (text = text_of(text, length)) => (text),
+    else PgnNumber { status: NO_MODE, unusual: 0, place: 0, number: 0, before: 0 }
+);
+
+export!(
     pgn_explain(fen: Bytes, fen_length: usize, text: Bytes, length: usize) -> PgnExplanation,
     (fen = text_of(fen, fen_length), text = text_of(text, length)) => (fen, text),
     else PgnExplanation { status: NO_MODE, ..no_explanation(0, 0) }
 );
-
-/// # Safety
-///
-/// The conditions of `pgn.h` hold.
-#[no_mangle]
-unsafe extern "C" fn pgn_check_numbers(text: *const u8, length: usize) -> PgnNumber {
-    match unsafe { text_of(text, length) } {
-        Some(text) => crate::pgn_check_numbers(text),
-        None => PgnNumber {
-            status: NO_MODE,
-            unusual: 0,
-            place: 0,
-            number: 0,
-            before: 0,
-        },
-    }
-}
 
 /// # Safety
 ///
