@@ -55,7 +55,7 @@ fn export(mut archive: Archive<'_>, mut digest: Digest) -> Report {
     match convert::<TAGS, LEVELS, _, _>(&mut archive, &mut digest, Mode::Full) {
         Ok(totals) => {
             digest.add_number(totals.most_probes);
-            report(totals.games, totals.plies, digest)
+            make_report(totals.games, totals.plies, digest)
         }
         Err(fault) => refused(fault, digest),
     }
@@ -80,7 +80,7 @@ fn list(mut archive: Archive<'_>, mut digest: Digest) -> Report {
         }
         digest.add_number(games.most_probes());
     }
-    report(games.games(), plies, digest)
+    make_report(games.games(), plies, digest)
 }
 
 /// Feeds an archive to a `Converter` in pieces of a few bytes.
@@ -113,7 +113,7 @@ fn feed(mut archive: Archive<'_>, seed: u64, mut digest: Digest) -> Report {
         }
     }
     digest.add_number(converter.most_probes());
-    report(converter.games(), plies, digest)
+    make_report(converter.games(), plies, digest)
 }
 
 /// Plays the moves of games one at a time, each from the FEN before it to the FEN after it.
@@ -137,7 +137,7 @@ fn play(lines: &[&[u8]], count: u64, seed: u64, mut digest: Digest) -> Report {
             fen = next;
         }
     }
-    report(count, plies, digest)
+    make_report(count, plies, digest)
 }
 
 /// The first position, with counts of a game's own.
@@ -171,11 +171,11 @@ fn played(fen: &[u8], text: &[u8], digest: &mut Digest) -> Option<ArrayVec<u8, 9
 
 /// What is reported of an archive with a fault: its place, in place of the plies.
 fn refused(fault: Fault, digest: Digest) -> Report {
-    report(u64::from(fault.reason.number()), fault.at, digest)
+    make_report(u64::from(fault.reason.number()), fault.at, digest)
 }
 
 /// What a job did, with the digest of its results.
-fn report(games: u64, plies: u64, mut digest: Digest) -> Report {
+fn make_report(games: u64, plies: u64, mut digest: Digest) -> Report {
     Report {
         games,
         plies,
