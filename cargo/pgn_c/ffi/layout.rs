@@ -149,5 +149,5 @@ fn the_structs_are_those_of_the_header() {
     let of_c = lines_of_c(&program(&structs), &folder);
     fs::remove_dir_all(&folder).unwrap();
     assert_eq!(lines, of_c);
-    assert_eq!(lines.lines().count(), 10 + 8 + 3 + 6 + 6 + 11 + 8 + 6 + 11 + 2 + 7);
+    assert_eq!(lines.lines().count(), 11 + 8 + 3 + 6 + 6 + 11 + 8 + 6 + 5 + 11 + 2 + 7);
 }

@@ -236,7 +236,9 @@ fn runs(before: u64, plies: usize, number: u64) -> bool
     requires { plies < 2 ^ 63 }
     ensures { result ≡ spec.runs before plies number }
 {
-    before <= number && number - before <= (plies as u64 + 1) / 2
+    // A ply is half a move, and half a move counts as one.
+    let rounded = plies as u64 + 1;
+    before <= number && number - before <= rounded / 2
 }
 
 // What is known behind a period.
