@@ -1,8 +1,8 @@
 -- A tag section is its lines one by one.
-use Rattle.std.proofs.Math.Bool.{or-false}
-use Rattle.pgn_game.proofs.Words.{◌≡◌, ℕ, ◌+◌, Bool, true, false, cond, List, [], ◌∷◌, ◌++◌, take, drop, refl, ap, sym, ◌∙◌, append_assoc, arith, map, not, ◌||◌, unwrap_or, bytes_eq, codes, false≢true, or_right, tag_line, Mode, Full, Reduced, Pair, value_of, has_pair, comes_before, insert_pair, index_of, roster, in_roster, other_pairs, with_set_up, tag_lines, tag_section, text_by, roster_line, other_line, rules}
-use Rattle.pgn_game.proofs.pairs.ExportedValues.{without_set_up, set_up, set_up_if}
-use Rattle.pgn_game.proofs.pairs.ValuesByName.{bytes_eq-true}
+use Rattle.pgn_game.specs.steps.SectionPairs.{others}
+use Rattle.pgn_game.proofs.Words.{◌≡◌, ℕ, Bool, true, false, cond, List, [], ◌∷◌, ◌++◌, take, drop, refl, ap, sym, ◌∙◌, append_assoc, arith, map, not, ◌||◌, unwrap_or, bytes_eq, codes, tag_line, Mode, Full, Reduced, Pair, value_of, has_pair, index_of, roster, in_roster, other_pairs, with_set_up, tag_lines, tag_section, text_by, roster_line, other_line, ◌&&◌}
+use Rattle.pgn_game.proofs.pairs.ExportedValues.{set_up}
+use Rattle.pgn_game.proofs.pairs.SectionByIndex.{others_about, others_with_fen, others_without_fen}
 
 tag_lines-append : (ps qs : List Pair) → tag_lines (ps ++ qs) ≡ tag_lines ps ++ tag_lines qs
 tag_lines-append [] qs = refl
@@ -20,49 +20,32 @@ kept_line : (p : Pair) (ps : List Pair) (b : Bool) → line_unless b p ++ tag_li
 kept_line p ps true = refl
 kept_line p ps false = refl
 
-plain_lines : (ps : List Pair) → text_by (other_line false) ps ≡ tag_lines (other_pairs ps)
-plain_lines [] = refl
-plain_lines (p ∷ ps) = cc (or-false (in_roster p.name), plain_lines ps, kept_line p (other_pairs ps) (in_roster p.name))
-
-abbrev is_set_up : Pair → Bool
-is_set_up p = bytes_eq p.name (codes "SetUp")
-
-beside_line : (p : Pair) (ps : List Pair) (b : Bool)
-    → line_unless (in_roster p.name || b) p ++ tag_lines (other_pairs ps) ≡ tag_lines (other_pairs (cond (not b) (p ∷ ps) ps))
-beside_line p ps b = grind (arith, or-false, or_right, kept_line)
-
--- the lines of the pairs beside the SetUp of a FEN
-beside_lines : (ps : List Pair) → text_by (other_line true) ps ≡ tag_lines (other_pairs (without_set_up ps))
-beside_lines [] = refl
-beside_lines (p ∷ ps) = rw (beside_lines ps) (beside_line p (without_set_up ps) (is_set_up p))
+-- those of the pairs outside the roster
+lines_of_others : (has_fen : Bool) (ps : List Pair) → text_by (other_line has_fen) ps ≡ tag_lines (others has_fen ps)
+lines_of_others has_fen [] = refl
+lines_of_others has_fen (p ∷ ps) =
+    ap (λ (xs : List ℕ). other_line has_fen p ++ xs) (lines_of_others has_fen ps)
+    ∙ kept_line p (others has_fen ps) (in_roster p.name || (has_fen && bytes_eq p.name (codes "SetUp")))
 
 -- the lines with SetUp's after so many pairs
 abbrev pub lines_about : ℕ → List Pair → List ℕ
 lines_about n ps = (text_by (other_line true) (take n ps) ++ tag_line (codes "SetUp") (codes "1")) ++ text_by (other_line true) (drop n ps)
 
-lines_about-next : (n : ℕ) (p : Pair) (ps : List Pair) → lines_about (1 + n) (p ∷ ps) ≡ other_line true p ++ lines_about n ps
-lines_about-next n p ps = grind (arith, append_assoc)
+lines_of_about : (n : ℕ) (ps : List Pair) → lines_about n ps ≡ tag_lines (others_about n ps)
+lines_of_about n ps =
+    let line = tag_line (codes "SetUp") (codes "1") in
+    ap (λ (xs : List ℕ). (xs ++ line) ++ text_by (other_line true) (drop n ps)) (lines_of_others true (take n ps))
+    ∙ ap (λ (ys : List ℕ). (tag_lines (others true (take n ps)) ++ line) ++ ys) (lines_of_others true (drop n ps))
+    ∙ append_assoc (tag_lines (others true (take n ps))) line (tag_lines (others true (drop n ps)))
+    ∙ sym (tag_lines-append (others true (take n ps)) (set_up ∷ others true (drop n ps)))
 
-abbrev kept : Bool → Pair → List Pair → List Pair
-kept b p ps = cond (not b) (p ∷ ps) ps
-
-set_up_here : (p : Pair) (ps : List Pair) (s b : Bool) → is_set_up p ≡ s → comes_before (codes "SetUp") p.name ≡ b
-    → lines_about (index_of (codes "SetUp") ps) ps ≡ tag_lines (other_pairs (insert_pair set_up (without_set_up ps)))
-    → lines_about (elim b [ true ↦ 0 | false ↦ 1 + index_of (codes "SetUp") ps ]) (p ∷ ps)
-    ≡ tag_lines (other_pairs (insert_pair set_up (kept s p (without_set_up ps))))
-set_up_here p ps s b h1 h2 h3 = search (rules, beside_line, beside_lines, bytes_eq-true, false≢true, lines_about-next, set_up, without_set_up)
-
-set_up_lines : (ps : List Pair) → lines_about (index_of (codes "SetUp") ps) ps ≡ tag_lines (other_pairs (insert_pair set_up (without_set_up ps)))
-set_up_lines [] = refl
-set_up_lines (p ∷ ps) = set_up_here p ps (is_set_up p) (comes_before (codes "SetUp") p.name) refl refl (set_up_lines ps)
-
-pub others_without_fen : (ps : List Pair) → has_pair ps (codes "FEN") ≡ false
+pub lines_without_fen : (ps : List Pair) → has_pair ps (codes "FEN") ≡ false
     → text_by (other_line false) ps ≡ tag_lines (other_pairs (with_set_up ps))
-others_without_fen ps none = plain_lines ps ∙ ap (λ b. tag_lines (other_pairs (set_up_if b ps))) (sym none)
+lines_without_fen ps none = lines_of_others false ps ∙ ap tag_lines (others_without_fen ps none)
 
-pub others_with_fen : (ps : List Pair) → has_pair ps (codes "FEN") ≡ true
+pub lines_with_fen : (ps : List Pair) → has_pair ps (codes "FEN") ≡ true
     → lines_about (index_of (codes "SetUp") ps) ps ≡ tag_lines (other_pairs (with_set_up ps))
-others_with_fen ps some = set_up_lines ps ∙ ap (λ b. tag_lines (other_pairs (set_up_if b ps))) (sym some)
+lines_with_fen ps some = lines_of_about (index_of (codes "SetUp") ps) ps ∙ ap tag_lines (others_with_fen ps some)
 
 module _ (result : List ℕ) where
   pub reduced_section : (ps : List Pair) → text_by (roster_line ps) (roster result) ++ 10 ∷ [] ≡ tag_section Reduced result ps

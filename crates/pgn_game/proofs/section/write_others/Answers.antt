@@ -1,6 +1,6 @@
 use Rattle.pgn_game.proofs.Words.{◌≡◌, ℕ, true, List, ◌++◌, take, drop, refl, ap, sym, ◌∙◌, codes, err_from_is_err_and, Appends-trans, one_more, tag_line, index_of, Pair, has_pair, text_by, other_line, other_pairs, tag_lines, with_set_up, arith, rules}
 use Rattle.pgn_game.proofs.putting.WritesInTurn.{counts_behind, front_of_more, front_after, Writes-append}
-use Rattle.pgn_game.proofs.pairs.SectionByLines.{others_without_fen, others_with_fen, lines_about}
+use Rattle.pgn_game.proofs.pairs.SectionByLines.{lines_about, lines_with_fen, lines_without_fen}
 use Rattle.pgn_game.proofs.section.write_others.Goals as goal
 
 -- the pairs on both sides of SetUp's place
@@ -8,10 +8,10 @@ both_sides : (held pairs before after : List Pair) (n : ℕ) → pairs ≡ held
     → n ≡ index_of (codes "SetUp") pairs → before ≡ take n pairs → after ≡ drop n pairs → has_pair held (codes "FEN") ≡ true
     → (text_by (other_line true) before ++ tag_line (codes "SetUp") (codes "1")) ++ text_by (other_line true) after
     ≡ tag_lines (other_pairs (with_set_up held))
-both_sides held pairs before after n is place front back some = grind (arith, others_with_fen, lines_about)
+both_sides held pairs before after n is place front back some = grind (arith, lines_with_fen, lines_about)
 
 pub returns-then-not-has_fen : goal.returns-then-not-has_fen
-returns-then-not-has_fen g c = search (rules, others_without_fen)
+returns-then-not-has_fen g c = search (rules, lines_without_fen)
 
 pub returns-in_err-write_pairs : goal.returns-in_err-write_pairs
 returns-in_err-write_pairs g c =
