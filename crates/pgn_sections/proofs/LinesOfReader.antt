@@ -3,7 +3,7 @@ use Rattle.std.proofs.Common.{◌≡◌, ℕ, ◌+◌, Bool, true, false, List, 
 use Rattle.std.proofs.lemmas.Bool.{true≢false}
 use Rattle.std.proofs.lemmas.Grind.{common_steps}
 use Rattle.std.proofs.lemmas.List.{append_assoc}
-use Rattle.std.specs.Prelude.{◌&&◌, ◌||◌, ◌==◌, not, if◌then◌else◌}
+use Rattle.std.specs.Prelude.{◌&&◌, ◌||◌, ◌==◌, IfSome, not, if◌then◌else◌}
 use Rattle.std.specs.List.{list_all}
 use Rattle.pgn_sections.proofs.LineOfBytes.{game_is, length_kept, place_is}
 use Rattle.pgn_sections.proofs.LinesInPieces.{a_line, whole_behind}
@@ -274,3 +274,23 @@ reads_piece old new is_last piece text e =
 -- the place so far
 pub found_so_far : (r : LineReader) → r.found ≡ place_behind r false []
 found_so_far r = first_or_none r.found
+
+-- at the end of the text all lines are whole
+
+all_whole : (lines : List (List ℕ)) → whole_lines true lines ≡ lines
+all_whole [] = refl
+all_whole (line ∷ []) = refl
+all_whole (line ∷ next ∷ lines) = ap (λ (x : List (List ℕ)). line ∷ x) (all_whole (next ∷ lines))
+
+pub finds_in_all : (g : BadGame) (text : List ℕ) → place_behind (reader_of g) true text ≡ place_in g (lines_of text)
+finds_in_all g text = finds_place g true text ∙ ap (λ (x : List (List ℕ)). place_in g x) (all_whole (lines_of text))
+
+-- a place that was found is that of any text behind
+
+pub found_stays : (r : LineReader) (o : Option ℕ) → r.found ≡ o
+    → IfSome o (λ place. (is_last : Bool) (text : List ℕ) → place_behind r is_last text ≡ Some place)
+found_stays r None e = tt
+found_stays r (Some place) e =
+    λ is_last text.
+    ap (λ (o : Option ℕ). place_at_end is_last (reader_over (record r { found = o }) text)) e
+    ∙ ap (λ (x : LineReader). place_at_end is_last x) (stays r place text)

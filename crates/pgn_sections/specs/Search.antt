@@ -58,3 +58,7 @@ place_behind r is_last s = place_at_end is_last (reader_over r s)
 -- so many bytes of the text are read, or more
 abbrev pub place_read : LineReader → ℕ
 place_read r = r.line.at + r.line.length
+
+-- where the game before the bad one ends
+abbrev pub game_begin : LineReader → ℕ
+game_begin r = r.game.begin

@@ -1,8 +1,10 @@
 //! What the lines of a bad game had so far, and what ends it.
-ghost use Rattle.std.specs.Prelude.{◌≡◌, ◌+◌, ◌<◌, ◌≤◌, ◌^◌, IfSome, length};
+ghost use Rattle.std.specs.Prelude.{◌≡◌, ◌+◌, ◌<◌, ◌≤◌, ◌^◌, ℕ, IfSome, length};
 ghost use Rattle.pgn_sections.specs.BadGame as spec;
 ghost use Rattle.pgn_sections.specs.Line as line_spec;
 ghost use Rattle.pgn_sections.specs.Line.{line_begun, line_over};
+ghost use Rattle.pgn_sections.specs.LineReaders.{HasEscapesBefore};
+ghost use Rattle.pgn_sections.specs.Pieces.{IsSameGame};
 ghost use Rattle.pgn_sections.specs.declared.bad_game.Ends.TheVariants.{Anywhere};
 
 use crate::line::Line;
@@ -88,7 +90,9 @@ impl BadGame {
     // Where the game ends, if the line shows it.
     fn end_at(&self, line: &Line) -> Option<usize>
         requires { self.now.at + line.now.tag.at < 2 ^ 64 }
-        ensures { result ≡ line_spec.end_at self.now line.now }
+        ensures place { result ≡ line_spec.end_at self.now line.now }
+        ensures within { HasEscapesBefore self.now → IfSome result
+            (λ place. place ≤ self.now.at + line.now.tag.at) }
     {
         match self.ends {
             Ends::Anywhere => self.end_in_or_outside(line),
@@ -105,7 +109,9 @@ impl BadGame {
 
     fn end_in_or_outside(&self, line: &Line) -> Option<usize>
         requires { self.now.at + line.now.tag.at < 2 ^ 64 }
-        ensures { result ≡ line_spec.end_by Anywhere self.now line.now }
+        ensures place { result ≡ line_spec.end_by Anywhere self.now line.now }
+        ensures within { HasEscapesBefore self.now → IfSome result
+            (λ place. place ≤ self.now.at + line.now.tag.at) }
     {
         if self.comment_at.is_some() {
             self.end_in_comment(line.tag.found())
@@ -116,7 +122,9 @@ impl BadGame {
 
     fn end_in_comment(&self, found: Option<TagLine>) -> Option<usize>
         requires { IfSome found (λ tag. self.now.at + tag.at < 2 ^ 64) }
-        ensures { result ≡ spec.end_in_comment self.now found }
+        ensures place { result ≡ spec.end_in_comment self.now found }
+        ensures within { (n : ℕ) → IfSome found (λ tag. tag.at ≤ n)
+            → IfSome result (λ place. place ≤ self.now.at + n) }
     {
         match found {
             None => None,
@@ -133,7 +141,9 @@ impl BadGame {
     // The line is the rest of a tag pair if it ends with a bracket.
     fn end_outside(&self, is_rest: bool, found: Option<TagLine>) -> Option<usize>
         requires { IfSome found (λ tag. self.now.at + tag.at < 2 ^ 64) }
-        ensures { result ≡ line_spec.end_outside self.now is_rest found }
+        ensures place { result ≡ line_spec.end_outside self.now is_rest found }
+        ensures within { HasEscapesBefore self.now → (n : ℕ) → IfSome found (λ tag. tag.at ≤ n)
+            → IfSome result (λ place. place ≤ self.now.at + n) }
     {
         match found {
             None => {
@@ -160,7 +170,8 @@ impl BadGame {
 
     // Escape lines just before the next game belong to it, if they are behind the fault.
     fn before_escapes(&self, place: usize) -> usize
-        ensures { result ≡ spec.before_escapes self.now.fault self.now.escapes_at place }
+        ensures before { result ≡ spec.before_escapes self.now.fault self.now.escapes_at place }
+        ensures within { HasEscapesBefore self.now → self.now.at ≤ place → result ≤ place }
     {
         match self.escapes_at {
             None => place,
@@ -177,7 +188,9 @@ impl BadGame {
     // Where reading goes on behind the end: also behind a byte order mark that stands there.
     fn behind_mark(&self, line: &Line, end: usize) -> usize
         requires { self.now.at + line.now.length < 2 ^ 64 }
-        ensures { result ≡ line_spec.behind_mark self.now line.now end }
+        ensures place { result ≡ line_spec.behind_mark self.now line.now end }
+        ensures within { end ≤ self.now.at + line.now.length
+            → result ≤ self.now.at + line.now.length }
     {
         if self.at <= end && line.has_mark_at(end - self.at) {
             end + 3
@@ -192,6 +205,8 @@ impl BadGame {
         requires tag { line.now.tag.at ≤ line.now.length }
         ensures place { result ≡ line_spec.place_on self.now line.now }
         ensures above { IfSome result (λ place. self.now.begin < place) }
+        ensures within { HasEscapesBefore self.now → IfSome result
+            (λ place. place ≤ self.now.at + line.now.length) }
     {
         match self.end_at(line) {
             None => None,
@@ -209,7 +224,10 @@ impl BadGame {
     // Takes a line of the game.
     pub(crate) fn read_line(&mut self, line: &Line)
         requires { self.old.at + line.now.length < 2 ^ 64 }
-        ensures { self.new ≡ line_spec.behind_line self.old line.now }
+        ensures game { self.new ≡ line_spec.behind_line self.old line.now }
+        ensures same { IsSameGame self.old self.new }
+        ensures at { self.new.at ≡ self.old.at + line.now.length }
+        ensures escapes { HasEscapesBefore self.old → HasEscapesBefore self.new }
     {
         if line.last.is_none() {
             self.is_behind_empty_line = true;

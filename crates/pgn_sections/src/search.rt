@@ -1,5 +1,5 @@
 //! A search for where reading goes on behind a bad game, in pieces that are cut anywhere.
-ghost use Rattle.std.specs.Prelude.{◌≡◌, ◌+◌, ◌<◌, ◌≤◌, ◌^◌, ◌++◌, [], Bool, List, ℕ, true, false, length};
+ghost use Rattle.std.specs.Prelude.{◌≡◌, ◌+◌, ◌<◌, ◌≤◌, ◌^◌, ◌++◌, [], Bool, IfSome, List, Some, ℕ, true, false, length};
 ghost use Rattle.pgn_sections.specs.Search as spec;
 
 use crate::bad_game::BadGame;
@@ -18,9 +18,10 @@ pub(crate) struct LineReader {
 }
 
 impl LineReader {
-    ghost use Rattle.pgn_sections.specs.LineReaders.{IsSound, Reads};
+    ghost use Rattle.pgn_sections.specs.LineReaders.{HasEscapesBefore, IsSound, Reads};
 
     fn new(game: BadGame) -> LineReader
+        requires { HasEscapesBefore game }
         ensures reader { result ≡ spec.reader_of game }
         ensures sound { IsSound result }
     {
@@ -126,7 +127,10 @@ impl LineReader {
 
     fn place_at_end(&self) -> Option<usize>
         requires { IsSound self.now }
-        ensures { result ≡ spec.place_at_end true self.now }
+        ensures place { result ≡ spec.place_at_end true self.now }
+        ensures above { IfSome result (λ place. self.now.game.begin < place) }
+        ensures within { IfSome result
+            (λ place. place ≤ self.now.line.at + self.now.line.length) }
     {
         match self.found {
             Some(place) => Some(place),
@@ -178,7 +182,7 @@ impl SectionSearch {
     ghost use Rattle.pgn_sections.specs.BadGame.{unread};
     ghost use Rattle.pgn_sections.specs.Lines.{lines_of, place_in};
     ghost use Rattle.pgn_sections.specs.Pieces.{whole_lines};
-    ghost use Rattle.pgn_sections.specs.Search.{place_behind, place_read};
+    ghost use Rattle.pgn_sections.specs.Search.{game_begin, place_behind, place_read};
 
     /// Returns a search that has read nothing.
     ///
@@ -186,6 +190,9 @@ impl SectionSearch {
     /// fed begins at `begin`. Places are byte offsets in the whole text.
     pub fn new(begin: usize, fault: usize) -> SectionSearch
         ensures at { place_read result ≡ begin }
+        ensures begin { game_begin result ≡ begin }
+        ensures whole { (text : List ℕ) → place_behind result true text
+            ≡ place_in (unread begin fault) (lines_of text) }
         ensures found { (is_last : Bool) (text : List ℕ) → place_behind result is_last text
             ≡ place_in (unread begin fault) (whole_lines is_last (lines_of text)) }
     {
@@ -199,13 +206,19 @@ impl SectionSearch {
     ///
     /// `None` says that the whole lines so far show no place. A line is whole if it ends with an
     /// LF, or with a CR and another byte behind it. Once a place is found, each further call
-    /// returns it. `begin` and the lengths of all pieces must be together below 2^64.
+    /// returns it. It lies above `begin`, and at most at the end of the bytes read. `begin` and the
+    /// lengths of all pieces must be together below 2^64.
     pub fn feed(&mut self, piece: &[u8]) -> Option<usize>
         requires { place_read self.old + length piece.now < 2 ^ 64 }
         ensures at { place_read self.new ≤ place_read self.old + length piece.now }
         ensures reads { (is_last : Bool) (text : List ℕ) → place_behind self.new is_last text
             ≡ place_behind self.old is_last (piece.now ++ text) }
         ensures place { result ≡ place_behind self.new false [] }
+        ensures stays { IfSome result (λ place. (is_last : Bool) (text : List ℕ)
+            → place_behind self.new is_last text ≡ Some place) }
+        ensures begin { game_begin self.new ≡ game_begin self.old }
+        ensures above { IfSome result (λ place. game_begin self.old < place) }
+        ensures within { IfSome result (λ place. place ≤ place_read self.new) }
     {
         self.reader = self.reader.over(piece);
         self.reader.found
@@ -215,7 +228,9 @@ impl SectionSearch {
     ///
     /// `None` says that no line of the text shows it: all the rest belongs to the bad game.
     pub fn finish(&self) -> Option<usize>
-        ensures { result ≡ place_behind self.now true [] }
+        ensures place { result ≡ place_behind self.now true [] }
+        ensures above { IfSome result (λ place. game_begin self.now < place) }
+        ensures within { IfSome result (λ place. place ≤ place_read self.now) }
     {
         self.reader.place_at_end()
     }

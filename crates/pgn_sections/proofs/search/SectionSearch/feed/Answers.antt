@@ -1,5 +1,5 @@
-use Rattle.std.proofs.Common.{◌++◌, ◌∙◌, ap}
-use Rattle.pgn_sections.proofs.LinesOfReader.{found_so_far, reads_piece}
+use Rattle.std.proofs.Common.{◌++◌, ◌∙◌, ap, refl}
+use Rattle.pgn_sections.proofs.LinesOfReader.{found_so_far, found_stays, reads_piece}
 use Rattle.pgn_sections.specs.Search.{place_behind}
 use Rattle.pgn_sections.specs.declared.search.LineReader.{LineReader}
 use Rattle.pgn_sections.proofs.search.SectionSearch.feed.Goals as goal
@@ -12,3 +12,6 @@ returns-clause-reads c =
 
 pub returns-clause-place : goal.returns-clause-place
 returns-clause-place c = found_so_far c.over-self-inside.result
+
+pub returns-clause-stays : goal.returns-clause-stays
+returns-clause-stays c = found_stays c.over-self-inside.result _ refl

@@ -1,5 +1,5 @@
-use Rattle.std.proofs.Common.{◌∙◌, ap}
-use Rattle.pgn_sections.proofs.LinesOfReader.{finds_place}
+use Rattle.std.proofs.Common.{◌∙◌, ap, true}
+use Rattle.pgn_sections.proofs.LinesOfReader.{finds_in_all, finds_place}
 use Rattle.pgn_sections.specs.BadGame.{unread}
 use Rattle.pgn_sections.specs.Search.{place_behind, reader_of}
 use Rattle.pgn_sections.specs.declared.bad_game.BadGame.{BadGame}
@@ -12,3 +12,10 @@ returns-clause-found c =
     ap (λ (r : LineReader). place_behind r is_last text) c.new-reader.ensures.reader
     ∙ ap (λ (g : BadGame). place_behind (reader_of g) is_last text) c.new-game.ensures
     ∙ finds_place (unread c.args.begin c.args.fault) is_last text
+
+pub returns-clause-whole : goal.returns-clause-whole
+returns-clause-whole c =
+    λ text.
+    ap (λ (r : LineReader). place_behind r true text) c.new-reader.ensures.reader
+    ∙ ap (λ (g : BadGame). place_behind (reader_of g) true text) c.new-game.ensures
+    ∙ finds_in_all (unread c.args.begin c.args.fault) text
