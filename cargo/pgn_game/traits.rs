@@ -1,10 +1,12 @@
 //! What Rust's users expect of the types. **Not proved**: written for Cargo.
 
 use crate::{
-    Converter, Fault, Games, Inlet, Items, LineOfPlay, MoveOfLine, Ply, ReadFailed, Reason,
+    ArchiveItems, Converter, Fault, Games, Inlet, Items, LineOfPlay, MoveOfLine, Ply, ReadFailed,
+    Reason, Rewinds, SliceSource,
 };
 use std::error::Error;
 use std::fmt::{self, Debug, Display, Formatter};
+use std::io::{Read, Seek, SeekFrom};
 
 impl Display for Fault {
     /// Writes the line that the program reports, which is [`Fault::line`].
@@ -48,6 +50,24 @@ impl<R> Debug for Inlet<R> {
     }
 }
 
+impl<R: Read + Seek> Rewinds for Inlet<R> {
+    fn set_to(&mut self, place: u64) -> Result<(), ReadFailed> {
+        match self.reader.seek(SeekFrom::Start(place)) {
+            Ok(_) => Ok(()),
+            Err(_) => {
+                self.failures = self.failures.saturating_add(1);
+                Err(ReadFailed)
+            }
+        }
+    }
+}
+
+impl Debug for SliceSource<'_> {
+    fn fmt(&self, out: &mut Formatter<'_>) -> fmt::Result {
+        out.debug_struct("SliceSource").finish_non_exhaustive()
+    }
+}
+
 impl<const T: usize, const L: usize> Debug for Converter<T, L> {
     fn fmt(&self, out: &mut Formatter<'_>) -> fmt::Result {
         out.debug_struct("Converter")
@@ -74,6 +94,22 @@ impl<const T: usize, const L: usize> Debug for Items<T, L> {
             .field("games", &self.games())
             .field("depth", &self.depth())
             .finish_non_exhaustive()
+    }
+}
+
+impl<const T: usize, const L: usize> Debug for ArchiveItems<T, L> {
+    fn fmt(&self, out: &mut Formatter<'_>) -> fmt::Result {
+        out.debug_struct("ArchiveItems")
+            .field("items", self.items())
+            .field("games", &self.games())
+            .finish_non_exhaustive()
+    }
+}
+
+impl<const T: usize, const L: usize> Default for ArchiveItems<T, L> {
+    #[track_caller]
+    fn default() -> ArchiveItems<T, L> {
+        ArchiveItems::new()
     }
 }
 

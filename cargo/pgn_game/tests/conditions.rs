@@ -2,8 +2,8 @@
 
 use chess_rules::{Position, Probes};
 use pgn_game::{
-    check, check_slice, convert, convert_checked, convert_slice, find_move, read_move, Converter,
-    Games, Inlet, Items, Mode, Notation, Nowhere, Outlet, Sink,
+    check, check_slice, convert, convert_checked, convert_slice, find_move, read_move,
+    ArchiveItems, Converter, Games, Inlet, Items, Mode, Notation, Nowhere, Outlet, Sink,
 };
 use pgn_layout::{fits_tag_line, write_tag, CurrentLine, Layout};
 use std::cell::RefCell;
@@ -32,6 +32,7 @@ fn a_converter_has_a_level() {
     refuses(sentence, || Converter::<64, 0>::new(FULL));
     refuses(sentence, || Games::<64, 0>::new(FULL));
     refuses(sentence, || Items::<64, 0>::new());
+    refuses(sentence, || ArchiveItems::<64, 0>::new());
     refuses(sentence, || {
         convert_slice::<64, 0, _>(b"*", &mut Nowhere, FULL)
     });

@@ -7,6 +7,7 @@ mod PlyAhead
 mod ReaderFitsInMemory
 mod ReaderLemmas
 mod ReaderPartsFitInMemory
+mod SearchOfSource
 mod WordByBytes
 mod Words
 mod exporting

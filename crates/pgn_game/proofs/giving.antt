@@ -5,6 +5,7 @@ pub mod EventToItem
 pub mod ItemsAhead
 pub mod ItemsAtStart
 pub mod ItemsJoined
+pub mod ItemsRestarted
 pub mod LastTokenToItems
 pub mod MissingTakesMarker
 pub mod SilentEvents

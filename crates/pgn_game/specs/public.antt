@@ -1,5 +1,6 @@
 -- **Definition**: what the public calls promise.
 pub mod Inlet
+pub mod SourceCalls
 pub mod FoundMove
 pub mod Notations
 pub mod LineOfPlay
@@ -11,6 +12,7 @@ pub mod GamesCalls
 pub mod Given
 pub mod NameAndValue
 pub mod ItemsCalls
+pub mod ArchiveCalls
 pub mod Checked
 pub mod CheckedConversion
 pub mod Written

@@ -15,3 +15,4 @@ pub mod SectionLines
 pub mod SectionPairs
 pub mod Accepted
 pub mod ItemsSteps
+pub mod SkippingSteps

@@ -20,6 +20,7 @@ ghost use Rattle.pgn_game.specs.steps.ReaderState.{unread};
 ghost use Rattle.pgn_game.specs.steps.TokenInMovetext.{has_whole_pairs};
 ghost use Rattle.pgn_game.specs.steps.ItemsSteps.{IsPlayedItem, TakesItem, given_first};
 ghost use Rattle.pgn_game.specs.steps.ItemsSteps.{given_second, giving_next, item_meant};
+ghost use Rattle.pgn_game.specs.steps.ItemsSteps.{restarted_game};
 
 use crate::event::Event;
 use crate::item::Item;
@@ -92,6 +93,18 @@ impl<const T: usize, const L: usize> CurrentGame<T, L> {
             last: None,
             pending: None,
         }
+    }
+
+    /// Forgets the game and those before it. What a missing Result counts as stays.
+    pub fn restart(&mut self)
+        ensures game { self.new ≡ restarted_game self.old }
+        ensures line { self.new.reading.line ≡ [] }
+        ensures silent { self.new.reading.writing.is_silent ≡ true }
+    {
+        self.reader.restart();
+        self.games = 0;
+        self.last = None;
+        self.pending = None;
     }
 
     /// Returns the value of a name in the tag section, defaults included.

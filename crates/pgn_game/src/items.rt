@@ -217,6 +217,7 @@ impl<const T: usize, const L: usize> Items<T, L> {
         ensures again { ItemsAgain self.old self.new result source.old source.new }
         ensures at_end { ItemsAtEnd self.old self.new result source.old source.new }
         ensures lowers { LowersAhead self.old self.new result }
+        ensures text { R.text source.new ≡ R.text source.old }
     {
         if let Some(item) = self.current.give_next() {
             return Ok(Some(item));
@@ -384,9 +385,51 @@ impl<const T: usize, const L: usize> Items<T, L> {
     /// After a `Marker` it is the place behind the marker: `begin_at` reads on from there, with
     /// `in_first_column` false.
     pub fn place(&self) -> u64
-        ensures { result ≡ self.now.lexer.count }
+        ensures place { result ≡ self.now.lexer.count }
+        ensures within { result ≤ 2 ^ 62 }
     {
         self.lexer.place()
+    }
+
+    // Returns the fault that each call of `next` reports, if there is one.
+    pub(crate) fn fault(&self) -> Option<Fault>
+        ensures { result ≡ self.now.fault }
+    {
+        match self.state {
+            ItemsState::Failed(fault) => Some(fault),
+            _ => None,
+        }
+    }
+
+    // From now on the items are those of the rest of a text, from the byte at this place on, as by
+    // `begin_at`. What a missing Result counts as stays.
+    pub(crate) fn restart_at(&mut self, place: u64, in_first_column: bool)
+        requires { place ≤ 2 ^ 62 }
+        ensures begins { (left : Option (List ℕ)) → HaveGiven self.old.current.reading.profile left
+            (white_space place in_first_column) self.new [] }
+        ensures count { self.new.lexer.count ≡ place }
+        ensures no_fault { self.new.fault ≡ None }
+        ensures not_finished { self.new.is_finished ≡ false }
+        ensures none_next { self.new.current.pending ≡ None }
+        ensures no_game { shown_games self.new.current ≡ 0 }
+    {
+        self.current.restart();
+        self.lexer = Lexer::begin_at(place, in_first_column);
+        self.buffer.clear();
+        self.state = ItemsState::Reading;
+    }
+
+    // From now on no item is left, and there is no fault.
+    pub(crate) fn end(&mut self)
+        ensures no_fault { self.new.fault ≡ None }
+        ensures finished { self.new.is_finished ≡ true }
+        ensures none_next { self.new.current.pending ≡ None }
+        ensures count { self.new.lexer.count ≡ self.old.lexer.count }
+        ensures no_game { shown_games self.new.current ≡ 0 }
+    {
+        let place = self.lexer.place();
+        self.restart_at(place, false);
+        self.state = ItemsState::Finished;
     }
 
     // Reads the next item of a source that has not ended yet.
@@ -397,6 +440,7 @@ impl<const T: usize, const L: usize> Items<T, L> {
         ensures reads { ReadsItem self.old self.new result
             (device R.left R.failures source.old source.new) }
         ensures lowers { LowersAhead self.old self.new result }
+        ensures text { R.text source.new ≡ R.text source.old }
     {
         loop {
             match self.fill_buffer(source) {
@@ -444,6 +488,7 @@ impl<const T: usize, const L: usize> Items<T, L> {
         requires { AreGoing self.old }
         ensures more { MoreItems (R.left source.old) (R.left source.new) self.old self.new result }
         ensures counted { Counts result (R.failures source.old) (R.failures source.new) }
+        ensures text { R.text source.new ≡ R.text source.old }
     {
         if !self.buffer.unused().is_empty() {
             return Ok(true);

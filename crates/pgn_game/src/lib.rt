@@ -6,6 +6,7 @@
 //! allocates.
 #![tactic(auto)]
 
+mod archive_items;
 mod checked;
 mod conversion;
 mod converter;
@@ -29,12 +30,15 @@ mod read_buffer;
 mod reader;
 mod reason;
 mod section;
+mod skipping;
+mod slice_source;
 mod source;
 mod stage;
 mod tags;
 mod token_tests;
 mod writer;
 
+pub use archive_items::ArchiveItems;
 pub use checked::convert_checked;
 pub use conversion::{Totals, check, check_slice, convert, convert_slice};
 pub use converter::{Converter, Fed};
@@ -49,4 +53,5 @@ pub use notation::{Notation, read_move};
 pub use pgn_layout::{Nowhere, Outlet, Sink, WriteFault};
 pub use pgn_lexer::LexReason;
 pub use reason::{Fault, Reason};
-pub use source::{Inlet, ReadFailed, Source};
+pub use slice_source::SliceSource;
+pub use source::{Inlet, ReadFailed, Rewinds, Source};

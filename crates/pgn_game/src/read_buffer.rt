@@ -67,6 +67,7 @@ impl ReadBuffer {
         ensures fills { FillResult (R.left source.old) (R.left source.new) self.new result }
         ensures fits { length self.new ≤ 4096 }
         ensures counted { Counts result (R.failures source.old) (R.failures source.new) }
+        ensures text { R.text source.new ≡ R.text source.old }
     {
         self.start = 0;
         self.end = 0;

@@ -14,7 +14,7 @@ ghost use Rattle.pgn_game.specs.declared.writer.Writer.{Writer};
 ghost use Rattle.pgn_game.specs.steps.Accepted.{Accepts, AcceptsEntry};
 ghost use Rattle.pgn_game.specs.steps.Judged.{game_at, Judges, JudgesBefore, JudgesInPair, JudgesMarker, JudgesOutside};
 ghost use Rattle.pgn_game.specs.steps.Movetext.{IsDepth};
-ghost use Rattle.pgn_game.specs.steps.ReaderState.{plies_of_finished_games, unread};
+ghost use Rattle.pgn_game.specs.steps.ReaderState.{plies_of_finished_games, restarted, unread};
 ghost use Rattle.pgn_game.specs.steps.TokenInMovetext.{MayTakeMove, has_whole_pairs, may_have_movetext};
 ghost use Rattle.pgn_game.specs.steps.TokenInMovetext.{fen_position as position_in_fen};
 ghost use Rattle.pgn_game.specs.steps.PutResult.{CountsMove, Finds, at_game_start, continued};
@@ -211,6 +211,18 @@ impl<const T: usize, const L: usize> Reader<T, L> {
         } }
     {
         self.missing_result = missing;
+    }
+
+    /// Forgets the current game and those before it. What a missing Result counts as stays.
+    pub fn restart(&mut self)
+        ensures { self.new ≡ restarted self.old }
+    {
+        self.tags.clear();
+        self.levels.begin(Position::initial());
+        self.earlier_plies = 0;
+        self.most_probes = 0;
+        let between = Stage::Between;
+        self.stage = between;
     }
 
     /// Takes a token outside movetext. `None` if it belongs to movetext, which begins or goes on.

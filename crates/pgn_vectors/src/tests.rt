@@ -1,4 +1,5 @@
 //! The conformance tests: each vector in each way to convert it, and what no table says.
+mod bad_games;
 mod bytes;
 mod counts;
 mod cuts;

@@ -33,7 +33,7 @@ use Rattle.pgn_game.specs.steps.Judged.{IsPlayed}
 use Rattle.pgn_game.specs.steps.Movetext.{HoldsItems}
 use Rattle.pgn_game.specs.steps.TokenInMovetext.{has_whole_pairs}
 use Rattle.pgn_game.specs.steps.PutResult.{TakesToken, unused}
-use Rattle.pgn_game.specs.steps.ReaderState.{Accepted, Agrees, Finished, ReaderState}
+use Rattle.pgn_game.specs.steps.ReaderState.{Accepted, Agrees, Finished, ReaderState, restarted}
 
 -- a move was just played
 abbrev pub IsPlayedItem : ReaderState → Option CodeItem → Type 0
@@ -328,3 +328,7 @@ GivesAtEnd old new result =
 -- The item that is given next was given.
 abbrev pub giving_next : Current → Current
 giving_next c = elim c.pending [ None ↦ c | Some i ↦ record c { last = Some i; pending = None } ]
+
+-- the same game before its first token, and no game before it
+abbrev pub restarted_game : Current → Current
+restarted_game c = record c { reading = restarted c.reading; games = 0; last = None; pending = None }

@@ -65,6 +65,16 @@ unread tags levels mode = record {
   marker = codes "*";
 }
 
+-- the same reader before its first token
+abbrev pub restarted : ReaderState → ReaderState
+restarted reading = record reading {
+  stage = Between;
+  tags = record { held = []; pending_name = None };
+  text = movetext_from first_position;
+  earlier_plies = 0;
+  most_probes = 0;
+}
+
 -- the mode by which the reader writes; a silent one has none
 abbrev pub mode_written : ReaderState → Option Mode
 mode_written reading = mode_unless reading.writing.is_silent reading.profile.mode

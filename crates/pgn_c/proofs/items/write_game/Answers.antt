@@ -48,7 +48,7 @@ returns-then-is_marker c u have short =
     game_written c.args.fields s c.args.first c.args.buffer.now c.loop-fault.buffer c.loop-fault.items c.loop-fault.source.left.now c.loop-fault.lines
     (omega (arith, c.ranges.first.fits)) so left c.next.new.self c.in-Ok-Some.item gives c.put_item.new.self c.put_item.new.buffer c.put_item.result c.put_item.ensures
     (c.items_join.ensures.front (profile_in Full) (so.u ++ gives.more) left c.next.new.self _ gives.have_given) c.whole_game.result
-    c.if-not-put_item.false (sym c.is_marker.ensures ∙ c.if-is_marker.true) _ c.whole_game.ensures c.place.ensures
+    c.if-not-put_item.false (sym c.is_marker.ensures ∙ c.if-is_marker.true) _ c.whole_game.ensures c.place.ensures.place
     (c.items_join.ensures.first (profile_in Full) (so.u ++ gives.more) left c.next.new.self _ gives.have_given)
 
 pub loop-fault-preserved : goal.loop-fault-preserved

@@ -11,6 +11,7 @@ loop-fault-init g c = record {
   short = c.requires.short;
   ahead = omega arith;
   failures = refl;
+  text = refl;
   reads = so_far_none _ _ c.requires.going c.requires.more;
 }
 
@@ -73,6 +74,7 @@ loop-fault-preserved g c =
       short = takes.short;
       ahead = omega (arith, takes.nearer, takes.short, ap (λ (i : Items). tokens_ahead i.lexer) fills.new_is, so.ahead);
       failures = c.in-Ok-true.ensures.counted ∙ so.failures;
+      text = c.in-Ok-true.ensures.text ∙ so.text;
       reads = λ p u given have.
           took_none p u given _ _ _ (filled p u given _ _ _ (so.reads p u given have) _ _ fills) _ _ takes refl;
     }

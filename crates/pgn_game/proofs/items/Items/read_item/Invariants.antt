@@ -11,6 +11,7 @@ invariant-loop-fault g l =
       short : l.self.lexer.count ≤ 2 ^ 62;
       ahead : tokens_ahead l.self.lexer ≤ tokens_ahead l.fn.self.lexer;
       failures : g.R.Source.failures l.source ≡ g.R.Source.failures l.fn.source;
+      text : g.R.Source.text l.source ≡ g.R.Source.text l.fn.source;
       reads : ReadSoFar l.fn.self l.self (g.R.Source.left l.fn.source) (g.R.Source.left l.source);
     }
 
