@@ -20,7 +20,7 @@ pub use Rattle.pgn_lexer.specs.Runs.{BeginsUnpassed, IsNumberIn, IsRunIn, IsText
 pub use Rattle.pgn_lexer.specs.Sets.{bits_of, is_in}
 pub use Rattle.pgn_lexer.specs.Begins.{Fits, begins_in_comment, begins_outside}
 pub use Rattle.pgn_lexer.specs.Comments.{between, in_word}
-pub use Rattle.pgn_lexer.specs.Texts.{BeginsWithEscape, bytes_of, found_of, glyph_of, kind_of_text, longer_number, longest_of, mode_behind, too_long_of, within_behind, within_of}
+pub use Rattle.pgn_lexer.specs.Texts.{BeginsWithEscape, bytes_of, found_of, glyph_of, kind_of_sign, kind_of_text, longer_number, longest_of, mode_behind, too_long_of, within_behind, within_of}
 pub use Rattle.pgn_lexer.specs.Scanned.{Scanned, fault, more, kind_of}
 pub use Rattle.pgn_lexer.specs.Sound.{AreSoundTokens, CommentsClose, IsData, IsSoundKind, IsSymbol, IsWord}
 pub use Rattle.pgn_lexer.specs.Spelling.{Found, Reading, broken, class, closed, comment_class, datum, gives, glyph_at, kind_of_single, number_from, number_of, numbered_at, reading, stops, string_at, string_class, suffix_at, symbol_at, word_at}
@@ -39,6 +39,7 @@ pub use Rattle.pgn_lexer.specs.declared.partial_token.LexMode.TheVariants.{After
 pub use Rattle.pgn_lexer.specs.declared.partial_token.ByteResult.{ByteResult}
 pub use Rattle.pgn_lexer.specs.declared.partial_token.ByteResult.TheVariants.{Ends, EndsBefore, Fault, Used}
 pub use Rattle.pgn_lexer.specs.declared.partial_token.Text.{Text}
+pub use Rattle.pgn_lexer.specs.declared.partial_token.Sign.{Sign}
 pub use Rattle.pgn_lexer.specs.declared.partial_token.TokenForm.{TokenForm}
 pub use Rattle.pgn_lexer.specs.declared.partial_token.begins.Begins.{Begins}
 pub use Rattle.pgn_lexer.specs.declared.token.LexFault.{LexFault}

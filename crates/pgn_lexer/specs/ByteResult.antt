@@ -18,7 +18,6 @@ use Rattle.pgn_lexer.specs.declared.partial_token.ByteResult.{ByteResult}
 use Rattle.pgn_lexer.specs.declared.partial_token.ByteResult.TheVariants.{Used, Ends, EndsBefore, Fault}
 use Rattle.pgn_lexer.specs.Bytes.{is_line_end, is_digit}
 use Rattle.pgn_lexer.specs.Spelling.{class, comment_class, string_class}
-use Rattle.pgn_lexer.specs.declared.token.TokenKind.TheVariants as kinds
 use Rattle.pgn_lexer.specs.declared.partial_token.begins.Begins.{Begins}
 use Rattle.pgn_lexer.specs.declared.partial_token.begins.Begins.TheVariants as begins
 use Rattle.pgn_lexer.specs.Begins.{begins_outside, begins_in_comment}
@@ -63,7 +62,7 @@ begin place h b (begins.Gap mode) = set_at mode place h.text Used
 begin place h b (begins.Text text) = set_at (Text text) place (b ∷ []) Used
 begin place h b begins.Str = set_at (Text texts.Str) place [] Used
 begin place h b begins.Dollar = set_at Dollar place h.text Used
-begin place h b (begins.Alone kind mode) = set_at mode place h.text (Ends (token_forms.Other kind))
+begin place h b (begins.Alone sign mode) = set_at mode place h.text (Ends (token_forms.Sign sign))
 begin place h b (begins.Refused reason) = fails h place reason
 
 abbrev pub begin_outside : ℕ → PartialToken → ℕ → Class → AfterByte
@@ -92,7 +91,7 @@ dollar h b = if is_digit b then into h (Glyph (b - 48)) Used else fails h h.at L
 abbrev pub glyph : PartialToken → ℕ → ℕ → AfterByte
 glyph h n b =
     if is_digit b then (if nat_le (10 * n + (b - 48)) 255 then into h (Glyph (10 * n + (b - 48))) Used else fails h h.at GlyphRange)
-    else into h Outside (EndsBefore (token_forms.Other (kinds.Glyph n)))
+    else into h Outside (EndsBefore (token_forms.Glyph n))
 
 -- in a string
 abbrev pub string : ℕ → PartialToken → ℕ → StringClass → AfterByte

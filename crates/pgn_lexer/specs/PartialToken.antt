@@ -11,11 +11,10 @@ use Rattle.pgn_lexer.specs.declared.partial_token.Text.TheVariants as texts
 use Rattle.pgn_lexer.specs.declared.partial_token.TokenForm.{TokenForm}
 use Rattle.pgn_lexer.specs.declared.partial_token.TokenForm.TheVariants as token_forms
 use Rattle.pgn_lexer.specs.Bytes.{is_digit}
-use Rattle.pgn_lexer.specs.Scanned.{kind_of}
-use Rattle.pgn_lexer.specs.Tokens.{Kind, Token, refused}
+use Rattle.pgn_lexer.specs.Tokens.{Kind, Token, glyph, refused}
 use Rattle.pgn_lexer.specs.Comments.{between}
 use Rattle.pgn_lexer.specs.Sets.{is_in}
-use Rattle.pgn_lexer.specs.Texts.{bytes_of, found_of, kind_of_text, longest_of, within_of}
+use Rattle.pgn_lexer.specs.Texts.{bytes_of, found_of, kind_of_sign, kind_of_text, longest_of, within_of}
 use Rattle.pgn_lexer.specs.Spelling.{Reading, closed, broken, reading, number_from, glyph_at, numbered_at, string_at}
 use Rattle.pgn_lexer.specs.TokensOf.{column, outside, in_escape_line, in_glyph, quotes, backslash, onto, tokens_from, tokens_of}
 
@@ -32,7 +31,8 @@ refusal f = record { at = f.at; kind = refused f.reason }
 -- the token of a form, at its place with its text
 abbrev pub kind_in : TokenForm → List ℕ → Kind
 kind_in (token_forms.Text t) text = kind_of_text t text
-kind_in (token_forms.Other k) text = kind_of k
+kind_in (token_forms.Sign s) text = kind_of_sign s
+kind_in (token_forms.Glyph n) text = glyph n
 
 abbrev pub token_of : TokenForm → PartialToken → Token
 token_of form h = record { at = h.at; kind = kind_in form h.text }

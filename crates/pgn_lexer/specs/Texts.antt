@@ -1,9 +1,11 @@
--- **Bookkeeping**: the tokens whose bytes are stored.
+-- **Bookkeeping**: the tokens whose bytes are stored, and those of one byte.
 use Rattle.std.specs.Prelude.{◌≡◌, ℕ, ◌+◌, ◌-◌, ◌*◌, ◌<◌, nat_le, Option, None, Some, true, List, length, get_or, ◌==◌, if◌then◌else◌}
 use Rattle.pgn_lexer.specs.declared.class.Set.{Set}
 use Rattle.pgn_lexer.specs.declared.class.Set.TheVariants as sets
 use Rattle.pgn_lexer.specs.declared.partial_token.LexMode.{LexMode}
 use Rattle.pgn_lexer.specs.declared.partial_token.LexMode.TheVariants as modes
+use Rattle.pgn_lexer.specs.declared.partial_token.Sign.{Sign}
+use Rattle.pgn_lexer.specs.declared.partial_token.Sign.TheVariants as signs
 use Rattle.pgn_lexer.specs.declared.partial_token.Text.{Text}
 use Rattle.pgn_lexer.specs.declared.partial_token.Text.TheVariants.{Symbol, Str, Suffix, Word}
 use Rattle.pgn_lexer.specs.declared.token.LexReason.{LexReason}
@@ -11,7 +13,7 @@ use Rattle.pgn_lexer.specs.declared.token.LexReason.TheVariants.{SymbolTooLong, 
 use Rattle.pgn_lexer.specs.Comments.{between, in_word}
 use Rattle.pgn_lexer.specs.Lexes.{is_escaped}
 use Rattle.pgn_lexer.specs.Spelling.{Found, nothing, symbol_at, word_at, suffix_at}
-use Rattle.pgn_lexer.specs.Tokens.{Kind, symbol, str, glyph, word}
+use Rattle.pgn_lexer.specs.Tokens.{Kind, left_bracket, right_bracket, left_paren, right_paren, period, asterisk, symbol, str, glyph, comment_open, word, comment_close}
 use Rattle.pgn_lexer.specs.TokensOf.{Within, in_symbol, in_suffix, outside, quotes}
 
 -- the bytes that continue it
@@ -50,6 +52,16 @@ kind_of_text Symbol text = symbol text
 kind_of_text Str text = str text
 kind_of_text Suffix text = glyph (glyph_of text)
 kind_of_text (Word close) text = word text
+
+abbrev pub kind_of_sign : Sign → Kind
+kind_of_sign signs.LeftBracket = left_bracket
+kind_of_sign signs.RightBracket = right_bracket
+kind_of_sign signs.LeftParen = left_paren
+kind_of_sign signs.RightParen = right_paren
+kind_of_sign signs.Period = period
+kind_of_sign signs.Asterisk = asterisk
+kind_of_sign signs.CommentOpen = comment_open
+kind_of_sign signs.CommentClose = comment_close
 
 -- what its bytes, if it is no string, come to
 abbrev pub found_of : Text → ℕ → List ℕ → Found

@@ -70,11 +70,25 @@ pub(crate) enum LexMode {
     Failed(LexReason),
 }
 
-/// A token whose bytes are stored, or the kind of another one.
+/// A token of one byte. It is a type without a text, so that a result is a few bytes.
+#[derive(Clone, Copy)]
+pub(crate) enum Sign {
+    LeftBracket,
+    RightBracket,
+    LeftParen,
+    RightParen,
+    Period,
+    Asterisk,
+    CommentOpen,
+    CommentClose,
+}
+
+/// A token whose bytes are stored, a token of one byte, or a NAG.
 #[derive(Clone, Copy)]
 pub(crate) enum TokenForm {
     Text(Text),
-    Other(TokenKind<'static>),
+    Sign(Sign),
+    Glyph(u8),
 }
 
 /// The result of one byte, of a piece, or of the end of the text.
@@ -182,6 +196,26 @@ impl Text {
     }
 }
 
+impl Sign {
+    ghost use Rattle.pgn_lexer.specs.Texts.{kind_of_sign};
+
+    #[inline(always)]
+    pub(crate) fn kind<'a>(self) -> TokenKind<'a>
+        ensures { kind_of result ≡ kind_of_sign self }
+    {
+        match self {
+            Sign::LeftBracket => TokenKind::LeftBracket,
+            Sign::RightBracket => TokenKind::RightBracket,
+            Sign::LeftParen => TokenKind::LeftParen,
+            Sign::RightParen => TokenKind::RightParen,
+            Sign::Period => TokenKind::Period,
+            Sign::Asterisk => TokenKind::Asterisk,
+            Sign::CommentOpen => TokenKind::CommentOpen,
+            Sign::CommentClose => TokenKind::CommentClose,
+        }
+    }
+}
+
 impl PartialToken {
     ghost use Rattle.pgn_lexer.specs.PartialToken.{fault_met, kind_in};
 
@@ -226,7 +260,8 @@ impl PartialToken {
     {
         let kind = match form {
             TokenForm::Text(text) => text.kind(self.buffer.as_slice()),
-            TokenForm::Other(kind) => kind,
+            TokenForm::Sign(sign) => sign.kind(),
+            TokenForm::Glyph(number) => TokenKind::Glyph(number),
         };
         Token { at: self.at, kind }
     }

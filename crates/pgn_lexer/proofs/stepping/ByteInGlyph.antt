@@ -19,7 +19,7 @@ digit_small b e = grind arith
 pub glyph_gives : (place at b n : ℕ) (text : List ℕ) → length text ≤ 255 → n ≤ 255 → at < place → (c : Bool) → is_digit b ≡ c
     → (d : Bool) → nat_le (10 * n + (b - 48)) 255 ≡ d
     → GivesIn (LexMode.Glyph n) place at b text (λ h. if c then (if d then into h (LexMode.Glyph (10 * n + (b - 48))) Used else fails h h.at GlyphRange)
-    else into h LexMode.Outside (EndsBefore (TokenForm.Other (TokenKind.Glyph n))))
+    else into h LexMode.Outside (EndsBefore (TokenForm.Glyph n)))
 glyph_gives place at b n text fits small began true e true low =
     record {
       sound = record { room = (fits, leb-true _ _ low); placed = omega arith };

@@ -2,7 +2,7 @@
 use Rattle.pgn_lexer.specs.declared.partial_token.LexMode.TheVariants.{Comment, Dollar}
 use Rattle.pgn_lexer.specs.PartialToken.{HasRoom}
 use Rattle.pgn_lexer.specs.RunResult.{RunGives}
-use Rattle.pgn_lexer.proofs.Words.{Begins, CommentClass, Fits, IsBetween, begins_outside, Close, TokenKind, begin_outside, begins_in_comment, before_last, comment_close, is_space, kind_of, AfterBackslash, Text, bytes_of, longest_of, mode_behind, in_text, is_in, is_plain, length-append, is_escaped, ◌≡◌, Bool, ℕ, suc, ◌+◌, ◌-◌, ◌*◌, ◌<◌, ◌≤◌, inl, inr, List, [], ◌∷◌, ◌++◌, length, get_or, take, drop, refl, sym, ap, ◌∙◌, add-one, arith, ◌⊎◌, true, false, Some, take_all, drop-cons, LexFault, LexMode, LexReason, Class, StringClass, Outside, Failed, is_digit, class, comment_class, string_class, TokenForm, ByteResult, Used, Ends, EndsBefore, Fault, PartialToken, tokens_to_come, token_of, IsSound, HasNotFailed, pending, fault_met, fault_in_mode, begin, begin_line, string, after_byte, IsAfterByte, IsOutside, Ran, RunsOut, StoodAt, RunsToToken, RunsToFault, common_steps, Glyph}
+use Rattle.pgn_lexer.proofs.Words.{Begins, CommentClass, Fits, IsBetween, begins_outside, Close, Sign, begin_outside, begins_in_comment, before_last, comment_close, is_space, kind_of_sign, AfterBackslash, Text, bytes_of, longest_of, mode_behind, in_text, is_in, is_plain, length-append, is_escaped, ◌≡◌, Bool, ℕ, suc, ◌+◌, ◌-◌, ◌*◌, ◌<◌, ◌≤◌, inl, inr, List, [], ◌∷◌, ◌++◌, length, get_or, take, drop, refl, sym, ap, ◌∙◌, add-one, arith, ◌⊎◌, true, false, Some, take_all, drop-cons, LexFault, LexMode, LexReason, Class, StringClass, Outside, Failed, is_digit, class, comment_class, string_class, TokenForm, ByteResult, Used, Ends, EndsBefore, Fault, PartialToken, tokens_to_come, token_of, IsSound, HasNotFailed, pending, fault_met, fault_in_mode, begin, begin_line, string, after_byte, IsAfterByte, IsOutside, Ran, RunsOut, StoodAt, RunsToToken, RunsToFault, common_steps, Glyph}
 use Rattle.pgn_lexer.proofs.stepping.StepGives.{StepGives, front_of}
 use Rattle.pgn_lexer.proofs.stepping.ByteGives.{step_gives}
 use Rattle.pgn_lexer.proofs.stepping.ByteInString.{plain_class}
@@ -190,7 +190,7 @@ unfolding after_byte
 takes_digit place b h new n e digit small is = grind (arith, place, small)
 
 pub takes_glyph_end : (place b : ℕ) (h new : PartialToken) (n : ℕ) → h.mode ≡ Glyph n → is_digit b ≡ false
-    → new ≡ record { mode = Outside; at = h.at; text = h.text } → IsAfterByte (after_byte place h b) new (EndsBefore (TokenForm.Other (TokenKind.Glyph n)))
+    → new ≡ record { mode = Outside; at = h.at; text = h.text } → IsAfterByte (after_byte place h b) new (EndsBefore (TokenForm.Glyph n))
 unfolding after_byte
 takes_glyph_end place b h new n e ends is = rw (e, ends) (record { held = is; step = refl })
 
@@ -215,8 +215,8 @@ gap_begun l b m is = let of = gap_of_class l _ m is in (of.0, space_of_class b o
 pub word_begun : (l : Close) (c : CommentClass) (t : Text) → begins_in_comment l c ≡ Begins.Text t → Text.Word l ≡ t
 word_begun l c t is = grind arith
 
-pub close_begun : (l : Close) (c : CommentClass) (k : TokenKind) (m : LexMode) → begins_in_comment l c ≡ Begins.Alone k m
-    → (kind_of k ≡ comment_close) × IsBetween m
+pub close_begun : (l : Close) (c : CommentClass) (k : Sign) (m : LexMode) → begins_in_comment l c ≡ Begins.Alone k m
+    → (kind_of_sign k ≡ comment_close) × IsBetween m
 close_begun l c k m is = grind arith
 
 pub outside_fits : (c : Class) (text : List ℕ) → Fits (begins_outside c) text

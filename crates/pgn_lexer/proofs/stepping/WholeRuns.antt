@@ -3,7 +3,7 @@ use Rattle.pgn_lexer.specs.Class as classes
 use Rattle.pgn_lexer.specs.Class.{Period}
 use Rattle.pgn_lexer.specs.declared.partial_token.LexMode.TheVariants as modes
 use Rattle.pgn_lexer.specs.Scanned.{token as token_scanned}
-use Rattle.pgn_lexer.proofs.Words.{Begins, Close, TokenKind, longer_number, if◌then◌else◌, leb-true, nat_le, IfSome, IsText, None, Option, Some, begin_outside, begins_in_comment, begins_outside, comment_class, kind_of, ◌≡◌, Bool, ℕ, zero, suc, ◌+◌, ◌-◌, ◌*◌, ◌<◌, ◌≤◌, inl, inr, List, [], ◌∷◌, ◌++◌, length, get_or, take, drop, refl, sym, ap, subst, ◌∙◌, add-one, arith, true, false, take_all, length-take-le, LexMode, Class, LineEnd, Space, SymbolStart, Alone, LineStart, Outside, is_digit, is_space, class, str, glyph, Token, TokenForm, ByteResult, Ends, Kind, PartialToken, tokens_to_come, token_of, IsSound, HasNotFailed, begin_line, IsOutside, IsAfterByte, after_byte, Ran, RunsOut, RunsToToken, Standing, standing_at, Scans, IsRunIn, IsNumberIn, Set, Text, string_class, rules, take-suc, get_or-take, get_or-drop, length-drop, IsTrue, IsFalse, list_all, bytes_of, kind_of_text, longest_of, mode_behind, tokens_to_come_in, pending_in, IsBetween, IsWhole, Passes, ReadsBehind, is_passed, BeginsUnpassed, and_parts, eqb-true, none, over_space, over_token}
+use Rattle.pgn_lexer.proofs.Words.{Begins, Close, Sign, longer_number, if◌then◌else◌, leb-true, nat_le, IfSome, IsText, None, Option, Some, begin_outside, begins_in_comment, begins_outside, comment_class, kind_of_sign, ◌≡◌, Bool, ℕ, zero, suc, ◌+◌, ◌-◌, ◌*◌, ◌<◌, ◌≤◌, inl, inr, List, [], ◌∷◌, ◌++◌, length, get_or, take, drop, refl, sym, ap, subst, ◌∙◌, add-one, arith, true, false, take_all, length-take-le, LexMode, Class, LineEnd, Space, SymbolStart, Alone, LineStart, Outside, is_digit, is_space, class, str, glyph, Token, TokenForm, ByteResult, Ends, Kind, PartialToken, tokens_to_come, token_of, IsSound, HasNotFailed, begin_line, IsOutside, IsAfterByte, after_byte, Ran, RunsOut, RunsToToken, Standing, standing_at, Scans, IsRunIn, IsNumberIn, Set, Text, string_class, rules, take-suc, get_or-take, get_or-drop, length-drop, IsTrue, IsFalse, list_all, bytes_of, kind_of_text, longest_of, mode_behind, tokens_to_come_in, pending_in, IsBetween, IsWhole, Passes, ReadsBehind, is_passed, BeginsUnpassed, and_parts, eqb-true, none, over_space, over_token}
 use Rattle.pgn_lexer.proofs.bytes.ClassToTest.{ClassSays, class_says}
 use Rattle.pgn_lexer.proofs.stepping.PieceByByte.{ran_none, ran_uses, ran_ends, ran_ends_before, takes_outside, takes_more, takes_text_end, takes_quote, takes_dollar, takes_digit, takes_glyph_end, takes_between, gap_begun, word_begun, close_begun}
 use Rattle.pgn_lexer.proofs.stepping.ByteInText.{IsNoString}
@@ -150,7 +150,7 @@ module _ (place : ℕ) (old : PartialToken) (piece : List ℕ) where
     glyph_runs : (n number : ℕ) → n < length piece → is_digit (get_or piece n 0) ≡ false
         → Ran place old piece (holding (modes.Glyph number) old.text) n → RunsTo (glyph number) Outside old.text n
     glyph_runs n number within ends ran =
-        ran_ends_before place old piece _ n (get_or piece n 0) within refl ran (TokenForm.Other (TokenKind.Glyph number)) _ (takes_glyph_end _ _ _ _ number refl ends refl)
+        ran_ends_before place old piece _ n (get_or piece n 0) within refl ran (TokenForm.Glyph number) _ (takes_glyph_end _ _ _ _ number refl ends refl)
 
   module _ (sound : IsSound place old) (l : Close) (in_comment : old.mode ≡ LexMode.Comment l) where
     at_start_comment : Ran place old piece old 0
@@ -171,10 +171,10 @@ module _ (place : ℕ) (old : PartialToken) (piece : List ℕ) where
         (takes_between l _ _ _ _ _ _ in_comment begins (rw one (record { held = refl; step = refl }))) in
         ran_text t runs n first is
 
-    close_runs : (k : TokenKind) (m : LexMode) → 0 < length piece
-        → begins_in_comment l (comment_class (get_or piece 0 0)) ≡ Begins.Alone k m → RunsTo (kind_of k) m old.text 1
+    close_runs : (k : Sign) (m : LexMode) → 0 < length piece
+        → begins_in_comment l (comment_class (get_or piece 0 0)) ≡ Begins.Alone k m → RunsTo (kind_of_sign k) m old.text 1
     close_runs k m some is =
-        ran_ends place old piece old 0 (get_or piece 0 0) some refl at_start_comment (TokenForm.Other k) _
+        ran_ends place old piece old 0 (get_or piece 0 0) some refl at_start_comment (TokenForm.Sign k) _
         (takes_between l _ _ _ _ _ _ in_comment is (record { held = refl; step = refl }))
 
 -- ---- the tokens that a piece begins with, outside comments
@@ -192,11 +192,11 @@ begun_is_no_string c t begins = grind arith
 text_on : (c : Class) (t : Text) → begins_outside c ≡ Begins.Text t → (place b : ℕ) (h : PartialToken) → begin_line place h b c ≡ begin_outside place h b c
 text_on c t begins place b h = grind arith
 
-alone_on : (c : Class) (k : TokenKind) (m : LexMode) → begins_outside c ≡ Begins.Alone k m → (place b : ℕ) (h : PartialToken)
+alone_on : (c : Class) (k : Sign) (m : LexMode) → begins_outside c ≡ Begins.Alone k m → (place b : ℕ) (h : PartialToken)
     → begin_line place h b c ≡ begin_outside place h b c
 alone_on c k m begins place b h = grind arith
 
-alone_between : (c : Class) (k : TokenKind) (m : LexMode) → begins_outside c ≡ Begins.Alone k m → IsBetween m
+alone_between : (c : Class) (k : Sign) (m : LexMode) → begins_outside c ≡ Begins.Alone k m → IsBetween m
 alone_between c k m begins = grind arith
 
 module _ (piece : List ℕ) where
@@ -234,11 +234,11 @@ module _ (piece : List ℕ) where
       whole_of (n + 1) _ _ (λ old. take (n - 1) (drop 1 piece)) (omega arith) (omega arith) tt
       (λ place old sound outside. string_runs place old piece sound outside n is ends quote)
 
-  pub whole_alone : (k : TokenKind) (m : LexMode) → 0 < length piece → begins_outside (class (get_or piece 0 0)) ≡ Begins.Alone k m
-      → IsWhole piece 1 m (kind_of k)
+  pub whole_alone : (k : Sign) (m : LexMode) → 0 < length piece → begins_outside (class (get_or piece 0 0)) ≡ Begins.Alone k m
+      → IsWhole piece 1 m (kind_of_sign k)
   whole_alone k m some begins =
-      whole_of 1 m (kind_of k) (λ old. old.text) (omega arith) (omega arith) (alone_between _ k m begins)
-      (λ place old sound outside. single_runs place old piece sound outside _ m (TokenForm.Other k) some refl
+      whole_of 1 m (kind_of_sign k) (λ old. old.text) (omega arith) (omega arith) (alone_between _ k m begins)
+      (λ place old sound outside. single_runs place old piece sound outside _ m (TokenForm.Sign k) some refl
       (rw begins refl) (alone_on _ k m begins (place + 0) (get_or piece 0 0) old))
 
   -- the digits of a NAG so far
@@ -297,8 +297,8 @@ text_unpassed Text.Symbol n xs mode k is unpassed = rw is.is (symbol_unpassed n 
 text_unpassed t n xs mode k is unpassed = rw is.is (grind arith)
 
 -- a token of one byte that is no period
-pub alone_unpassed : (c : Class) (b : ℕ) (k : TokenKind) (m : LexMode) → class b ≡ c → begins_outside c ≡ Begins.Alone k m → (b ≡ 46 → ⊥)
-    → IsFalse (is_passed (kind_of k))
+pub alone_unpassed : (c : Class) (b : ℕ) (k : Sign) (m : LexMode) → class b ≡ c → begins_outside c ≡ Begins.Alone k m → (b ≡ 46 → ⊥)
+    → IsFalse (is_passed (kind_of_sign k))
 alone_unpassed (Alone Period) b k m is begins no_period = absurd (no_period (eqb-true b 46 (subst (ClassSays b) is (class_says b))))
 alone_unpassed c b k m is begins no_period = grind arith
 
@@ -408,7 +408,7 @@ module _ (skips : Bool) (before : Standing) (place : ℕ) (h : PartialToken) (pi
       pub passes_period : IsTrue skips → get_or piece m 0 ≡ 46 → Passes skips before piece (standing_at (place + (m + 1)) (into_mode h Outside)) (m + 1)
       passes_period skipped is =
           over 1 _ Outside (omega arith) (held_as (place + m) h rest _ Outside _ 1 tt (single_runs (place + m) h rest sound outside (Alone Period) Outside
-          (TokenForm.Other TokenKind.Period) some (rw (here ∙ is) refl) refl refl) h.at h.text room) skipped refl
+          (TokenForm.Sign Sign.Period) some (rw (here ∙ is) refl) refl refl) h.at h.text room) skipped refl
 
       pub passes_number : IsTrue skips → (n : ℕ) → IsNumberIn rest n → Passes skips before piece (standing_at (place + (m + n)) (into_mode h Outside)) (m + n)
       passes_number skipped n is =
@@ -446,8 +446,8 @@ module _ (skips : Bool) (before : Standing) (place : ℕ) (h : PartialToken) (pi
           subst (λ mode. ReadsBehind skips before piece (standing_at (place + (m + n)) (into_mode h mode)) (m + n) (record { at = place + m; kind = k }))
           (ap mode_behind (sym same)) (word_there t same n mode k begins is)
 
-      pub reads_close : (k : TokenKind) (mode : LexMode) → begins_in_comment l (comment_class (get_or piece m 0)) ≡ Begins.Alone k mode
-          → ReadsBehind skips before piece (standing_at (place + (m + 1)) (into_mode h mode)) (m + 1) (record { at = place + m; kind = kind_of k })
+      pub reads_close : (k : Sign) (mode : LexMode) → begins_in_comment l (comment_class (get_or piece m 0)) ≡ Begins.Alone k mode
+          → ReadsBehind skips before piece (standing_at (place + (m + 1)) (into_mode h mode)) (m + 1) (record { at = place + m; kind = kind_of_sign k })
       reads_close k mode is =
           let begun = close_begun l _ k mode is in
           reads_behind within 1 _ mode (omega arith)

@@ -5,8 +5,8 @@ ghost use Rattle.pgn_lexer.specs.Begins as spec;
 ghost use Rattle.pgn_lexer.specs.Spelling as spelling;
 
 use crate::class::{Set, is_in};
-use crate::partial_token::{Close, LexMode, Text};
-use crate::token::{LexReason, TokenKind};
+use crate::partial_token::{Close, LexMode, Sign, Text};
+use crate::token::LexReason;
 
 /// What a byte between tokens begins.
 #[derive(Clone, Copy)]
@@ -20,7 +20,7 @@ pub(crate) enum Begins {
     /// A NAG, whose digits follow.
     Dollar,
     /// It is a token by itself, and this is the mode behind it.
-    Alone(TokenKind<'static>, LexMode),
+    Alone(Sign, LexMode),
     Refused(LexReason),
 }
 
@@ -39,14 +39,14 @@ pub(crate) fn begins_outside(byte: u8) -> Begins
         b'!' | b'?' => Begins::Text(Text::Suffix),
         b'"' => Begins::Str,
         b'$' => Begins::Dollar,
-        b'{' => Begins::Alone(TokenKind::CommentOpen, LexMode::Comment(Close::Brace)),
-        b';' => Begins::Alone(TokenKind::CommentOpen, LexMode::Comment(Close::LineEnd)),
-        b'[' => Begins::Alone(TokenKind::LeftBracket, LexMode::Outside),
-        b']' => Begins::Alone(TokenKind::RightBracket, LexMode::Outside),
-        b'(' => Begins::Alone(TokenKind::LeftParen, LexMode::Outside),
-        b')' => Begins::Alone(TokenKind::RightParen, LexMode::Outside),
-        b'.' => Begins::Alone(TokenKind::Period, LexMode::Outside),
-        b'*' => Begins::Alone(TokenKind::Asterisk, LexMode::Outside),
+        b'{' => Begins::Alone(Sign::CommentOpen, LexMode::Comment(Close::Brace)),
+        b';' => Begins::Alone(Sign::CommentOpen, LexMode::Comment(Close::LineEnd)),
+        b'[' => Begins::Alone(Sign::LeftBracket, LexMode::Outside),
+        b']' => Begins::Alone(Sign::RightBracket, LexMode::Outside),
+        b'(' => Begins::Alone(Sign::LeftParen, LexMode::Outside),
+        b')' => Begins::Alone(Sign::RightParen, LexMode::Outside),
+        b'.' => Begins::Alone(Sign::Period, LexMode::Outside),
+        b'*' => Begins::Alone(Sign::Asterisk, LexMode::Outside),
         b'<' | b'>' => Begins::Refused(LexReason::Reserved),
         0..=31 | 127 => Begins::Refused(LexReason::ControlByte),
         _ => Begins::Refused(LexReason::StrayByte),
@@ -62,9 +62,9 @@ pub(crate) fn begins_in_comment(byte: u8, close: Close) -> Begins
         return Begins::Text(Text::Word(close));
     }
     match close {
-        Close::Brace if byte == b'}' => Begins::Alone(TokenKind::CommentClose, LexMode::Outside),
+        Close::Brace if byte == b'}' => Begins::Alone(Sign::CommentClose, LexMode::Outside),
         Close::LineEnd if is_in(byte, Set::LineEnd) => Begins::Alone(
-            TokenKind::CommentClose,
+            Sign::CommentClose,
             LexMode::LineStart,
         ),
         _ if is_in(byte, Set::Space) => Begins::Gap(LexMode::Comment(close)),

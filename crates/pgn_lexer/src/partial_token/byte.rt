@@ -9,7 +9,7 @@ use crate::partial_token::begins::{Begins, begins_in_comment, begins_outside};
 use crate::partial_token::{
     ByteResult, Close, LexMode, PartialToken, Text, TokenForm, clear, longer_number,
 };
-use crate::token::{LexReason, TokenKind};
+use crate::token::LexReason;
 
 impl PartialToken {
     ghost use Rattle.pgn_lexer.specs.Spelling as spelling;
@@ -101,7 +101,7 @@ impl PartialToken {
                 ByteResult::Used
             }
             Begins::Dollar => self.go(LexMode::Dollar),
-            Begins::Alone(kind, mode) => self.end(mode, TokenForm::Other(kind)),
+            Begins::Alone(sign, mode) => self.end(mode, TokenForm::Sign(sign)),
             Begins::Refused(reason) => self.fail(place, reason),
         }
     }
@@ -153,7 +153,7 @@ impl PartialToken {
     {
         if !is_in(byte, Set::Digit) {
             self.mode = LexMode::Outside;
-            return ByteResult::EndsBefore(TokenForm::Other(TokenKind::Glyph(number)));
+            return ByteResult::EndsBefore(TokenForm::Glyph(number));
         }
         match longer_number(number, byte) {
             Some(longer) => self.go(LexMode::Glyph(longer)),

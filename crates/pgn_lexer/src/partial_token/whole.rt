@@ -151,8 +151,9 @@ impl PartialToken {
                     };
                     return (used + length, Some(Token { at, kind }));
                 }
-                Begins::Alone(kind, mode) => {
+                Begins::Alone(sign, mode) => {
                     self.mode = mode;
+                    let kind = sign.kind();
                     return (used + 1, Some(Token { at, kind }));
                 }
                 _ => break,
@@ -189,7 +190,7 @@ fn whole_at(piece: &[u8]) -> Option<(usize, LexMode, TokenKind<'_>)>
             let (length, number) = glyph_in(piece)?;
             Some((length, LexMode::Outside, TokenKind::Glyph(number)))
         }
-        Begins::Alone(kind, mode) => Some((1, mode, kind)),
+        Begins::Alone(sign, mode) => Some((1, mode, sign.kind())),
         Begins::Gap(_) | Begins::Refused(_) => None,
     }
 }

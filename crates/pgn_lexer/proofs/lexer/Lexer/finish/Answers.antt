@@ -1,7 +1,6 @@
 use Rattle.pgn_lexer.proofs.Words.{refl, sym, subst, PartialToken, IsSound}
 use Rattle.pgn_lexer.proofs.stepping.ByteGives.{closes_gives, closes_token}
 use Rattle.pgn_lexer.proofs.stepping.EndGives.{finishes_end, finishes_token, finishes_told, finishes_of}
-use Rattle.pgn_lexer.proofs.lexer.Lexer.finish.Goals.{in-Ends, in-Ends-2}
 use Rattle.pgn_lexer.proofs.lexer.Lexer.finish.Goals as goal
 
 pub invariant_of-self : goal.invariant_of-self
@@ -11,10 +10,7 @@ invariant_of-self c =
 
 pub invariant_of-self-in-Ends : goal.invariant_of-self-in-Ends
 invariant_of-self-in-Ends c =
-    elim c.in-Ends-1.branch [
-      | in-Ends w ↦ let h = closes_token _ _ _ _ w.in-Ends.form c.self.invariant c.close.ensures w.in-Ends.is in h.sound
-      | in-Ends-2 w ↦ let h = closes_token _ _ _ _ w.in-Ends.form c.self.invariant c.close.ensures w.in-Ends.is in h.sound
-    ]
+    let h = closes_token _ _ _ _ c.in-Ends.form c.self.invariant c.close.ensures c.in-Ends.is in h.sound
 
 pub invariant_of-self-in-Fault : goal.invariant_of-self-in-Fault
 invariant_of-self-in-Fault c =
@@ -27,14 +23,8 @@ returns-in-Used c =
 
 pub returns-in-Ends : goal.returns-in-Ends
 returns-in-Ends c =
-    elim c.in-Ends-1.branch [
-      | in-Ends w ↦
-          let h = closes_token _ _ _ _ w.in-Ends.form c.self.invariant c.close.ensures w.in-Ends.is in
-          ((refl, λ _. tt, finishes_of _ _ _ _ c.self.view_is (finishes_token _ _ _ _ _ c.token.ensures.at (rw w.form-is at c.token.ensures.kind) h)), record { after = tt })
-      | in-Ends-2 w ↦
-          let h = closes_token _ _ _ _ w.in-Ends.form c.self.invariant c.close.ensures w.in-Ends.is in
-          ((refl, λ _. tt, finishes_of _ _ _ _ c.self.view_is (finishes_token _ _ _ _ _ c.token.ensures.at (rw w.form-is at c.token.ensures.kind) h)), record { after = tt })
-    ]
+    let h = closes_token _ _ _ _ c.in-Ends.form c.self.invariant c.close.ensures c.in-Ends.is in
+    ((refl, λ _. tt, finishes_of _ _ _ _ c.self.view_is (finishes_token _ _ _ _ _ c.token.ensures.at c.token.ensures.kind h)), record { after = tt })
 
 pub returns-in-Fault : goal.returns-in-Fault
 returns-in-Fault c =

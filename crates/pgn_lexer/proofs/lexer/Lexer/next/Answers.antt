@@ -1,7 +1,6 @@
 use Rattle.pgn_lexer.proofs.Words.{refl, arith}
 use Rattle.pgn_lexer.proofs.stepping.StandsAfterCalls.{scans_nothing, scans_form, scans_told, scans_of}
 use Rattle.pgn_lexer.proofs.stepping.PieceByByte.{ran_to_token}
-use Rattle.pgn_lexer.proofs.lexer.Lexer.next.Goals.{in-Ends, in-Ends-2}
 use Rattle.pgn_lexer.proofs.lexer.Lexer.next.Goals as goal
 
 pub returns-in-Used : goal.returns-in-Used
@@ -11,18 +10,10 @@ returns-in-Used c =
 
 pub returns-in-Ends : goal.returns-in-Ends
 returns-in-Ends c =
-    elim c.in-Ends-1.branch [
-      | in-Ends w ↦
-          let ran = ran_to_token _ _ _ _ _ _ w.in-Ends.form w.in-Ends.is c.run-used.ensures in (
-            (refl, λ _. tt, scans_of _ _ _ _ _ _ c.self.view_is (scans_form _ _ _ _ _ _ _ c.token.ensures.at (rw w.form-is at c.token.ensures.kind) ran)),
-            record { used = ran.within; after = tt },
-          )
-      | in-Ends-2 w ↦
-          let ran = ran_to_token _ _ _ _ _ _ w.in-Ends.form w.in-Ends.is c.run-used.ensures in (
-            (refl, λ _. tt, scans_of _ _ _ _ _ _ c.self.view_is (scans_form _ _ _ _ _ _ _ c.token.ensures.at (rw w.form-is at c.token.ensures.kind) ran)),
-            record { used = ran.within; after = tt },
-          )
-    ]
+    let ran = ran_to_token _ _ _ _ _ _ c.in-Ends.form c.in-Ends.is c.run-used.ensures in (
+      (refl, λ _. tt, scans_of _ _ _ _ _ _ c.self.view_is (scans_form _ _ _ _ _ _ _ c.token.ensures.at c.token.ensures.kind ran)),
+      record { used = ran.within; after = tt },
+    )
 
 pub returns-in-Fault : goal.returns-in-Fault
 returns-in-Fault c =

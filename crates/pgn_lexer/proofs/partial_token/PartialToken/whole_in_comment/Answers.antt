@@ -31,15 +31,15 @@ returns-in-Text-clause-reads c = λ skips.
 pub returns-in-Alone-clause-reads : goal.returns-in-Alone-clause-reads
 returns-in-Alone-clause-reads c = λ skips.
     let here = c.loop-used.invariant in
-    reads_close skips _ _ _ _ _ (here.passes skips) c.loop-used-test.true here.room c.args.close here.comment _ _
-    (sym c.begins_in_comment.ensures ∙ c.in-Alone.is)
+    rw c.kind-kind.ensures (reads_close skips _ _ _ _ _ (here.passes skips) c.loop-used-test.true here.room c.args.close here.comment _ _
+    (sym c.begins_in_comment.ensures ∙ c.in-Alone.is))
 
 pub returns-in-Alone-clause-sound : goal.returns-in-Alone-clause-sound
 returns-in-Alone-clause-sound c =
-    let between = close_begun c.args.close _ c.in-Alone.kind c.in-Alone.mode (sym c.begins_in_comment.ensures ∙ c.in-Alone.is) in
+    let between = close_begun c.args.close _ c.in-Alone.sign c.in-Alone.mode (sym c.begins_in_comment.ensures ∙ c.in-Alone.is) in
     sound_between _ between.1 _ _ _ c.loop-used.invariant.room
 
 pub invariant_of-self-in-Alone : goal.invariant_of-self-in-Alone
 invariant_of-self-in-Alone c =
-    let between = close_begun c.args.close _ c.in-Alone.kind c.in-Alone.mode (sym c.begins_in_comment.ensures ∙ c.in-Alone.is) in
+    let between = close_begun c.args.close _ c.in-Alone.sign c.in-Alone.mode (sym c.begins_in_comment.ensures ∙ c.in-Alone.is) in
     let sound = sound_between c.in-Alone.mode between.1 0 0 _ c.loop-used.invariant.room in sound.room

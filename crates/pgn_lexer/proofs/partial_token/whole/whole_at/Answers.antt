@@ -28,6 +28,6 @@ pub returns-in-Alone : goal.returns-in-Alone
 returns-in-Alone c =
     let begins = sym c.begins_outside.ensures ∙ c.in-Alone.is in
     record {
-      whole = whole_alone _ _ _ (some _ c.if-is_empty.ensures) begins;
-      not_passed = λ unpassed. alone_unpassed _ _ _ _ refl begins unpassed.no_period;
+      whole = rw c.kind.ensures (whole_alone _ _ _ (some _ c.if-is_empty.ensures) begins);
+      not_passed = λ unpassed. rw c.kind.ensures (alone_unpassed _ _ _ _ refl begins unpassed.no_period);
     }
