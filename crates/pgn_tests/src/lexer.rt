@@ -5,6 +5,7 @@ use TokenKind::{
     RightParen, Str, Symbol, Word,
 };
 use pgn_lexer::{LexFault, LexReason, Lexer, Outcome, Token, TokenKind};
+use std::process::Abort;
 
 const LONGEST: usize = 1 << 32;
 
@@ -14,6 +15,27 @@ fn at(at: u64, kind: TokenKind<'_>) -> Outcome<'_> {
 
 fn refused(at: u64, reason: LexReason) -> Outcome<'static> {
     Outcome::Fault(LexFault { at, reason })
+}
+
+/// An outcome: the place of a token and its kind, or of a fault and its reason.
+macro_rules! outcome {
+    ($at:literal fault $reason:ident) => { refused($at, LexReason::$reason) };
+    ($at:literal $kind:expr) => { at($at, $kind) };
+}
+
+macro_rules! outcomes {
+    ($($at:literal $kind:ident $(($value:expr))? $($reason:ident)?),*) => {
+        &[$(outcome!($at $kind $(($value))? $($reason)?)),*]
+    };
+}
+
+/// A call for each row, which has the call's arguments, and then the outcomes.
+macro_rules! each {
+    ($call:ident $rt:expr; $(
+        $($argument:literal)+ => $($at:literal $kind:ident $(($value:expr))? $($reason:ident)?),*;
+    )*) => {
+        $($call($rt, $($argument),+, outcomes!($($at $kind $(($value))? $($reason)?),*));)*
+    };
 }
 
 /// How outcomes are asked for.
@@ -159,6 +181,10 @@ fn holds(text: &[u8], outcomes: &[Outcome<'_>]) -> bool {
     true
 }
 
+fn reads(rt: &impl Abort, text: &[u8], outcomes: &[Outcome<'_>]) {
+    assert!(rt; holds(text, outcomes), "at {text:?}");
+}
+
 /// Whether a lexer that begins at the place of the text gives the outcomes, byte by byte and whole.
 fn begins_by(
     way: Way,
@@ -178,13 +204,17 @@ fn begins_by(
     Some(finishes(&mut whole, outcomes, seen)? && finishes(&mut lexer, outcomes, count)?)
 }
 
-fn begins(text: &[u8], place: usize, in_first_column: bool, outcomes: &[Outcome<'_>]) -> bool {
+fn begins(
+    rt: &impl Abort,
+    text: &[u8],
+    place: usize,
+    in_first_column: bool,
+    outcomes: &[Outcome<'_>],
+) {
     for way in WAYS {
-        if begins_by(way, text, place, in_first_column, outcomes) != Some(true) {
-            return false;
-        }
+        let is_right = begins_by(way, text, place, in_first_column, outcomes) == Some(true);
+        assert!(rt; is_right, "at {place} of {text:?}");
     }
-    true
 }
 
 /// Whether `whole_token` uses so many bytes of the piece, and gives this. The lexer has read `{` or
@@ -224,271 +254,66 @@ fn token(at: u64, kind: TokenKind<'_>) -> Option<Token<'_>> {
 
 #[test]
 fn tokens_of_texts(rt: HostRuntime) {
-    assert!(rt; holds(b"", &[at(0, End)]));
-    assert!(rt;
-        holds(
-            b"1.e4!$3",
-            &[
-                at(0, Symbol(b"1")),
-                at(1, Period),
-                at(2, Symbol(b"e4")),
-                at(4, Glyph(1)),
-                at(5, Glyph(3)),
-                at(7, End)
-            ]
-        )
+    each! { reads &rt;
+        b"" => 0 End;
+        b"1.e4!$3" => 0 Symbol(b"1"), 1 Period, 2 Symbol(b"e4"), 4 Glyph(1), 5 Glyph(3), 7 End;
+        b"1-0*" => 0 Symbol(b"1-0"), 3 Asterisk, 4 End;
+        b"1/2-1/2" => 0 Symbol(b"1/2-1/2"), 7 End;
+        b"(1/2-1/2)" => 0 LeftParen, 1 Symbol(b"1/2-1/2"), 8 RightParen, 9 End;
+        b"$255 $007" => 0 Glyph(255), 5 Glyph(7), 9 End;
+        b"! ? !! ?? !? ?!" => 0 Glyph(1), 2 Glyph(2), 4 Glyph(3), 7 Glyph(4), 10 Glyph(5),
+            13 Glyph(6), 15 End;
+        b"[A \"x\\\"y\\\\z\\q\"]" => 0 LeftBracket, 1 Symbol(b"A"), 3 Str(b"x\"y\\z\\q"),
+            14 RightBracket, 15 End;
+        b"\"\"\"\\\\\"" => 0 Str(b""), 2 Str(b"\\"), 6 End;
+        b"% *" => 3 End;
+        b"%a\r\n%b\n*\r%c" => 7 Asterisk, 11 End;
+        b"{a b}c{}" => 0 CommentOpen, 1 Word(b"a"), 3 Word(b"b"), 4 CommentClose, 5 Symbol(b"c"),
+            6 CommentOpen, 7 CommentClose, 8 End;
+        b"{a\n%b}*" => 0 CommentOpen, 1 Word(b"a"), 3 Word(b"%b"), 5 CommentClose, 6 Asterisk,
+            7 End;
+        b";a {b;%\t\r\n%x" => 0 CommentOpen, 1 Word(b"a"), 3 Word(b"{b;%"), 8 CommentClose, 12 End;
+        b";x" => 0 CommentOpen, 1 Word(b"x"), 2 CommentClose, 2 End;
+        b";" => 0 CommentOpen, 1 CommentClose, 1 End;
+        b"{\xC8\xFF}" => 0 CommentOpen, 1 Word(b"\xC8\xFF"), 3 CommentClose, 4 End;
+        b"\xEF\xBB\xBF" => 3 End;
+        b"\xEF\xBB\xBF%x\r\n;c\r\n[White \"A\"]" => 7 CommentOpen, 8 Word(b"c"), 9 CommentClose,
+            11 LeftBracket, 12 Symbol(b"White"), 18 Str(b"A"), 21 RightBracket, 22 End;
+        b"\t\x0B\x0C\r\n *" => 6 Asterisk, 7 End;
+        b"e8=Q+ O-O-O# a_b:c" => 0 Symbol(b"e8=Q+"), 6 Symbol(b"O-O-O#"), 13 Symbol(b"a_b:c"),
+            18 End;
+    }
+    reads(
+        &rt,
+        &[b'a'; 255],
+        outcomes! { 0 Symbol(&[b'a'; 255]), 255 End },
     );
-    assert!(rt;
-        holds(
-            b"1-0*",
-            &[at(0, Symbol(b"1-0")), at(3, Asterisk), at(4, End)]
-        )
-    );
-    assert!(rt; holds(b"1/2-1/2", &[at(0, Symbol(b"1/2-1/2")), at(7, End)]));
-    assert!(rt;
-        holds(
-            b"(1/2-1/2)",
-            &[
-                at(0, LeftParen),
-                at(1, Symbol(b"1/2-1/2")),
-                at(8, RightParen),
-                at(9, End)
-            ]
-        )
-    );
-    assert!(rt;
-        holds(
-            b"$255 $007",
-            &[at(0, Glyph(255)), at(5, Glyph(7)), at(9, End)]
-        )
-    );
-    assert!(rt;
-        holds(
-            b"! ? !! ?? !? ?!",
-            &[
-                at(0, Glyph(1)),
-                at(2, Glyph(2)),
-                at(4, Glyph(3)),
-                at(7, Glyph(4)),
-                at(10, Glyph(5)),
-                at(13, Glyph(6)),
-                at(15, End)
-            ]
-        )
-    );
-    assert!(rt;
-        holds(
-            b"[A \"x\\\"y\\\\z\\q\"]",
-            &[
-                at(0, LeftBracket),
-                at(1, Symbol(b"A")),
-                at(3, Str(b"x\"y\\z\\q")),
-                at(14, RightBracket),
-                at(15, End)
-            ]
-        )
-    );
-    assert!(rt;
-        holds(
-            b"\"\"\"\\\\\"",
-            &[at(0, Str(b"")), at(2, Str(b"\\")), at(6, End)]
-        )
-    );
-    assert!(rt; holds(b"% *", &[at(3, End)]));
-    assert!(rt; holds(b"%a\r\n%b\n*\r%c", &[at(7, Asterisk), at(11, End)]));
-    assert!(rt;
-        holds(
-            b"{a b}c{}",
-            &[
-                at(0, CommentOpen),
-                at(1, Word(b"a")),
-                at(3, Word(b"b")),
-                at(4, CommentClose),
-                at(5, Symbol(b"c")),
-                at(6, CommentOpen),
-                at(7, CommentClose),
-                at(8, End)
-            ]
-        )
-    );
-    assert!(rt;
-        holds(
-            b"{a\n%b}*",
-            &[
-                at(0, CommentOpen),
-                at(1, Word(b"a")),
-                at(3, Word(b"%b")),
-                at(5, CommentClose),
-                at(6, Asterisk),
-                at(7, End)
-            ]
-        )
-    );
-    assert!(rt;
-        holds(
-            b";a {b;%\t\r\n%x",
-            &[
-                at(0, CommentOpen),
-                at(1, Word(b"a")),
-                at(3, Word(b"{b;%")),
-                at(8, CommentClose),
-                at(12, End)
-            ]
-        )
-    );
-    assert!(rt;
-        holds(
-            b";x",
-            &[
-                at(0, CommentOpen),
-                at(1, Word(b"x")),
-                at(2, CommentClose),
-                at(2, End)
-            ]
-        )
-    );
-    assert!(rt; holds(b";", &[at(0, CommentOpen), at(1, CommentClose), at(1, End)]));
-    assert!(rt;
-        holds(
-            b"{\xC8\xFF}",
-            &[
-                at(0, CommentOpen),
-                at(1, Word(b"\xC8\xFF")),
-                at(3, CommentClose),
-                at(4, End)
-            ]
-        )
-    );
-    assert!(rt; holds(b"\xEF\xBB\xBF", &[at(3, End)]));
-    assert!(rt;
-        holds(
-            b"\xEF\xBB\xBF%x\r\n;c\r\n[White \"A\"]",
-            &[
-                at(7, CommentOpen),
-                at(8, Word(b"c")),
-                at(9, CommentClose),
-                at(11, LeftBracket),
-                at(12, Symbol(b"White")),
-                at(18, Str(b"A")),
-                at(21, RightBracket),
-                at(22, End)
-            ]
-        )
-    );
-    assert!(rt; holds(b"\t\x0B\x0C\r\n *", &[at(6, Asterisk), at(7, End)]));
-    assert!(rt;
-        holds(
-            b"e8=Q+ O-O-O# a_b:c",
-            &[
-                at(0, Symbol(b"e8=Q+")),
-                at(6, Symbol(b"O-O-O#")),
-                at(13, Symbol(b"a_b:c")),
-                at(18, End)
-            ]
-        )
-    );
-    assert!(rt; holds(&[b'a'; 255], &[at(0, Symbol(&[b'a'; 255])), at(255, End)]));
 }
 
 #[test]
 fn refusals_of_texts(rt: HostRuntime) {
-    assert!(rt;
-        holds(
-            b"e4 & *",
-            &[at(0, Symbol(b"e4")), refused(3, LexReason::StrayByte)]
-        )
-    );
-    assert!(rt; holds(b" % *", &[refused(1, LexReason::StrayByte)]));
-    assert!(rt; holds(b"\xEF\xBB*", &[refused(0, LexReason::StrayByte)]));
-    assert!(rt; holds(b"\xEF", &[refused(0, LexReason::StrayByte)]));
-    assert!(rt;
-        holds(
-            b"e4 \x01",
-            &[at(0, Symbol(b"e4")), refused(3, LexReason::ControlByte)]
-        )
-    );
-    assert!(rt; holds(b"\"a\tb\"", &[refused(2, LexReason::ControlByte)]));
-    assert!(rt;
-        holds(
-            b"{ab\x7F",
-            &[
-                at(0, CommentOpen),
-                at(1, Word(b"ab")),
-                refused(3, LexReason::ControlByte)
-            ]
-        )
-    );
-    assert!(rt; holds(b"<1> *", &[refused(0, LexReason::Reserved)]));
-    assert!(rt; holds(b"*>", &[at(0, Asterisk), refused(1, LexReason::Reserved)]));
-    assert!(rt; holds(&[b'a'; 256], &[refused(0, LexReason::SymbolTooLong)]));
-    assert!(rt;
-        holds(
-            b"e4 $ *",
-            &[at(0, Symbol(b"e4")), refused(3, LexReason::LoneDollar)]
-        )
-    );
-    assert!(rt; holds(b"*$", &[at(0, Asterisk), refused(1, LexReason::LoneDollar)]));
-    assert!(rt;
-        holds(
-            b"e4 $256 *",
-            &[at(0, Symbol(b"e4")), refused(3, LexReason::GlyphRange)]
-        )
-    );
-    assert!(rt;
-        holds(
-            b"e4!!! *",
-            &[at(0, Symbol(b"e4")), refused(2, LexReason::BadSuffix)]
-        )
-    );
-    assert!(rt;
-        holds(
-            b"e4 ;a}\n*",
-            &[
-                at(0, Symbol(b"e4")),
-                at(3, CommentOpen),
-                at(4, Word(b"a")),
-                refused(5, LexReason::BraceInLineComment)
-            ]
-        )
-    );
-    assert!(rt;
-        holds(
-            b"[A \"x\n",
-            &[
-                at(0, LeftBracket),
-                at(1, Symbol(b"A")),
-                refused(3, LexReason::UnclosedString)
-            ]
-        )
-    );
-    assert!(rt;
-        holds(
-            b"*\"a\\\r",
-            &[at(0, Asterisk), refused(1, LexReason::UnclosedString)]
-        )
-    );
-    assert!(rt; holds(b"\"\\", &[refused(0, LexReason::UnclosedString)]));
-    assert!(rt;
-        holds(
-            b"e4 {x",
-            &[
-                at(0, Symbol(b"e4")),
-                at(3, CommentOpen),
-                at(4, Word(b"x")),
-                refused(5, LexReason::UnclosedComment)
-            ]
-        )
-    );
-    assert!(rt;
-        holds(
-            b"{a",
-            &[
-                at(0, CommentOpen),
-                at(1, Word(b"a")),
-                refused(2, LexReason::UnclosedComment)
-            ]
-        )
-    );
+    each! { reads &rt;
+        b"e4 & *" => 0 Symbol(b"e4"), 3 fault StrayByte;
+        b" % *" => 1 fault StrayByte;
+        b"\xEF\xBB*" => 0 fault StrayByte;
+        b"\xEF" => 0 fault StrayByte;
+        b"e4 \x01" => 0 Symbol(b"e4"), 3 fault ControlByte;
+        b"\"a\tb\"" => 2 fault ControlByte;
+        b"{ab\x7F" => 0 CommentOpen, 1 Word(b"ab"), 3 fault ControlByte;
+        b"<1> *" => 0 fault Reserved;
+        b"*>" => 0 Asterisk, 1 fault Reserved;
+        b"e4 $ *" => 0 Symbol(b"e4"), 3 fault LoneDollar;
+        b"*$" => 0 Asterisk, 1 fault LoneDollar;
+        b"e4 $256 *" => 0 Symbol(b"e4"), 3 fault GlyphRange;
+        b"e4!!! *" => 0 Symbol(b"e4"), 2 fault BadSuffix;
+        b"e4 ;a}\n*" => 0 Symbol(b"e4"), 3 CommentOpen, 4 Word(b"a"), 5 fault BraceInLineComment;
+        b"[A \"x\n" => 0 LeftBracket, 1 Symbol(b"A"), 3 fault UnclosedString;
+        b"*\"a\\\r" => 0 Asterisk, 1 fault UnclosedString;
+        b"\"\\" => 0 fault UnclosedString;
+        b"e4 {x" => 0 Symbol(b"e4"), 3 CommentOpen, 4 Word(b"x"), 5 fault UnclosedComment;
+        b"{a" => 0 CommentOpen, 1 Word(b"a"), 2 fault UnclosedComment;
+    }
+    reads(&rt, &[b'a'; 256], outcomes! { 0 fault SymbolTooLong });
 }
 
 #[test]
@@ -497,292 +322,120 @@ fn long_words_and_strings(rt: HostRuntime) {
     word[0] = b'{';
     word[80] = b'}';
     word[81] = b'*';
-    let full = [
-        at(0, CommentOpen),
-        at(1, Word(&[b'w'; 79])),
-        at(80, CommentClose),
-        at(81, Asterisk),
-        at(82, End),
-    ];
-    assert!(rt; holds(&word, &full));
+    let full =
+        outcomes! { 0 CommentOpen, 1 Word(&[b'w'; 79]), 80 CommentClose, 81 Asterisk, 82 End };
+    reads(&rt, &word, full);
     word[80] = b'w';
-    assert!(rt;
-        holds(
-            &word,
-            &[at(0, CommentOpen), refused(1, LexReason::WordTooLong)]
-        )
-    );
+    reads(&rt, &word, outcomes! { 0 CommentOpen, 1 fault WordTooLong });
 
     let mut string = [b'x'; 258];
     string[0] = b'"';
     string[256] = b'"';
     string[257] = b'*';
-    assert!(rt;
-        holds(
-            &string,
-            &[at(0, Str(&[b'x'; 255])), at(257, Asterisk), at(258, End)]
-        )
+    reads(
+        &rt,
+        &string,
+        outcomes! { 0 Str(&[b'x'; 255]), 257 Asterisk, 258 End },
     );
     string[256] = b'x';
-    assert!(rt; holds(&string, &[refused(0, LexReason::StringTooLong)]));
+    reads(&rt, &string, outcomes! { 0 fault StringTooLong });
     string[256] = b'\\';
-    assert!(rt; holds(&string, &[refused(0, LexReason::StringTooLong)]));
+    reads(&rt, &string, outcomes! { 0 fault StringTooLong });
     string[256] = b'\n';
-    assert!(rt; holds(&string, &[refused(0, LexReason::UnclosedString)]));
+    reads(&rt, &string, outcomes! { 0 fault UnclosedString });
     string[256] = b'\t';
-    assert!(rt; holds(&string, &[refused(256, LexReason::ControlByte)]));
+    reads(&rt, &string, outcomes! { 256 fault ControlByte });
 }
 
 #[test]
 fn begins_at_a_later_place(rt: HostRuntime) {
-    // behind a marker: places count from the first byte of the text
-    assert!(rt; begins(b"1-0 e4", 3, false, &[at(4, Symbol(b"e4")), at(6, End)]));
-    assert!(rt; begins(b"**", 1, false, &[at(1, Asterisk), at(2, End)]));
-    assert!(rt; begins(b"1-0", 3, false, &[at(3, End)]));
-    // a percent sign begins an escape line in the first column alone
-    assert!(rt; begins(b"*%x\n*", 1, false, &[refused(1, LexReason::StrayByte)]));
-    assert!(rt; begins(b"*\n%x\n*", 2, true, &[at(5, Asterisk), at(6, End)]));
-    assert!(rt; begins(b"*\n%x\n*", 1, false, &[at(5, Asterisk), at(6, End)]));
-    // a byte order mark is skipped at place 0 alone
-    assert!(rt; begins(b"\xEF\xBB\xBF*", 0, true, &[at(3, Asterisk), at(4, End)]));
-    assert!(rt;
-        begins(
-            b"\xEF\xBB\xBF%x\n*",
-            3,
-            true,
-            &[at(6, Asterisk), at(7, End)]
-        )
-    );
-    assert!(rt;
-        begins(
-            b"\n\xEF\xBB\xBF*",
-            1,
-            true,
-            &[refused(1, LexReason::StrayByte)]
-        )
-    );
+    each! { begins &rt;
+        // behind a marker: places count from the first byte of the text
+        b"1-0 e4" 3 false => 4 Symbol(b"e4"), 6 End;
+        b"**" 1 false => 1 Asterisk, 2 End;
+        b"1-0" 3 false => 3 End;
+        // a percent sign begins an escape line in the first column alone
+        b"*%x\n*" 1 false => 1 fault StrayByte;
+        b"*\n%x\n*" 2 true => 5 Asterisk, 6 End;
+        b"*\n%x\n*" 1 false => 5 Asterisk, 6 End;
+        // a byte order mark is skipped at place 0 alone
+        b"\xEF\xBB\xBF*" 0 true => 3 Asterisk, 4 End;
+        b"\xEF\xBB\xBF%x\n*" 3 true => 6 Asterisk, 7 End;
+        b"\n\xEF\xBB\xBF*" 1 true => 1 fault StrayByte;
+    }
 }
 
 #[test]
 fn numbers_markers_and_escapes(rt: HostRuntime) {
-    assert!(rt;
-        holds(
-            b"12. e4 12... e5 1-0",
-            &[
-                at(0, Symbol(b"12")),
-                at(2, Period),
-                at(4, Symbol(b"e4")),
-                at(7, Symbol(b"12")),
-                at(9, Period),
-                at(10, Period),
-                at(11, Period),
-                at(13, Symbol(b"e5")),
-                at(16, Symbol(b"1-0")),
-                at(19, End)
-            ]
-        )
-    );
-    assert!(rt;
-        holds(
-            b"1.1/2-1/2 0-1",
-            &[
-                at(0, Symbol(b"1")),
-                at(1, Period),
-                at(2, Symbol(b"1/2-1/2")),
-                at(10, Symbol(b"0-1")),
-                at(13, End)
-            ]
-        )
-    );
-    assert!(rt;
-        holds(
-            b"12e4 7-",
-            &[at(0, Symbol(b"12e4")), at(5, Symbol(b"7-")), at(7, End)]
-        )
-    );
-    // behind a number or a period a percent sign is in no first column
-    assert!(rt;
-        holds(
-            b"*\n1%x\n*",
-            &[
-                at(0, Asterisk),
-                at(2, Symbol(b"1")),
-                refused(3, LexReason::StrayByte)
-            ]
-        )
-    );
-    assert!(rt;
-        holds(
-            b"*\n.%x\n*",
-            &[
-                at(0, Asterisk),
-                at(2, Period),
-                refused(3, LexReason::StrayByte)
-            ]
-        )
-    );
-    assert!(rt;
-        holds(
-            b"*\n %x\n*",
-            &[at(0, Asterisk), refused(3, LexReason::StrayByte)]
-        )
-    );
-    assert!(rt;
-        holds(
-            b"1.\n%1.\n2.\r%x\r\n*",
-            &[
-                at(0, Symbol(b"1")),
-                at(1, Period),
-                at(7, Symbol(b"2")),
-                at(8, Period),
-                at(14, Asterisk),
-                at(15, End)
-            ]
-        )
-    );
-    // an escape in a string behind a number
-    assert!(rt;
-        holds(
-            b"1.\"a\\\"b\" *",
-            &[
-                at(0, Symbol(b"1")),
-                at(1, Period),
-                at(2, Str(b"a\"b")),
-                at(9, Asterisk),
-                at(10, End)
-            ]
-        )
-    );
-    assert!(rt; holds(b"\"a\\\"", &[refused(0, LexReason::UnclosedString)]));
+    each! { reads &rt;
+        b"12. e4 12... e5 1-0" => 0 Symbol(b"12"), 2 Period, 4 Symbol(b"e4"), 7 Symbol(b"12"),
+            9 Period, 10 Period, 11 Period, 13 Symbol(b"e5"), 16 Symbol(b"1-0"), 19 End;
+        b"1.1/2-1/2 0-1" => 0 Symbol(b"1"), 1 Period, 2 Symbol(b"1/2-1/2"), 10 Symbol(b"0-1"),
+            13 End;
+        b"12e4 7-" => 0 Symbol(b"12e4"), 5 Symbol(b"7-"), 7 End;
+        // behind a number or a period a percent sign is in no first column
+        b"*\n1%x\n*" => 0 Asterisk, 2 Symbol(b"1"), 3 fault StrayByte;
+        b"*\n.%x\n*" => 0 Asterisk, 2 Period, 3 fault StrayByte;
+        b"*\n %x\n*" => 0 Asterisk, 3 fault StrayByte;
+        b"1.\n%1.\n2.\r%x\r\n*" => 0 Symbol(b"1"), 1 Period, 7 Symbol(b"2"), 8 Period, 14 Asterisk,
+            15 End;
+        // an escape in a string behind a number
+        b"1.\"a\\\"b\" *" => 0 Symbol(b"1"), 1 Period, 2 Str(b"a\"b"), 9 Asterisk, 10 End;
+        b"\"a\\\"" => 0 fault UnclosedString;
+    }
 }
 
 #[test]
 fn glyphs_suffixes_and_tabs(rt: HostRuntime) {
-    assert!(rt; holds(b"$", &[refused(0, LexReason::LoneDollar)]));
-    assert!(rt; holds(b"$-1", &[refused(0, LexReason::LoneDollar)]));
-    assert!(rt;
-        holds(
-            b"$0000255$1",
-            &[at(0, Glyph(255)), at(8, Glyph(1)), at(10, End)]
-        )
-    );
-    assert!(rt; holds(b"$2550", &[refused(0, LexReason::GlyphRange)]));
-    assert!(rt;
-        holds(
-            b"$25e4",
-            &[at(0, Glyph(25)), at(3, Symbol(b"e4")), at(5, End)]
-        )
-    );
-    assert!(rt; holds(b"!?)", &[at(0, Glyph(5)), at(2, RightParen), at(3, End)]));
-    assert!(rt; holds(b"?\n!!", &[at(0, Glyph(2)), at(2, Glyph(3)), at(4, End)]));
-    assert!(rt; holds(b"!?!", &[refused(0, LexReason::BadSuffix)]));
-    assert!(rt;
-        holds(
-            b"??\x01",
-            &[at(0, Glyph(4)), refused(2, LexReason::ControlByte)]
-        )
-    );
-    assert!(rt;
-        holds(
-            b"\te4\x0Be5\x0C$1\t!\t",
-            &[
-                at(1, Symbol(b"e4")),
-                at(4, Symbol(b"e5")),
-                at(7, Glyph(1)),
-                at(10, Glyph(1)),
-                at(12, End)
-            ]
-        )
-    );
+    each! { reads &rt;
+        b"$" => 0 fault LoneDollar;
+        b"$-1" => 0 fault LoneDollar;
+        b"$0000255$1" => 0 Glyph(255), 8 Glyph(1), 10 End;
+        b"$2550" => 0 fault GlyphRange;
+        b"$25e4" => 0 Glyph(25), 3 Symbol(b"e4"), 5 End;
+        b"!?)" => 0 Glyph(5), 2 RightParen, 3 End;
+        b"?\n!!" => 0 Glyph(2), 2 Glyph(3), 4 End;
+        b"!?!" => 0 fault BadSuffix;
+        b"??\x01" => 0 Glyph(4), 2 fault ControlByte;
+        b"\te4\x0Be5\x0C$1\t!\t" => 1 Symbol(b"e4"), 4 Symbol(b"e5"), 7 Glyph(1), 10 Glyph(1),
+            12 End;
+    }
 }
 
 #[test]
 fn comments_to_the_end_of_a_line(rt: HostRuntime) {
-    assert!(rt;
-        holds(
-            b";a\t b\r%x\n*",
-            &[
-                at(0, CommentOpen),
-                at(1, Word(b"a")),
-                at(4, Word(b"b")),
-                at(5, CommentClose),
-                at(9, Asterisk),
-                at(10, End)
-            ]
-        )
-    );
-    assert!(rt;
-        holds(
-            b"e4; \t\n;\"1.\n",
-            &[
-                at(0, Symbol(b"e4")),
-                at(2, CommentOpen),
-                at(5, CommentClose),
-                at(6, CommentOpen),
-                at(7, Word(b"\"1.")),
-                at(10, CommentClose),
-                at(11, End)
-            ]
-        )
-    );
-    assert!(rt;
-        holds(
-            b"{1.\r\n2.\t;}",
-            &[
-                at(0, CommentOpen),
-                at(1, Word(b"1.")),
-                at(5, Word(b"2.")),
-                at(8, Word(b";")),
-                at(9, CommentClose),
-                at(10, End)
-            ]
-        )
-    );
-    assert!(rt;
-        holds(
-            b";a\x01\n",
-            &[
-                at(0, CommentOpen),
-                at(1, Word(b"a")),
-                refused(2, LexReason::ControlByte)
-            ]
-        )
-    );
+    each! { reads &rt;
+        b";a\t b\r%x\n*" => 0 CommentOpen, 1 Word(b"a"), 4 Word(b"b"), 5 CommentClose, 9 Asterisk,
+            10 End;
+        b"e4; \t\n;\"1.\n" => 0 Symbol(b"e4"), 2 CommentOpen, 5 CommentClose, 6 CommentOpen,
+            7 Word(b"\"1."), 10 CommentClose, 11 End;
+        b"{1.\r\n2.\t;}" => 0 CommentOpen, 1 Word(b"1."), 5 Word(b"2."), 8 Word(b";"),
+            9 CommentClose, 10 End;
+        b";a\x01\n" => 0 CommentOpen, 1 Word(b"a"), 2 fault ControlByte;
+    }
 }
 
 #[test]
 fn longest_texts(rt: HostRuntime) {
     let mut line = [b'w'; 81];
     line[0] = b';';
-    assert!(rt;
-        holds(
-            &line,
-            &[at(0, CommentOpen), refused(1, LexReason::WordTooLong)]
-        )
-    );
+    reads(&rt, &line, outcomes! { 0 CommentOpen, 1 fault WordTooLong });
     line[80] = b'\n';
-    assert!(rt;
-        holds(
-            &line,
-            &[
-                at(0, CommentOpen),
-                at(1, Word(&[b'w'; 79])),
-                at(80, CommentClose),
-                at(81, End)
-            ]
-        )
+    reads(
+        &rt,
+        &line,
+        outcomes! { 0 CommentOpen, 1 Word(&[b'w'; 79]), 80 CommentClose, 81 End },
     );
 
     let mut number = [b'1'; 256];
-    assert!(rt; holds(&number, &[refused(0, LexReason::SymbolTooLong)]));
+    reads(&rt, &number, outcomes! { 0 fault SymbolTooLong });
     number[255] = b'-';
-    assert!(rt; holds(&number, &[refused(0, LexReason::SymbolTooLong)]));
+    reads(&rt, &number, outcomes! { 0 fault SymbolTooLong });
     number[255] = b'.';
-    assert!(rt;
-        holds(
-            &number,
-            &[at(0, Symbol(&[b'1'; 255])), at(255, Period), at(256, End)]
-        )
+    reads(
+        &rt,
+        &number,
+        outcomes! { 0 Symbol(&[b'1'; 255]), 255 Period, 256 End },
     );
 
     // 253 bytes and a backslash that stands for itself are 255 data, and one byte more is too many
@@ -792,12 +445,12 @@ fn longest_texts(rt: HostRuntime) {
     string[256] = b'"';
     let mut data = [b'x'; 255];
     data[253] = b'\\';
-    assert!(rt; holds(&string, &[at(0, Str(&data)), at(257, End)]));
+    reads(&rt, &string, outcomes! { 0 Str(&data), 257 End });
     string[254] = b'x';
     string[255] = b'\\';
-    assert!(rt; holds(&string, &[refused(0, LexReason::UnclosedString)]));
+    reads(&rt, &string, outcomes! { 0 fault UnclosedString });
     string[256] = b'q';
-    assert!(rt; holds(&string, &[refused(0, LexReason::StringTooLong)]));
+    reads(&rt, &string, outcomes! { 0 fault StringTooLong });
 }
 
 #[test]
