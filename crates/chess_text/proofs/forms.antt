@@ -7,5 +7,6 @@ pub mod FormOriginKinds
 pub mod FormToSpelling
 pub mod MoverOfMove
 pub mod OnlyElement
+pub mod PairsToFind
 pub mod PieceForms
 pub mod SpellingToForm

@@ -1,6 +1,6 @@
 //! The move that a form names in a position. (PGN 8.2.3)
 
-ghost use Rattle.std.specs.Prelude.{◌≡◌, ◌≢◌, ◌+◌, ◌<◌, ◌^◌, ◌&&◌, Err, IsTrue, Some, length};
+ghost use Rattle.std.specs.Prelude.{◌≡◌, ◌≢◌, ◌+◌, ◌<◌, ◌≤◌, ◌^◌, ◌&&◌, Err, IsTrue, Some, length};
 ghost use Rattle.std.specs.Prelude.{IfOk, is_some};
 ghost use Rattle.chess_rules.specs.Candidate.{candidates};
 ghost use Rattle.chess_rules.specs.Legal.{is_legal, legal};
@@ -8,6 +8,7 @@ ghost use Rattle.chess_rules.specs.Step.{own, step};
 ghost use Rattle.chess_text.specs.declared.form.Form.TheVariants.{Castle, Man};
 ghost use Rattle.chess_text.specs.declared.resolution.SanFault.TheVariants.{Ambiguous};
 ghost use Rattle.chess_text.specs.MoveOfForm as spec;
+ghost use Rattle.chess_text.specs.San.{disambiguation_pairs};
 
 use crate::form::Form;
 use chess_rules::laws::candidates_are_complete;
@@ -70,7 +71,8 @@ pub fn resolve(position: &Position, form: &Form, probes: &mut Probes) -> Result<
 /// Returns the one legal move that agrees with the form. (PGN 8.2.3)
 ///
 /// It does what `resolve` does, without the position after the move. What `resolve` says of the
-/// count holds here too.
+/// count holds here too. To find a move it tries at least as many pairs as `write_san` does for it
+/// before the mark.
 ///
 /// # Errors
 ///
@@ -83,6 +85,8 @@ pub fn resolve_move(position: &Position, form: &Form, probes: &mut Probes) -> Re
     ensures legal { IfOk result (λ mv. IsTrue (is_legal position.now mv)) }
     ensures pairs { spec.CountsPairs (spec.form_pairs position.now form.now) result probes.old
         probes.new }
+    ensures candidates { IfOk result (λ mv. disambiguation_pairs position.now mv
+        ≤ spec.form_pairs position.now form.now) }
 {
     match *form {
         Form::Castle { long } => resolve_castling(position, long, probes),

@@ -58,20 +58,26 @@ pub fn write_san(position: &Position, played: &Played, probes: &mut Probes) -> A
         (probes.old + spec.disambiguation_pairs position.now played.now.mv) probes.new }
     ensures bound { probes.new ≤ probes.old + 1032 }
 {
-    write_san_of(position, &played.mv, &played.next, probes)
+    write_san_of(position, &played.mv, &played.next, false, probes)
 }
 
 /// Writes SAN as [`write_san`] does, of a legal move and the position after it.
+///
+/// If `is_found`, `probes` has at least the pairs that [`resolve_move`](crate::resolve_move) tries
+/// for the move. If it has one alone, the move has no rival, and none is looked for.
 #[inline(never)]
 pub fn write_san_of(
     position: &Position,
     mv: &Move,
     next: &Position,
+    is_found: bool,
     probes: &mut Probes,
 ) -> ArrayVec<u8, 7>
     // Cargo: assert!(u32::MAX - probes.count() >= 1032,
     // "the count of Probes has room for 1,032 more")
     requires legal { legal position.now mv.now ≡ Some next.now }
+    requires found { IsTrue is_found
+        → spec.disambiguation_pairs position.now mv.now ≤ probes.old }
     requires room { probes.old + 1032 < 2 ^ 32 }
     ensures text { result.items ≡ spec.san position.now mv.now }
     ensures some { 0 < length result.items }
@@ -81,7 +87,7 @@ pub fn write_san_of(
     ensures bound { probes.new ≤ probes.old + 1032 }
 {
     let mut text = ArrayVec::new();
-    push_unmarked(&mut text, position, mv, probes);
+    push_unmarked(&mut text, position, mv, is_found, probes);
     push_mark(&mut text, next, probes);
     text
 }
@@ -106,9 +112,17 @@ fn push_mark(text: &mut ArrayVec<u8, 7>, next: &Position, probes: &mut Probes)
 // Pushes the text of the move without its mark. `text` is empty before.
 //
 // The caller passes the vector, since each return of one would copy its bytes.
-fn push_unmarked(text: &mut ArrayVec<u8, 7>, position: &Position, mv: &Move, probes: &mut Probes)
+fn push_unmarked(
+    text: &mut ArrayVec<u8, 7>,
+    position: &Position,
+    mv: &Move,
+    is_found: bool,
+    probes: &mut Probes,
+)
     requires empty { text.old.items ≡ [] }
     requires legal { IsTrue (is_legal position.now mv.now) }
+    requires found { IsTrue is_found
+        → spec.disambiguation_pairs position.now mv.now ≤ probes.old }
     requires room { probes.old + 8 < 2 ^ 32 }
     ensures text { text.new.items ≡ spec.unmarked position.now mv.now }
     ensures some { 0 < length text.new.items }
@@ -123,7 +137,7 @@ fn push_unmarked(text: &mut ArrayVec<u8, 7>, position: &Position, mv: &Move, pro
     match piece.kind {
         Kind::King => push_king_text(text, position, mv),
         Kind::Pawn => push_pawn_text(text, position, mv),
-        kind => push_disambiguated_text(text, position, kind, mv, probes),
+        kind => push_disambiguated_text(text, position, kind, mv, is_found, probes),
     }
 }
 
@@ -208,12 +222,15 @@ fn push_disambiguated_text(
     position: &Position,
     kind: Kind,
     mv: &Move,
+    is_found: bool,
     probes: &mut Probes,
 )
     requires empty { text.old.items ≡ [] }
     requires legal { IsTrue (is_legal position.now mv.now) }
     requires own { IsTrue (own position.now kind mv.now.from) }
     requires may_have_rivals { IsTrue (spec.has_rivals kind) }
+    requires found { IsTrue is_found
+        → length (candidates position.now kind mv.now.to) ≤ probes.old }
     requires room { probes.old + 8 < 2 ^ 32 }
     ensures text { text.new.items ≡ spec.disambiguated_text kind position.now mv.now }
     ensures some { 0 < length text.new.items }
@@ -221,7 +238,7 @@ fn push_disambiguated_text(
     ensures pairs { probes.new ≡ probes.old + length (candidates position.now kind mv.now.to) }
     ensures few { probes.new ≤ probes.old + 8 }
 {
-    let rivals = rivals_of(position, kind, mv, probes);
+    let rivals = rivals_of(position, kind, mv, is_found, probes);
     text.push(letter(kind));
     push_disambiguation(text, mv.from, rivals);
     push_capture(text, position.at(mv.to).is_some());
@@ -256,9 +273,17 @@ impl Rivals {
 }
 
 // The rivals of the move. Mostly there is one candidate alone, the move's own origin.
-fn rivals_of(position: &Position, kind: Kind, mv: &Move, probes: &mut Probes) -> Rivals
+fn rivals_of(
+    position: &Position,
+    kind: Kind,
+    mv: &Move,
+    is_found: bool,
+    probes: &mut Probes,
+) -> Rivals
     requires legal { IsTrue (is_legal position.now mv.now) }
     requires own { IsTrue (own position.now kind mv.now.from) }
+    requires found { IsTrue is_found
+        → length (candidates position.now kind mv.now.to) ≤ probes.old }
     requires room { probes.old + 8 < 2 ^ 32 }
     ensures any { result.any ≡ list_any (λ s. true) (spec.rivals position.now kind mv.now) }
     ensures file { result.on_file ≡ spec.on_file mv.now.from
@@ -274,7 +299,7 @@ fn rivals_of(position: &Position, kind: Kind, mv: &Move, probes: &mut Probes) ->
         on_file: false,
         on_rank: false,
     };
-    if !may_have_two_origins(position, kind, mv.to) {
+    if is_lone(position, kind, mv.to, is_found, probes) {
         count_own_pair(position, mv, probes);
         return found;
     }
@@ -284,6 +309,18 @@ fn rivals_of(position: &Position, kind: Kind, mv: &Move, probes: &mut Probes) ->
         found = found.with(mv.from, origin, is_rival);
     }
     found
+}
+
+// Whether the move is known to have no rival: one pair found it, or no other piece of its kind may
+// go to the target.
+#[inline(always)]
+fn is_lone(position: &Position, kind: Kind, to: Square, is_found: bool, probes: &Probes) -> bool
+    // Cargo: debug_assert!(!is_found || chess_rules::origins(position, kind, to).len() as u32
+    // <= probes.count(), "write_san_of takes the count of a move that was found")
+    requires { IsTrue is_found → length (candidates position.now kind to) ≤ probes.now }
+    ensures { IsTrue result → length (candidates position.now kind to) ≤ 1 }
+{
+    (is_found && probes.count() == 1) || !may_have_two_origins(position, kind, to)
 }
 
 // Counts the pair of a legal move: the compiler drops the rest of the call.

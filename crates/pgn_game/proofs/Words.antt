@@ -96,7 +96,7 @@ pub use Rattle.pgn_lexer.specs.declared.token.LexFault.{LexFault}
 pub use Rattle.pgn_game.specs.laws.GameEnds.{EndsByMarker, GamesEndByMarker, LastGame, TextsEndBehindMarker, TextsEndBetweenGames}
 pub use Rattle.pgn_game.specs.declared.event.Event.{Event}
 pub use Rattle.pgn_game.specs.declared.writer.Writer.{Writer}
-pub use Rattle.pgn_game.specs.steps.Judged.{EndsAtMarker, IsAnnotation, IsPlayed, IsWritable, IsOutside, JudgesBefore, JudgesInPair, JudgesOutside, Means, MovesText, Refuses, RefusesMarker, TakesMeant, WritesMove, after_move_at, game_at, game_by, is_begun, items_meant, pairs_meant, section_unless, writing_of}
+pub use Rattle.pgn_game.specs.steps.Judged.{EndsAtMarker, IsAnnotation, IsFound, IsPlayed, IsWritable, IsOutside, JudgesBefore, JudgesInPair, JudgesOutside, Means, MovesText, Refuses, RefusesMarker, TakesMeant, WritesMove, after_move_at, game_at, game_by, is_begun, items_meant, pairs_meant, section_unless, writing_of}
 pub use Rattle.pgn_lexer.specs.PartialToken.{tokens_to_come_in}
 pub use Rattle.pgn_lexer.specs.declared.token.LexReason.{LexReason}
 pub use Rattle.pgn_lexer.specs.declared.token.LexReason.TheVariants.{SymbolTooLong, WordTooLong, GlyphRange}

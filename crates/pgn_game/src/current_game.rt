@@ -205,7 +205,7 @@ impl<const T: usize, const L: usize> CurrentGame<T, L> {
         match move_of(self.last) {
             Some(mv) => {
                 let before = self.reader.position_before();
-                Some(write_san_of(before, &mv, self.reader.position(), probes))
+                Some(write_san_of(before, &mv, self.reader.position(), false, probes))
             }
             None => None,
         }

@@ -16,7 +16,7 @@ ghost use Rattle.pgn_game.specs.games.Game as games;
 ghost use Rattle.pgn_game.specs.steps.ItemResult.{ItemCall};
 ghost use Rattle.pgn_layout.specs.Lines.{IsToken};
 ghost use Rattle.pgn_game.specs.declared.event.Event.TheVariants as events;
-ghost use Rattle.pgn_game.specs.steps.Judged.{IsAnnotation, IsPlayed, TakesMeant, WritesMove, after_move_at, game_by, section_unless};
+ghost use Rattle.pgn_game.specs.steps.Judged.{IsAnnotation, IsFound, IsPlayed, TakesMeant, WritesMove, after_move_at, game_by, section_unless};
 ghost use Rattle.pgn_game.specs.steps.PutResult.{BeginsText, MeetsEntry, TakesMarker, TakesUnlessMarker};
 ghost use Rattle.pgn_game.specs.steps.ReaderState.{ReaderCall, known_of, plies_of_finished_games, silenced, unread, with_announced};
 ghost use Rattle.pgn_game.specs.steps.TokenInMovetext.{MayTakeMove, has_whole_pairs, may_have_movetext};
@@ -362,6 +362,7 @@ fn take_move<const T: usize, const L: usize, W: Sink>(
     requires stage { IsTrue (may_have_movetext reader.old.stage) }
     requires begun { IsTrue begun → reader.old.stage ≡ InMovetext }
     requires played { IsPlayed reader.old mv.now }
+    requires found { IsFound reader.old mv.now probes }
     requires few { probes ≤ 8 }
     ensures { TakesMeant W.taken W.failures reader.old reader.new writer.old writer.new out.old
         out.new result (λ e. e ≡ events.Move mv.now probes) }
@@ -483,6 +484,7 @@ fn put_move<const T: usize, const L: usize, W: Sink>(
     out: &mut W,
 ) -> Result<(), WriteFault>
     requires played { IsPlayed reader.old mv.now }
+    requires found { IsFound reader.old mv.now probes }
     requires few { probes ≤ 8 }
     ensures { WritesMove W.taken W.failures mv.now probes reader.old reader.new writer.old
         writer.new out.old out.new result }

@@ -1,6 +1,7 @@
 //! Writes what the tokens of a game mean.
 ghost use Rattle.std.specs.Prelude.{◌≡◌, ◌+◌, ◌<◌, ◌≤◌, ◌^◌, [], None, Some, OnOk, codes, decimal, false, option_map, true, ◌++◌};
 ghost use Rattle.chess_rules.specs.Legal.{legal};
+ghost use Rattle.chess_text.specs.San.{disambiguation_pairs};
 ghost use Rattle.pgn_layout.specs.Device.{WritesText, device};
 ghost use Rattle.pgn_layout.specs.Lines.{IsToken};
 ghost use Rattle.pgn_game.specs.declared.mode.Written.TheVariants.{Nothing};
@@ -132,7 +133,7 @@ impl Writer {
     }
 
     /// Writes a legal move, which leads from one position to the next: its number, if it needs one,
-    /// and its text.
+    /// and its text. `probes` has the pairs that were tried to find it.
     #[inline(always)]
     pub fn put_move<W: Sink>(
         &mut self,
@@ -143,6 +144,7 @@ impl Writer {
         out: &mut W,
     ) -> Result<(), WriteFault>
         requires legal { legal before.now mv.now ≡ Some next.now }
+        requires found { disambiguation_pairs before.now mv.now ≤ probes.old }
         requires room { probes.old + 1032 < 2 ^ 32 }
         ensures puts { PutsTokens (tokens_at self.old.is_after_move before.now (games.move mv.now))
             self.old.line self.new.line result (device W.taken W.failures out.old out.new) }
@@ -152,7 +154,7 @@ impl Writer {
         ensures tried { CostsToWrite true before.now (games.move mv.now) probes.old probes.new }
         ensures rises { (probes.old ≤ probes.new) × (probes.new ≤ probes.old + 1032) }
     {
-        let san = write_san_of(before, mv, next, probes);
+        let san = write_san_of(before, mv, next, true, probes);
         self.put_number(before, out)?;
         self.is_after_move = true;
         self.line.put(san.as_slice(), out)

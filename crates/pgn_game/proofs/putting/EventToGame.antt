@@ -269,8 +269,8 @@ module _ {S : Type 0} (taken : S → Option (List ℕ)) (failures : S → ℕ) (
         played : Plays m old.text judge.text
         played = subst (λ (x : Event). MovesText x old.text judge.text) is means.text
 
-        fits : (0 < n) × (n ≤ 8)
-        fits = subst IsWritable is means.fits
+        fits : IsWritable old.text (events.Move m n)
+        fits = subst (IsWritable old.text) is means.fits
 
         counted : pairs_meant e ≡ n
         counted = ap pairs_meant is

@@ -54,7 +54,7 @@ entry_refuses old k reason none inside why costs =
 -- a token that leaves the levels as they are
 pub entry_means : (old : ReaderState) (k : Kind) (e : Event) → marker_of k ≡ None
     → ((part : Part) → (text_refusal old.profile part k ≡ None) × (in_text part k ≡ going (with_items part (items_meant e))))
-    → ((part : Part) → CostsToFind part k 0) → pairs_meant e ≡ 0 → MovesText e old.text old.text → IsWritable e → Means old k old e
+    → ((part : Part) → CostsToFind part k 0) → pairs_meant e ≡ 0 → MovesText e old.text old.text → IsWritable old.text e → Means old k old e
 entry_means old k e none says finds untried text fits = record {
   no_marker = none;
   says = λ w part is. says part;
@@ -74,6 +74,7 @@ finds_by w finds = record {
   tried = finds.tried;
   few = finds.few;
   some = finds.some;
+  candidates = finds.candidates;
 }
 
 module _ (old found : ReaderState) (s : List ℕ) (n : ℕ) (at : IsTrue (may_have_movetext old.stage))
@@ -102,5 +103,5 @@ module _ (old found : ReaderState) (s : List ℕ) (n : ℕ) (at : IsTrue (may_ha
     finds = λ w part is. costs_found s n is at number score finds.tried;
     after = moved ∙ ap (λ (r : ReaderState). record r { text = new.text }) finds.counted;
     text = text;
-    fits = (finds.some, finds.few);
+    fits = (finds.some, finds.few, finds.candidates);
   }

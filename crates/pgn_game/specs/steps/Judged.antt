@@ -8,6 +8,7 @@ use Rattle.std.specs.Prelude.{◌≡◌, ℕ, ◌<◌, ◌≤◌, max, Bool, tru
 use Rattle.chess_rules.specs.declared.position.Move.{Move}
 use Rattle.chess_rules.specs.declared.position.Parts.{Parts}
 use Rattle.chess_rules.specs.Legal.{legal}
+use Rattle.chess_text.specs.San.{disambiguation_pairs}
 use Rattle.pgn_layout.specs.Device.{device}
 use Rattle.pgn_layout.specs.Lines.{IsToken}
 use Rattle.pgn_lexer.specs.Tokens.{Kind}
@@ -108,11 +109,13 @@ abbrev pub MovesText : Event → Movetext → Movetext → Type 0
 MovesText (events.Move m pairs) old new = Plays m old new
 MovesText e old new = Annotates e old new
 
--- What can be written of it: a word is a token. Some pair was tried for a move, and few were.
-abbrev pub IsWritable : Event → Type 0
-IsWritable (Word text) = IsToken text.now
-IsWritable (events.Move m pairs) = (0 < pairs) × (pairs ≤ 8)
-IsWritable _ = Unit {0}
+-- What can be written of it after such movetext: a word is a token. Some pair was tried for a move,
+-- one at least for each candidate, and few were.
+abbrev pub IsWritable : Movetext → Event → Type 0
+IsWritable old (Word text) = IsToken text.now
+IsWritable old (events.Move m pairs) =
+    (0 < pairs) × (pairs ≤ 8) × (disambiguation_pairs old.levels.current.position m ≤ pairs)
+IsWritable old _ = Unit {0}
 
 -- A token of movetext is accepted, is no marker, and means this.
 -- - `says`: no row of the table rejects it, and the part goes on with its items.
@@ -124,7 +127,7 @@ pub record Means (old : ReaderState) (k : Kind) (new : ReaderState) (e : Event) 
   pub finds : (w : Writer) (part : Part) → IsOpen (game_by w old) part → CostsToFind part k (pairs_meant e)
   pub after : new ≡ record old { text = new.text; most_probes = max old.most_probes (pairs_meant e) }
   pub text : MovesText e old.text new.text
-  pub fits : IsWritable e
+  pub fits : IsWritable old.text e
 
 -- A row of the table rejects a token of movetext that is no marker.
 pub record Refuses (old : ReaderState) (k : Kind) (new : ReaderState) (reason : Reason) : Type 0 where
@@ -172,6 +175,11 @@ abbrev pub IsPlayed : ReaderState → Move → Type 0
 IsPlayed reading m =
     IsSomeAnd reading.text.levels.current.before
     (λ here. legal here m ≡ Some reading.text.levels.current.position)
+
+-- as many pairs were tried to find the move just played as it has candidates, or more
+abbrev pub IsFound : ReaderState → Move → ℕ → Type 0
+IsFound reading m pairs =
+    IsSomeAnd reading.text.levels.current.before (λ here. disambiguation_pairs here m ≤ pairs)
 
 -- The move just played was written, or left out, if it leads from the position before it. The pairs
 -- tried for it are counted, those to find it having been counted before.

@@ -9,6 +9,7 @@ use Rattle.chess_rules.specs.declared.position.Parts.{Parts}
 use Rattle.chess_rules.specs.Legal.{is_legal, legal}
 use Rattle.chess_rules.specs.declared.position.Played.{Played}
 use Rattle.chess_text.specs.MoveOfForm.{with_next}
+use Rattle.chess_text.specs.San.{disambiguation_pairs}
 use Rattle.pgn_layout.specs.Device.{AppendsFront, Counts, Device, IsStill, Writes}
 use Rattle.pgn_lexer.specs.Tokens.{Kind}
 use Rattle.pgn_game.specs.declared.marker.Marker.{Marker}
@@ -197,13 +198,14 @@ with_position p (Ok m) = ok_or (with_next m (legal p m)) IllegalMove
 with_position p (Err reason) = Err reason
 
 -- r is the move that a text names in the position p, or why it names none. The count of tried pairs
--- goes from before to after.
+-- goes from before to after: by at least one for each candidate of a move that is found.
 pub record NamesMove (p : Parts) (text : List ℕ) (r : Result Move Reason) (before after : ℕ) : Type 0 where
   pub found : with_position p r ≡ found_in p (move_of p text)
   pub legal : IfOk r (λ m. IsTrue (is_legal p m))
   pub tried : AddsPairs (Costs p text) before after
   pub few : after ≤ before + 8
   pub some : OnOk r (before < after)
+  pub candidates : IfOk r (λ m. before + disambiguation_pairs p m ≤ after)
 
 -- the reader with so many as the most pairs tried, unless there were more before
 abbrev pub counting_probes : ReaderState → ℕ → ReaderState
@@ -219,6 +221,7 @@ pub record Finds (old : ReaderState) (s : List ℕ) (new : ReaderState) (r : Res
   pub tried : Costs old.text.levels.current.position s n
   pub few : n ≤ 8
   pub some : OnOk r (0 < n)
+  pub candidates : IfOk r (λ m. disambiguation_pairs old.text.levels.current.position m ≤ n)
 
 -- The move of a token that another row rejects was sought, if it has one, and the pairs that were
 -- tried are counted.

@@ -1,5 +1,5 @@
 use Rattle.std.proofs.lemmas.Grind.{common_steps}
-use Rattle.chess_text.proofs.Words.{◌≡◌, Some, sym, ◌∙◌, arith, Kind, King, Pawn, Piece, Move, Parts, at, own, disambiguation_pairs, kind_pairs, kind_text, unmarked}
+use Rattle.chess_text.proofs.Words.{◌≡◌, ◌≤◌, true, Some, length, subst, sym, ◌∙◌, arith, Kind, King, Pawn, Piece, Move, Parts, at, own, candidates, disambiguation_pairs, has_rivals, kind_pairs, kind_text, unmarked}
 use Rattle.chess_text.proofs.forms.MoverOfMove.{may_have_rivals, mover, mover_stands}
 use Rattle.chess_text.proofs.san.push_unmarked.Goals as goal
 
@@ -12,6 +12,11 @@ push_pawn_text-requires-clause-pawn c = grind (arith, common_steps, own, mover)
 pub returns-in_default-clause-some : goal.returns-in_default-clause-some
 returns-in_default-clause-some c = absurd (mover_stands c.args.position.now c.args.mv.now c.requires.legal (sym c.at.ensures ∙ c.in_default.is))
 
+-- one pair for each candidate
+candidates_are : (p : Parts) (m : Move) (x : Piece) → at p.board m.from ≡ Some x → has_rivals x.kind ≡ true
+    → disambiguation_pairs p m ≡ length (candidates p x.kind m.to)
+candidates_are p m x e rivals = cc
+
 pub push_disambiguated_text-requires : goal.push_disambiguated_text-requires
 push_disambiguated_text-requires c =
     record {
@@ -19,6 +24,11 @@ push_disambiguated_text-requires c =
       legal = c.requires.legal;
       own = mover c.args.position.now c.args.mv.now c.in-Some.piece c.requires.legal (sym c.at.ensures ∙ c.in-Some.is);
       may_have_rivals = may_have_rivals _ c.in_default-kind.not-King c.in_default-kind.not-Pawn;
+      found = λ is.
+          subst (λ n. n ≤ c.args.probes.now)
+          (candidates_are c.args.position.now c.args.mv.now c.in-Some.piece (sym c.at.ensures ∙ c.in-Some.is)
+          (may_have_rivals _ c.in_default-kind.not-King c.in_default-kind.not-Pawn))
+          (c.requires.found is);
       room = c.requires.room;
     }
 

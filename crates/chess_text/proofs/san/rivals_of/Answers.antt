@@ -25,8 +25,8 @@ loop-origin-preserved c =
     }
 
 -- the piece is alone
-pub returns-then-not-may_have_two_origins : goal.returns-then-not-may_have_two_origins
-returns-then-not-may_have_two_origins c = grind (arith, common_steps, no_rivals, lone_candidate)
+pub returns-then-is_lone : goal.returns-then-is_lone
+returns-then-is_lone c = grind (arith, common_steps, no_rivals, lone_candidate)
 
 -- no origin is left: all of them were seen
 none : (c : In_default)

@@ -76,6 +76,7 @@ returns-in_default c = record {
   };
   few = omega arith;
   some = tt;
+  candidates = tt;
 }
 
 pub returns-in-Err-NoMove : goal.returns-in-Err-NoMove
@@ -91,6 +92,7 @@ returns-in-Err-NoMove c =
       };
       few = c.in-Err-NoMove.ensures.pairs.bound;
       some = tt;
+      candidates = tt;
     }
 
 pub returns-in-Err-Ambiguous : goal.returns-in-Err-Ambiguous
@@ -103,6 +105,7 @@ returns-in-Err-Ambiguous c =
           (c.in-Err-Ambiguous.ensures.pairs.two (ap Err c.in-Err-Ambiguous.field-0-is)) c.in-Err-Ambiguous.ensures.pairs.most;
       few = c.in-Err-Ambiguous.ensures.pairs.bound;
       some = tt;
+      candidates = tt;
     }
 
 pub returns-then-is_at_limit : goal.returns-then-is_at_limit
@@ -117,6 +120,7 @@ returns-then-is_at_limit c =
       tried = of_move p c.args.text.now f c.in-Ok.mv _ _ c.in-Some.ensures found.answer found.legal (found.pairs.each (λ e. false≢true (sym (ap is_ok e))));
       few = found.pairs.bound;
       some = tt;
+      candidates = tt;
     }
 
 pub returns-else-is_at_limit : goal.returns-else-is_at_limit
@@ -131,4 +135,5 @@ returns-else-is_at_limit c =
       tried = of_move p c.args.text.now f c.in-Ok.mv _ _ c.in-Some.ensures found.answer found.legal (found.pairs.each (λ e. false≢true (sym (ap is_ok e))));
       few = found.pairs.bound;
       some = found.pairs.some;
+      candidates = omega (arith, found.candidates, found.pairs.each (λ e. false≢true (sym (ap is_ok e))));
     }

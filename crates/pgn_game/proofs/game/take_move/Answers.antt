@@ -1,4 +1,4 @@
-use Rattle.pgn_game.proofs.Words.{Writer, ap, ◌∙◌, WriteFault, IsPlayed, ReaderState, subst, sym}
+use Rattle.pgn_game.proofs.Words.{Writer, ap, ◌∙◌, WriteFault, IsFound, IsPlayed, ReaderState, subst, sym}
 use Rattle.pgn_game.proofs.ReaderLemmas.{reader_alike}
 use Rattle.pgn_game.proofs.putting.EventToGame.{failed, met, move_fails, move_taken, section_fails}
 use Rattle.pgn_game.proofs.reader.ErrorReturned.{error_returned}
@@ -19,7 +19,13 @@ returns-in_err-begin_movetext g c = record {
 pub put_move-requires : goal.put_move-requires
 put_move-requires g c = (
   search reader_alike,
-  (subst (λ (r : ReaderState). IsPlayed r c.args.mv.now) (sym c.in_ok-begin_movetext.ensures.reader) c.requires.played, c.requires.few),
+  (
+    subst (λ (r : ReaderState). IsPlayed r c.args.mv.now) (sym c.in_ok-begin_movetext.ensures.reader) c.requires.played,
+    (
+      subst (λ (r : ReaderState). IsFound r c.args.mv.now c.args.probes) (sym c.in_ok-begin_movetext.ensures.reader) c.requires.found,
+      c.requires.few,
+    ),
+  ),
 )
 
 pub returns-in_err-put_move : goal.returns-in_err-put_move

@@ -1,4 +1,4 @@
-use Rattle.pgn_game.proofs.Words.{None, ◌≡◌, ap, arith, kind_of, refl, Event, Kind, Means, ReaderState, InMovetext, IsTrue, Bool, IsPlayed, may_have_movetext, game_by, Move, ◌∙◌}
+use Rattle.pgn_game.proofs.Words.{None, ◌≡◌, ap, arith, kind_of, refl, Event, Kind, Means, ReaderState, InMovetext, IsTrue, Bool, IsFound, IsPlayed, may_have_movetext, game_by, Move, ◌∙◌}
 use Rattle.pgn_game.specs.declared.event.Event.TheVariants as events
 use Rattle.pgn_game.specs.games.Game as games
 use Rattle.pgn_game.proofs.ReaderLemmas.{reader_fits}
@@ -17,6 +17,9 @@ ready_with means may is more = let both = ready means may is in (both.0, (both.1
 played_of : {old judge : ReaderState} {k : Kind} {m : Move} {n : _} → Means old k judge (events.Move m n) → IsPlayed judge m
 played_of {old} {judge} {k} {m} means =
     rw means.text.levels means.text.leads
+
+found_of : {old judge : ReaderState} {k : Kind} {m : Move} {n : _} → Means old k judge (events.Move m n) → IsFound judge m n
+found_of means = rw means.text.levels means.fits.2
 
 pub accept_entry-requires : goal.accept_entry-requires
 accept_entry-requires g c =
@@ -62,7 +65,7 @@ invariant_of-self-in-Ok-Number g c =
 pub take_move-requires : goal.take_move-requires
 take_move-requires g c =
     let h = rw c.in-Ok-Move.field-0-is at c.in-Ok-Move.ensures in
-    (search reader_fits, ready_with h (rw (← c.self.view_is) at c.requires.may).stage (rw (← c.self.view_is) at c.requires.begun) (played_of h, h.fits.1))
+    (search reader_fits, ready_with h (rw (← c.self.view_is) at c.requires.may).stage (rw (← c.self.view_is) at c.requires.begun) (played_of h, (found_of h, h.fits.1)))
 
 pub returns-in-Ok-Move : goal.returns-in-Ok-Move
 returns-in-Ok-Move g c =
