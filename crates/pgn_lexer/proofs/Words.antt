@@ -43,7 +43,6 @@ pub use Rattle.pgn_lexer.specs.declared.partial_token.Sign.{Sign}
 pub use Rattle.pgn_lexer.specs.declared.partial_token.TokenForm.{TokenForm}
 pub use Rattle.pgn_lexer.specs.declared.partial_token.begins.Begins.{Begins}
 pub use Rattle.pgn_lexer.specs.declared.token.LexFault.{LexFault}
-pub use Rattle.pgn_lexer.specs.declared.token.TokenKind.{TokenKind}
 pub use Rattle.pgn_lexer.specs.declared.token.LexReason.{LexReason}
 pub use Rattle.pgn_lexer.specs.declared.token.LexReason.TheVariants.{BadSuffix, BraceInLineComment, ControlByte, GlyphRange, LoneDollar, Reserved, StrayByte, StringTooLong, SymbolTooLong, UnclosedComment, UnclosedString, WordTooLong}
 pub use Rattle.std.proofs.lemmas.Grind.{common_steps}

@@ -1,5 +1,5 @@
 -- A byte in a glyph.
-use Rattle.pgn_lexer.proofs.Words.{◌≡◌, ℕ, ◌+◌, ◌-◌, ◌*◌, ◌<◌, ◌≤◌, Bool, true, false, List, [], ◌∷◌, length, refl, ap, ◌∙◌, arith, take_while, nat_le, if◌then◌else◌, leb-true, leb-false, LoneDollar, GlyphRange, Used, EndsBefore, is_digit, glyph, gives, stops, number_from, numbered_at, glyph_at, in_glyph, outside, onto, tokens_from, into, fails, LexMode, TokenForm, TokenKind}
+use Rattle.pgn_lexer.proofs.Words.{◌≡◌, ℕ, ◌+◌, ◌-◌, ◌*◌, ◌<◌, ◌≤◌, Bool, true, false, List, [], ◌∷◌, length, refl, ap, ◌∙◌, arith, take_while, nat_le, if◌then◌else◌, leb-true, leb-false, LoneDollar, GlyphRange, Used, EndsBefore, is_digit, glyph, gives, stops, number_from, numbered_at, glyph_at, in_glyph, outside, onto, tokens_from, into, fails, LexMode, TokenForm}
 use Rattle.pgn_lexer.proofs.stepping.RunOfBytes.{take_while-true, glyph_goes, glyph_ends, run_grows, run_breaks, run_ends}
 use Rattle.pgn_lexer.proofs.stepping.StepGives.{GivesIn}
 
