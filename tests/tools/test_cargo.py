@@ -238,6 +238,8 @@ class Built(CargoTest):
 
     def test_the_tests_of_the_vectors_pass(self):
         self.check_tests("pgn_vectors", 28)
+        said = self.passed("test", "--package=pgn_vectors", "--test=missing_results")
+        self.assertIn("test result: ok. 1 passed; 0 failed", said)
 
     def test_the_tests_of_devices_pass(self):
         self.check_tests("pgn_device_tests", 18)
@@ -263,13 +265,14 @@ class Built(CargoTest):
         self.assertEqual(sum(map(int, re.findall(r"(\d+) passed; 0 failed", said))), expected)
 
     def test_a_call_that_breaks_a_condition_panics(self):
-        files = glob.glob(ROOT + "/cargo/*/*/*.rs")
+        files = [it for name in ("pgn_c", *LIBRARIES)
+                 for it in glob.glob("%s/cargo/%s/*/*.rs" % (ROOT, name))]
         wanted = sum(text_of(it).count("#[test]") for it in files)
         self.assertGreaterEqual(wanted, 18)
         self.check_conditions({}, wanted)
         # In release builds all but those of debug_assert!.
         checked_in_debug = sum(text_of(it).count("#[cfg(debug_assertions)]\nfn ") for it in files)
-        self.assertEqual(checked_in_debug, 4)
+        self.assertEqual(checked_in_debug, 5)
         self.check_conditions({"CARGO_PROFILE_DEV_DEBUG_ASSERTIONS": "false"},
                               wanted - checked_in_debug)
 

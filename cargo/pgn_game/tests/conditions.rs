@@ -177,3 +177,20 @@ fn a_move_that_is_written_or_played_is_legal() {
         move || write_san(&position, &played, &mut Probes::new()),
     );
 }
+
+#[test]
+#[cfg(debug_assertions)]
+fn a_move_that_was_found_has_the_pairs_of_its_candidates() {
+    use chess_text::{read_fen, write_san_of};
+
+    // Two knights go to d2.
+    let position = read_fen(b"4k3/8/8/8/8/5N2/8/1N2K3 w - - 0 1").unwrap();
+    let mut tried = Probes::new();
+    let played = find_move(&position, b"Nbd2", &mut tried).unwrap();
+    let san = write_san_of(&position, &played.mv, &played.next, true, &mut tried);
+    assert_eq!(san.as_slice(), b"Nbd2");
+    refuses(
+        "write_san_of takes the count of a move that was found",
+        move || write_san_of(&position, &played.mv, &played.next, true, &mut Probes::new()),
+    );
+}
