@@ -189,7 +189,14 @@ fn a_move_that_was_found_has_the_pairs_of_its_candidates() {
     let played = find_move(&position, b"Nbd2", &mut tried).unwrap();
     let san = write_san_of(&position, &played.mv, &played.next, true, &mut tried);
     assert_eq!(san.as_slice(), b"Nbd2");
-    let counted_anew =
-        move || write_san_of(&position, &played.mv, &played.next, true, &mut Probes::new());
+    let counted_anew = move || {
+        write_san_of(
+            &position,
+            &played.mv,
+            &played.next,
+            true,
+            &mut Probes::new(),
+        )
+    };
     assert!(catch_unwind(counted_anew).is_err());
 }

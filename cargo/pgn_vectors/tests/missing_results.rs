@@ -30,7 +30,9 @@ fn by_converter(text: &[u8]) -> Games {
         match is_game {
             Ok(true) => {
                 let mut section = Vec::new();
-                converter.write_tags(&mut Outlet::new(&mut section)).unwrap();
+                converter
+                    .write_tags(&mut Outlet::new(&mut section))
+                    .unwrap();
                 games.push((from as u64, section));
             }
             Ok(false) => {}
@@ -88,5 +90,8 @@ fn a_missing_result_takes_the_marker_in_items_as_in_a_converter() {
         games += wanted.0.len();
         faults += wanted.1.is_some() as usize;
     }
-    assert!(games > 100 && faults > 100, "{games} games, {faults} faults");
+    assert!(
+        games > 100 && faults > 100,
+        "{games} games, {faults} faults"
+    );
 }
