@@ -21,7 +21,8 @@ impl Position {
     // Whether the step gives check. `board` is the board after it.
     //
     // A plain step gives check by the piece that moves, or by a rook, a bishop or a queen along a
-    // line that this leaves.
+    // line that this leaves. What gets the board by reference gets a copy of it, so that the board
+    // itself stays in registers.
     #[inline(always)]
     fn gives_check(&self, mv: &Move, step_kind: StepKind, board: &Board) -> bool
         requires kind { IsKindOfStep step_kind self.now mv.now }
@@ -30,7 +31,8 @@ impl Position {
     {
         let king = self.other_king;
         if !matches!(step_kind, StepKind::Plain) {
-            return is_attacked(board, self.side, king);
+            let board = *board;
+            return is_attacked(&board, self.side, king);
         }
         if attacks_from(board, self.side, mv.to, king) {
             return true;
@@ -38,7 +40,8 @@ impl Position {
         if !is_aligned(mv.from, king) {
             return false;
         }
-        is_attacked_by(board, sliders(board, self.side, king), king)
+        let board = *board;
+        is_attacked_by(&board, sliders(&board, self.side, king), king)
     }
 
     // Whether the king of the side to move is safe after its step.
@@ -114,7 +117,11 @@ impl Position {
         ensures { result ≡ step.target_after self.now mv.now }
     {
         let is_pawn = self.board.has_piece(mv.from, self.side, Kind::Pawn);
-        (is_pawn && is_double_step(self, mv)).then_some(crossed(mv))
+        if is_pawn && is_double_step(self, mv) {
+            Some(crossed(mv))
+        } else {
+            None
+        }
     }
 
     // The halfmove clock after the move. (PGN 16.1.3.5)

@@ -72,16 +72,15 @@ pub(crate) fn named_move(
     let Some(form) = read_form(text) else {
         return Err(Reason::NotAMove);
     };
-    match resolve_move(position, &form, probes) {
-        Err(SanFault::NoMove) => Err(Reason::IllegalMove),
-        Err(SanFault::Ambiguous) => Err(Reason::AmbiguousMove),
-        Ok(mv) => {
-            if is_at_limit(position) {
-                return Err(Reason::MoveLimit);
-            }
-            Ok(mv)
-        }
+    let mv = match resolve_move(position, &form, probes) {
+        Ok(mv) => mv,
+        Err(SanFault::NoMove) => return Err(Reason::IllegalMove),
+        Err(SanFault::Ambiguous) => return Err(Reason::AmbiguousMove),
+    };
+    if is_at_limit(position) {
+        return Err(Reason::MoveLimit);
     }
+    Ok(mv)
 }
 
 /// Whether a move from here would lead to a number above 99,999.

@@ -266,7 +266,7 @@ impl<const T: usize, const L: usize> Game<T, L> {
             Ok(Event::Number) => take_number(begun, &mut self.reader, &mut self.writer, out),
             Ok(Event::Move(mv, probes)) => take_move(
                 begun,
-                &mv,
+                mv,
                 probes,
                 &mut self.reader,
                 &mut self.writer,
@@ -353,7 +353,7 @@ fn take_number<const T: usize, const L: usize, W: Sink>(
 #[inline(always)]
 fn take_move<const T: usize, const L: usize, W: Sink>(
     begun: bool,
-    mv: &Move,
+    mv: Move,
     probes: Probes,
     reader: &mut Reader<T, L>,
     writer: &mut Writer,
@@ -361,14 +361,14 @@ fn take_move<const T: usize, const L: usize, W: Sink>(
 ) -> Result<Option<Marker>, Reason>
     requires stage { IsTrue (may_have_movetext reader.old.stage) }
     requires begun { IsTrue begun → reader.old.stage ≡ InMovetext }
-    requires played { IsPlayed reader.old mv.now }
-    requires found { IsFound reader.old mv.now probes }
+    requires played { IsPlayed reader.old mv }
+    requires found { IsFound reader.old mv probes }
     requires few { probes ≤ 8 }
     ensures { TakesMeant W.taken W.failures reader.old reader.new writer.old writer.new out.old
-        out.new result (λ e. e ≡ events.Move mv.now probes) }
+        out.new result (λ e. e ≡ events.Move mv probes) }
 {
     begin_movetext(begun, reader, writer, out)?;
-    put_move(mv, probes, reader, writer, out)?;
+    put_move(&mv, probes, reader, writer, out)?;
     Ok(None)
 }
 

@@ -123,8 +123,8 @@ returns-then-is_at_limit c =
       candidates = tt;
     }
 
-pub returns-else-is_at_limit : goal.returns-else-is_at_limit
-returns-else-is_at_limit c =
+pub returns : goal.returns
+returns c =
     let p = c.args.position.now in
     let f = c.in-Some.form in
     let found = c.in-Ok.ensures in

@@ -20,9 +20,9 @@ pub put_move-requires : goal.put_move-requires
 put_move-requires g c = (
   search reader_alike,
   (
-    subst (λ (r : ReaderState). IsPlayed r c.args.mv.now) (sym c.in_ok-begin_movetext.ensures.reader) c.requires.played,
+    subst (λ (r : ReaderState). IsPlayed r c.args.mv) (sym c.in_ok-begin_movetext.ensures.reader) c.requires.played,
     (
-      subst (λ (r : ReaderState). IsFound r c.args.mv.now c.args.probes) (sym c.in_ok-begin_movetext.ensures.reader) c.requires.found,
+      subst (λ (r : ReaderState). IsFound r c.args.mv c.args.probes) (sym c.in_ok-begin_movetext.ensures.reader) c.requires.found,
       c.requires.few,
     ),
   ),
@@ -35,7 +35,7 @@ returns-in_err-put_move g c = record {
       let begun = c.in_ok-begin_movetext.ensures in
       rw (error_returned _ c.from_residual-in_err-put_move.ensures.1)
       (failed WriteFault (move_fails g.W.Sink.taken g.W.Sink.failures c.args.writer.now c.begin_movetext.new.writer old c.args.reader.now c.begin_movetext.new.reader k e means at c.args.out.now c.begin_movetext.new.out
-      begun.section mode begun.reader begun.writer c.put_move.new.writer c.put_move.new.out c.put_move.new.reader c.args.mv.now c.args.probes is c.in_err-put_move.field-0.0 c.in_err-put_move.ensures));
+      begun.section mode begun.reader begun.writer c.put_move.new.writer c.put_move.new.out c.put_move.new.reader c.args.mv c.args.probes is c.in_err-put_move.field-0.0 c.in_err-put_move.ensures));
 }
 
 pub returns : goal.returns
@@ -44,5 +44,5 @@ returns g c = record {
   takes = λ old k e means at mode is.
       let begun = c.in_ok-begin_movetext.ensures in
       met (move_taken g.W.Sink.taken g.W.Sink.failures c.args.writer.now c.begin_movetext.new.writer old c.args.reader.now c.begin_movetext.new.reader k e means at c.args.out.now c.begin_movetext.new.out
-      begun.section mode begun.reader begun.writer c.put_move.new.writer c.put_move.new.out c.put_move.new.reader c.args.mv.now c.args.probes is c.in_ok-put_move.ensures);
+      begun.section mode begun.reader begun.writer c.put_move.new.writer c.put_move.new.out c.put_move.new.reader c.args.mv c.args.probes is c.in_ok-put_move.ensures);
 }
