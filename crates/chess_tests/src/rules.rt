@@ -1,6 +1,13 @@
 //! Outside values: well-known move counts, and worked positions of castling, en passant, promotion
 //! and check.
 
+/// The parts, with these values of some fields.
+macro_rules! with {
+    ($parts:expr; $($field:ident: $value:expr),+) => {
+        Parts { $($field: $value,)+ ..$parts }
+    };
+}
+
 mod candidates;
 mod perft;
 
@@ -19,6 +26,18 @@ const EVERY_RIGHT: Rights = Rights {
     black_long: true,
 };
 
+const RIGHTS_OF_WHITE: Rights = Rights {
+    black_short: false,
+    black_long: false,
+    ..EVERY_RIGHT
+};
+
+const RIGHTS_OF_BLACK: Rights = Rights {
+    white_short: false,
+    white_long: false,
+    ..EVERY_RIGHT
+};
+
 const NO_RIGHT: Rights = Rights {
     white_short: false,
     white_long: false,
@@ -26,14 +45,9 @@ const NO_RIGHT: Rights = Rights {
     black_long: false,
 };
 
-pub(crate) const KINDS: [Kind; 6] = [
-    Kind::King,
-    Kind::Queen,
-    Kind::Rook,
-    Kind::Bishop,
-    Kind::Knight,
-    Kind::Pawn,
-];
+#[rattlefmt::skip]
+pub(crate) const KINDS: [Kind; 6] =
+    [Kind::King, Kind::Queen, Kind::Rook, Kind::Bishop, Kind::Knight, Kind::Pawn];
 
 pub(crate) const PROMOTIONS: [Option<Promotion>; 5] = [
     None,
@@ -200,10 +214,7 @@ fn counts_first_moves(rt: HostRuntime) {
 #[test]
 fn counts_moves_with_castling_and_pins(rt: HostRuntime) -> Result<(), Fail> {
     let text = b"r3k2r/p1ppqpb1/bn2pnp1/3PN3/1p2P3/2N2Q1p/PPPBBPPP/R3K2R";
-    let position = Position::build(&Parts {
-        rights: EVERY_RIGHT,
-        ..parts(text)
-    })?;
+    let position = Position::build(&with! { parts(text); rights: EVERY_RIGHT })?;
     assert_eq!(rt; legal_moves(&position), (48, 2039));
     Ok(())
 }
@@ -211,15 +222,7 @@ fn counts_moves_with_castling_and_pins(rt: HostRuntime) -> Result<(), Fail> {
 #[test]
 fn counts_moves_with_promotions(rt: HostRuntime) -> Result<(), Fail> {
     let text = b"rnbq1k1r/pp1Pbppp/2p5/8/2B5/8/PPP1NnPP/RNBQK2R";
-    let rights = Rights {
-        black_short: false,
-        black_long: false,
-        ..EVERY_RIGHT
-    };
-    let position = Position::build(&Parts {
-        rights,
-        ..parts(text)
-    })?;
+    let position = Position::build(&with! { parts(text); rights: RIGHTS_OF_WHITE })?;
     assert_eq!(rt; legal_moves(&position), (44, 1486));
     Ok(())
 }
@@ -235,10 +238,8 @@ fn makes_squares_of_the_board_alone(rt: HostRuntime) -> Result<(), Fail> {
 
 #[test]
 fn tells_the_first_position(rt: HostRuntime) {
-    let first = Parts {
-        rights: EVERY_RIGHT,
-        ..parts(b"rnbqkbnr/pppppppp/8/8/8/8/PPPPPPPP/RNBQKBNR")
-    };
+    let text = b"rnbqkbnr/pppppppp/8/8/8/8/PPPPPPPP/RNBQKBNR";
+    let first = with! { parts(text); rights: EVERY_RIGHT };
     assert_eq!(rt; told(&Position::initial()), first);
 }
 
@@ -267,14 +268,8 @@ fn builds_on_ranks(rt: HostRuntime) -> Result<(), Fail> {
 
 #[test]
 fn builds_what_it_is_told(rt: HostRuntime) -> Result<(), Fail> {
-    let parts = Parts {
-        side: Colour::Black,
-        rights: EVERY_RIGHT,
-        target: square(b"e3"),
-        half: 99_999,
-        full: 99_998,
-        ..parts(b"4k3/8/8/8/4P3/8/8/4K3")
-    };
+    let bare = with! { parts(b"4k3/8/8/8/4P3/8/8/4K3"); side: Colour::Black, rights: EVERY_RIGHT };
+    let parts = with! { bare; target: square(b"e3"), half: 99_999, full: 99_998 };
     assert_eq!(rt; told(&Position::build(&parts)?), parts);
     Ok(())
 }
@@ -290,26 +285,11 @@ fn refuses_parts_that_are_no_position(rt: HostRuntime) {
             PositionFault::KingCapturable,
         ),
         (
-            Parts {
-                target: square(b"e3"),
-                ..bare
-            },
+            with! { bare; target: square(b"e3") },
             PositionFault::TargetRank,
         ),
-        (
-            Parts {
-                half: 100_000,
-                ..bare
-            },
-            PositionFault::NumberRange,
-        ),
-        (
-            Parts {
-                full: 100_000,
-                ..bare
-            },
-            PositionFault::NumberRange,
-        ),
+        (with! { bare; half: 100_000 }, PositionFault::NumberRange),
+        (with! { bare; full: 100_000 }, PositionFault::NumberRange),
     ];
     for (parts, fault) in cases {
         assert_eq!(rt; Position::build(&parts).err(), Some(fault));
@@ -318,10 +298,7 @@ fn refuses_parts_that_are_no_position(rt: HostRuntime) {
 
 // Both sides may castle on both wings.
 fn castling() -> Parts {
-    Parts {
-        rights: EVERY_RIGHT,
-        ..parts(b"r3k2r/8/8/8/8/8/8/R3K2R")
-    }
+    with! { parts(b"r3k2r/8/8/8/8/8/8/R3K2R"); rights: EVERY_RIGHT }
 }
 
 #[test]
@@ -329,46 +306,29 @@ fn castles_on_both_wings(rt: HostRuntime) -> Result<(), Fail> {
     let position = Position::build(&castling())?;
     assert!(rt; play(&rt, &position, b"e1c1").is_some());
     let after = play(&rt, &position, b"e1g1").ok_or("O-O")?;
-    let want = Parts {
-        side: Colour::Black,
-        rights: Rights {
-            white_short: false,
-            white_long: false,
-            ..EVERY_RIGHT
-        },
-        half: 1,
-        ..parts(b"r3k2r/8/8/8/8/8/8/R4RK1")
-    };
+    let castled = parts(b"r3k2r/8/8/8/8/8/8/R4RK1");
+    let want = with! { castled; side: Colour::Black, rights: RIGHTS_OF_BLACK, half: 1 };
     assert_eq!(rt; told(&after), want);
     let last = play(&rt, &after, b"e8c8").ok_or("O-O-O")?;
-    let want = Parts {
-        half: 2,
-        full: 2,
-        ..parts(b"2kr3r/8/8/8/8/8/8/R4RK1")
-    };
+    let want = with! { parts(b"2kr3r/8/8/8/8/8/8/R4RK1"); half: 2, full: 2 };
     assert_eq!(rt; told(&last), want);
     Ok(())
 }
 
 #[test]
 fn castles_by_its_own_right_alone(rt: HostRuntime) -> Result<(), Fail> {
-    let short = Position::build(&Parts {
-        rights: Rights {
-            white_short: false,
-            ..EVERY_RIGHT
-        },
-        ..castling()
-    })?;
+    let rights = Rights {
+        white_short: false,
+        ..EVERY_RIGHT
+    };
+    let short = Position::build(&with! { castling(); rights: rights })?;
     assert!(rt; play(&rt, &short, b"e1g1").is_none());
     assert!(rt; play(&rt, &short, b"e1c1").is_some());
-    let long = Position::build(&Parts {
-        side: Colour::Black,
-        rights: Rights {
-            black_long: false,
-            ..EVERY_RIGHT
-        },
-        ..castling()
-    })?;
+    let rights = Rights {
+        black_long: false,
+        ..EVERY_RIGHT
+    };
+    let long = Position::build(&with! { castling(); side: Colour::Black, rights: rights })?;
     assert!(rt; play(&rt, &long, b"e8c8").is_none());
     assert!(rt; play(&rt, &long, b"e8g8").is_some());
     Ok(())
@@ -385,10 +345,7 @@ fn castles_only_where_king_and_rook_stand_safe(rt: HostRuntime) -> Result<(), Fa
         (b"4k3/8/8/8/8/1r6/8/R3K2R", true, true),
     ];
     for (text, short, long) in cases {
-        let position = Position::build(&Parts {
-            rights: EVERY_RIGHT,
-            ..parts(text)
-        })?;
+        let position = Position::build(&with! { parts(text); rights: EVERY_RIGHT })?;
         assert_eq!(rt; play(&rt, &position, b"e1g1").is_some(), short);
         assert_eq!(rt; play(&rt, &position, b"e1c1").is_some(), long);
     }
@@ -399,10 +356,7 @@ fn castles_only_where_king_and_rook_stand_safe(rt: HostRuntime) -> Result<(), Fa
         (b"4k3/8/8/8/8/8/8/RN2K3", b"e1c1"),
     ];
     for (text, pair) in gone {
-        let position = Position::build(&Parts {
-            rights: EVERY_RIGHT,
-            ..parts(text)
-        })?;
+        let position = Position::build(&with! { parts(text); rights: EVERY_RIGHT })?;
         assert!(rt; play(&rt, &position, pair).is_none());
     }
     Ok(())
@@ -423,26 +377,18 @@ fn loses_rights_with_a_rook(rt: HostRuntime) -> Result<(), Fail> {
 
 #[test]
 fn takes_en_passant(rt: HostRuntime) -> Result<(), Fail> {
-    let position = Position::build(&Parts {
-        side: Colour::Black,
-        target: square(b"e3"),
-        ..parts(b"4k3/8/8/8/3pP3/8/8/4K3")
-    })?;
+    let before = parts(b"4k3/8/8/8/3pP3/8/8/4K3");
+    let position = Position::build(&with! { before; side: Colour::Black, target: square(b"e3") })?;
     let after = play(&rt, &position, b"d4e3").ok_or("dxe3")?;
-    let want = Parts {
-        full: 2,
-        ..parts(b"4k3/8/8/8/8/4p3/8/4K3")
-    };
+    let want = with! { parts(b"4k3/8/8/8/8/4p3/8/4K3"); full: 2 };
     assert_eq!(rt; told(&after), want);
     Ok(())
 }
 
 #[test]
 fn refuses_en_passant_that_discovers_a_check(rt: HostRuntime) -> Result<(), Fail> {
-    let position = Position::build(&Parts {
-        target: square(b"d6"),
-        ..parts(b"8/8/8/K2pP2r/8/8/8/7k")
-    })?;
+    let before = parts(b"8/8/8/K2pP2r/8/8/8/7k");
+    let position = Position::build(&with! { before; target: square(b"d6") })?;
     assert!(rt; play(&rt, &position, b"e5d6").is_none());
     Ok(())
 }
@@ -466,32 +412,19 @@ fn promotes_pawns_of_both_sides(rt: HostRuntime) -> Result<(), Fail> {
     let white = Position::build(&parts(b"8/P6k/8/8/8/8/8/K7"))?;
     assert!(rt; play(&rt, &white, b"a7a8").is_none());
     let after = promoting(&rt, &white, b"a7a8", Some(Promotion::Queen)).ok_or("a8=Q")?;
-    let want = Parts {
-        side: Colour::Black,
-        ..parts(b"Q7/7k/8/8/8/8/8/K7")
-    };
+    let want = with! { parts(b"Q7/7k/8/8/8/8/8/K7"); side: Colour::Black };
     assert_eq!(rt; told(&after), want);
-    let black = Position::build(&Parts {
-        side: Colour::Black,
-        ..parts(b"7k/8/8/8/8/8/p7/1N5K")
-    })?;
+    let black = Position::build(&with! { parts(b"7k/8/8/8/8/8/p7/1N5K"); side: Colour::Black })?;
     let after = promoting(&rt, &black, b"a2b1", Some(Promotion::Knight)).ok_or("axb1=N")?;
-    let want = Parts {
-        full: 2,
-        ..parts(b"7k/8/8/8/8/8/8/1n5K")
-    };
+    let want = with! { parts(b"7k/8/8/8/8/8/8/1n5K"); full: 2 };
     assert_eq!(rt; told(&after), want);
     Ok(())
 }
 
 #[test]
 fn stops_both_numbers(rt: HostRuntime) -> Result<(), Fail> {
-    let position = Position::build(&Parts {
-        side: Colour::Black,
-        half: 99_999,
-        full: 99_999,
-        ..parts(b"4k3/8/8/8/8/8/8/4K3")
-    })?;
+    let bare = with! { parts(b"4k3/8/8/8/8/8/8/4K3"); side: Colour::Black };
+    let position = Position::build(&with! { bare; half: 99_999, full: 99_999 })?;
     let after = play(&rt, &position, b"e8d8").ok_or("Kd8")?;
     assert_eq!(rt; (after.half(), after.full()), (99_999, 99_999));
     Ok(())

@@ -87,17 +87,17 @@ const FAULTS: [(&str, u8); 29] = [
     ("4k3/8/8/8/8/8/8/4K3 x qK e4 a b", 2),
 ];
 
+// The position of a FEN, which is one.
+fn position_of(rt: &impl Abort, fen: &str) -> Position {
+    let position = read_fen(fen.as_bytes());
+    assert!(rt; position.is_ok(), "{fen}: field {:?}", position.err());
+    position.unwrap()
+}
+
 // The text is read, and written as that one.
 fn is_written(rt: &impl Abort, text: &str, canonical: &str) {
-    match read_fen(text.as_bytes()) {
-        Err(fault) => assert!(rt; false, "{text}: field {fault:?}"),
-        Ok(position) => {
-            assert!(rt;
-                write_fen(&position).as_slice() == canonical.as_bytes(),
-                "{text}"
-            )
-        }
-    }
+    let written = write_fen(&position_of(rt, text));
+    assert!(rt; written.as_slice() == canonical.as_bytes(), "{text}");
 }
 
 #[test]

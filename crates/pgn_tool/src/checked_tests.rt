@@ -4,11 +4,13 @@ ghost use Rattle.pgn_tool.specs.CheckedRun.{is_checked};
 
 use crate::checked::run_checked;
 use crate::devices::{
-    Page, TextReader, Trouble, failing_memory, holds_at, is_cut_off, memory, says_unread, whole,
+    Page, TextReader, Trouble, failing_memory, failing_reader, holds_at, is_cut_off, memory,
+    says_unread, whole,
 };
 use crate::standard::StandardOutput;
 use crate::stream_tests::{
-    Failing, Ran, UNKNOWN, UNWRITTEN, WON, Writing, failing_pages, left_by, left_unbuffered,
+    Failing, NO_FLUSH, NO_REPORT, Ran, UNKNOWN, UNWRITTEN, WON, Writing, failing_pages, left_by,
+    left_unbuffered,
 };
 use pgn_arguments::Task;
 use pgn_game::{Inlet, Outlet};
@@ -21,24 +23,31 @@ const TWO: &[u8] = b"1-0 0-1\n";
 
 /// What is written of `TWO`.
 const BOTH: &[u8] =
-    b"[Event \"?\"]\n[Site \"?\"]\n[Date \"????.??.??\"]\n[Round \"?\"]\n[White \"?\"]\n[Black \"?\"]\n[Result \"1-0\"]\n\n1-0\n\n[Event \"?\"]\n[Site \"?\"]\n[Date \"????.??.??\"]\n[Round \"?\"]\n[White \"?\"]\n[Black \"?\"]\n[Result \"0-1\"]\n\n0-1\n\n";
+    b"[Event \"?\"]\n[Site \"?\"]\n[Date \"????.??.??\"]\n[Round \"?\"]\n[White \"?\"]\n\
+    [Black \"?\"]\n[Result \"1-0\"]\n\n1-0\n\n[Event \"?\"]\n[Site \"?\"]\n[Date \"????.??.??\"]\n\
+    [Round \"?\"]\n[White \"?\"]\n[Black \"?\"]\n[Result \"0-1\"]\n\n0-1\n\n";
 
 /// The tag section of a game without tags.
 const HEAD: &[u8] =
-    b"[Event \"?\"]\n[Site \"?\"]\n[Date \"????.??.??\"]\n[Round \"?\"]\n[White \"?\"]\n[Black \"?\"]\n[Result \"*\"]\n\n";
+    b"[Event \"?\"]\n[Site \"?\"]\n[Date \"????.??.??\"]\n[Round \"?\"]\n[White \"?\"]\n\
+    [Black \"?\"]\n[Result \"*\"]\n\n";
 
 const QUEEN: &[u8] =
-    b"[Event \"?\"]\n[Site \"?\"]\n[Date \"????.??.??\"]\n[Round \"?\"]\n[White \"?\"]\n[Black \"?\"]\n[Result \"*\"]\n\n1. d4 *\n\n";
+    b"[Event \"?\"]\n[Site \"?\"]\n[Date \"????.??.??\"]\n[Round \"?\"]\n[White \"?\"]\n\
+    [Black \"?\"]\n[Result \"*\"]\n\n1. d4 *\n\n";
 
 /// A game won by White, of which one reading is cut off in movetext: the marker is the first's.
 const WON_HEAD: &[u8] =
-    b"[Event \"?\"]\n[Site \"?\"]\n[Date \"????.??.??\"]\n[Round \"?\"]\n[White \"?\"]\n[Black \"?\"]\n[Result \"1-0\"]\n\n";
+    b"[Event \"?\"]\n[Site \"?\"]\n[Date \"????.??.??\"]\n[Round \"?\"]\n[White \"?\"]\n\
+    [Black \"?\"]\n[Result \"1-0\"]\n\n";
 
 const REDUCED: &[u8] =
-    b"[Event \"?\"]\n[Site \"?\"]\n[Date \"????.??.??\"]\n[Round \"?\"]\n[White \"?\"]\n[Black \"?\"]\n[Result \"1-0\"]\n\n1. e4 e5 1-0\n\n";
+    b"[Event \"?\"]\n[Site \"?\"]\n[Date \"????.??.??\"]\n[Round \"?\"]\n[White \"?\"]\n\
+    [Black \"?\"]\n[Result \"1-0\"]\n\n1. e4 e5 1-0\n\n";
 
 const TAGGED: &[u8] =
-    b"[Event \"?\"]\n[Site \"?\"]\n[Date \"????.??.??\"]\n[Round \"?\"]\n[White \"?\"]\n[Black \"?\"]\n[Result \"1-0\"]\n[ECO \"C20\"]\n\n1. e4 1-0\n\n";
+    b"[Event \"?\"]\n[Site \"?\"]\n[Date \"????.??.??\"]\n[Round \"?\"]\n[White \"?\"]\n\
+    [Black \"?\"]\n[Result \"1-0\"]\n[ECO \"C20\"]\n\n1. e4 1-0\n\n";
 
 fn task(alloc: Global, reduced: bool) -> Task
     ensures { is_checked result ≡ true }
@@ -73,48 +82,21 @@ fn run_by(writing: Writing, first: TextReader, second: TextReader, out: Page, er
 }
 
 /// Two texts, and what a run of them leaves: the status, standard output, standard error.
-type Row = (
-    &'static [u8],
-    &'static [u8],
-    u8,
-    &'static [u8],
-    &'static [u8],
-);
+#[rattlefmt::skip]
+type Row = (&'static [u8], &'static [u8], u8, &'static [u8], &'static [u8]);
 
+#[rattlefmt::skip]
 const ROWS: &[Row] = &[
     (b"", b"", 0, b"", b""),
     (TWO, TWO, 0, BOTH, b""),
     (b"1-0", b"1-0", 0, WON, b""),
-    (
-        b"[ECO \"C20\"] 1. e4 1-0",
-        b"[ECO \"C20\"] 1. e4 1-0",
-        0,
-        TAGGED,
-        b"",
-    ),
+    (b"[ECO \"C20\"] 1. e4 1-0", b"[ECO \"C20\"] 1. e4 1-0", 0, TAGGED, b""),
     // A Result tag that is there has to be the marker.
-    (
-        b"[Result \"1-0\"] 0-1",
-        b"[Result \"1-0\"] 0-1",
-        1,
-        b"",
-        b"byte 15: result differs from the Result tag\n",
-    ),
+    (b"[Result \"1-0\"] 0-1", b"[Result \"1-0\"] 0-1", 1, b"",
+        b"byte 15: result differs from the Result tag\n"),
     // Nothing is written of a game with a fault.
-    (
-        b"* 1. e4 e5 2. Ke3 *",
-        b"* 1. e4 e5 2. Ke3 *",
-        1,
-        UNKNOWN,
-        b"byte 14: move is not legal\n",
-    ),
-    (
-        b"1. e4",
-        b"1. e4",
-        1,
-        b"",
-        b"byte 5: unexpected end of input\n",
-    ),
+    (b"* 1. e4 e5 2. Ke3 *", b"* 1. e4 e5 2. Ke3 *", 1, UNKNOWN, b"byte 14: move is not legal\n"),
+    (b"1. e4", b"1. e4", 1, b"", b"byte 5: unexpected end of input\n"),
     // Of two texts the second is written, and the rest of it is not read.
     (b"1. e4 *", b"1. d4 *", 0, QUEEN, b""),
     (b"*", b"* *", 0, UNKNOWN, b""),
@@ -122,38 +104,15 @@ const ROWS: &[Row] = &[
 ];
 
 /// Texts of which the second differs.
+#[rattlefmt::skip]
 const DIFFERENT: &[Row] = &[
     (b"1-0", b"0-1", 1, b"", b"byte 0: second reading differs\n"),
     (b"*", b" *", 1, b"", b"byte 1: second reading differs\n"),
     (b"*", b"", 1, b"", b"byte 0: second reading differs\n"),
-    (
-        b"* *",
-        b"*",
-        1,
-        UNKNOWN,
-        b"byte 1: second reading differs\n",
-    ),
-    (
-        b"1. e4 *",
-        b"1. e4",
-        1,
-        HEAD,
-        b"byte 5: second reading differs\n",
-    ),
-    (
-        b"1. e4 1-0",
-        b"1. Ke2 1-0",
-        1,
-        WON_HEAD,
-        b"byte 3: second reading differs\n",
-    ),
-    (
-        b"1. e4 1-0",
-        b"1. e4 0-1",
-        1,
-        WON_HEAD,
-        b"byte 6: second reading differs\n",
-    ),
+    (b"* *", b"*", 1, UNKNOWN, b"byte 1: second reading differs\n"),
+    (b"1. e4 *", b"1. e4", 1, HEAD, b"byte 5: second reading differs\n"),
+    (b"1. e4 1-0", b"1. Ke2 1-0", 1, WON_HEAD, b"byte 3: second reading differs\n"),
+    (b"1. e4 1-0", b"1. e4 0-1", 1, WON_HEAD, b"byte 6: second reading differs\n"),
 ];
 
 /// The rows, each behind a call of its own, so that no proof of a loop sees all their bytes.
@@ -203,13 +162,7 @@ fn writes_reduced_games(rt: HostRuntime) {
 
 #[test]
 fn writes_nothing_if_the_first_reading_fails(rt: HostRuntime) {
-    let first = TextReader {
-        text: b"1. e4 *",
-        calls: 0,
-        fails_at: 5,
-        error: ErrorKind::BrokenPipe,
-        most: 1,
-    };
+    let first = failing_reader(b"1. e4 *", 5, ErrorKind::BrokenPipe, 1);
     let ran = run_in_memory(rt.alloc(), false, first, whole(b"1. e4 *"));
     assert!(rt; ran.is(1, b"", b"byte 5: input cannot be read\n"));
 }
@@ -220,16 +173,6 @@ fn written(bytes: usize) -> &'static [u8] {
         0..4 => b"",
         4..8 => WON,
         _ => BOTH,
-    }
-}
-
-fn failing(fails_at: usize, error: ErrorKind, most: usize) -> TextReader {
-    TextReader {
-        text: TWO,
-        calls: 0,
-        fails_at,
-        error,
-        most,
     }
 }
 
@@ -250,10 +193,8 @@ fn ends_at(ran: &Ran, bytes: usize, end: usize) -> bool {
 // that this one of the second does. The last read of the first finds the end, which is not read of
 // the second.
 fn reports_both(alloc: Global, error: ErrorKind, most: usize, fails_at: usize) -> bool {
-    let (failing, other) = (
-        failing(fails_at, error, most),
-        failing(usize::MAX, error, most),
-    );
+    let failing = failing_reader(TWO, fails_at, error, most);
+    let other = failing_reader(TWO, usize::MAX, error, most);
     let bytes = fails_at.saturating_mul(most);
     let first = run_in_memory(alloc, false, failing, other);
     let second = run_in_memory(alloc, false, other, failing);
@@ -342,31 +283,13 @@ fn end_all(rt: &impl Abort, writing: Writing, alloc: Global, rows: &[Twice], fai
 
 #[test]
 fn tells_a_flush_that_fails_after_two(rt: HostRuntime) {
-    end_all(
-        &rt,
-        Writing::Buffered,
-        rt.alloc(),
-        unflushed(),
-        (usize::MAX, true, usize::MAX),
-    );
-    end_all(
-        &rt,
-        Writing::Buffered,
-        rt.alloc(),
-        silent(),
-        (usize::MAX, false, 0),
-    );
+    end_all(&rt, Writing::Buffered, rt.alloc(), unflushed(), NO_FLUSH);
+    end_all(&rt, Writing::Buffered, rt.alloc(), silent(), NO_REPORT);
 }
 
 #[test]
 fn runs_twice_over_a_writer_alone(rt: HostRuntime) {
     leave_all(&rt, Writing::Unbuffered, rt.alloc(), rows());
     leave_all(&rt, Writing::Unbuffered, rt.alloc(), different());
-    end_all(
-        &rt,
-        Writing::Unbuffered,
-        rt.alloc(),
-        unflushed(),
-        (usize::MAX, true, usize::MAX),
-    );
+    end_all(&rt, Writing::Unbuffered, rt.alloc(), unflushed(), NO_FLUSH);
 }

@@ -139,13 +139,23 @@ impl Read for TextReader {
     }
 }
 
-/// A reader of which no call fails.
-pub fn whole(text: &'static [u8]) -> TextReader {
+/// A reader of which this call fails with this error. It gives so many bytes at most.
+pub fn failing_reader(
+    text: &'static [u8],
+    fails_at: usize,
+    error: ErrorKind,
+    most: usize,
+) -> TextReader {
     TextReader {
         text,
         calls: 0,
-        fails_at: usize::MAX,
-        error: ErrorKind::BrokenPipe,
-        most: usize::MAX,
+        fails_at,
+        error,
+        most,
     }
+}
+
+/// A reader of which no call fails.
+pub fn whole(text: &'static [u8]) -> TextReader {
+    failing_reader(text, usize::MAX, ErrorKind::BrokenPipe, usize::MAX)
 }

@@ -294,28 +294,30 @@ fn has_file(steps: &[FileEvent], file: &(&str, &[u8])) -> bool {
 const TWO: &[u8] = b"* [White \"A\"] 1. e4 (1. d4) *";
 
 const SECOND: &[u8] =
-    b"[Event \"?\"]\n[Site \"?\"]\n[Date \"????.??.??\"]\n[Round \"?\"]\n[White \"A\"]\n[Black \"?\"]\n[Result \"*\"]\n\n1. e4 ( 1. d4 ) *\n\n";
+    b"[Event \"?\"]\n[Site \"?\"]\n[Date \"????.??.??\"]\n[Round \"?\"]\n[White \"A\"]\n\
+    [Black \"?\"]\n[Result \"*\"]\n\n1. e4 ( 1. d4 ) *\n\n";
 
 /// The export text of `TWO`.
 const BOTH: &[u8] =
-    b"[Event \"?\"]\n[Site \"?\"]\n[Date \"????.??.??\"]\n[Round \"?\"]\n[White \"?\"]\n[Black \"?\"]\n[Result \"*\"]\n\n*\n\n[Event \"?\"]\n[Site \"?\"]\n[Date \"????.??.??\"]\n[Round \"?\"]\n[White \"A\"]\n[Black \"?\"]\n[Result \"*\"]\n\n1. e4 ( 1. d4 ) *\n\n";
+    b"[Event \"?\"]\n[Site \"?\"]\n[Date \"????.??.??\"]\n[Round \"?\"]\n[White \"?\"]\n\
+    [Black \"?\"]\n[Result \"*\"]\n\n*\n\n[Event \"?\"]\n[Site \"?\"]\n[Date \"????.??.??\"]\n\
+    [Round \"?\"]\n[White \"A\"]\n[Black \"?\"]\n[Result \"*\"]\n\n1. e4 ( 1. d4 ) *\n\n";
 
 const BOTH_REDUCED: &[u8] =
-    b"[Event \"?\"]\n[Site \"?\"]\n[Date \"????.??.??\"]\n[Round \"?\"]\n[White \"?\"]\n[Black \"?\"]\n[Result \"*\"]\n\n*\n\n[Event \"?\"]\n[Site \"?\"]\n[Date \"????.??.??\"]\n[Round \"?\"]\n[White \"A\"]\n[Black \"?\"]\n[Result \"*\"]\n\n1. e4 *\n\n";
+    b"[Event \"?\"]\n[Site \"?\"]\n[Date \"????.??.??\"]\n[Round \"?\"]\n[White \"?\"]\n\
+    [Black \"?\"]\n[Result \"*\"]\n\n*\n\n[Event \"?\"]\n[Site \"?\"]\n[Date \"????.??.??\"]\n\
+    [Round \"?\"]\n[White \"A\"]\n[Black \"?\"]\n[Result \"*\"]\n\n1. e4 *\n\n";
 
-const LINES: &[u8] =
-    b"1\t?\t?\t*\t0\trnbqkbnr/pppppppp/8/8/8/8/PPPPPPPP/RNBQKBNR w KQkq - 0 1\n2\tA\t?\t*\t1\trnbqkbnr/pppppppp/8/8/4P3/8/PPPP1PPP/RNBQKBNR b KQkq e3 0 1\n";
+const LINES: &[u8] = b"1\t?\t?\t*\t0\trnbqkbnr/pppppppp/8/8/8/8/PPPPPPPP/RNBQKBNR w KQkq - 0 1\n\
+    2\tA\t?\t*\t1\trnbqkbnr/pppppppp/8/8/4P3/8/PPPP1PPP/RNBQKBNR b KQkq e3 0 1\n";
 
 /// Words, the text of `games.pgn`, and what the run of them writes to standard output.
 type Row = (&'static [&'static str], &'static [u8], &'static [u8]);
 
+#[rattlefmt::skip]
 const ROWS: &[Row] = &[
     (&["p", "export", "games.pgn"], TWO, BOTH),
-    (
-        &["p", "export", "--reduced", "games.pgn"],
-        TWO,
-        BOTH_REDUCED,
-    ),
+    (&["p", "export", "--reduced", "games.pgn"], TWO, BOTH_REDUCED),
     (&["p", "export", "--checked", "games.pgn"], b"1-0", WON),
     (&["p", "check", "games.pgn"], TWO, b"games: 2, plies: 1\n"),
     (&["p", "list", "games.pgn"], TWO, LINES),

@@ -216,13 +216,8 @@ fn call(alloc: Global, words: &[&str], has_memory: bool) -> Result<Ran, AllocErr
 }
 
 /// Words after the program's name, the status, standard output, how many files, standard error.
-type Row = (
-    &'static [&'static str],
-    u8,
-    &'static [u8],
-    usize,
-    &'static [u8],
-);
+#[rattlefmt::skip]
+type Row = (&'static [&'static str], u8, &'static [u8], usize, &'static [u8]);
 
 /// With memory for the buffer.
 const ROWS: &[Row] = &[
@@ -242,33 +237,16 @@ const ROWS: &[Row] = &[
     (&["p", "--version"], 0, b"pgn_tool 0.1.0\n", 0, b""),
 ];
 
+#[rattlefmt::skip]
 const CHECKED: &[Row] = &[
     (&["p", "export", "--checked", "won.pgn"], 0, WON, 0, b""),
-    (
-        &["p", "export", "--checked", "bad.pgn"],
-        1,
-        UNKNOWN,
-        0,
-        NOT_LEGAL,
-    ),
-    (
-        &["p", "export", "--checked", "other.pgn"],
-        1,
-        b"",
-        0,
-        DIFFERS,
-    ),
+    (&["p", "export", "--checked", "bad.pgn"], 1, UNKNOWN, 0, NOT_LEGAL),
+    (&["p", "export", "--checked", "other.pgn"], 1, b"", 0, DIFFERS),
     (&["p", "export", "--checked", "none.pgn"], 1, b"", 0, UNREAD),
     (&["p", "export", "--checked", "once.pgn"], 1, b"", 0, UNREAD),
     (&["p", "export", "--checked", "short"], 3, b"", 0, SHORT),
     (&["p", "export", "--checked", "tight.pgn"], 3, b"", 0, SHORT),
-    (
-        &["p", "export", "--checked"],
-        2,
-        b"",
-        0,
-        b"--checked needs FILE\n",
-    ),
+    (&["p", "export", "--checked"], 2, b"", 0, b"--checked needs FILE\n"),
 ];
 
 /// Without memory for the buffer, which only standard output has, where a task writes to it.
@@ -338,14 +316,8 @@ fn refuses(alloc: Global, words: &[&str]) -> bool {
 
 #[test]
 fn refuses_words(rt: HostRuntime) {
-    assert!(rt;
-        ends(
-            rt.alloc(),
-            SystemFault::Refused,
-            2,
-            b"arguments cannot be read\n"
-        )
-    );
+    let unread = b"arguments cannot be read\n";
+    assert!(rt; ends(rt.alloc(), SystemFault::Refused, 2, unread));
     assert!(rt; ends(rt.alloc(), SystemFault::NoMemory, 3, SHORT));
     assert!(rt; refuses(rt.alloc(), &["p", "convert"]));
 }

@@ -1,5 +1,8 @@
 //! Splits into files in memory, with devices that fail.
-use crate::devices::{Page, TextReader, Trouble, holds_at, is_cut_off, memory, says_unread, whole};
+use crate::devices::{
+    Page, TextReader, Trouble, failing_memory, failing_reader, holds_at, is_cut_off, memory,
+    says_unread, whole,
+};
 use crate::files::{CreateFault, GameFiles};
 use crate::folder::file_name;
 use crate::split::split_to;
@@ -9,14 +12,17 @@ use std::io::ErrorKind;
 use std::process::Abort;
 
 const UNKNOWN: &[u8] =
-    b"[Event \"?\"]\n[Site \"?\"]\n[Date \"????.??.??\"]\n[Round \"?\"]\n[White \"?\"]\n[Black \"?\"]\n[Result \"*\"]\n\n*\n\n";
+    b"[Event \"?\"]\n[Site \"?\"]\n[Date \"????.??.??\"]\n[Round \"?\"]\n[White \"?\"]\n\
+    [Black \"?\"]\n[Result \"*\"]\n\n*\n\n";
 
 /// The tag section of a game without tags.
 const HEAD: &[u8] =
-    b"[Event \"?\"]\n[Site \"?\"]\n[Date \"????.??.??\"]\n[Round \"?\"]\n[White \"?\"]\n[Black \"?\"]\n[Result \"*\"]\n\n";
+    b"[Event \"?\"]\n[Site \"?\"]\n[Date \"????.??.??\"]\n[Round \"?\"]\n[White \"?\"]\n\
+    [Black \"?\"]\n[Result \"*\"]\n\n";
 
 const MOVES: &[u8] =
-    b"[Event \"?\"]\n[Site \"?\"]\n[Date \"????.??.??\"]\n[Round \"?\"]\n[White \"?\"]\n[Black \"?\"]\n[Result \"*\"]\n\n1. e4 e5 *\n\n";
+    b"[Event \"?\"]\n[Site \"?\"]\n[Date \"????.??.??\"]\n[Round \"?\"]\n[White \"?\"]\n\
+    [Black \"?\"]\n[Result \"*\"]\n\n1. e4 e5 *\n\n";
 
 /// Three games. Their first movetext tokens stand at 0, 10 and 12, their markers at 8, 10 and 20.
 const THREE: &[u8] = b"1.e4 e5 * * 1.e4 e5 *";
@@ -64,18 +70,11 @@ impl GameFiles for Shelf {
         }
         self.open = self.open.saturating_add(1);
         self.most_open = self.most_open.max(self.open);
-        Ok(Outlet::new(Page {
-            alloc: self.alloc,
-            number,
-            taken: Vec::new(self.alloc),
-            calls: self.writes,
-            fails_at: self.fails_at,
-            trouble: self.trouble,
-            most: self.most,
-            flushes: 0,
-            flushed: 0,
-            flush_fails: true,
-        }))
+        let mut page = failing_memory(self.alloc, self.fails_at, self.trouble, self.most);
+        page.number = number;
+        page.calls = self.writes;
+        page.flush_fails = true;
+        Ok(Outlet::new(page))
     }
 
     fn close(&mut self, out: Outlet<Page>) {
@@ -144,22 +143,13 @@ fn run(reader: TextReader, shelf: &mut Shelf) -> Ran {
 /// A text, and what a split of it leaves: the status, the files, standard error.
 type Row = (&'static [u8], u8, &'static [&'static [u8]], &'static [u8]);
 
+#[rattlefmt::skip]
 const ROWS: &[Row] = &[
     (b"", 0, &[], b""),
     (b"{no game} ", 0, &[], b""),
     (b"* *", 0, &[UNKNOWN, UNKNOWN], b""),
-    (
-        b"* 1. e4",
-        1,
-        &[UNKNOWN, HEAD],
-        b"byte 7: unexpected end of input\n",
-    ),
-    (
-        b"* 1-0",
-        1,
-        &[UNKNOWN],
-        b"byte 2: result differs from the Result tag\n",
-    ),
+    (b"* 1. e4", 1, &[UNKNOWN, HEAD], b"byte 7: unexpected end of input\n"),
+    (b"* 1-0", 1, &[UNKNOWN], b"byte 2: result differs from the Result tag\n"),
     (THREE, 0, FULL, b""),
 ];
 
@@ -369,13 +359,7 @@ fn ends_at(ran: &Ran, made: &mut Shelf, fails_at: usize) -> bool {
 }
 
 fn reports_read(alloc: Global, error: ErrorKind, fails_at: usize) -> bool {
-    let failing = TextReader {
-        text: three(),
-        calls: 0,
-        fails_at,
-        error,
-        most: 1,
-    };
+    let failing = failing_reader(three(), fails_at, error, 1);
     let mut made = empty_shelf(alloc);
     let ran = run(failing, &mut made);
     ends_at(&ran, &mut made, fails_at)

@@ -3,7 +3,8 @@ ghost use Rattle.std.specs.Prelude.{◌≡◌, true};
 ghost use Rattle.pgn_tool.specs.TaskRun.{is_for_stream};
 
 use crate::devices::{
-    Page, TextReader, Trouble, failing_memory, holds_at, is_cut_off, memory, says_unread, whole,
+    Page, TextReader, Trouble, failing_memory, failing_reader, holds_at, is_cut_off, memory,
+    says_unread, whole,
 };
 use crate::machine::Output;
 use crate::standard::StandardOutput;
@@ -19,25 +20,32 @@ use std::process::Abort;
 const TWO: &[u8] = b"[Event \"a\"] * [Site \"b\"]\n*\n";
 
 pub const UNKNOWN: &[u8] =
-    b"[Event \"?\"]\n[Site \"?\"]\n[Date \"????.??.??\"]\n[Round \"?\"]\n[White \"?\"]\n[Black \"?\"]\n[Result \"*\"]\n\n*\n\n";
+    b"[Event \"?\"]\n[Site \"?\"]\n[Date \"????.??.??\"]\n[Round \"?\"]\n[White \"?\"]\n\
+    [Black \"?\"]\n[Result \"*\"]\n\n*\n\n";
 
 const FIRST: &[u8] =
-    b"[Event \"a\"]\n[Site \"?\"]\n[Date \"????.??.??\"]\n[Round \"?\"]\n[White \"?\"]\n[Black \"?\"]\n[Result \"*\"]\n\n*\n\n";
+    b"[Event \"a\"]\n[Site \"?\"]\n[Date \"????.??.??\"]\n[Round \"?\"]\n[White \"?\"]\n\
+    [Black \"?\"]\n[Result \"*\"]\n\n*\n\n";
 
 const BOTH: &[u8] =
-    b"[Event \"a\"]\n[Site \"?\"]\n[Date \"????.??.??\"]\n[Round \"?\"]\n[White \"?\"]\n[Black \"?\"]\n[Result \"*\"]\n\n*\n\n[Event \"?\"]\n[Site \"b\"]\n[Date \"????.??.??\"]\n[Round \"?\"]\n[White \"?\"]\n[Black \"?\"]\n[Result \"*\"]\n\n*\n\n";
+    b"[Event \"a\"]\n[Site \"?\"]\n[Date \"????.??.??\"]\n[Round \"?\"]\n[White \"?\"]\n\
+    [Black \"?\"]\n[Result \"*\"]\n\n*\n\n[Event \"?\"]\n[Site \"b\"]\n[Date \"????.??.??\"]\n\
+    [Round \"?\"]\n[White \"?\"]\n[Black \"?\"]\n[Result \"*\"]\n\n*\n\n";
 
 pub const WON: &[u8] =
-    b"[Event \"?\"]\n[Site \"?\"]\n[Date \"????.??.??\"]\n[Round \"?\"]\n[White \"?\"]\n[Black \"?\"]\n[Result \"1-0\"]\n\n1-0\n\n";
+    b"[Event \"?\"]\n[Site \"?\"]\n[Date \"????.??.??\"]\n[Round \"?\"]\n[White \"?\"]\n\
+    [Black \"?\"]\n[Result \"1-0\"]\n\n1-0\n\n";
 
 const NAMED: &[u8] =
-    b"[Event \"?\"]\n[Site \"?\"]\n[Date \"????.??.??\"]\n[Round \"?\"]\n[White \"?\"]\n[Black \"?\"]\n[Result \"*\"]\n[A \"1\"]\n\n*\n\n";
+    b"[Event \"?\"]\n[Site \"?\"]\n[Date \"????.??.??\"]\n[Round \"?\"]\n[White \"?\"]\n\
+    [Black \"?\"]\n[Result \"*\"]\n[A \"1\"]\n\n*\n\n";
 
 const FIRST_LINE: &[u8] =
     b"1\t?\t?\t*\t0\trnbqkbnr/pppppppp/8/8/8/8/PPPPPPPP/RNBQKBNR w KQkq - 0 1\n";
 
 const BOTH_LINES: &[u8] =
-    b"1\t?\t?\t*\t0\trnbqkbnr/pppppppp/8/8/8/8/PPPPPPPP/RNBQKBNR w KQkq - 0 1\n2\t?\t?\t*\t0\trnbqkbnr/pppppppp/8/8/8/8/PPPPPPPP/RNBQKBNR w KQkq - 0 1\n";
+    b"1\t?\t?\t*\t0\trnbqkbnr/pppppppp/8/8/8/8/PPPPPPPP/RNBQKBNR w KQkq - 0 1\n\
+    2\t?\t?\t*\t0\trnbqkbnr/pppppppp/8/8/8/8/PPPPPPPP/RNBQKBNR w KQkq - 0 1\n";
 
 /// The line of a check of `TWO`.
 const COUNTS: &[u8] = b"games: 2, plies: 0\n";
@@ -145,115 +153,46 @@ fn run_unbuffered(job: Job, reader: TextReader, out: Page, err: Page) -> Ran {
 /// A task, a text, and what the run of it leaves: the status, standard output, standard error.
 type Row = (Job, &'static [u8], u8, &'static [u8], &'static [u8]);
 
+#[rattlefmt::skip]
 const EXPORTS: &[Row] = &[
     (Job::Export, b"", 0, b"", b""),
     (Job::Export, b"*", 0, UNKNOWN, b""),
     (Job::Export, TWO, 0, BOTH, b""),
     (Job::Export, b"[Result \"1-0\"] 1-0", 0, WON, b""),
     (Job::Export, b"[A \"1\"] *", 0, NAMED, b""),
-    (
-        Job::Export,
-        b"1-0",
-        1,
-        b"",
-        b"byte 0: result differs from the Result tag\n",
-    ),
-    (
-        Job::Export,
-        b"* [A \"1\"]",
-        1,
-        UNKNOWN,
-        b"byte 9: unexpected end of input\n",
-    ),
+    (Job::Export, b"1-0", 1, b"", b"byte 0: result differs from the Result tag\n"),
+    (Job::Export, b"* [A \"1\"]", 1, UNKNOWN, b"byte 9: unexpected end of input\n"),
     (Job::Reduced, b"[A \"1\"] *", 0, UNKNOWN, b""),
 ];
 
+#[rattlefmt::skip]
 const CHECKS: &[Row] = &[
     (Job::Check, b"", 0, b"games: 0, plies: 0\n", b""),
     (Job::Check, TWO, 0, b"games: 2, plies: 0\n", b""),
-    (
-        Job::Check,
-        b"1. e4 (1. d4 d5) (1. c4) e5 *",
-        0,
-        b"games: 1, plies: 2\n",
-        b"",
-    ),
-    (
-        Job::Check,
-        b"1. e4 e5 2. Ke3 *",
-        1,
-        b"",
-        b"byte 12: move is not legal\n",
-    ),
-    (
-        Job::Check,
-        b"1-0",
-        1,
-        b"",
-        b"byte 0: result differs from the Result tag\n",
-    ),
-    (
-        Job::Check,
-        b"* [A \"1\"]",
-        1,
-        b"",
-        b"byte 9: unexpected end of input\n",
-    ),
+    (Job::Check, b"1. e4 (1. d4 d5) (1. c4) e5 *", 0, b"games: 1, plies: 2\n", b""),
+    (Job::Check, b"1. e4 e5 2. Ke3 *", 1, b"", b"byte 12: move is not legal\n"),
+    (Job::Check, b"1-0", 1, b"", b"byte 0: result differs from the Result tag\n"),
+    (Job::Check, b"* [A \"1\"]", 1, b"", b"byte 9: unexpected end of input\n"),
 ];
 
+#[rattlefmt::skip]
 const LISTS: &[Row] = &[
     (Job::List, b"", 0, b"", b""),
     (Job::List, TWO, 0, BOTH_LINES, b""),
-    (
-        Job::List,
-        b"1. e4 *",
-        0,
-        b"1\t?\t?\t*\t1\trnbqkbnr/pppppppp/8/8/4P3/8/PPPP1PPP/RNBQKBNR b KQkq e3 0 1\n",
-        b"",
-    ),
+    (Job::List, b"1. e4 *", 0,
+        b"1\t?\t?\t*\t1\trnbqkbnr/pppppppp/8/8/4P3/8/PPPP1PPP/RNBQKBNR b KQkq e3 0 1\n", b""),
     // The marker ends with the input.
-    (
-        Job::List,
-        b"[Result \"0-1\"]\nf3 e5 g4 Qh4 0-1",
-        0,
-        b"1\t?\t?\t0-1\t4\trnb1kbnr/pppp1ppp/8/4p3/6Pq/5P2/PPPPP2P/RNBQKBNR w KQkq - 1 3\n",
-        b"",
-    ),
-    (
-        Job::List,
-        b"[White \"Amaral \\\"R\\\"\"][Black \"Okafor\"] e4 (d4) *",
-        0,
-        b"1\tAmaral \"R\"\tOkafor\t*\t1\trnbqkbnr/pppppppp/8/8/4P3/8/PPPP1PPP/RNBQKBNR b KQkq e3 0 1\n",
-        b"",
-    ),
-    (
-        Job::List,
-        b"[FEN \"4k3/44/8/8/8/8/8/4K3 w - - 00 007\"] *",
-        0,
-        b"1\t?\t?\t*\t0\t4k3/8/8/8/8/8/8/4K3 w - - 0 7\n",
-        b"",
-    ),
-    (
-        Job::List,
-        b"* 1. e4 e5 2. Ke3 *",
-        1,
-        FIRST_LINE,
-        b"byte 14: move is not legal\n",
-    ),
-    (
-        Job::List,
-        b"* [A \"1\"]",
-        1,
-        FIRST_LINE,
-        b"byte 9: unexpected end of input\n",
-    ),
-    (
-        Job::List,
-        b"1-0",
-        1,
-        b"",
-        b"byte 0: result differs from the Result tag\n",
-    ),
+    (Job::List, b"[Result \"0-1\"]\nf3 e5 g4 Qh4 0-1", 0,
+        b"1\t?\t?\t0-1\t4\trnb1kbnr/pppp1ppp/8/4p3/6Pq/5P2/PPPPP2P/RNBQKBNR w KQkq - 1 3\n", b""),
+    (Job::List, b"[White \"Amaral \\\"R\\\"\"][Black \"Okafor\"] e4 (d4) *", 0,
+        b"1\tAmaral \"R\"\tOkafor\t*\t1\t\
+        rnbqkbnr/pppppppp/8/8/4P3/8/PPPP1PPP/RNBQKBNR b KQkq e3 0 1\n",
+        b""),
+    (Job::List, b"[FEN \"4k3/44/8/8/8/8/8/4K3 w - - 00 007\"] *", 0,
+        b"1\t?\t?\t*\t0\t4k3/8/8/8/8/8/8/4K3 w - - 0 7\n", b""),
+    (Job::List, b"* 1. e4 e5 2. Ke3 *", 1, FIRST_LINE, b"byte 14: move is not legal\n"),
+    (Job::List, b"* [A \"1\"]", 1, FIRST_LINE, b"byte 9: unexpected end of input\n"),
+    (Job::List, b"1-0", 1, b"", b"byte 0: result differs from the Result tag\n"),
 ];
 
 /// The rows, each table behind a call of its own, so that no proof of a loop sees all their bytes.
@@ -273,6 +212,12 @@ fn lists() -> &'static [Row] {
 pub type Failing = (usize, bool, usize);
 
 const NONE: Failing = (usize::MAX, false, usize::MAX);
+
+const NO_WRITE: Failing = (0, false, usize::MAX);
+
+pub const NO_FLUSH: Failing = (usize::MAX, true, usize::MAX);
+
+pub const NO_REPORT: Failing = (usize::MAX, false, 0);
 
 /// Standard output and standard error, where this fails.
 pub fn failing_pages(alloc: Global, failing: Failing) -> (Page, Page) {
@@ -322,13 +267,7 @@ fn runs_over_a_writer_alone(rt: HostRuntime) {
     leave_all(&rt, Writing::Unbuffered, rt.alloc(), exports(), NONE);
     leave_all(&rt, Writing::Unbuffered, rt.alloc(), checks(), NONE);
     leave_all(&rt, Writing::Unbuffered, rt.alloc(), lists(), NONE);
-    leave_all(
-        &rt,
-        Writing::Unbuffered,
-        rt.alloc(),
-        unflushed(),
-        (usize::MAX, true, usize::MAX),
-    );
+    leave_all(&rt, Writing::Unbuffered, rt.alloc(), unflushed(), NO_FLUSH);
 }
 
 // How many games of `TWO` are whole when so many bytes were read.
@@ -343,13 +282,7 @@ fn whole_games(bytes: usize) -> usize {
 // Whether a run reports that this read fails, of pieces of so many bytes. The last read finds the
 // end.
 fn reports_read(alloc: Global, job: Job, error: ErrorKind, most: usize, fails_at: usize) -> bool {
-    let failing = TextReader {
-        text: TWO,
-        calls: 0,
-        fails_at,
-        error,
-        most,
-    };
+    let failing = failing_reader(TWO, fails_at, error, most);
     let bytes = fails_at.saturating_mul(most).min(TWO.len());
     let ran = run(job, failing, memory(alloc), memory(alloc));
     if fails_at.saturating_mul(most) >= TWO.len().saturating_add(most) {
@@ -416,14 +349,9 @@ fn tells_each_write_that_fails(rt: HostRuntime) {
 }
 
 /// Runs of which the first write fails.
+#[rattlefmt::skip]
 const UNWRITABLE: &[Row] = &[
-    (
-        Job::Export,
-        b"*",
-        1,
-        b"",
-        b"byte 0: output cannot be written\n",
-    ),
+    (Job::Export, b"*", 1, b"", b"byte 0: output cannot be written\n"),
     // The fault behind the line is not reached.
     (Job::List, b"* 1-0", 1, b"", UNWRITTEN),
     // A fault comes before the counts.
@@ -464,27 +392,9 @@ fn silent() -> &'static [Row] {
 
 #[test]
 fn ends_at_the_first_device_that_fails(rt: HostRuntime) {
-    leave_all(
-        &rt,
-        Writing::Buffered,
-        rt.alloc(),
-        unwritable(),
-        (0, false, usize::MAX),
-    );
-    leave_all(
-        &rt,
-        Writing::Buffered,
-        rt.alloc(),
-        unflushed(),
-        (usize::MAX, true, usize::MAX),
-    );
-    leave_all(
-        &rt,
-        Writing::Buffered,
-        rt.alloc(),
-        silent(),
-        (usize::MAX, false, 0),
-    );
+    leave_all(&rt, Writing::Buffered, rt.alloc(), unwritable(), NO_WRITE);
+    leave_all(&rt, Writing::Buffered, rt.alloc(), unflushed(), NO_FLUSH);
+    leave_all(&rt, Writing::Buffered, rt.alloc(), silent(), NO_REPORT);
 }
 
 fn first() -> &'static [u8] {

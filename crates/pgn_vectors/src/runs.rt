@@ -4,11 +4,13 @@ use pgn_game::{Converter, Fault, Fed, Mode, Outlet, Reason, Sink, Totals, conver
 
 /// The section of a game without pairs.
 pub const HEAD: &[u8] =
-    b"[Event \"?\"]\n[Site \"?\"]\n[Date \"????.??.??\"]\n[Round \"?\"]\n[White \"?\"]\n[Black \"?\"]\n[Result \"*\"]\n\n";
+    b"[Event \"?\"]\n[Site \"?\"]\n[Date \"????.??.??\"]\n[Round \"?\"]\n[White \"?\"]\n\
+    [Black \"?\"]\n[Result \"*\"]\n\n";
 
 /// What `*` gives.
 pub const LONE_MARKER: &[u8] =
-    b"[Event \"?\"]\n[Site \"?\"]\n[Date \"????.??.??\"]\n[Round \"?\"]\n[White \"?\"]\n[Black \"?\"]\n[Result \"*\"]\n\n*\n\n";
+    b"[Event \"?\"]\n[Site \"?\"]\n[Date \"????.??.??\"]\n[Round \"?\"]\n[White \"?\"]\n\
+    [Black \"?\"]\n[Result \"*\"]\n\n*\n\n";
 
 /// A converter with the limits of the program: 64 pairs, and variations to depth 32.
 pub type Usual = Converter<64, 33>;

@@ -66,11 +66,8 @@ fn finds_three_queens(rt: HostRuntime) -> Result<(), Fail> {
 
 #[test]
 fn finds_the_origin_of_en_passant(rt: HostRuntime) -> Result<(), Fail> {
-    let position = Position::build(&Parts {
-        side: Colour::Black,
-        target: square(b"e3"),
-        ..parts(b"4k3/8/8/8/3pP3/8/8/4K3")
-    })?;
+    let before = black(b"4k3/8/8/8/3pP3/8/8/4K3");
+    let position = Position::build(&with! { before; target: square(b"e3") })?;
     assert_origins(&rt, &position, Kind::Pawn, b"e3", &[b"d4"]);
     Ok(())
 }
@@ -122,10 +119,7 @@ fn counts_three_plies_of_the_first_position(rt: HostRuntime) {
 #[test]
 fn counts_three_plies_with_castling_and_pins(rt: HostRuntime) -> Result<(), Fail> {
     let text = b"r3k2r/p1ppqpb1/bn2pnp1/3PN3/1p2P3/2N2Q1p/PPPBBPPP/R3K2R";
-    let position = Position::build(&Parts {
-        rights: EVERY_RIGHT,
-        ..parts(text)
-    })?;
+    let position = Position::build(&with! { parts(text); rights: EVERY_RIGHT })?;
     assert_eq!(rt; count_plies(&position, 1), 48);
     assert_eq!(rt; count_plies(&position, 2), 2039);
     assert_eq!(rt; count_plies(&position, 3), 97_862);
@@ -219,10 +213,7 @@ fn assert_state(
 }
 
 fn black(text: &[u8]) -> Parts {
-    Parts {
-        side: Colour::Black,
-        ..parts(text)
-    }
+    with! { parts(text); side: Colour::Black }
 }
 
 #[test]
@@ -250,15 +241,9 @@ fn tells_stalemates(rt: HostRuntime) -> Result<(), Fail> {
 
 #[test]
 fn tells_checks_with_an_answer(rt: HostRuntime) -> Result<(), Fail> {
-    let passing = Parts {
-        target: square(b"d3"),
-        ..black(b"3R1R2/4K3/8/4k3/3Pp3/8/8/8")
-    };
+    let passing = with! { black(b"3R1R2/4K3/8/4k3/3Pp3/8/8/8"); target: square(b"d3") };
     assert_state(&rt, &passing, true, true)?;
-    let missed = Parts {
-        target: None,
-        ..passing
-    };
+    let missed = with! { passing; target: None };
     assert_state(&rt, &missed, true, false)?;
     assert_state(&rt, &parts(b"4r2K/3P4/7k/8/8/8/8/8"), true, true)
 }

@@ -1,7 +1,7 @@
 //! The moves of `LegalMoves`: how many there are in positions whose counts are well known, and how
 //! many are tried.
 
-use crate::rules::{EVERY_RIGHT, NO_RIGHT, parts};
+use crate::rules::{EVERY_RIGHT, NO_RIGHT, PROMOTIONS, RIGHTS_OF_BLACK, RIGHTS_OF_WHITE, parts};
 use chess_rules::{Colour, LegalMoves, Parts, Position, Probes, Promotion, Rights};
 use std::test::Fail;
 
@@ -30,10 +30,7 @@ fn assert_perft(rt: &impl std::process::Abort, parts: &Parts, counts: &[u32]) ->
 }
 
 fn with_rights(text: &[u8], rights: Rights) -> Parts {
-    Parts {
-        rights,
-        ..parts(text)
-    }
+    with! { parts(text); rights: rights }
 }
 
 #[test]
@@ -57,35 +54,17 @@ fn lists_moves_of_rooks_and_pawns(rt: HostRuntime) -> Result<(), Fail> {
 #[test]
 fn lists_moves_in_check(rt: HostRuntime) -> Result<(), Fail> {
     let text = b"r3k2r/Pppp1ppp/1b3nbN/nP6/BBP1P3/q4N2/Pp1P2PP/R2Q1RK1";
-    let rights = Rights {
-        white_short: false,
-        white_long: false,
-        ..EVERY_RIGHT
-    };
-    assert_perft(&rt, &with_rights(text, rights), &[6, 264, 9467])?;
+    assert_perft(&rt, &with_rights(text, RIGHTS_OF_BLACK), &[6, 264, 9467])?;
     // the same with the colours swapped
     let text = b"r2q1rk1/pP1p2pp/Q4n2/bbp1p3/Np6/1B3NBn/pPPP1PPP/R3K2R";
-    let rights = Rights {
-        black_short: false,
-        black_long: false,
-        ..EVERY_RIGHT
-    };
-    let swapped = Parts {
-        side: Colour::Black,
-        ..with_rights(text, rights)
-    };
+    let swapped = with! { with_rights(text, RIGHTS_OF_WHITE); side: Colour::Black };
     assert_perft(&rt, &swapped, &[6, 264])
 }
 
 #[test]
 fn lists_moves_with_promotions(rt: HostRuntime) -> Result<(), Fail> {
     let text = b"rnbq1k1r/pp1Pbppp/2p5/8/2B5/8/PPP1NnPP/RNBQK2R";
-    let rights = Rights {
-        black_short: false,
-        black_long: false,
-        ..EVERY_RIGHT
-    };
-    assert_perft(&rt, &with_rights(text, rights), &[44, 1486])
+    assert_perft(&rt, &with_rights(text, RIGHTS_OF_WHITE), &[44, 1486])
 }
 
 #[test]
@@ -118,14 +97,13 @@ fn count_promotions(position: &Position, promotion: Option<Promotion>) -> u32 {
 #[test]
 fn lists_each_promotion(rt: HostRuntime) -> Result<(), Fail> {
     let position = Position::build(&parts(b"k7/7P/8/8/8/8/8/K7"))?;
-    assert_eq!(rt; count_promotions(&position, None), 3);
-    for promotion in [
-        Promotion::Queen,
-        Promotion::Rook,
-        Promotion::Bishop,
-        Promotion::Knight,
-    ] {
-        assert_eq!(rt; count_promotions(&position, Some(promotion)), 1);
+    for promotion in PROMOTIONS {
+        let wanted = if promotion.is_none() { 3 } else { 1 };
+        assert_eq!(rt;
+            count_promotions(&position, promotion),
+            wanted,
+            "{promotion:?}"
+        );
     }
     Ok(())
 }

@@ -1,7 +1,7 @@
 //! FENs of positions one after another, written by one writer.
 
-use crate::text::POSITIONS;
-use chess_text::{FenWriter, read_fen};
+use crate::text::{POSITIONS, position_of};
+use chess_text::FenWriter;
 use std::process::Abort;
 
 // Each from the one before it by a move. Ranks change, change back, and change while others stay.
@@ -22,15 +22,8 @@ const GAME: [&str; 10] = [
 
 // The writer writes the position of a canonical text as that text.
 fn is_written(rt: &impl Abort, writer: &mut FenWriter, text: &str) {
-    match read_fen(text.as_bytes()) {
-        Err(fault) => assert!(rt; false, "{text}: field {fault:?}"),
-        Ok(position) => {
-            assert!(rt;
-                writer.write(&position).as_slice() == text.as_bytes(),
-                "{text}"
-            )
-        }
-    }
+    let written = writer.write(&position_of(rt, text));
+    assert!(rt; written.as_slice() == text.as_bytes(), "{text}");
 }
 
 #[test]

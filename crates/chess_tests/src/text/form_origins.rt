@@ -1,8 +1,9 @@
 //! From which squares a form's move is a step, and from which it is legal, in worked positions.
 
+use crate::text::position_of;
 use OriginKind::{Legal, NoStep, Unsafe};
 use chess_rules::Probes;
-use chess_text::{OriginKind, origins_of_form, read_fen, read_form};
+use chess_text::{OriginKind, origins_of_form, read_form};
 use std::process::Abort;
 
 const FIRST: &str = "rnbqkbnr/pppppppp/8/8/8/8/PPPPPPPP/RNBQKBNR w KQkq - 0 1";
@@ -39,10 +40,7 @@ fn wanted(index: usize, row: &[([u8; 2], OriginKind)]) -> OriginKind {
 // The text's move is a step from the squares of the row, and from no other. `tried` pairs are
 // counted.
 fn explains(rt: &impl Abort, fen: &str, text: &str, tried: u32, row: &[([u8; 2], OriginKind)]) {
-    let Ok(position) = read_fen(fen.as_bytes()) else {
-        assert!(rt; false, "{fen}");
-        return;
-    };
+    let position = position_of(rt, fen);
     let Some(form) = read_form(text.as_bytes()) else {
         assert!(rt; false, "{text}");
         return;

@@ -1,12 +1,12 @@
 //! Moves as text, read and written, in worked positions.
 
 use crate::rules::{KINDS, PROMOTIONS};
-use crate::text::POSITIONS;
 use crate::text::resolution::square;
+use crate::text::{POSITIONS, position_of};
 use chess_rules::{
     Kind, Move, Position, Probes, Promotion, Square, has_legal_move, in_check, origins, try_pair,
 };
-use chess_text::{Form, Played, read_fen, read_form, resolve, write_san};
+use chess_text::{Form, Played, read_form, resolve, write_san};
 use std::process::Abort;
 
 fn go(from: [u8; 2], to: [u8; 2], promotion: Option<Promotion>) -> Move {
@@ -19,10 +19,7 @@ fn go(from: [u8; 2], to: [u8; 2], promotion: Option<Promotion>) -> Move {
 
 // In that position the move is written so, at so many pairs beside those of `has_legal_move`.
 fn is_written(rt: &impl Abort, fen: &str, mv: &Move, text: &str, pairs: u32) {
-    let Ok(position) = read_fen(fen.as_bytes()) else {
-        assert!(rt; false, "{fen}");
-        return;
-    };
+    let position = position_of(rt, fen);
     let Some(next) = try_pair(&position, *mv, &mut Probes::new()) else {
         assert!(rt; false, "{text}");
         return;
@@ -35,7 +32,11 @@ fn is_written(rt: &impl Abort, fen: &str, mv: &Move, text: &str, pairs: u32) {
     let mut probes = Probes::new();
     let written = write_san(&position, &played, &mut probes);
     assert!(rt; written.as_slice() == text.as_bytes(), "{text}");
-    assert_eq!(rt; probes.count(), pairs.wrapping_add(answers.count()));
+    assert_eq!(rt;
+        probes.count(),
+        pairs.wrapping_add(answers.count()),
+        "{text}"
+    );
 }
 
 #[test]
@@ -137,10 +138,7 @@ fn comes_back(rt: &impl Abort, position: &Position, to: Square) -> u32 {
 #[test]
 fn each_text_names_its_move(rt: HostRuntime) {
     for fen in POSITIONS {
-        let Ok(position) = read_fen(fen.as_bytes()) else {
-            assert!(rt; false, "{fen}");
-            continue;
-        };
+        let position = position_of(&rt, fen);
         let mut moves = 0u32;
         for file in 0..8 {
             for rank in 0..8 {

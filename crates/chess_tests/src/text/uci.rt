@@ -1,7 +1,8 @@
 //! Moves in UCI, read and written, in worked positions.
 
+use crate::text::position_of;
 use chess_rules::Probes;
-use chess_text::{UciFault, read_fen, read_uci, write_fen, write_uci};
+use chess_text::{UciFault, read_uci, write_fen, write_uci};
 use std::process::Abort;
 
 const FIRST: &str = "rnbqkbnr/pppppppp/8/8/8/8/PPPPPPPP/RNBQKBNR w KQkq - 0 1";
@@ -17,58 +18,38 @@ const PROMOTING: &str = "1r6/P6k/8/8/8/8/8/K7 w - - 0 1";
 const PINNED: &str = "4k3/8/8/8/1b6/2N5/8/4K1N1 w - - 0 1";
 
 // A position, the text of a move in it, and the position after the move.
+#[rattlefmt::skip]
 const MOVES: [(&str, &str, &str); 6] = [
-    (
-        FIRST,
-        "e2e4",
-        "rnbqkbnr/pppppppp/8/8/4P3/8/PPPP1PPP/RNBQKBNR b KQkq e3 0 1",
-    ),
-    (
-        "rnbqkbnr/pppppppp/8/8/4P3/8/PPPP1PPP/RNBQKBNR b KQkq e3 0 1",
-        "e7e5",
-        "rnbqkbnr/pppp1ppp/8/4p3/4P3/8/PPPP1PPP/RNBQKBNR w KQkq e6 0 2",
-    ),
-    (
-        FIRST,
-        "g1f3",
-        "rnbqkbnr/pppppppp/8/8/8/5N2/PPPPPPPP/RNBQKB1R b KQkq - 1 1",
-    ),
+    (FIRST, "e2e4", "rnbqkbnr/pppppppp/8/8/4P3/8/PPPP1PPP/RNBQKBNR b KQkq e3 0 1"),
+    ("rnbqkbnr/pppppppp/8/8/4P3/8/PPPP1PPP/RNBQKBNR b KQkq e3 0 1", "e7e5",
+        "rnbqkbnr/pppp1ppp/8/4p3/4P3/8/PPPP1PPP/RNBQKBNR w KQkq e6 0 2"),
+    (FIRST, "g1f3", "rnbqkbnr/pppppppp/8/8/8/5N2/PPPPPPPP/RNBQKB1R b KQkq - 1 1"),
     // the other knight is pinned
     (PINNED, "g1e2", "4k3/8/8/8/1b6/2N5/4N3/4K3 b - - 1 1"),
     // a capture, and en passant
     (ROOKS, "a1a8", "R3k2r/8/8/8/8/8/8/4K2R b Kk - 0 1"),
-    (
-        "4k3/8/8/8/3pP3/8/8/4K3 b - e3 0 1",
-        "d4e3",
-        "4k3/8/8/8/8/4p3/8/4K3 w - - 0 2",
-    ),
+    ("4k3/8/8/8/3pP3/8/8/4K3 b - e3 0 1", "d4e3", "4k3/8/8/8/8/4p3/8/4K3 w - - 0 2"),
 ];
 
 // Without a capture, and with one.
+#[rattlefmt::skip]
 const PROMOTIONS: [(&str, &str, &str); 5] = [
     (PROMOTING, "a7a8q", "Qr6/7k/8/8/8/8/8/K7 b - - 0 1"),
     (PROMOTING, "a7a8r", "Rr6/7k/8/8/8/8/8/K7 b - - 0 1"),
     (PROMOTING, "a7b8b", "1B6/7k/8/8/8/8/8/K7 b - - 0 1"),
     (PROMOTING, "a7b8n", "1N6/7k/8/8/8/8/8/K7 b - - 0 1"),
-    (
-        "k7/8/8/8/8/8/p6K/1R6 b - - 0 1",
-        "a2b1q",
-        "k7/8/8/8/8/8/7K/1q6 w - - 0 2",
-    ),
+    ("k7/8/8/8/8/8/p6K/1R6 b - - 0 1", "a2b1q", "k7/8/8/8/8/8/7K/1q6 w - - 0 2"),
 ];
 
 // Castling, and moves from e1 that are none.
+#[rattlefmt::skip]
 const CASTLING: [(&str, &str, &str); 7] = [
     (ROOKS, "e1g1", "r3k2r/8/8/8/8/8/8/R4RK1 b kq - 1 1"),
     (ROOKS, "e1c1", "r3k2r/8/8/8/8/8/8/2KR3R b kq - 1 1"),
     (ROOKS_OF_BLACK, "e8g8", "r4rk1/8/8/8/8/8/8/R3K2R w KQ - 1 2"),
     (ROOKS_OF_BLACK, "e8c8", "2kr3r/8/8/8/8/8/8/R3K2R w KQ - 1 2"),
     // the same text for a rook
-    (
-        "3k4/8/8/8/8/8/8/K3R3 w KQ - 0 1",
-        "e1g1",
-        "3k4/8/8/8/8/8/8/K5R1 b - - 1 1",
-    ),
+    ("3k4/8/8/8/8/8/8/K3R3 w KQ - 0 1", "e1g1", "3k4/8/8/8/8/8/8/K5R1 b - - 1 1"),
     (ROOKS, "e1f1", "r3k2r/8/8/8/8/8/8/R4K1R b kq - 1 1"),
     (WITHOUT_RIGHTS, "e1d2", "r3k2r/8/8/8/8/8/3K4/R6R b - - 1 1"),
 ];
@@ -104,39 +85,28 @@ const NO_MOVES: [&str; 17] = [
 // The text is read as the move that leads to that position, and is written for it. One pair is
 // tried.
 fn is_read(rt: &impl Abort, fen: &str, text: &str, after: &str) {
-    let Ok(position) = read_fen(fen.as_bytes()) else {
-        assert!(rt; false, "{fen}");
-        return;
-    };
+    let position = position_of(rt, fen);
     let mut probes = Probes::new();
     match read_uci(&position, text.as_bytes(), &mut probes) {
         Err(fault) => assert!(rt; false, "{text}: {fault:?}"),
         Ok(played) => {
-            assert!(rt;
-                write_fen(&played.next).as_slice() == after.as_bytes(),
-                "{text}"
-            );
-            assert!(rt;
-                write_uci(&played.mv).as_slice() == text.as_bytes(),
-                "{text}"
-            );
+            let (next, written) = (write_fen(&played.next), write_uci(&played.mv));
+            assert!(rt; next.as_slice() == after.as_bytes(), "{text}");
+            assert!(rt; written.as_slice() == text.as_bytes(), "{text}");
         }
     }
-    assert_eq!(rt; probes.count(), 1);
+    assert_eq!(rt; probes.count(), 1, "{text}");
 }
 
 // The text is refused with that fault, and so many pairs are tried.
 fn is_refused(rt: &impl Abort, fen: &str, text: &str, wanted: UciFault, pairs: u32) {
-    let Ok(position) = read_fen(fen.as_bytes()) else {
-        assert!(rt; false, "{fen}");
-        return;
-    };
+    let position = position_of(rt, fen);
     let mut probes = Probes::new();
     match read_uci(&position, text.as_bytes(), &mut probes) {
         Err(fault) => assert!(rt; fault == wanted, "{text}: {fault:?}"),
         Ok(_) => assert!(rt; false, "{text}"),
     }
-    assert_eq!(rt; probes.count(), pairs);
+    assert_eq!(rt; probes.count(), pairs, "{text}");
 }
 
 #[test]

@@ -7,17 +7,11 @@ use std::process::Abort;
 type Bad = (usize, u64, Option<usize>);
 
 /// Texts, their bad games, and how many other games they have.
+#[rattlefmt::skip]
 const ARCHIVES: &[(&[u8], &[Bad], u64)] = &[
-    (
-        b"1. e4 e9 *\n\n[White \"Ada\"]\n\n1. d4 *\n",
-        &[(0, 6, Some(12))],
-        1,
-    ),
-    (
-        b"1. e4 *\n\n1. e4 e9 *\n\n[White \"Ada\"]\n\n1. d4 1/2\n\n[White \"Ben\"] *",
-        &[(7, 15, Some(21)), (21, 42, Some(47))],
-        2,
-    ),
+    (b"1. e4 e9 *\n\n[White \"Ada\"]\n\n1. d4 *\n", &[(0, 6, Some(12))], 1),
+    (b"1. e4 *\n\n1. e4 e9 *\n\n[White \"Ada\"]\n\n1. d4 1/2\n\n[White \"Ben\"] *",
+        &[(7, 15, Some(21)), (21, 42, Some(47))], 2),
     (b"1. e4 *\n\n1. e4 e9 *\n", &[(7, 15, None)], 1),
     (b"* ? \n[White \"Ada\"] *", &[(1, 5, Some(5))], 2),
 ];

@@ -6,14 +6,9 @@ use pgn_game::Mode;
 use std::process::Abort;
 use std::test::Fail;
 
-const KINDS: [Kind; 6] = [
-    Kind::King,
-    Kind::Queen,
-    Kind::Rook,
-    Kind::Bishop,
-    Kind::Knight,
-    Kind::Pawn,
-];
+#[rattlefmt::skip]
+const KINDS: [Kind; 6] =
+    [Kind::King, Kind::Queen, Kind::Rook, Kind::Bishop, Kind::Knight, Kind::Pawn];
 
 /// At most 1,040 pairs are tried for a move, and one at least where a move is played.
 fn tries_few(rt: &impl Abort, table: &[Vector], text: &mut Vec<u8>) {

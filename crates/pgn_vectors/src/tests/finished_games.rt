@@ -256,37 +256,17 @@ fn tells_a_fault_after_a_game_again(rt: HostRuntime) {
 }
 
 /// Inputs of one game, with their moves outside variations and the position after those.
+#[rattlefmt::skip]
 const LAST: &[(&[u8], u64, &[u8])] = &[
-    (
-        b"*",
-        0,
-        b"rnbqkbnr/pppppppp/8/8/8/8/PPPPPPPP/RNBQKBNR w KQkq - 0 1",
-    ),
-    (
-        b"1. e4 *",
-        1,
-        b"rnbqkbnr/pppppppp/8/8/4P3/8/PPPP1PPP/RNBQKBNR b KQkq e3 0 1",
-    ),
-    (
-        b"[Result \"0-1\"]\nf3 e5 g4 Qh4 0-1 ",
-        4,
-        b"rnb1kbnr/pppp1ppp/8/4p3/6Pq/5P2/PPPPP2P/RNBQKBNR w KQkq - 1 3",
-    ),
-    (
-        b"[FEN \"4k3/8/8/8/3pP3/8/8/4K3 b - e3 0 1\"]\ndxe3 *",
-        1,
-        b"4k3/8/8/8/8/4p3/8/4K3 w - - 0 2",
-    ),
-    (
-        b"1. e4 (1. d4 d5 (1... Nf6 2. c4)) (1. c4) e5 (1... c5 2. Nf3) *",
-        2,
-        b"rnbqkbnr/pppp1ppp/8/4p3/4P3/8/PPPP1PPP/RNBQKBNR w KQkq e6 0 2",
-    ),
-    (
-        b"[FEN \"r3k2r/8/8/8/8/8/8/R3K2R w KQkq - 3 1\"] 0-0 0-0-0 *",
-        2,
-        b"2kr3r/8/8/8/8/8/8/R4RK1 w - - 5 2",
-    ),
+    (b"*", 0, b"rnbqkbnr/pppppppp/8/8/8/8/PPPPPPPP/RNBQKBNR w KQkq - 0 1"),
+    (b"1. e4 *", 1, b"rnbqkbnr/pppppppp/8/8/4P3/8/PPPP1PPP/RNBQKBNR b KQkq e3 0 1"),
+    (b"[Result \"0-1\"]\nf3 e5 g4 Qh4 0-1 ", 4,
+        b"rnb1kbnr/pppp1ppp/8/4p3/6Pq/5P2/PPPPP2P/RNBQKBNR w KQkq - 1 3"),
+    (b"[FEN \"4k3/8/8/8/3pP3/8/8/4K3 b - e3 0 1\"]\ndxe3 *", 1, b"4k3/8/8/8/8/4p3/8/4K3 w - - 0 2"),
+    (b"1. e4 (1. d4 d5 (1... Nf6 2. c4)) (1. c4) e5 (1... c5 2. Nf3) *", 2,
+        b"rnbqkbnr/pppp1ppp/8/4p3/4P3/8/PPPP1PPP/RNBQKBNR w KQkq e6 0 2"),
+    (b"[FEN \"r3k2r/8/8/8/8/8/8/R3K2R w KQkq - 3 1\"] 0-0 0-0-0 *", 2,
+        b"2kr3r/8/8/8/8/8/8/R4RK1 w - - 5 2"),
 ];
 
 /// The input is one game, with so many moves outside variations, and ends in this position.

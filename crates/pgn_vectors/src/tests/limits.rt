@@ -23,7 +23,10 @@ fn holds_as_many_pairs_as_there_is_room_for(rt: HostRuntime) {
 fn stores_no_pair_for_set_up(rt: HostRuntime) {
     let input = b"[FEN \"4k3/8/8/8/8/8/8/4K3 w - - 0 1\"] *";
     let expected =
-        b"[Event \"?\"]\n[Site \"?\"]\n[Date \"????.??.??\"]\n[Round \"?\"]\n[White \"?\"]\n[Black \"?\"]\n[Result \"*\"]\n[FEN \"4k3/8/8/8/8/8/8/4K3 w - - 0 1\"]\n[SetUp \"1\"]\n\n*\n\n".as_slice();
+        b"[Event \"?\"]\n[Site \"?\"]\n[Date \"????.??.??\"]\n[Round \"?\"]\n[White \"?\"]\n\
+        [Black \"?\"]\n[Result \"*\"]\n[FEN \"4k3/8/8/8/8/8/8/4K3 w - - 0 1\"]\n\
+        [SetUp \"1\"]\n\n*\n\n"
+            .as_slice();
     let mut text = Vec::new(rt.alloc());
     let mut out = Outlet::new(&mut text);
     let first = convert_slice::<1, 1, _>(input, &mut out, Mode::Full);

@@ -14,38 +14,18 @@ const E4_E5: &[u8] = b"rnbqkbnr/pppp1ppp/8/4p3/4P3/8/PPPP1PPP/RNBQKBNR w KQkq e6
 const NF3: &[u8] = b"rnbqkbnr/pppp1ppp/8/4p3/4P3/5N2/PPPP1PPP/RNBQKB1R b KQkq - 1 2";
 
 /// Texts of moves from the usual first position, with all of their plies.
+#[rattlefmt::skip]
 const LINES: &[(&[u8], Notation, &[PlyTexts])] = &[
     (b"", Notation::San, &[]),
     (b" \t\r\n", Notation::Uci, &[]),
     (b"1. 1... . 12 ... 7.2.", Notation::San, &[]),
-    (
-        b"1. e4 e5 2. Nf3",
-        Notation::San,
-        &[
-            (3, b"e4", b"e2e4", E4),
-            (6, b"e5", b"e7e5", E4_E5),
-            (12, b"Nf3", b"g1f3", NF3),
-        ],
-    ),
+    (b"1. e4 e5 2. Nf3", Notation::San,
+        &[(3, b"e4", b"e2e4", E4), (6, b"e5", b"e7e5", E4_E5), (12, b"Nf3", b"g1f3", NF3)]),
     // freely written, and with other white space
-    (
-        b"\n1 . e2e4\x0b\x0ce7e5\t\r\n2 Ng1f3 ",
-        Notation::San,
-        &[
-            (5, b"e4", b"e2e4", E4),
-            (11, b"e5", b"e7e5", E4_E5),
-            (20, b"Nf3", b"g1f3", NF3),
-        ],
-    ),
-    (
-        b"e2e4 1... e7e5\ng1f3\n",
-        Notation::Uci,
-        &[
-            (0, b"e4", b"e2e4", E4),
-            (10, b"e5", b"e7e5", E4_E5),
-            (15, b"Nf3", b"g1f3", NF3),
-        ],
-    ),
+    (b"\n1 . e2e4\x0b\x0ce7e5\t\r\n2 Ng1f3 ", Notation::San,
+        &[(5, b"e4", b"e2e4", E4), (11, b"e5", b"e7e5", E4_E5), (20, b"Nf3", b"g1f3", NF3)]),
+    (b"e2e4 1... e7e5\ng1f3\n", Notation::Uci,
+        &[(0, b"e4", b"e2e4", E4), (10, b"e5", b"e7e5", E4_E5), (15, b"Nf3", b"g1f3", NF3)]),
 ];
 
 /// The next ply is this one.
@@ -121,25 +101,12 @@ type Refused = (&'static [u8], &'static [u8], Notation, usize, u64, Reason);
 
 const FIRST: &[u8] = b"rnbqkbnr/pppppppp/8/8/8/8/PPPPPPPP/RNBQKBNR w KQkq - 0 1";
 
+#[rattlefmt::skip]
 const REFUSED: &[Refused] = &[
-    (
-        FIRST,
-        b"1. e4 e5 2. Ke3 Nc6",
-        Notation::San,
-        2,
-        12,
-        Reason::IllegalMove,
-    ),
+    (FIRST, b"1. e4 e5 2. Ke3 Nc6", Notation::San, 2, 12, Reason::IllegalMove),
     // what a line has no place for
     (FIRST, b"1.e4", Notation::San, 0, 0, Reason::NotAMove),
-    (
-        FIRST,
-        b"e4 {best} e5",
-        Notation::San,
-        1,
-        3,
-        Reason::NotAMove,
-    ),
+    (FIRST, b"e4 {best} e5", Notation::San, 1, 3, Reason::NotAMove),
     (FIRST, b"e4 (d4) e5", Notation::San, 1, 3, Reason::NotAMove),
     (FIRST, b"e4 $1", Notation::San, 1, 3, Reason::NotAMove),
     (FIRST, b"1. e4! e5", Notation::San, 0, 3, Reason::NotAMove),
@@ -149,39 +116,12 @@ const REFUSED: &[Refused] = &[
     // each notation alone
     (FIRST, b"e4", Notation::Uci, 0, 0, Reason::NotAMove),
     (FIRST, b" g1f3", Notation::San, 0, 1, Reason::IllegalMove),
-    (
-        FIRST,
-        b"e2e4 e7e5 e1e3",
-        Notation::Uci,
-        2,
-        10,
-        Reason::IllegalMove,
-    ),
+    (FIRST, b"e2e4 e7e5 e1e3", Notation::Uci, 2, 10, Reason::IllegalMove),
     (FIRST, b"e2e4 E7E5", Notation::Uci, 1, 5, Reason::NotAMove),
-    (
-        b"4k3/8/8/8/8/8/4K3/N3N3 w - - 0 1",
-        b"Kd2 Kd8 Nc2",
-        Notation::San,
-        2,
-        8,
-        Reason::AmbiguousMove,
-    ),
-    (
-        b"4k3/8/8/8/8/8/8/4K3 w - - 0 99999",
-        b"Kd1 Kd8",
-        Notation::San,
-        1,
-        4,
-        Reason::MoveLimit,
-    ),
-    (
-        b"4k3/8/8/8/8/8/8/4K3 w - - 0 99999",
-        b"e1d1 e8d8",
-        Notation::Uci,
-        1,
-        5,
-        Reason::MoveLimit,
-    ),
+    (b"4k3/8/8/8/8/8/4K3/N3N3 w - - 0 1", b"Kd2 Kd8 Nc2", Notation::San, 2, 8,
+        Reason::AmbiguousMove),
+    (b"4k3/8/8/8/8/8/8/4K3 w - - 0 99999", b"Kd1 Kd8", Notation::San, 1, 4, Reason::MoveLimit),
+    (b"4k3/8/8/8/8/8/8/4K3 w - - 0 99999", b"e1d1 e8d8", Notation::Uci, 1, 5, Reason::MoveLimit),
 ];
 
 /// The next ply is this fault, also if it is asked for once more.

@@ -3,59 +3,20 @@ use pgn_game::{Fault, LexReason, Reason};
 use std::process::Abort;
 
 /// Each reason with its number and its words, but for the field of a FEN value.
+#[rattlefmt::skip]
 const REASONS: &[(Reason, u8, &[u8])] = &[
     (Reason::Lexical(LexReason::StrayByte), 1, b"stray byte"),
     (Reason::Lexical(LexReason::ControlByte), 2, b"control byte"),
-    (
-        Reason::Lexical(LexReason::Reserved),
-        3,
-        b"reserved character",
-    ),
-    (
-        Reason::Lexical(LexReason::SymbolTooLong),
-        4,
-        b"symbol is too long",
-    ),
-    (
-        Reason::Lexical(LexReason::StringTooLong),
-        5,
-        b"string is too long",
-    ),
-    (
-        Reason::Lexical(LexReason::WordTooLong),
-        6,
-        b"comment word is too long",
-    ),
-    (
-        Reason::Lexical(LexReason::LoneDollar),
-        7,
-        b"dollar sign without a number",
-    ),
-    (
-        Reason::Lexical(LexReason::GlyphRange),
-        8,
-        b"glyph is above 255",
-    ),
-    (
-        Reason::Lexical(LexReason::BadSuffix),
-        9,
-        b"unknown move suffix",
-    ),
-    (
-        Reason::Lexical(LexReason::BraceInLineComment),
-        10,
-        b"closing brace in a line comment",
-    ),
-    (
-        Reason::Lexical(LexReason::UnclosedString),
-        11,
-        b"string is not closed",
-    ),
-    (
-        Reason::Lexical(LexReason::UnclosedComment),
-        12,
-        b"comment is not closed",
-    ),
+    (Reason::Lexical(LexReason::Reserved), 3, b"reserved character"),
+    (Reason::Lexical(LexReason::SymbolTooLong), 4, b"symbol is too long"),
+    (Reason::Lexical(LexReason::StringTooLong), 5, b"string is too long"),
+    (Reason::Lexical(LexReason::WordTooLong), 6, b"comment word is too long"),
+    (Reason::Lexical(LexReason::LoneDollar), 7, b"dollar sign without a number"),
+    (Reason::Lexical(LexReason::GlyphRange), 8, b"glyph is above 255"),
+    (Reason::Lexical(LexReason::BadSuffix), 9, b"unknown move suffix"),
+    (Reason::Lexical(LexReason::BraceInLineComment), 10, b"closing brace in a line comment"),
+    (Reason::Lexical(LexReason::UnclosedString), 11, b"string is not closed"),
+    (Reason::Lexical(LexReason::UnclosedComment), 12, b"comment is not closed"),
     (Reason::ExpectedName, 20, b"tag name expected"),
     (Reason::BadTagName, 21, b"bad tag name"),
     (Reason::DuplicateTag, 22, b"tag is given twice"),
@@ -72,23 +33,11 @@ const REASONS: &[(Reason, u8, &[u8])] = &[
     (Reason::IllegalMove, 34, b"move is not legal"),
     (Reason::AmbiguousMove, 35, b"move is ambiguous"),
     (Reason::MoveLimit, 36, b"move number limit"),
-    (
-        Reason::NoMoveBefore,
-        37,
-        b"variation without a move before it",
-    ),
+    (Reason::NoMoveBefore, 37, b"variation without a move before it"),
     (Reason::TooDeep, 38, b"variations are too deep"),
-    (
-        Reason::UnmatchedClose,
-        39,
-        b"closing parenthesis without an open one",
-    ),
+    (Reason::UnmatchedClose, 39, b"closing parenthesis without an open one"),
     (Reason::MarkerInVariation, 40, b"result inside a variation"),
-    (
-        Reason::ResultDiffers,
-        41,
-        b"result differs from the Result tag",
-    ),
+    (Reason::ResultDiffers, 41, b"result differs from the Result tag"),
     (Reason::UnexpectedEnd, 42, b"unexpected end of input"),
     (Reason::ReadFault, 50, b"input cannot be read"),
     (Reason::WriteFault, 51, b"output cannot be written"),

@@ -17,50 +17,25 @@ const E4: &[u8] = b"rnbqkbnr/pppppppp/8/8/4P3/8/PPPP1PPP/RNBQKBNR b KQkq e3 0 1"
 const E4_E5: &[u8] = b"rnbqkbnr/pppp1ppp/8/4p3/4P3/8/PPPP1PPP/RNBQKBNR w KQkq e6 0 2";
 
 /// Inputs, with the place and the reason of a fault, and the position in which a move was rejected.
+#[rattlefmt::skip]
 const REFUSED: &[(&[u8], u64, Reason, &[u8])] = &[
     (b"1. e4 e5 2. Ke3 ", 12, Reason::IllegalMove, E4_E5),
     (b"Ke2 ", 0, Reason::IllegalMove, START),
     (b"1. e4 * Nd4 ", 8, Reason::IllegalMove, START),
     (b"1. e4 * [A \"b\"] Nd4 ", 16, Reason::IllegalMove, START),
-    (
-        b"[FEN \"4k3/8/8/8/8/8/8/4K3 b - - 0 1\"] Ke2 ",
-        38,
-        Reason::IllegalMove,
-        b"4k3/8/8/8/8/8/8/4K3 b - - 0 1",
-    ),
-    (
-        b"[FEN \"4k3/8/8/8/8/8/8/4K3 b - - 0 99999\"] Kd8 ",
-        42,
-        Reason::MoveLimit,
-        b"4k3/8/8/8/8/8/8/4K3 b - - 0 99999",
-    ),
-    (
-        b"[FEN \"4k3/8/8/8/8/8/4K3/N3N3 w - - 0 1\"] Nc2 ",
-        41,
-        Reason::AmbiguousMove,
-        b"4k3/8/8/8/8/8/4K3/N3N3 w - - 0 1",
-    ),
+    (b"[FEN \"4k3/8/8/8/8/8/8/4K3 b - - 0 1\"] Ke2 ", 38, Reason::IllegalMove,
+        b"4k3/8/8/8/8/8/8/4K3 b - - 0 1"),
+    (b"[FEN \"4k3/8/8/8/8/8/8/4K3 b - - 0 99999\"] Kd8 ", 42, Reason::MoveLimit,
+        b"4k3/8/8/8/8/8/8/4K3 b - - 0 99999"),
+    (b"[FEN \"4k3/8/8/8/8/8/4K3/N3N3 w - - 0 1\"] Nc2 ", 41, Reason::AmbiguousMove,
+        b"4k3/8/8/8/8/8/4K3/N3N3 w - - 0 1"),
     // in a variation: behind a move of its own, as its first move, and one that is legal outside
-    (
-        b"1. e4 e5 (1... c5 2. Ke3 ",
-        21,
-        Reason::IllegalMove,
-        b"rnbqkbnr/pp1ppppp/8/2p5/4P3/8/PPPP1PPP/RNBQKBNR w KQkq c6 0 2",
-    ),
+    (b"1. e4 e5 (1... c5 2. Ke3 ", 21, Reason::IllegalMove,
+        b"rnbqkbnr/pp1ppppp/8/2p5/4P3/8/PPPP1PPP/RNBQKBNR w KQkq c6 0 2"),
     (b"1. e4 e5 (1... Ke6 ", 15, Reason::IllegalMove, E4),
-    (
-        b"1. e4 d5 (1... e5 2. exd5 ",
-        21,
-        Reason::IllegalMove,
-        E4_E5,
-    ),
+    (b"1. e4 d5 (1... e5 2. exd5 ", 21, Reason::IllegalMove, E4_E5),
     // behind a variation, a move that is legal in it
-    (
-        b"1. e4 e5 (1... d5) 2. exd5 ",
-        22,
-        Reason::IllegalMove,
-        E4_E5,
-    ),
+    (b"1. e4 e5 (1... d5) 2. exd5 ", 22, Reason::IllegalMove, E4_E5),
 ];
 
 /// The input is rejected with this fault, in the position of this FEN.

@@ -96,7 +96,9 @@ fn converts_each_output_to_itself(rt: HostRuntime) {
 
 // Two games as they are exported, each with the result that its Result tag says.
 const TWO_RESULTS: &[u8] =
-    b"[Event \"?\"]\n[Site \"?\"]\n[Date \"????.??.??\"]\n[Round \"?\"]\n[White \"?\"]\n[Black \"?\"]\n[Result \"1-0\"]\n\n1-0\n\n[Event \"?\"]\n[Site \"?\"]\n[Date \"????.??.??\"]\n[Round \"?\"]\n[White \"?\"]\n[Black \"?\"]\n[Result \"0-1\"]\n\n0-1\n\n";
+    b"[Event \"?\"]\n[Site \"?\"]\n[Date \"????.??.??\"]\n[Round \"?\"]\n[White \"?\"]\n\
+    [Black \"?\"]\n[Result \"1-0\"]\n\n1-0\n\n[Event \"?\"]\n[Site \"?\"]\n[Date \"????.??.??\"]\n\
+    [Round \"?\"]\n[White \"?\"]\n[Black \"?\"]\n[Result \"0-1\"]\n\n0-1\n\n";
 
 #[test]
 fn converts_two_exported_results_to_themselves(rt: HostRuntime) {
