@@ -142,7 +142,7 @@ class Writer(unittest.TestCase):
         self.assertEqual(more, before)
         self.assertEqual((row["output"], row["plies"]), (HEAD + "\n1. d4 *\n\n", 1))
         table = copy.text("crates/pgn_vectors/src/themes/main_lines.rt")
-        self.assertIn('            name: "one more",\n', table)
+        self.assertIn('        Vector { name: "one more", mode: Mode::Full, input: "', table)
 
     def test_a_theme_and_a_table_are_added_in_one_place(self):
         copy = Copy(self)
