@@ -266,19 +266,6 @@ class Names(unittest.TestCase):
             with self.subTest(path):
                 self.assertRegex(lines_of(path)[0], r"^//!? [A-Z]\w*\W+\w")
 
-    def test_rooms_of_a_crate(self):
-        """The tables of rooms name files of src/."""
-        crate, is_in_table, found = None, False, 0
-        for line in lines_of("docs/ARCHITECTURE.md"):
-            if line.startswith("## "):
-                crate = next((it for it in code_of(line) if it in USES), None)
-            is_in_table = line.startswith("|") and (is_in_table or line.startswith("| Room |"))
-            for room in code_of(line.split(" | ")[0]) if is_in_table and crate else []:
-                found += 1
-                with self.subTest(crate=crate, room=room):
-                    self.assertTrue(os.path.isfile("%s/crates/%s/src/%s.rt" % (ROOT, crate, room)))
-        self.assertGreater(found, 5)
-
     def test_a_file_of_specs_is_a_definition_or_bookkeeping(self):
         paths = glob.glob(ROOT + "/crates/*/specs/**/*.antt", recursive=True)
         self.assertGreater(len(paths), 50)

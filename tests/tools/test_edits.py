@@ -371,6 +371,14 @@ No edit and no test is named for:
         lines = loaded().wrapped("`%s`, `a b`" % ("c" * 90), "")
         self.assertEqual(lines, ["- `%s`," % ("c" * 90), "  `a b`"])
 
+    def test_a_row_with_numbers_has_several_statements(self):
+        rows = loaded().rows_of(
+            "| What holds | Function: clause |\n|---|---|\n"
+            "| 1. a<br>2. b | `f`, `g`: 1. `x` (`X`)<br>2. `y`, of 3. |\n| c | `h`: `z` |\n")
+        self.assertEqual([(it.words, it.names) for it in rows], [
+            ("`f`, `g`: `x` (`X`)", {"f", "g", "x", "X"}),
+            ("`f`, `g`: `y`, of 3.", {"f", "g", "y"}), ("`h`: `z`", {"h", "z"})])
+
     def test_a_guard_names_one_row(self):
         for guard, count in (("Puts, all of it", 0), ("text, put, other", 0), ("end", 2)):
             with self.assertRaises(Exception) as raised:

@@ -15,7 +15,7 @@ import time
 import unittest
 
 import programs
-from documents import blocks_of, lines_of, table
+from documents import blocks_of, lines_of
 from programs import (PACKAGE, PACKERS, ROOT, Folder, bytes_of, full_device, need, need_module,
                       need_package, not_tried, run, text_of, vectors, zip_of)
 from test_python import REAL
@@ -863,8 +863,6 @@ class Options(Lint):
         rows = re.findall(r"(?m)^\.It Cm (.*)$", text_of("share/man/man1/gillspoon.1"))
         self.assertEqual([it.replace("Cm ", "") for row in rows for it in row.split(" , ")],
                          FIELDS[1:])
-        rows = table("docs/TOOLS.md", "Field of `--json`")
-        self.assertEqual([it for row in rows for it in re.findall(r"`(\w+)`", row[0])], FIELDS)
 
     def test_sarif(self):
         jsonschema = need_module("jsonschema", "python3-jsonschema")
