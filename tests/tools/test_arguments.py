@@ -33,31 +33,20 @@ FOLDER = "folder"
 WORDING = [
     (r"For more information try '--help'\n", "For more information, try '--help'.\n"),
     (r"(Print (?:help|version)) information\n", r"\1\n"),
-    (
-        r"Found argument ('.*') which wasn't expected, or isn't valid in this context",
-        r"unexpected argument \1 found",
-    ),
-    (
-        r"The value ('.*') was provided to ('.*') but it wasn't expecting any more values",
-        r"unexpected value \1 for \2 found; no more were expected",
-    ),
+    (r"Found argument ('.*') which wasn't expected, or isn't valid in this context",
+     r"unexpected argument \1 found"),
+    (r"The value ('.*') was provided to ('.*') but it wasn't expecting any more values",
+     r"unexpected value \1 for \2 found; no more were expected"),
     (r"The argument ('.*') was provided more than once, but cannot", r"the argument \1 cannot"),
     (r"The subcommand ('.*') wasn't recognized", r"unrecognized subcommand \1"),
     (r"The following required", "the following required"),
-    (
-        r"If you tried to supply ('.*') as a value rather than a flag,",
-        r"tip: to pass \1 as a value,",
-    ),
-    (
-        r"If you tried to supply ('.*') as a subcommand, remove the '--' before it\.",
-        r"tip: subcommand \1 exists; to use it, remove the '--' before it",
-    ),
+    (r"If you tried to supply ('.*') as a value rather than a flag,",
+     r"tip: to pass \1 as a value,"),
+    (r"If you tried to supply ('.*') as a subcommand, remove the '--' before it\.",
+     r"tip: subcommand \1 exists; to use it, remove the '--' before it"),
     (r"Did you mean to put '(.*)' after the subcommand '(.*)'\?", r"tip: '\2 \1' exists"),
     (r"Did you mean ('--.*')\?", r"tip: a similar argument exists: \1"),
-    (
-        r"Did you mean ('.*')\?\n\n  If you believe .*\n",
-        r"tip: a similar subcommand exists: \1\n",
-    ),
+    (r"Did you mean ('.*')\?\n\n  If you believe .*\n", r"tip: a similar subcommand exists: \1\n"),
 ]
 
 

@@ -27,55 +27,49 @@ AFTER_E4_E5 = "rnbqkbnr/pppp1ppp/8/4p3/4P3/8/PPPP1PPP/RNBQKBNR w KQkq e6 0 2"
 PLAYERS = b'[White "Ada"]\n[Black "Bob"]\n'
 GOOD = PLAYERS + b"\n1. e4 e5 *\n"
 BAD = PLAYERS + b"\n1. e4 e5 2. Ke3 *\n"
-BAD_LINE = "4:13: move is not legal (game 1, Ada \u2013 Bob)"
-ILLEGAL = "move is not legal (game 1, ? \u2013 ?)"
+# Whose game it is: of nobody who is named, and of these.
+NOBODY, ADA, BOTH = (" (game 1, %s \u2013 %s)" % it
+                     for it in (("?", "?"), ("Ada", "?"), ("Ada", "Bob")))
+BAD_LINE = "4:13: move is not legal" + BOTH
+ILLEGAL = "move is not legal" + NOBODY
 # Each way to be bad: the text, and the lines about it without the name of the file.
 WAYS = {
     "no such move": (BAD, [BAD_LINE]),
-    "an exposed king": (
-        b'[FEN "4r2k/8/8/8/8/8/4R3/4K3 w - - 0 1"]\n' + PLAYERS + b"\nRd2 *\n",
-        ["5:1: move is not legal (game 1, Ada \u2013 Bob)"]),
+    "an exposed king": (b'[FEN "4r2k/8/8/8/8/8/4R3/4K3 w - - 0 1"]\n' + PLAYERS + b"\nRd2 *\n",
+        ["5:1: move is not legal" + BOTH]),
     "two knights": (b'[FEN "4k3/8/8/8/1N3N2/8/8/4K3 w - - 0 1"]\n\n1. Nd3 *\n',
-                    ["3:4: move is ambiguous (game 1, ? \u2013 ?)"]),
-    "no move": (b"1. e4 e9 *\n", ["1:7: not a move (game 1, ? \u2013 ?)"]),
-    "a null move": (b"1. e4 -- *\n", ["1:7: stray byte: - (U+002D) (game 1, ? \u2013 ?)"]),
+                    ["3:4: move is ambiguous" + NOBODY]),
+    "no move": (b"1. e4 e9 *\n", ["1:7: not a move" + NOBODY]),
+    "a null move": (b"1. e4 -- *\n", ["1:7: stray byte: - (U+002D)" + NOBODY]),
     "a move in a variation": (b"1. e4 (1. Ke3) *\n", ["1:11: " + ILLEGAL]),
     "a parenthesis": (PLAYERS + b"1. e4 ) *\n", [
-        "3:7: closing parenthesis without an open one (game 1, Ada \u2013 Bob)"]),
+        "3:7: closing parenthesis without an open one" + BOTH]),
     "no result": (b'[White "Ada"]\n\n1. e4\n\n[White "Bob"]\n\n1. d4 *\n', [
-        "5:1: tag in movetext: the game before may have no result at its end "
-        "(game 1, Ada \u2013 ?)"]),
+        "5:1: tag in movetext: the game before may have no result at its end" + ADA]),
     "a comment between tags": (b'[White "Ada"]\n{a}\n[Black "Bob"]\n\n1. e4 *\n', [
-        "3:1: tag in movetext: a comment behind a tag pair begins the movetext "
-        "(game 1, Ada \u2013 Bob)"]),
+        "3:1: tag in movetext: a comment behind a tag pair begins the movetext" + BOTH]),
     "no result at the end": (b"1. e4\n", [
-        "2:1: unexpected end of input: the last game has no result at its end "
-        "(game 1, ? \u2013 ?)"]),
+        "2:1: unexpected end of input: the last game has no result at its end" + NOBODY]),
     "no closing brace": (b"1. e4 {a} {b\nc ; {\n", [
-        "3:1: comment is not closed: it begins at line 1, column 11 (game 1, ? \u2013 ?)"]),
-    "no closing quote": (b'[White "Ada\n\n1. e4 *\n', [
-        "1:8: string is not closed (game 1, ? \u2013 ?)"]),
-    "quotes in a tag": (b'[Event "a "b""]\n' + GOOD, [
-        "1:12: closing bracket expected (game 1, Ada \u2013 Bob)"]),
-    "a curly quote": ("[White \u201ca\n".encode(), [
-        "1:8: stray byte: \u201c (U+201C) (game 1, ? \u2013 ?)"]),
-    "a fraction of Latin-1": (b"1. e4 \xbd", [
-        "1:7: stray byte: \xbd (U+00BD) (game 1, ? \u2013 ?)"]),
+        "3:1: comment is not closed: it begins at line 1, column 11" + NOBODY]),
+    "no closing quote": (b'[White "Ada\n\n1. e4 *\n', ["1:8: string is not closed" + NOBODY]),
+    "quotes in a tag": (b'[Event "a "b""]\n' + GOOD, ["1:12: closing bracket expected" + BOTH]),
+    "a curly quote": ("[White \u201ca\n".encode(), ["1:8: stray byte: \u201c (U+201C)" + NOBODY]),
+    "a fraction of Latin-1": (b"1. e4 \xbd", ["1:7: stray byte: \xbd (U+00BD)" + NOBODY]),
     "an angle bracket": (b"1. e4 <2> *\n", [
-        "1:7: reserved character: PGN 7 keeps < and > for later (game 1, ? \u2013 ?)"]),
+        "1:7: reserved character: PGN 7 keeps < and > for later" + NOBODY]),
     "tags alone": (b'\n\n[White "Ada"]\n\n[White "Bob"]\n\n1. e4 *\n', [
-        "5:2: the game before may have tags alone, without moves and a result "
-        "(game 1, Ada \u2013 ?)"]),
+        "5:2: the game before may have tags alone, without moves and a result" + ADA]),
     "a tag twice": (b'[White "Ada"]\n[White "Bob"]\n\n1. e4 *\n', [
-        "2:2: tag is given twice (game 1, Ada \u2013 ?)"]),
+        "2:2: tag is given twice" + ADA]),
     "a bad result": (b'[White "Ada"]\n[Result "1"]\n[Black "Bob"]\n\n1. e4 *\n', [
-        "2:9: bad result value (game 1, Ada \u2013 Bob)"]),
-    "a bad FEN": (b'[FEN "x"]\n\n*\n', ["1:6: bad FEN, field 1 (game 1, ? \u2013 ?)"]),
+        "2:9: bad result value" + BOTH]),
+    "a bad FEN": (b'[FEN "x"]\n\n*\n', ["1:6: bad FEN, field 1" + NOBODY]),
     "another result": (b'[Result "0-1"]\n\n1. e4 1-0\n', [
-        "3:7: result differs from the Result tag (game 1, ? \u2013 ?)"]),
+        "3:7: result differs from the Result tag" + NOBODY]),
     "no Result tag": (b"1. e4 1-0\n", [
         "1:7: result differs from the Result tag: there is no Result tag, which counts as *; "
-        "--checked takes the result at the end (game 1, ? \u2013 ?)"]),
+        "--checked takes the result at the end" + NOBODY]),
     "CR LF": (BAD.replace(b"\n", b"\r\n"), [BAD_LINE]),
     "CR": (BAD.replace(b"\n", b"\r"), [BAD_LINE]),
     "a byte order mark": (b"\xef\xbb\xbf1. Ke3 *\n", ["1:4: " + ILLEGAL]),
@@ -83,12 +77,11 @@ WAYS = {
         "3:12: move is not legal (game 1, M\u00fcller \u2013 ?)"]),
     "Latin-1": ('[White "M\u00fcller"]\n\n1. e4 {\u00e4\u00e4} Ke3 *\n'.encode("latin-1"), [
         "3:12: move is not legal (game 1, M\u00fcller \u2013 ?)"]),
-    "three bad games of five": (
-        GOOD + b"\n" + BAD + b"\n" + BAD + b"\n" + GOOD + b"\n" + BAD, [
+    "three bad games of five": (GOOD + b"\n" + BAD + b"\n" + BAD + b"\n" + GOOD + b"\n" + BAD, [
             "%d:13: move is not legal (game %d, Ada \u2013 Bob)" % it
             for it in ((9, 2), (14, 3), (24, 5))]),
     "an escape sequence in a name": (b'[White "a\x1b[2J"]\n\n1. e4 *\n', [
-        "1:10: control byte (game 1, ? \u2013 ?)"]),
+        "1:10: control byte" + NOBODY]),
 }
 # What is below a line with --board: the line, where the caret is, and for a rejected move the
 # position and what is said of it.
