@@ -51,14 +51,14 @@ extern "C" fn pgn_version() -> u32 {
     crate::pgn_version()
 }
 
-/// Exports a function: what C passes, the slices that are made of it, what this crate's function
-/// gets in turn, and what is returned if a slice cannot be made.
-macro_rules! export {
-    (
+/// Exports functions: what C passes, the slices that are made of it, what this crate's function gets
+/// in turn, and what is returned if a slice cannot be made.
+macro_rules! exports {
+    ($(
         $name:ident($($word:ident: $type:ty),*) -> $result:ty,
         ($($slice:ident = $make:ident($pointer:ident, $length:ident)),*) => ($($given:ident),*),
-        else $otherwise:expr
-    ) => {
+        else $otherwise:expr;
+    )*) => {$(
         /// # Safety
         ///
         /// The conditions of `pgn.h` hold.
@@ -69,40 +69,30 @@ macro_rules! export {
                 _ => $otherwise,
             }
         }
-    };
+    )*};
 }
 
-export!(
+exports! {
     pgn_check(text: Bytes, length: usize) -> PgnResult,
     (text = text_of(text, length)) => (text),
-    else no_mode()
-);
+    else no_mode();
 
-export!(
     pgn_convert(text: Bytes, length: usize, buffer: Room, capacity: usize, mode: u32) -> PgnResult,
     (text = text_of(text, length), buffer = buffer_of(buffer, capacity)) => (text, buffer, mode),
-    else no_mode()
-);
+    else no_mode();
 
-export!(
     pgn_fen_normalize(fen: Bytes, length: usize, buffer: Room, capacity: usize) -> PgnText,
     (fen = text_of(fen, length), buffer = buffer_of(buffer, capacity)) => (fen, buffer),
-    else PgnText { status: NO_MODE, field: 0, length: 0 }
-);
+    else PgnText { status: NO_MODE, field: 0, length: 0 };
 
-export!(
     pgn_key(fen: Bytes, length: usize, buffer: Room, capacity: usize) -> PgnText,
     (fen = text_of(fen, length), buffer = buffer_of(buffer, capacity)) => (fen, buffer),
-    else PgnText { status: NO_MODE, field: 0, length: 0 }
-);
+    else PgnText { status: NO_MODE, field: 0, length: 0 };
 
-export!(
     pgn_san(fen: Bytes, fen_length: usize, text: Bytes, length: usize, notation: u32) -> PgnMove,
     (fen = text_of(fen, fen_length), text = text_of(text, length)) => (fen, text, notation),
-    else no_notation()
-);
+    else no_notation();
 
-export!(
     pgn_line(
         fen: Bytes, fen_length: usize, text: Bytes, length: usize, format: u32, buffer: Room,
         capacity: usize
@@ -111,58 +101,46 @@ export!(
         fen = text_of(fen, fen_length), text = text_of(text, length),
         buffer = buffer_of(buffer, capacity)
     ) => (fen, text, format, buffer),
-    else no_line_in_format()
-);
+    else no_line_in_format();
 
-export!(
     pgn_next_game(
         text: Bytes, length: usize, from: usize, mode: u32, missing_result: u32, buffer: Room,
         capacity: usize
     ) -> PgnGame,
     (text = text_of(text, length), buffer = buffer_of(buffer, capacity))
         => (text, from, mode, missing_result, buffer),
-    else no_game(NO_MODE)
-);
+    else no_game(NO_MODE);
 
-export!(
     pgn_read_game(
         text: Bytes, length: usize, from: usize, mode: u32, missing_result: u32, buffer: Room,
         capacity: usize
     ) -> PgnGame,
     (text = text_of(text, length), buffer = buffer_of(buffer, capacity))
         => (text, from, mode, missing_result, buffer),
-    else no_game(NO_MODE)
-);
+    else no_game(NO_MODE);
 
-export!(
     pgn_items(
         text: Bytes, length: usize, from: usize, first_item: u64, fields: u32, buffer: Room,
         capacity: usize
     ) -> PgnItems,
     (text = text_of(text, length), buffer = buffer_of(buffer, capacity))
         => (text, from, first_item, fields, buffer),
-    else plain_result(NO_MODE, 0, 0)
-);
+    else plain_result(NO_MODE, 0, 0);
 
-export!(
     pgn_tag_at(text: Bytes, length: usize, at: usize) -> PgnTag,
     (text = text_of(text, length)) => (text, at),
     else PgnTag {
         status: NO_MODE, name_at: 0, name_length: 0, value_at: 0, value_length: 0, next: 0
-    }
-);
+    };
 
-export!(
     pgn_check_numbers(text: Bytes, length: usize) -> PgnNumber,
     (text = text_of(text, length)) => (text),
-    else PgnNumber { status: NO_MODE, unusual: 0, place: 0, number: 0, before: 0 }
-);
+    else PgnNumber { status: NO_MODE, unusual: 0, place: 0, number: 0, before: 0 };
 
-export!(
     pgn_explain(fen: Bytes, fen_length: usize, text: Bytes, length: usize) -> PgnExplanation,
     (fen = text_of(fen, fen_length), text = text_of(text, length)) => (fen, text),
-    else PgnExplanation { status: NO_MODE, ..no_explanation(0, 0) }
-);
+    else PgnExplanation { status: NO_MODE, ..no_explanation(0, 0) };
+}
 
 /// # Safety
 ///

@@ -68,57 +68,39 @@ impl Debug for SliceSource<'_> {
     }
 }
 
-impl<const T: usize, const L: usize> Debug for Converter<T, L> {
-    fn fmt(&self, out: &mut Formatter<'_>) -> fmt::Result {
-        out.debug_struct("Converter")
-            .field("place", &self.place())
-            .field("games", &self.games())
-            .field("fault", &self.fault())
-            .field("is_finished", &self.is_finished())
-            .finish_non_exhaustive()
-    }
+/// Shows a type by calls of its own.
+macro_rules! shows {
+    ($($type:ident: $($call:ident)*;)*) => {$(
+        impl<const T: usize, const L: usize> Debug for $type<T, L> {
+            fn fmt(&self, out: &mut Formatter<'_>) -> fmt::Result {
+                out.debug_struct(stringify!($type))
+                    $(.field(stringify!($call), &self.$call()))*
+                    .finish_non_exhaustive()
+            }
+        }
+    )*};
 }
 
-impl<const T: usize, const L: usize> Debug for Games<T, L> {
-    fn fmt(&self, out: &mut Formatter<'_>) -> fmt::Result {
-        out.debug_struct("Games")
-            .field("games", &self.games())
-            .finish_non_exhaustive()
-    }
+shows! {
+    Converter: place games fault is_finished;
+    Games: games;
+    Items: place games depth;
+    ArchiveItems: items games;
 }
 
-impl<const T: usize, const L: usize> Debug for Items<T, L> {
-    fn fmt(&self, out: &mut Formatter<'_>) -> fmt::Result {
-        out.debug_struct("Items")
-            .field("place", &self.place())
-            .field("games", &self.games())
-            .field("depth", &self.depth())
-            .finish_non_exhaustive()
-    }
+/// The default is what `new` makes.
+macro_rules! is_new_by_default {
+    ($($type:ident)*) => {$(
+        impl<const T: usize, const L: usize> Default for $type<T, L> {
+            #[track_caller]
+            fn default() -> Self {
+                $type::new()
+            }
+        }
+    )*};
 }
 
-impl<const T: usize, const L: usize> Debug for ArchiveItems<T, L> {
-    fn fmt(&self, out: &mut Formatter<'_>) -> fmt::Result {
-        out.debug_struct("ArchiveItems")
-            .field("items", self.items())
-            .field("games", &self.games())
-            .finish_non_exhaustive()
-    }
-}
-
-impl<const T: usize, const L: usize> Default for ArchiveItems<T, L> {
-    #[track_caller]
-    fn default() -> ArchiveItems<T, L> {
-        ArchiveItems::new()
-    }
-}
-
-impl<const T: usize, const L: usize> Default for Items<T, L> {
-    #[track_caller]
-    fn default() -> Items<T, L> {
-        Items::new()
-    }
-}
+is_new_by_default!(ArchiveItems Items);
 
 impl Debug for LineOfPlay<'_> {
     fn fmt(&self, out: &mut Formatter<'_>) -> fmt::Result {

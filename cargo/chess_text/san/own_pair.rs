@@ -4,8 +4,8 @@
 use super::{count_own_pair, letter, write_san};
 use crate::{read_fen, Played};
 use chess_rules::{
-    has_legal_move, in_check, may_have_two_origins, origins, try_pair, Kind, Move, Position,
-    Probes, Promotion, Square,
+    has_legal_move, in_check, may_have_two_origins, origins, try_pair, Kind, LegalMoves, Move,
+    Position, Probes, Promotion, Square,
 };
 
 const FENS: [&str; 6] = [
@@ -19,40 +19,10 @@ const FENS: [&str; 6] = [
     // little room for the kings
     "3k4/8/8/8/8/8/R6R/3K4 w - - 0 1",
 ];
-const PROMOTIONS: [Option<Promotion>; 5] = [
-    None,
-    Some(Promotion::Queen),
-    Some(Promotion::Rook),
-    Some(Promotion::Bishop),
-    Some(Promotion::Knight),
-];
 
 // The body of the proved source.
 fn try_own_pair(position: &Position, mv: &Move, probes: &mut Probes) {
     let _next = try_pair(position, *mv, probes);
-}
-
-fn squares() -> impl Iterator<Item = Square> {
-    (0..64).filter_map(|it| Square::new(it % 8, it / 8))
-}
-
-// All legal moves, each with the position after it.
-fn legal_moves(position: &Position) -> Vec<Played> {
-    let mut moves = Vec::new();
-    for from in squares().filter(|it| position.at(*it).is_some()) {
-        for to in squares() {
-            for promotion in PROMOTIONS {
-                let mv = Move {
-                    from,
-                    to,
-                    promotion,
-                };
-                let next = try_pair(position, mv, &mut Probes::new());
-                moves.extend(next.map(|next| Played { mv, next }));
-            }
-        }
-    }
-    moves
 }
 
 fn name(square: Square) -> String {
@@ -146,7 +116,7 @@ fn a_pair_counted_is_a_pair_tried() {
         let start = read_fen(fen.as_bytes()).ok().unwrap();
         let mut position = start;
         for _ in 0..1000 {
-            let moves = legal_moves(&position);
+            let moves: Vec<Played> = LegalMoves::new(&position).into_iter().collect();
             for played in &moves {
                 compare(&position, played);
                 let (is_counted, is_alone) = path(&position, &played.mv);

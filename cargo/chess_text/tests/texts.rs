@@ -1,7 +1,7 @@
 //! `Display` and `FromStr` of chess_rules have the texts of this crate, and positions are equal
 //! exactly if their FENs are. Written for Cargo.
 
-use chess_rules::{try_pair, Move, Position, Probes, Promotion, Square, TextFault};
+use chess_rules::{LegalMoves, Move, Position, Probes, TextFault};
 use chess_text::{read_fen, read_uci, write_fen, write_uci};
 use std::collections::HashSet;
 
@@ -14,36 +14,6 @@ const FENS: [&str; 5] = [
     // a capture en passant
     "rnbqkbnr/ppp1p1pp/8/3pPp2/8/8/PPPP1PPP/RNBQKBNR w KQkq f6 0 3",
 ];
-const PROMOTIONS: [Option<Promotion>; 5] = [
-    None,
-    Some(Promotion::Queen),
-    Some(Promotion::Rook),
-    Some(Promotion::Bishop),
-    Some(Promotion::Knight),
-];
-
-fn squares() -> impl Iterator<Item = Square> {
-    (0..64).filter_map(|it| Square::new(it % 8, it / 8))
-}
-
-/// All legal moves, each with the position after it.
-fn legal_moves(position: &Position) -> Vec<(Move, Position)> {
-    let mut moves = Vec::new();
-    for from in squares().filter(|it| position.at(*it).is_some()) {
-        for to in squares() {
-            for promotion in PROMOTIONS {
-                let mv = Move {
-                    from,
-                    to,
-                    promotion,
-                };
-                let next = try_pair(position, mv, &mut Probes::new());
-                moves.extend(next.map(|next| (mv, next)));
-            }
-        }
-    }
-    moves
-}
 
 /// The position's text is its FEN, which is read as this position.
 fn check_text(position: &Position) -> String {
@@ -74,9 +44,9 @@ fn positions_are_equal_exactly_if_their_fens_are() {
         for most in [100, 100, 20] {
             let mut next_ones = Vec::new();
             for position in before.iter().take(most) {
-                for (mv, next) in legal_moves(position) {
-                    check_move(position, mv, &next);
-                    next_ones.push(next);
+                for played in LegalMoves::new(position) {
+                    check_move(position, played.mv, &played.next);
+                    next_ones.push(played.next);
                 }
             }
             reached.extend(&next_ones);

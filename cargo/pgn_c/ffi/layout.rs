@@ -33,82 +33,37 @@ macro_rules! layout {
     }};
 }
 
+#[rustfmt::skip]
 const NO_GAME: PgnBadGame = PgnBadGame {
-    begin: 0,
-    fault: 0,
-    at: 0,
-    comment_at: 0,
-    escapes_at: 0,
-    ends: 0,
-    has_tags: 0,
-    has_movetext: 0,
-    is_behind_text: 0,
-    has_comment: 0,
-    has_escapes: 0,
+    begin: 0, fault: 0, at: 0, comment_at: 0, escapes_at: 0, ends: 0, has_tags: 0,
+    has_movetext: 0, is_behind_text: 0, has_comment: 0, has_escapes: 0,
 };
 
+#[rustfmt::skip]
 fn structs() -> [Struct; 11] {
     [
-        layout!(
-            "pgn_result",
-            PgnResult { status, fault, place, written, games, plies, reason_at, message },
-            crate::pgn_check(b"")
-        ),
-        layout!(
-            "pgn_text",
-            PgnText { status, field, length },
-            crate::pgn_fen_normalize(b"", &mut [])
-        ),
-        layout!(
-            "pgn_move",
-            PgnMove { status, fault, field, san, uci, fen },
-            crate::pgn_san(b"", b"", 0)
-        ),
-        layout!(
-            "pgn_plies",
-            PgnPlies { status, fault, field, place, written, plies },
-            crate::pgn_line(b"", b"", 0, &mut [])
-        ),
-        layout!(
-            "pgn_game",
-            PgnGame {
-                status, fault, place, written, end, marker_at, plies, reason_at, marker, message, fen
-            },
-            crate::pgn_next_game(b"", 0, 0, 0, &mut [])
-        ),
-        layout!(
-            "pgn_item_lines",
-            PgnItems { status, fault, place, written, next_item, end, reason_at, message },
-            crate::pgn_items(b"", 0, 0, 0, &mut [])
-        ),
-        layout!(
-            "pgn_tag",
-            PgnTag { status, name_at, name_length, value_at, value_length, next },
-            crate::pgn_tag_at(b"", 0)
-        ),
-        layout!(
-            "pgn_number",
-            PgnNumber { status, unusual, place, number, before },
-            crate::pgn_check_numbers(b"")
-        ),
-        layout!(
-            "pgn_bad_game",
-            PgnBadGame {
-                begin, fault, at, comment_at, escapes_at, ends, has_tags, has_movetext,
-                is_behind_text, has_comment, has_escapes
-            },
-            NO_GAME
-        ),
-        layout!(
-            "pgn_section",
-            PgnSection { status, place },
-            crate::pgn_next_section(&mut { NO_GAME }, b"", 1)
-        ),
-        layout!(
-            "pgn_explanation",
-            PgnExplanation { status, fault, field, form, piece, target, origins },
-            crate::pgn_explain(b"", b"")
-        ),
+        layout!("pgn_result", PgnResult { status, fault, place, written, games, plies, reason_at,
+            message }, crate::pgn_check(b"")),
+        layout!("pgn_text", PgnText { status, field, length },
+            crate::pgn_fen_normalize(b"", &mut [])),
+        layout!("pgn_move", PgnMove { status, fault, field, san, uci, fen },
+            crate::pgn_san(b"", b"", 0)),
+        layout!("pgn_plies", PgnPlies { status, fault, field, place, written, plies },
+            crate::pgn_line(b"", b"", 0, &mut [])),
+        layout!("pgn_game", PgnGame { status, fault, place, written, end, marker_at, plies,
+            reason_at, marker, message, fen }, crate::pgn_next_game(b"", 0, 0, 0, &mut [])),
+        layout!("pgn_item_lines", PgnItems { status, fault, place, written, next_item, end,
+            reason_at, message }, crate::pgn_items(b"", 0, 0, 0, &mut [])),
+        layout!("pgn_tag", PgnTag { status, name_at, name_length, value_at, value_length, next },
+            crate::pgn_tag_at(b"", 0)),
+        layout!("pgn_number", PgnNumber { status, unusual, place, number, before },
+            crate::pgn_check_numbers(b"")),
+        layout!("pgn_bad_game", PgnBadGame { begin, fault, at, comment_at, escapes_at, ends,
+            has_tags, has_movetext, is_behind_text, has_comment, has_escapes }, NO_GAME),
+        layout!("pgn_section", PgnSection { status, place },
+            crate::pgn_next_section(&mut { NO_GAME }, b"", 1)),
+        layout!("pgn_explanation", PgnExplanation { status, fault, field, form, piece, target,
+            origins }, crate::pgn_explain(b"", b"")),
     ]
 }
 

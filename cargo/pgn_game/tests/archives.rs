@@ -160,6 +160,15 @@ struct Failing {
 }
 
 impl Failing {
+    fn new(text: &[u8], fails_at: usize) -> Failing {
+        let inlet = short(text, 5);
+        Failing {
+            inlet,
+            calls: 0,
+            fails_at,
+        }
+    }
+
     fn fails(&mut self) -> bool {
         self.calls += 1;
         self.calls - 1 == self.fails_at
@@ -189,12 +198,7 @@ fn a_failed_call_leaves_the_items_as_they_were() {
     let text = TEXTS[0].as_bytes();
     let mut failed = 0;
     for fails_at in 0.. {
-        let inlet = short(text, 5);
-        let mut source = Failing {
-            inlet,
-            calls: 0,
-            fails_at: usize::MAX,
-        };
+        let mut source = Failing::new(text, usize::MAX);
         let mut archive = ArchiveItems::<64, 33>::new();
         let fault = loop {
             if let Err(fault) = archive.next(&mut source) {
@@ -221,12 +225,7 @@ fn a_failed_call_leaves_the_items_as_they_were() {
 
 #[test]
 fn a_read_that_failed_is_no_game() {
-    let inlet = short(b"1. e4 e9", 5);
-    let mut source = Failing {
-        inlet,
-        calls: 0,
-        fails_at: 0,
-    };
+    let mut source = Failing::new(b"1. e4 e9", 0);
     let mut archive = ArchiveItems::<64, 33>::new();
     let fault = archive.next(&mut source).unwrap_err();
     assert_eq!(fault.reason, Reason::ReadFault);

@@ -26,34 +26,33 @@ fn refuses<X>(sentence: &str, call: impl FnOnce() -> X + UnwindSafe) {
     assert!(said.contains("conditions.rs:"), "{said}");
 }
 
+/// Each of these calls does so.
+macro_rules! refused {
+    ($sentence:expr; $($call:expr;)+) => { $(refuses($sentence, move || $call);)+ };
+}
+
 #[test]
 fn a_converter_has_a_level() {
-    let sentence = "the number of levels L is at least 1";
-    refuses(sentence, || Converter::<64, 0>::new(FULL));
-    refuses(sentence, || Games::<64, 0>::new(FULL));
-    refuses(sentence, || Items::<64, 0>::new());
-    refuses(sentence, || ArchiveItems::<64, 0>::new());
-    refuses(sentence, || {
-        convert_slice::<64, 0, _>(b"*", &mut Nowhere, FULL)
-    });
-    refuses(sentence, || {
-        convert::<64, 0, _, _>(&mut inlet(), &mut Nowhere, FULL)
-    });
-    refuses(sentence, || check_slice::<64, 0>(b"*", FULL));
-    refuses(sentence, || check::<64, 0, _>(&mut inlet(), FULL));
-    refuses(sentence, || {
-        convert_checked::<64, 0, _, _, _>(&mut inlet(), &mut inlet(), &mut Nowhere, FULL)
-    });
+    refused! { "the number of levels L is at least 1";
+        Converter::<64, 0>::new(FULL);
+        Games::<64, 0>::new(FULL);
+        Items::<64, 0>::new();
+        ArchiveItems::<64, 0>::new();
+        convert_slice::<64, 0, _>(b"*", &mut Nowhere, FULL);
+        convert::<64, 0, _, _>(&mut inlet(), &mut Nowhere, FULL);
+        check_slice::<64, 0>(b"*", FULL);
+        check::<64, 0, _>(&mut inlet(), FULL);
+        convert_checked::<64, 0, _, _, _>(&mut inlet(), &mut inlet(), &mut Nowhere, FULL);
+    }
     Converter::<0, 1>::new(FULL);
 }
 
 #[test]
 fn a_converter_begins_within_the_limit() {
-    let sentence = "the number of levels L is at least 1, and the place at most 2^62";
-    refuses(sentence, || Converter::<64, 0>::begin_at(FULL, 7, false));
-    refuses(sentence, || {
-        Converter::<64, 33>::begin_at(FULL, (1 << 62) + 1, false)
-    });
+    refused! { "the number of levels L is at least 1, and the place at most 2^62";
+        Converter::<64, 0>::begin_at(FULL, 7, false);
+        Converter::<64, 33>::begin_at(FULL, (1 << 62) + 1, false);
+    }
     let converter = Converter::<64, 33>::begin_at(FULL, 1 << 62, false);
     assert_eq!(converter.place(), 1 << 62);
 }
@@ -70,10 +69,8 @@ fn finished() -> Converter<64, 33> {
 
 #[test]
 fn nothing_is_fed_after_the_end() {
-    refuses("feed comes before finish has returned Ok", || {
-        finished().feed(b"", &mut Nowhere)
-    });
-    refuses("finish returns Ok once", || finished().finish(&mut Nowhere));
+    refused! { "feed comes before finish has returned Ok"; finished().feed(b"", &mut Nowhere); }
+    refused! { "finish returns Ok once"; finished().finish(&mut Nowhere); }
     // After a fault both report it again.
     let mut converter = Converter::<64, 33>::new(FULL);
     let fault = converter.feed(b"&", &mut Nowhere).unwrap_err();
@@ -92,10 +89,10 @@ fn a_tag_pair_fits_on_a_line() {
     ] {
         assert!(!fits_tag_line(b"A", &value));
         let (one, other) = (value.clone(), value.clone());
-        refuses(sentence, move || write_tag(b"A", &one, &mut Nowhere));
-        refuses(sentence, move || {
-            Layout::new().tag(b"A", &other, &mut Nowhere)
-        });
+        refused! { sentence;
+            write_tag(b"A", &one, &mut Nowhere);
+            Layout::new().tag(b"A", &other, &mut Nowhere);
+        }
     }
 }
 
@@ -115,13 +112,12 @@ fn the_longest_tag_pairs_are_written() {
 
 #[test]
 fn a_token_has_1_to_79_bytes() {
-    let sentence = "a token on a line has 1 to 79 bytes";
     for token in [b"".as_slice(), &[b'a'; 80]] {
-        refuses(sentence, || CurrentLine::new().put(token, &mut Nowhere));
-        refuses(sentence, || {
-            CurrentLine::new().put_parts(token, b"", &mut Nowhere)
-        });
-        refuses(sentence, || Layout::new().put(token, &mut Nowhere));
+        refused! { "a token on a line has 1 to 79 bytes";
+            CurrentLine::new().put(token, &mut Nowhere);
+            CurrentLine::new().put_parts(token, b"", &mut Nowhere);
+            Layout::new().put(token, &mut Nowhere);
+        }
     }
     let mut out = Outlet::new(Vec::new());
     let mut line = CurrentLine::new();
@@ -133,9 +129,10 @@ fn a_token_has_1_to_79_bytes() {
 
 #[test]
 fn a_sink_gets_a_byte() {
-    let sentence = "write_some takes at least one byte";
-    refuses(sentence, || Nowhere.write_some(b""));
-    refuses(sentence, || Outlet::new(Vec::new()).write_some(b""));
+    refused! { "write_some takes at least one byte";
+        Nowhere.write_some(b"");
+        Outlet::new(Vec::new()).write_some(b"");
+    }
 }
 
 /// Used `Probes` are no error: the pairs are counted on top.
@@ -163,19 +160,16 @@ fn a_move_that_is_written_or_played_is_legal() {
         to: Square::new(4, 4).unwrap(),
         promotion: None,
     };
-    refuses("position_after takes a legal move", move || {
-        position_after(&position, &mv)
-    });
+    refused! { "position_after takes a legal move"; position_after(&position, &mv); }
     let mut played = find_move(&position, b"e4", &mut Probes::new()).unwrap();
     assert_eq!(
         write_san(&position, &played, &mut Probes::new()).as_slice(),
         b"e4"
     );
     played.next = position;
-    refuses(
-        "write_san takes a legal move and the position after it",
-        move || write_san(&position, &played, &mut Probes::new()),
-    );
+    refused! { "write_san takes a legal move and the position after it";
+        write_san(&position, &played, &mut Probes::new());
+    }
 }
 
 #[test]

@@ -1,6 +1,7 @@
 //! The errors are those of Rust: `?` takes each into a `Box<dyn Error>`. Written for Cargo.
 
-use chess_text::{read_fen, read_form, resolve};
+use chess_rules::{Position, Probes};
+use chess_text::{read_fen, read_form, resolve, SanFault, UciFault};
 use pgn_game::{
     convert_slice, Converter, Games, Inlet, Items, LexReason, Mode, Nowhere, Outlet, Reason,
 };
@@ -27,73 +28,43 @@ impl Write for Broken {
     }
 }
 
-/// What a call says that hands on whatever error it meets.
-fn said(call: fn() -> Result<(), Box<dyn Error + Send + Sync>>) -> String {
-    call().unwrap_err().to_string()
-}
+/// A call that hands on whatever error it meets.
+type Call = fn() -> Result<(), Box<dyn Error + Send + Sync>>;
 
 #[test]
+#[rustfmt::skip]
 fn each_error_is_handed_on_in_the_words_of_the_program() {
-    let fault = said(|| {
-        convert_slice::<64, 33, _>(b"1. e4 e5 2. Ke3 *", &mut Nowhere, Mode::Full)?;
-        Ok(())
-    });
-    assert_eq!(fault, "byte 12: move is not legal");
-    let fen = said(|| {
-        read_fen(b"8/8/8/8/8/k7/p7/K7 w - e9 0 1")?;
-        Ok(())
-    });
-    assert_eq!(fen, "bad FEN, field 4");
-    let san = said(|| {
-        let form = read_form(b"Ke3").unwrap();
-        resolve(
-            &chess_rules::Position::initial(),
-            &form,
-            &mut chess_rules::Probes::new(),
-        )?;
-        Ok(())
-    });
-    assert_eq!(san, "move is not legal");
-    let write = said(|| Ok(Outlet::new(Broken).flush()?));
-    assert_eq!(write, "output cannot be written");
-    let read = said(|| {
-        Inlet::new(Broken).read_some(&mut [0; 8])?;
-        Ok(())
-    });
-    assert_eq!(
-        (read, ReadFailed.to_string()),
-        said_twice("input cannot be read")
-    );
-    let reason = said(|| Err(Reason::BadFen(7).into()));
-    assert_eq!(reason, "bad FEN, field 7");
-}
-
-fn said_twice(text: &str) -> (String, String) {
-    (text.to_string(), text.to_string())
+    let calls: [(&str, Call); 6] = [
+        ("byte 12: move is not legal", || {
+            let text = b"1. e4 e5 2. Ke3 *";
+            Ok(convert_slice::<64, 33, _>(text, &mut Nowhere, Mode::Full).map(|_| ())?)
+        }),
+        ("bad FEN, field 4", || Ok(read_fen(b"8/8/8/8/8/k7/p7/K7 w - e9 0 1").map(|_| ())?)),
+        ("move is not legal", || {
+            let form = read_form(b"Ke3").unwrap();
+            Ok(resolve(&Position::initial(), &form, &mut Probes::new()).map(|_| ())?)
+        }),
+        ("output cannot be written", || Ok(Outlet::new(Broken).flush()?)),
+        ("input cannot be read", || Ok(Inlet::new(Broken).read_some(&mut [0; 8]).map(|_| ())?)),
+        ("bad FEN, field 7", || Err(Reason::BadFen(7).into())),
+    ];
+    for (words, call) in calls {
+        assert_eq!(call().unwrap_err().to_string(), words);
+    }
+    assert_eq!(ReadFailed.to_string(), "input cannot be read");
 }
 
 #[test]
+#[rustfmt::skip]
 fn the_lexer_has_the_words_of_the_converter() {
+    use LexReason::*;
     for reason in [
-        LexReason::StrayByte,
-        LexReason::ControlByte,
-        LexReason::Reserved,
-        LexReason::SymbolTooLong,
-        LexReason::StringTooLong,
-        LexReason::WordTooLong,
-        LexReason::LoneDollar,
-        LexReason::GlyphRange,
-        LexReason::BadSuffix,
-        LexReason::BraceInLineComment,
-        LexReason::UnclosedString,
-        LexReason::UnclosedComment,
+        StrayByte, ControlByte, Reserved, SymbolTooLong, StringTooLong, WordTooLong, LoneDollar,
+        GlyphRange, BadSuffix, BraceInLineComment, UnclosedString, UnclosedComment,
     ] {
         assert_eq!(reason.to_string(), Reason::Lexical(reason).to_string());
     }
-    let fault = pgn_lexer::LexFault {
-        at: 3,
-        reason: LexReason::StrayByte,
-    };
+    let fault = pgn_lexer::LexFault { at: 3, reason: StrayByte };
     assert_eq!(fault.to_string(), "byte 3: stray byte");
 }
 
@@ -103,17 +74,13 @@ fn a_fen_and_a_move_have_the_words_of_the_converter() {
         let fault = chess_text::FenFault { field };
         assert_eq!(fault.to_string(), Reason::BadFen(field).to_string());
     }
-    for (fault, reason) in [
-        (chess_text::SanFault::NoMove, Reason::IllegalMove),
-        (chess_text::SanFault::Ambiguous, Reason::AmbiguousMove),
+    for (words, reason) in [
+        (SanFault::NoMove.to_string(), Reason::IllegalMove),
+        (SanFault::Ambiguous.to_string(), Reason::AmbiguousMove),
+        (UciFault::NotAMove.to_string(), Reason::NotAMove),
+        (UciFault::IllegalMove.to_string(), Reason::IllegalMove),
     ] {
-        assert_eq!(fault.to_string(), reason.to_string());
-    }
-    for (fault, reason) in [
-        (chess_text::UciFault::NotAMove, Reason::NotAMove),
-        (chess_text::UciFault::IllegalMove, Reason::IllegalMove),
-    ] {
-        assert_eq!(fault.to_string(), reason.to_string());
+        assert_eq!(words, reason.to_string());
     }
 }
 
