@@ -13,26 +13,25 @@ import unittest
 
 import programs
 import test_cargo
-from programs import ROOT, run, text_of, write_file
+from programs import ROOT, output_of, run, text_of, write_file
 
 CORPUS = ROOT + "/fuzz/corpus"
 OUT = ROOT + "/fuzz/out/test"
+QUOTED = "byte == b'\"' || byte == b'\\\\'"
 # A bug for each law: the law, the file of the Cargo workspace, the text there, and the bug.
 PLANTED = [
     ("pieces", "pgn_lexer/src/lexer.rs", "        self.count += used as u64;",
      "        self.count += (used.max(piece.len().min(1))) as u64;"),
-    ("told again", "pgn_game/src/converter.rs", "fail(Fault { at, reason }, fault)",
-     "Err(Fault { at, reason })"),
+    ("told again", "pgn_game/src/converter.rs",
+     "let fault = Fault { at, reason };\n                self.fault = Some(fault);",
+     "let fault = Fault { at, reason };"),
     ("reads", "pgn_game/src/read_buffer.rs", "self.start += used;", "self.start += used.max(1);"),
     ("lines", "pgn_layout/src/current_line.rs", "line.push(b'\\n');", "line.push(b' ');"),
-    ("fixed point", "pgn_layout/src/tag_line.rs", "byte == b'\"' || byte == b'\\\\'",
-     "byte == b'\\\\'"),
-    ("fixed point", "pgn_layout/src/tag_line.rs", "byte == b'\"' || byte == b'\\\\'",
-     "byte == b'\"'"),
+    ("fixed point", "pgn_layout/src/tag_line.rs", QUOTED, "byte == b'\\\\'"),
+    ("fixed point", "pgn_layout/src/tag_line.rs", QUOTED, "byte == b'\"'"),
     ("failing sink", "pgn_layout/src/sink.rs", "out.write_some(&bytes[written..])?",
      "out.write_some(&bytes[written..]).unwrap_or(bytes.len() - written)"),
-    ("checked", "pgn_game/src/checked.rs", "|| found.at != expected.at",
-     "|| found.at == expected.at"),
+    ("checked", "pgn_game/src/game.rs", "|| at != expected.at", "|| at == expected.at"),
     ("limits", "pgn_game/src/reader.rs", "Err(Reason::TooDeep)", "Err(Reason::NotAMove)"),
     ("FEN", "chess_text/src/fen.rs", "Buffer::new().format(position.full())",
      "Buffer::new().format(position.half())"),
@@ -63,8 +62,7 @@ class Corpus(unittest.TestCase):
         """A copy of the workspace and the laws, in which a bug can be planted."""
         copy = OUT + "/copy"
         os.makedirs(copy + "/cargo", exist_ok=True)
-        ran = run([sys.executable, "bin/to_cargo", copy + "/cargo/out"])
-        self.assertEqual(ran.returncode, 0, ran.stderr)
+        output_of(run([sys.executable, "bin/to_cargo", copy + "/cargo/out"]), err=None)
         for name in glob.glob("**/*.*", root_dir=ROOT + "/fuzz", recursive=True):
             if name.endswith((".rs", ".toml")) and not name.startswith("out/"):
                 os.makedirs(os.path.dirname("%s/fuzz/%s" % (copy, name)), exist_ok=True)
@@ -83,16 +81,13 @@ class Corpus(unittest.TestCase):
                 path = "%s/cargo/out/crates/%s" % (copy, name)
                 right = text_of(path)
                 self.assertEqual(right.count(old), 1, old)
-                self.write(path, right.replace(old, new))
+                write_file(path, right.replace(old, new))
                 try:
                     ran = self.check_run(copy)
                 finally:
-                    self.write(path, right)
+                    write_file(path, right)
                 self.assertEqual(ran.returncode, 101, ran.stderr.decode()[-2000:])
                 self.assertIn("%s: " % law, ran.stderr.decode())
-
-    def write(self, path, text):
-        write_file(path, text)
 
 
 class Files(unittest.TestCase):

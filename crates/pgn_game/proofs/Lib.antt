@@ -11,6 +11,7 @@ mod SearchOfSource
 mod WordByBytes
 mod Words
 mod exporting
+mod flow
 mod giving
 mod pairs
 mod putting

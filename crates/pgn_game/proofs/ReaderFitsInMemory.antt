@@ -40,7 +40,3 @@ module _ (T L : RattleType) where
   -- and where a reading does
   pub reading_fits_converter : FitsInMemory (reading_row T L) → FitsInMemory (the_row T L)
   reading_fits_converter fits = second _ _ _ _ (first _ _ _ _ (first _ _ _ _ fits))
-
-  -- and another reading
-  pub reading_alike : FitsInMemory (reading_row T L) → FitsInMemory (reading_row T L)
-  reading_alike fits = fits

@@ -9,10 +9,10 @@ use Rattle.pgn_game.proofs.ReaderFitsInMemory.{first, second}
 
 pub tags_fit : (T L : RattleType) → FitsInMemory (the_row T L) → FitsInMemory (tags_row T)
 tags_fit T L fits =
-    second _ _ _ _ (first _ _ _ _ (first _ _ _ _ (first _ _ _ _ (first _ _ _ _ (first _ _ _ _ (first _ _ _ _ (first _ _ _ _ fits)))))))
+    second _ _ _ _ (first _ _ _ _ (first _ _ _ _ (first _ _ _ _ (first _ _ _ _ (first _ _ _ _ (first _ _ _ _ (first _ _ _ _ (first _ _ _ _ fits))))))))
 
 pub text_fits : (T L : RattleType) → FitsInMemory (the_row T L) → FitsInMemory (levels_row L)
-text_fits T L fits = second _ _ _ _ (first _ _ _ _ (first _ _ _ _ (first _ _ _ _ (first _ _ _ _ (first _ _ _ _ (first _ _ _ _ fits))))))
+text_fits T L fits = second _ _ _ _ (first _ _ _ _ (first _ _ _ _ (first _ _ _ _ (first _ _ _ _ (first _ _ _ _ (first _ _ _ _ (first _ _ _ _ fits)))))))
 
 pub reader_fits : (T L : RattleType) → FitsInMemory (game_row T L) → FitsInMemory (the_row T L)
 reader_fits T L fits = second _ _ _ _ (first _ _ _ _ fits)

@@ -50,7 +50,7 @@ pub use Rattle.pgn_game.specs.public.Written.{bytes_seen, failures_seen, is_noth
 pub use Rattle.pgn_game.specs.steps.Movetext.{HoldsLineOf, ClosesLevel, FitsLevelStore, HoldsItems, Movetext, StoredLevel, StoredLevels, before_last, code_levels, ends_in_move, inside, level_at, level_of, movetext_after_fen, movetext_from, nearest_first, places_of, stored_level, stored_levels}
 pub use Rattle.pgn_game.specs.games.Progress.{Next, Progress, Read, at_stage, going, in_text, items_of, move_item, next, next_in, no_progress, output, progress_after, progress_with, read, read_from, refused, totals, verdict, whole, due, verdict_of, written as written_so_far, position_at_fault}
 pub use Rattle.pgn_game.specs.steps.PutResult.{BeginsText, Goes, Keeps, PutResult, TakesOutside, TakesToken, at_game_start, gain_to, section_due, section_due_of, CountsMove, EntersMovetext, EntersPart, Finds, FinishesNone, GoesTo, Takes, TakesEntry, TakesUnwritten, counting_probes, unused, MeetsEntry, MeetsMarker, TakesMarker, TakesOther, TakesUnlessMarker, continued}
-pub use Rattle.pgn_game.specs.steps.ReaderState.{KeepsSilence, Writing, mode_written, silenced, sink_of, with_announced, Accepted, More, Finished, Agrees, AreSound, CountsWrites, FinishesAtMarker, HoldsPairs, HoldsText, IsBehind, ReaderState, as_written, is_outside_the_table, known_of, known_text, plies_of_finished_games, Answers, IsAccepted, IsKnown, IsStopped, Leads, plies_added, ReaderCall}
+pub use Rattle.pgn_game.specs.steps.ReaderState.{KeepsSilence, Writing, mode_written, silenced, sink_of, with_announced, Accepted, More, Finished, Agrees, AreSound, CountsWrites, FinishesAtMarker, HoldsPairs, HoldsText, IsBehind, ReaderState, as_written, is_outside_the_table, known_of, known_text, plies_of_finished_games, Answers, IsKnown, IsStopped, Leads, plies_added, ReaderCall}
 pub use Rattle.pgn_game.specs.steps.SectionLines.{other_line, roster_line, text_by}
 pub use Rattle.pgn_game.specs.games.Spells.{AreDistinct, AreDropped, BeginsBare, IsPair, IsResult, IsSetUp, KeepsTags, Names, Spells, SpellsGame, SpellsGames, SpellsPair, SpellsPairs, SpellsText, StandsFor, by_name, comment_close, comment_open, glyph, level_after_move, move, new_level, next_game, next_pair, no_game, no_more, no_pair, number, pair, period, token, variation, word}
 pub use Rattle.pgn_game.specs.steps.StoredPairs.{AllAfter, AllBelow, AreInOrder, FitsPairStore, HasBegun, InOrder, TagPairs, index_of, pair_at, pairs_seen, placed}
@@ -78,18 +78,19 @@ pub use Rattle.pgn_game.specs.laws.Laws.{IsPrefix, DueGrows}
 unfoldable pub use Rattle.pgn_game.specs.public.Tried.{Costs}
 pub use Rattle.std.proofs.lemmas.Result.{err_from_is_err_and}
 pub use Rattle.pgn_game.specs.public.Tried.{AddsPairs, CostsAnswer, CostsForm, Costs}
-pub use Rattle.pgn_game.specs.public.ConverterCalls.{NoWriteFails, StillStands, writing_nothing, AreNext, within_limit, Converter, CountsFault, CountsMissingAs, CountsReason, FedAll, FedFault, FedGame, FedToFault, FedWhole, FinishedGame, HasRead, IsSound, ReadsUpTo, Stands, StopsIn, at_token, counting_missing_as, finished_game_of, finished_game_plies, game_in_reader_if, play_moves, profile_of, too_long, AfterFinish, Finishes, FinishesToFault, game_in_reader, Stops, unwritten, StopsWriting, games_before, position_at_stop, ProbesAtStop, has_played_move, reported_position, refused as refused_stop, IsLast as IsLastGame, AreShown, Ends, Feeds, IsRefused, ReadsByMarker, reading_by_marker, so_far}
+pub use Rattle.pgn_game.specs.public.ConverterCalls.{NoWriteFails, StillStands, writing_nothing, AreNext, within_limit, Converter, CountsFault, CountsMissingAs, CountsReason, FedAll, FedFault, FedGame, FedToFault, FedWhole, FinishedGame, HasRead, IsSound, ReadsUpTo, Stands, StopsIn, at_token, counting_missing_as, finished_game_of, finished_game_plies, game_in_reader_if, play_moves, profile_of, too_long, AfterFinish, Finishes, FinishesToFault, game_in_reader, Stops, unwritten, StopsWriting, games_before, position_at_stop, ProbesAtStop, has_played_move, reported_position, refused as refused_stop, IsLast as IsLastGame, AreShown, Feeds, IsRefused, ReadsByMarker, reading_by_marker, so_far}
 pub use Rattle.pgn_lexer.specs.Standing.{Standing, coming, waiting}
 pub use Rattle.pgn_lexer.specs.Stands.{AfterScan, FinishGivesToken, Follows, HasLeft, IsDecided, IsNext, StandsAfter, first, still, Scans}
-pub use Rattle.pgn_game.specs.steps.Readings.{BothSoFar, HasMarkers, HasMatched, Reading, changed_reason, model_marker, AfterMarker, AllRead, ComesNext, FirstFails, GameRead, GameWritten, HasGiven, HasGivenIn, ReadFails, ReadingStops, ReadsUpToMarker, SecondFails, SourceGives, StandsBetween, Stores, WhyFirst, WhySecond, WritesGame, as_changed, at_read, known_by, no_sink}
+pub use Rattle.pgn_game.specs.steps.Readings.{AfterGameEnd, AllRead, BeginsAt, BothSoFar, ComesNext, FirstFails, GameRead, GameWritten, HasGiven, HasGivenIn, HasMarkers, HasMatched, ReadFails, Reading, ReadingStops, ReadsAllOf, ReadsToGameEnd, SecondFails, SourceGives, StandsBetween, Stores, WhyFirst, WhySecond, WritesGame, as_changed, changed_reason, known_by, model_marker, no_sink}
 pub use Rattle.pgn_game.specs.public.MostTried.{CostsIf, CostsToAdd, CostsToFind, CostsToWrite, MostFrom, MostTried, Raises, Tries, CostsUnlessRefused, is_sought, TriesUnwritten, added, is_written, none}
-pub use Rattle.pgn_game.specs.public.GamesCalls.{AfterNext, CountsNext, Games, HasReadAll, HaveRead, NextFault, NextGame, NextStops, NoGame, ReadSoFar, at_end, ReadsNext, ReadsNoGame, games_of, most_left, within}
+pub use Rattle.pgn_game.specs.public.GamesCalls.{ahead_of, AfterNext, Games, HasReadAll, HaveRead, NextFault, NextGame, NextStops, NoGame, ReadSoFar, ReadsNext, ReadsNoGame, games_of, most_left, within}
 pub use Rattle.pgn_game.specs.export.Due.{Gains, gain, text_next}
-pub use Rattle.pgn_game.specs.steps.ConverterSteps.{AllSoFar, AtEndSoFar, EndsGame, FaultAtEnd, FeedsAllSoFar, FinishesSoFar, GainsAs, IsGoing, Meets, NotTaken, OneGame, ReadsMore, SameGames, due_as, ended_by, fault_of, outcome_at, part_after, CountsGame, EndsToMarker, FailsIn, GoesToMarker, IsBeforePiece, IsBeforeToken, IsReadyAfter, KeepsRest, ReadsToEnd, StepAdvances, StepAtEndAdvances, StepGoes, StepsInPiece, StepsAtEnd, announcing, is_ended, taking_announced_marker, At, MeetsAt, Reached, ReadsOn, StandsAtStart, StandsInText, Start, ReadsPiece, ReadsToMarker, step_marker, Known, first_bytes, all_bytes, AreNextIn, HasGivenSince, IsGivenLast, ReachedAtEnd, ReadsLeft, last_step}
+pub use Rattle.pgn_game.specs.steps.ConverterSteps.{AllSoFar, FaultAtEnd, FeedsAllSoFar, GainsAs, IsBeforePiece, IsBeforeToken, IsGoing, OneGame, SameGames, announcing, due_as, part_after, taking_announced_marker}
 pub use Rattle.pgn_game.specs.public.Checked.{Comparison, PlacedMarker, checked_profile, compared, compared_from, earlier_fault, is_changed, is_other, marker_at, markers, markers_after, markers_from, torn_before, with_marker, written_by}
 pub use Rattle.pgn_lexer.specs.Decided.{decided}
 pub use Rattle.pgn_game.specs.public.Conversion.{AfterConversion, AfterEnd, AfterSlice, CountsDevices, Fails, FailsOn, IsConverted, IsTotalled, MostProbes, CountsResult, CountsSink, CountsWriting, Decides, IsTokenPrefix, ReadsNoMore, verdict_in}
-pub use Rattle.pgn_game.specs.steps.GamesSteps.{FillResult, MoreResult, MoreSoFar, ReadsSoFar, StandsWithin, CountsReading, FeedsRest, MeetsNext, ReadsAllOf, StopsBefore, UsesAll}
+pub use Rattle.pgn_game.specs.steps.Flow.{StandsInText}
+pub use Rattle.pgn_game.specs.steps.GamesSteps.{CountsReading, FillResult, MoreResult}
 pub use Rattle.pgn_game.specs.laws.GamesRestart.{FinishesGame, GamesRestart, counting_also, games_read}
 pub use Rattle.pgn_game.specs.declared.conversion.Totals.{Totals}
 pub use Rattle.pgn_lexer.specs.declared.token.LexFault.{LexFault}
@@ -106,8 +107,6 @@ pub use Rattle.chess_text.specs.San.{MarkPairs, disambiguation_pairs, san}
 pub use Rattle.pgn_game.specs.public.CheckedConversion.{AreConverted, AreRefused, AreTotalled, CountsThree, FirstStops, HasTaken, MatchesAllMarkers, MostOfBoth, SecondStops, TwoReadingsConvert, TwoReadingsFail, WriteStops}
 pub use Rattle.pgn_game.specs.public.LineOfPlay.{Ahead, NextMove, NextPly, words_behind}
 pub use Rattle.pgn_game.specs.declared.event.Event.TheVariants.{Close, CommentClose, CommentOpen, Open}
-pub use Rattle.pgn_game.specs.declared.converter.FedUpTo.{FedUpTo}
-pub use Rattle.pgn_game.specs.declared.converter.StepEnd.{StepEnd}
 pub use Rattle.pgn_game.specs.declared.mode.Written.{Written}
 pub use Rattle.pgn_game.specs.laws.EqualReadings.{AreWritten, AreWrittenWithin, EqualReadings, EqualTotals, InterruptedReadings}
 pub use Rattle.pgn_game.specs.laws.MissingResults.{IsReadAlike, MissingResults, all_end_with, is_about_result, rejects_marker}

@@ -1,17 +1,13 @@
 -- One token and many: from what the reader returns to whole inputs.
 pub mod AcceptedToConverter
-pub mod BytesToMarker
 pub mod BytesWithinLimit
 pub mod EndOfText
-pub mod FinishesGames
 pub mod GamesInPiece
 pub mod GamesInTurn
 pub mod GamesJoined
 pub mod GamesRestart
-pub mod GoesToMarker
 pub mod LastTokens
 pub mod MarkerEndsGame
-pub mod MarkerToGame
 pub mod MarkersAtEnd
 pub mod MissingCountsAs
 pub mod NextGrows
@@ -21,7 +17,6 @@ pub mod PairsTriedBetweenGames
 pub mod PairsTriedForToken
 pub mod PairsTriedSilently
 pub mod PastNumbers
-pub mod PieceToGame
 pub mod PutToAnswer
 pub mod SoundAtStart
 pub mod StepsAtEnd
@@ -29,5 +24,4 @@ pub mod StepsInPiece
 pub mod TextEndsGame
 pub mod WholeInput
 pub mod ReadsInText
-pub mod RunsInPiece
 pub mod StepsOverTokens

@@ -3,7 +3,7 @@ pub mod CountingToTaking
 pub mod FailuresOfSteps
 pub mod GamesOfReadings
 pub mod MarkerCounts
-pub mod MarkerToReading
+pub mod SourceToReading
 pub mod MarkersInTurn
 pub mod ReadingsToConversion
 pub mod TakingToCounting

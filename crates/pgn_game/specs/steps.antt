@@ -8,7 +8,9 @@ pub mod ItemResult
 pub mod Judged
 pub mod ReaderState
 pub mod ConverterSteps
+pub mod Flow
 pub mod GamesSteps
+pub mod SourceFlow
 pub mod Readings
 pub mod LineWords
 pub mod SectionLines

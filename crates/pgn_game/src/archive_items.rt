@@ -1,4 +1,4 @@
-//! Games item by item, from a source that can be set back behind a bad game.
+//! Games item by item, from a source that can be set back after a bad game.
 ghost use Rattle.std.specs.Prelude.{◌≡◌, ◌-◌, ◌<◌, ◌≤◌, ◌^◌, [], ℕ, List, None, Option, false, not};
 ghost use Rattle.pgn_lexer.specs.WhiteSpace.{white_space};
 ghost use Rattle.pgn_game.specs.declared.mode.Mode.TheVariants.{Full};
@@ -20,7 +20,7 @@ use std::marker::Model;
 
 /// Reads the games of an archive item by item, and can skip a bad game.
 ///
-/// It reads as [`Items`] do. Behind a fault, `skip_bad_game` goes on at the next game, at the place
+/// It reads as [`Items`] do. After a fault, `skip_bad_game` goes on at the next game, at the place
 /// at which `gillspoon sieve` does. For that the source is set back. A pipe cannot be, so hold its
 /// text in memory.
 ///
@@ -152,13 +152,13 @@ impl<const T: usize, const L: usize> ArchiveItems<T, L> {
         self.earlier_games.saturating_add(self.items.games())
     }
 
-    /// Skips the game that was rejected, and returns whether reading goes on behind it.
+    /// Skips the game that was rejected, and returns whether reading goes on after it.
     ///
     /// The end of a bad game is a guess: it ends before the next line that begins a tag section, by
     /// the rule of [`pgn_sections::next_section`]. Reading goes on there, at the place at which
     /// `gillspoon sieve` does. Places still count from the first byte, and `games` goes on. The
-    /// source is set back to where the bad game begins. So that game, and what is behind it up to
-    /// the place found, is read twice at most; behind a comment that is never closed, all the rest.
+    /// source is set back to where the bad game begins. So that game, and what is after it up to
+    /// the place found, is read twice at most; after a comment that is never closed, all the rest.
     ///
     /// `false` says that no game is left: `next` then returns `Ok(None)`. Without a fault the call
     /// does nothing, and returns `false`.

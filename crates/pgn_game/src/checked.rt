@@ -1,5 +1,5 @@
 //! Converts an input that is read twice, so that a missing Result takes the marker.
-ghost use Rattle.std.specs.Prelude.{◌≡◌, ◌-◌, ◌≤◌, ◌&&◌, ◌==◌, bytes_eq, not, true, false, max, [], ℕ, List};
+ghost use Rattle.std.specs.Prelude.{◌≡◌, ◌-◌, ◌≤◌, true, false, max, [], ℕ, List};
 ghost use Rattle.std.specs.Prelude.{Option, OnOk};
 ghost use Rattle.pgn_layout.specs.Device.{device};
 ghost use Rattle.pgn_game.specs.declared.reason.Reason.TheVariants.{Changed};
@@ -7,16 +7,14 @@ ghost use Rattle.pgn_game.specs.public.Checked.{checked_profile};
 ghost use Rattle.pgn_game.specs.public.CheckedConversion.{TwoReadingsConvert, TwoReadingsCount};
 ghost use Rattle.pgn_game.specs.steps.ConverterSteps.{IsGoing};
 ghost use Rattle.pgn_game.specs.steps.GamesSteps.{CountsReading};
-ghost use Rattle.pgn_game.specs.games.Markers.{marker_text};
 ghost use Rattle.pgn_game.specs.steps.Readings.{GoesOnAfterGame, HasGiven, ReadsGame, StillGivenNone};
-ghost use Rattle.pgn_game.specs.steps.Readings.{ReadsUpToMarker, WritesGame, as_changed, no_sink};
+ghost use Rattle.pgn_game.specs.steps.Readings.{ReadsToGameEnd, WritesGame, as_changed, no_sink, reading_of};
 ghost use Rattle.pgn_game.specs.steps.ReaderState.{KeepsSilence, sink_of, plies_of_finished_games};
-ghost use Rattle.pgn_game.specs.public.Written.{bytes_seen};
 ghost use Rattle.pgn_game.specs.public.Size.{HoldsTwice};
 
 use crate::conversion::Totals;
 use crate::converter::Converter;
-use crate::games::next_marker;
+use crate::games::read_source;
 use crate::marker::PlacedMarker;
 use crate::mode::Mode;
 use crate::read_buffer::ReadBuffer;
@@ -32,7 +30,7 @@ use std::marker::Model;
 /// Each game is read from `first` to its marker, then read again from `second` and written. So
 /// nothing is written of a game that `first` rejects. Both sources are meant to give the same
 /// bytes. Only each marker and its place are compared. When `first` has ended, `second` is not
-/// asked again, and what it gave behind the last game is not looked at.
+/// asked again, and what it gave after the last game is not looked at.
 ///
 /// `Totals::most_probes` is the greater number of the two readings. Nothing of `first` is written,
 /// so only pairs tried to find moves count in it. If both sources give the same bytes, the number
@@ -49,7 +47,7 @@ use std::marker::Model;
 /// - `Reason::InputTooLong` if `first` has a byte at place 2^62.
 ///
 /// After `Changed` and after a failed read of `second`, the complete lines of the current game may
-/// stand behind the finished ones. A failed write can cut the text anywhere.
+/// stand after the finished ones. A failed write can cut the text anywhere.
 ///
 /// # Examples
 ///
@@ -168,19 +166,25 @@ impl<const T: usize, const L: usize> Reading<T, L> {
     // input. Nothing is written.
     fn read_game<R: Source>(&mut self, source: &mut R) -> Result<Option<PlacedMarker>, Fault>
         requires going { IsGoing self.old.converter }
-        ensures reads { ReadsGame (R.left source.old) (R.left source.new) self.old self.new
-            result }
+        ensures reads { self.old.converter.reading.writing.is_silent ≡ true
+            → ReadsGame (R.left source.old) (R.left source.new) self.old self.new result }
         ensures going { GoesOnAfterGame self.old self.new result }
         ensures silent { self.new.converter.reading.writing.is_silent
             ≡ self.old.converter.reading.writing.is_silent }
         ensures counted { CountsReading result (device R.left R.failures source.old source.new)
             no_sink }
     {
-        let Some(marker) = self.read_to_marker(source, &mut Nowhere)? else {
-            return Ok(None);
-        };
-        self.converter.end_game(marker, &mut Nowhere)?;
-        Ok(Some(marker))
+        let finished = next_game(
+            &mut self.converter,
+            &mut self.buffer,
+            &mut self.has_ended,
+            source,
+            &mut Nowhere,
+        )?;
+        if finished {
+            return Ok(Some(self.converter.placed_marker()));
+        }
+        Ok(None)
     }
 
     // Reads the next game, and writes it. It has to end with this marker, at its place.
@@ -193,10 +197,9 @@ impl<const T: usize, const L: usize> Reading<T, L> {
         out: &mut W,
     ) -> Result<(), Fault>
         requires going { IsGoing self.old.converter }
-        ensures writes { WritesGame (R.left source.old) (R.left source.new) self.old expected
-            self.new result
-            (bytes_seen self.old.converter.reading.writing.is_silent (W.taken out.old))
-            (bytes_seen self.old.converter.reading.writing.is_silent (W.taken out.new)) }
+        ensures writes { self.old.converter.reading.writing.is_silent ≡ false
+            → WritesGame (R.left source.old) (R.left source.new) self.old expected
+            self.new result (W.taken out.old) (W.taken out.new) }
         ensures going { OnOk result (IsGoing self.new.converter) }
         ensures counted { CountsReading result (device R.left R.failures source.old source.new)
             (sink_of self.old.converter.reading W.taken W.failures out.old out.new) }
@@ -204,44 +207,49 @@ impl<const T: usize, const L: usize> Reading<T, L> {
             out.new }
     {
         tokens_rise();
-        self.converter.announce_marker(expected.marker);
-        match self.read_to_marker(source, out) {
-            Err(fault) => Err(changed(fault)),
-            Ok(None) => Err(differs(self.converter.place())),
-            Ok(Some(found)) => {
-                if is_other(found, expected) {
-                    return Err(differs(found.at));
-                }
-                if let Err(fault) = self.converter.end_game(found, out) {
-                    return Err(changed(fault));
-                }
-                Ok(())
-            }
+        self.converter.announce_marker(expected);
+        let read = next_game(
+            &mut self.converter,
+            &mut self.buffer,
+            &mut self.has_ended,
+            source,
+            out,
+        );
+        let finished = match read {
+            Err(fault) => return Err(changed(fault)),
+            Ok(finished) => finished,
+        };
+        if finished {
+            return Ok(());
         }
+        Err(differs(self.converter.place()))
     }
+}
 
-    // Reads up to the next marker, which `end_game` takes then. `None` is the end of the input.
-    fn read_to_marker<R: Source, W: Sink>(
-        &mut self,
-        source: &mut R,
-        out: &mut W,
-    ) -> Result<Option<PlacedMarker>, Fault>
-        requires going { IsGoing self.old.converter }
-        ensures reads { ReadsUpToMarker self.old self.new result
-            (device R.left R.failures source.old source.new)
-            (sink_of self.old.converter.reading W.taken W.failures out.old out.new) }
-        ensures silent { KeepsSilence self.old.converter.reading self.new.converter.reading out.old
-            out.new }
-    {
-        if self.has_ended {
-            return self.converter.finish_to_marker(out);
-        }
-        if let Some(marker) = next_marker(&mut self.converter, &mut self.buffer, source, out)? {
-            return Ok(Some(marker));
-        }
-        self.has_ended = true;
-        self.converter.finish_to_marker(out)
+// Converts up to the end of the next game, and returns whether there was one. Without one the input
+// has ended.
+fn next_game<const T: usize, const L: usize, R: Source, W: Sink>(
+    converter: &mut Converter<T, L>,
+    buffer: &mut ReadBuffer,
+    has_ended: &mut bool,
+    source: &mut R,
+    out: &mut W,
+) -> Result<bool, Fault>
+    requires { IsGoing converter.old }
+    ensures reads { ReadsToGameEnd (reading_of converter.old buffer.old has_ended.old)
+        (reading_of converter.new buffer.new has_ended.new) result
+        (device R.left R.failures source.old source.new)
+        (sink_of converter.old.reading W.taken W.failures out.old out.new) }
+    ensures silent { KeepsSilence converter.old.reading converter.new.reading out.old out.new }
+{
+    if *has_ended {
+        return converter.finish_game(out);
     }
+    if read_source(converter, buffer, source, out)? {
+        return Ok(true);
+    }
+    *has_ended = true;
+    converter.finish_game(out)
 }
 
 // The fault of a token at which the readings differ.
@@ -252,14 +260,6 @@ fn differs(at: u64) -> Fault
         at,
         reason: Reason::Changed,
     }
-}
-
-// Whether the marker or its place differs from that of the other reading.
-fn is_other(found: PlacedMarker, expected: PlacedMarker) -> bool
-    ensures { result ≡ not (bytes_eq (marker_text found.marker) (marker_text expected.marker)
-        && (found.at == expected.at)) }
-{
-    found.marker != expected.marker || found.at != expected.at
 }
 
 // The fault of the second reading: its own faults show that the input has changed.

@@ -9,11 +9,11 @@ ghost use Rattle.pgn_lexer.specs.WhiteSpace.{white_space};
 ghost use Rattle.pgn_game.specs.declared.converter.Fed.TheVariants as fed;
 ghost use Rattle.pgn_game.specs.declared.reason.Reason.TheVariants.{InputTooLong, Lexical, ReadFault};
 ghost use Rattle.pgn_game.specs.declared.stage.Stage.TheVariants.{InMovetext};
-ghost use Rattle.pgn_game.specs.steps.ConverterSteps.{IsBeforePiece, IsBeforeToken, IsGoing, IsReady};
-ghost use Rattle.pgn_game.specs.steps.ConverterSteps.{StepsInPiece, StepsAtEnd, ReadsOn, ReadsToMarker, fed_marker};
-ghost use Rattle.pgn_game.specs.steps.ConverterSteps.{GoesToMarker, GoesToEndOfPiece, EndsToMarker};
-ghost use Rattle.pgn_game.specs.steps.ConverterSteps.{EndsGame, CountsGame, fault_of, outcome_at};
+ghost use Rattle.pgn_game.specs.steps.ConverterSteps.{IsBeforePiece, IsGoing};
+ghost use Rattle.pgn_game.specs.steps.ConverterSteps.{GoesToEndOfPiece};
 ghost use Rattle.pgn_game.specs.steps.ConverterSteps.{taking_announced_marker, announcing};
+ghost use Rattle.pgn_game.specs.steps.Flow.{settled, taken_at};
+ghost use Rattle.pgn_game.specs.steps.Flow.{FeedsPiece, FinishesGame, FinishesLeft, GoesAtEnd, HasTaken, ReadsIn, ReadsOn, StepsIn};
 ghost use Rattle.pgn_game.specs.public.ConverterCalls.{Stands, Feeds, KeepsGames, FeedsAll, Ends};
 ghost use Rattle.pgn_game.specs.public.ConverterCalls.{Again, KeepsFault, CountsFault, Advances, profile_of};
 ghost use Rattle.pgn_game.specs.public.ConverterCalls.{used_of, finished_game_value};
@@ -49,30 +49,11 @@ pub enum Fed {
     Game(usize),
 }
 
-/// Up to where a piece was fed.
-#[derive(Clone, Copy)]
-pub enum FedUpTo {
-    /// The whole piece was used, and no marker ends in it.
-    All,
-    /// This many of its bytes were used, and a marker ends there, which `end_game` takes.
-    Marker(usize, PlacedMarker),
-}
-
-/// What was met in a step.
-#[derive(Clone, Copy)]
-enum StepEnd {
-    /// Tokens that are no markers, and were taken, or white space.
-    NoMarker,
-    /// A marker, which was not taken yet.
-    Marker(PlacedMarker),
-}
-
-/// One step in a piece: how many of its bytes were used, and what was met. The outcome is
-/// `Ok(None)` if no token ends in the rest of the piece.
+/// One step in a piece: how many of its bytes were used, and whether they finished a game.
 #[derive(Clone, Copy)]
 struct Step {
     used: usize,
-    outcome: Result<Option<StepEnd>, Fault>,
+    outcome: Result<bool, Fault>,
 }
 
 /// Converts games from import format to export format (PGN 3), in pieces of any length.
@@ -144,8 +125,8 @@ impl<const T: usize, const L: usize> Converter<T, L> {
     /// order mark is skipped at place 0 alone.
     ///
     /// `in_first_column` says whether the place is in the first column, where a percent sign begins
-    /// an escape line (PGN 6): behind a carriage return or a line feed, or behind a byte order
-    /// mark. Place 0 always is. Just behind a game's marker it is false. The games, the output and
+    /// an escape line (PGN 6): after a carriage return or a line feed, or after a byte order
+    /// mark. Place 0 always is. Just after a game's marker it is false. The games, the output and
     /// the verdict of the whole text then follow from those of the rest (`laws::games_restart`).
     ///
     /// # Examples
@@ -262,9 +243,9 @@ impl<const T: usize, const L: usize> Converter<T, L> {
             .count_missing_result_as(MissingResult::TakesTheMarker);
     }
 
-    /// Announces the marker that the next game ends with. A missing Result that takes it is written
-    /// so.
-    pub(crate) fn announce_marker(&mut self, marker: Marker)
+    /// Announces the marker that the next game has to end with. A missing Result that takes it is
+    /// written so, and another marker is rejected.
+    pub(crate) fn announce_marker(&mut self, marker: PlacedMarker)
         ensures { self.new ≡ announcing marker self.old }
     {
         self.game.announce_marker(marker);
@@ -308,75 +289,10 @@ impl<const T: usize, const L: usize> Converter<T, L> {
         ensures no_write_fails { IsTrue self.old.reading.writing.is_silent → self.old.fault ≡ None
             → NoWriteFails result }
     {
-        match self.feed_to_marker(piece, out)? {
-            FedUpTo::All => Ok(Fed::All),
-            FedUpTo::Marker(used, marker) => {
-                self.end_game(marker, out)?;
-                Ok(Fed::Game(used))
-            }
-        }
-    }
-
-    /// Converts the piece up to the end of the next marker, which `end_game` takes then.
-    ///
-    /// # Errors
-    ///
-    /// As `feed`.
-    pub(crate) fn feed_to_marker<W: Sink>(
-        &mut self,
-        piece: &[u8],
-        out: &mut W,
-    ) -> Result<FedUpTo, Fault>
-        requires { self.old.is_finished ≡ false }
-        ensures feeds { ReadsToMarker self.old piece.now self.new (fed_marker result)
-            (sink_of self.old.reading W.taken W.failures out.old out.new) }
-        ensures goes { GoesToMarker self.old piece.now self.new result
-            (sink_of self.old.reading W.taken W.failures out.old out.new) }
-        ensures short { self.new.lexer.count ≤ 2 ^ 62 }
-        ensures again { Again self.old self.new result out.old out.new }
-        ensures silent { KeepsSilence self.old.reading self.new.reading out.old out.new }
-    {
         if let Some(fault) = self.fault {
             return Err(fault);
         }
-        let front = within_limit(self.lexer.place(), piece);
-        match self.feed_front(front, out)? {
-            FedUpTo::Marker(used, marker) => Ok(FedUpTo::Marker(used, marker)),
-            FedUpTo::All => {
-                if front.len() < piece.len() {
-                    return Err(too_long(&mut self.fault));
-                }
-                Ok(FedUpTo::All)
-            }
-        }
-    }
-
-    /// Ends the game with the marker that was met.
-    ///
-    /// # Errors
-    ///
-    /// The row of the fault table that rejects the marker, or `Reason::WriteFault`.
-    pub(crate) fn end_game<W: Sink>(&mut self, met: PlacedMarker, out: &mut W) -> Result<(), Fault>
-        requires { IsReady self.old }
-        ensures ends { EndsGame self.old.reading met self.new.reading result
-            (sink_of self.old.reading W.taken W.failures out.old out.new) }
-        ensures counts { CountsGame self.old self.new result
-            (sink_of self.old.reading W.taken W.failures out.old out.new) }
-        ensures silent { KeepsSilence self.old.reading self.new.reading out.old out.new }
-    {
-        let PlacedMarker { marker, at } = met;
-        match self.game.end_game(marker, out) {
-            Err(reason) => {
-                let fault = Fault { at, reason };
-                self.fault = Some(fault);
-                Err(fault)
-            }
-            Ok(()) => {
-                self.games += 1;
-                self.has_finished_game = true;
-                Ok(())
-            }
-        }
+        self.feed_piece(piece, out)
     }
 
     /// Converts the whole piece, however many games are finished in it.
@@ -426,45 +342,7 @@ impl<const T: usize, const L: usize> Converter<T, L> {
         if let Some(fault) = self.fault {
             return Err(fault);
         }
-        let mut finished_game = false;
-        loop {
-            match self.finish_to_marker(out)? {
-                Some(marker) => {
-                    self.end_game(marker, out)?;
-                    finished_game = true;
-                }
-                None => {
-                    // The end is accepted only between games.
-                    self.has_finished_game = finished_game && self.game.is_between();
-                    return Ok(finished_game);
-                }
-            }
-        }
-    }
-
-    /// Converts what is left at the end of the input, up to the end of the next marker, which
-    /// `end_game` takes then. `None` if the input has ended.
-    ///
-    /// # Errors
-    ///
-    /// As `finish`.
-    pub(crate) fn finish_to_marker<W: Sink>(
-        &mut self,
-        out: &mut W,
-    ) -> Result<Option<PlacedMarker>, Fault>
-        requires { IsGoing self.old }
-        ensures ends { EndsToMarker self.old self.new result
-            (sink_of self.old.reading W.taken W.failures out.old out.new) }
-        ensures silent { KeepsSilence self.old.reading self.new.reading out.old out.new }
-    {
-        self.has_finished_game = false;
-        loop {
-            match self.step_at_end(out)? {
-                Some(StepEnd::NoMarker) => {}
-                Some(StepEnd::Marker(marker)) => return Ok(Some(marker)),
-                None => return Ok(None),
-            }
-        }
+        self.finish_left(out)
     }
 
     /// Ends the time in which a game counts as just finished.
@@ -545,7 +423,15 @@ impl<const T: usize, const L: usize> Converter<T, L> {
         None
     }
 
-    /// Writes the tag section of the game just finished, with the empty line behind it (PGN 8.1).
+    /// Returns the marker of the last game that was finished, and its place.
+    pub(crate) fn placed_marker(&self) -> PlacedMarker
+        ensures marker { marker_text result.marker ≡ self.now.reading.marker }
+        ensures place { result.at ≡ self.now.reading.marker_at }
+    {
+        self.game.placed_marker()
+    }
+
+    /// Writes the tag section of the game just finished, with the empty line after it (PGN 8.1).
     ///
     /// This writes also after `write_nothing`. At any other time nothing is written.
     ///
@@ -637,38 +523,111 @@ impl<const T: usize, const L: usize> Converter<T, L> {
         self.is_finished
     }
 
-    /// Converts a piece that ends before place 2^62, up to the end of the next marker.
-    fn feed_front<W: Sink>(&mut self, piece: &[u8], out: &mut W) -> Result<FedUpTo, Fault>
-        requires going { IsGoing self.old }
-        requires short { self.old.lexer.count + length piece.now ≤ 2 ^ 62 }
-        ensures feeds { ReadsOn self.old piece.now self.new (fed_marker result)
-            (sink_of self.old.reading W.taken W.failures out.old out.new) }
-        ensures goes { GoesToMarker self.old piece.now self.new result
+    /// Does what `finish` does, of a converter that has met no fault.
+    pub(crate) fn finish_left<W: Sink>(&mut self, out: &mut W) -> Result<bool, Fault>
+        requires { IsGoing self.old }
+        ensures finishes { FinishesLeft self.old self.new result
             (sink_of self.old.reading W.taken W.failures out.old out.new) }
         ensures silent { KeepsSilence self.old.reading self.new.reading out.old out.new }
     {
         self.has_finished_game = false;
+        let games = self.games;
+        while !self.is_finished {
+            self.step_at_end(out)?;
+        }
+        Ok(games < self.games)
+    }
+
+    /// Converts what is left at the end of the input, up to the end of the next game, and returns
+    /// whether there was one. Without one the input has ended.
+    pub(crate) fn finish_game<W: Sink>(&mut self, out: &mut W) -> Result<bool, Fault>
+        requires { IsGoing self.old }
+        ensures finishes { FinishesGame self.old self.new result
+            (sink_of self.old.reading W.taken W.failures out.old out.new) }
+        ensures few { self.old.games < 2 ^ 64 }
+        ensures silent { KeepsSilence self.old.reading self.new.reading out.old out.new }
+    {
+        self.has_finished_game = false;
+        while !self.is_finished {
+            if self.step_at_end(out)? {
+                return Ok(true);
+            }
+        }
+        Ok(false)
+    }
+
+    /// Does what `feed` does, of a converter that has met no fault.
+    pub(crate) fn feed_piece<W: Sink>(&mut self, piece: &[u8], out: &mut W) -> Result<Fed, Fault>
+        requires { IsGoing self.old }
+        ensures feeds { FeedsPiece self.old piece.now self.new result
+            (sink_of self.old.reading W.taken W.failures out.old out.new) }
+        ensures silent { KeepsSilence self.old.reading self.new.reading out.old out.new }
+    {
+        self.has_finished_game = false;
+        let front = within_limit(self.lexer.place(), piece);
+        if front.is_empty() {
+            if piece.is_empty() {
+                return Ok(Fed::All);
+            }
+            return Err(too_long(&mut self.fault));
+        }
+        let step = self.feed_front(front, out);
+        match step.outcome {
+            Err(fault) => Err(fault),
+            Ok(finished) => {
+                if finished {
+                    return Ok(Fed::Game(step.used));
+                }
+                if front.len() < piece.len() {
+                    return Err(too_long(&mut self.fault));
+                }
+                Ok(Fed::All)
+            }
+        }
+    }
+
+    /// Converts a piece that ends before place 2^62, up to the end of the next game.
+    fn feed_front<W: Sink>(&mut self, piece: &[u8], out: &mut W) -> Step
+        requires { IsBeforePiece self.old piece.now }
+        ensures reads { ReadsIn self.old piece.now self.new result.used result.outcome
+            (sink_of self.old.reading W.taken W.failures out.old out.new) }
+        ensures all { result.outcome ≡ Ok false → result.used ≡ length piece.now }
+        ensures silent { KeepsSilence self.old.reading self.new.reading out.old out.new }
+    {
         let mut at = 0;
         while at < piece.len() {
             let step = self.step(&piece[at..], out);
             at += step.used;
             match step.outcome {
-                Ok(None) => return Ok(FedUpTo::All),
-                Ok(Some(StepEnd::NoMarker)) => {}
-                Ok(Some(StepEnd::Marker(marker))) => return Ok(FedUpTo::Marker(at, marker)),
-                Err(fault) => return Err(fault),
+                Err(fault) => {
+                    return Step {
+                        used: at,
+                        outcome: Err(fault),
+                    };
+                }
+                Ok(finished) => {
+                    if finished {
+                        return Step {
+                            used: at,
+                            outcome: Ok(true),
+                        };
+                    }
+                }
             }
         }
-        Ok(FedUpTo::All)
+        Step {
+            used: at,
+            outcome: Ok(false),
+        }
     }
 
-    /// Takes tokens of the piece, up to a marker, which is met and not taken. In movetext it takes
-    /// as many as lie whole in the piece, but one alone of a short piece: most of its tokens go on
-    /// behind it, and would be looked at twice.
+    /// Takes tokens of the piece, up to the end of a game. In movetext it takes as many as lie
+    /// whole in the piece, but one alone of a short piece: most of its tokens go on after it, and
+    /// would be looked at twice.
     #[inline(always)]
     fn step<W: Sink>(&mut self, piece: &[u8], out: &mut W) -> Step
         requires { IsBeforePiece self.old piece.now }
-        ensures steps { StepsInPiece self.old piece.now self.new result.used result.outcome
+        ensures steps { StepsIn self.old piece.now self.new result.used result.outcome
             (sink_of self.old.reading W.taken W.failures out.old out.new) }
         ensures silent { KeepsSilence self.old.reading self.new.reading out.old out.new }
     {
@@ -684,7 +643,7 @@ impl<const T: usize, const L: usize> Converter<T, L> {
     fn step_movetext<W: Sink>(&mut self, piece: &[u8], out: &mut W) -> Step
         requires stage { self.old.reading.stage ≡ InMovetext }
         requires piece { IsBeforePiece self.old piece.now }
-        ensures steps { StepsInPiece self.old piece.now self.new result.used result.outcome
+        ensures steps { StepsIn self.old piece.now self.new result.used result.outcome
             (sink_of self.old.reading W.taken W.failures out.old out.new) }
         ensures silent { KeepsSilence self.old.reading self.new.reading out.old out.new }
     {
@@ -693,13 +652,13 @@ impl<const T: usize, const L: usize> Converter<T, L> {
     }
 
     /// In movetext, takes one token after another while they lie whole in the piece, and the one
-    /// behind them. It passes numbers and periods, which add nothing in movetext. It is not
+    /// after them. It passes numbers and periods, which add nothing in movetext. It is not
     /// inlined, so that it has the registers to itself.
     #[inline(never)]
     fn run_movetext<W: Sink>(&mut self, piece: &[u8], out: &mut W) -> Step
         requires stage { self.old.reading.stage ≡ InMovetext }
         requires piece { IsBeforePiece self.old piece.now }
-        ensures steps { StepsInPiece self.old piece.now self.new result.used result.outcome
+        ensures steps { StepsIn self.old piece.now self.new result.used result.outcome
             (sink_of self.old.reading W.taken W.failures out.old out.new) }
         ensures silent { KeepsSilence self.old.reading self.new.reading out.old out.new }
     {
@@ -708,16 +667,23 @@ impl<const T: usize, const L: usize> Converter<T, L> {
             let (count, token) = self.lexer.whole_token(&piece[used..], true);
             used += count;
             let Some(token) = token else { break };
-            let met = self.game.accept_entry(token.kind, out);
-            let Ok(None) = met else {
-                let outcome = settle(token.at, met, &mut self.fault);
-                return Step { used, outcome };
-            };
+            match self.game.take_entry(token.kind, token.at, out) {
+                Err(reason) => {
+                    let outcome = self.settle(token.at, Err(reason));
+                    return Step { used, outcome };
+                }
+                Ok(finished) => {
+                    if finished {
+                        let outcome = self.settle(token.at, Ok(true));
+                        return Step { used, outcome };
+                    }
+                }
+            }
         }
         if used == piece.len() {
             return Step {
                 used,
-                outcome: Ok(Some(StepEnd::NoMarker)),
+                outcome: Ok(false),
             };
         }
         let step = self.step_on(&piece[used..], out);
@@ -727,11 +693,11 @@ impl<const T: usize, const L: usize> Converter<T, L> {
         }
     }
 
-    /// Takes the next token of the piece, unless it is a marker.
+    /// Takes the next token of the piece.
     #[inline(always)]
     fn step_token<W: Sink>(&mut self, piece: &[u8], out: &mut W) -> Step
         requires { IsBeforePiece self.old piece.now }
-        ensures steps { StepsInPiece self.old piece.now self.new result.used result.outcome
+        ensures steps { StepsIn self.old piece.now self.new result.used result.outcome
             (sink_of self.old.reading W.taken W.failures out.old out.new) }
         ensures silent { KeepsSilence self.old.reading self.new.reading out.old out.new }
     {
@@ -744,7 +710,7 @@ impl<const T: usize, const L: usize> Converter<T, L> {
             if used == piece.len() {
                 return Step {
                     used,
-                    outcome: Ok(Some(StepEnd::NoMarker)),
+                    outcome: Ok(false),
                 };
             }
             let rest = self.step_on(&piece[used..], out);
@@ -753,10 +719,21 @@ impl<const T: usize, const L: usize> Converter<T, L> {
                 outcome: rest.outcome,
             };
         };
-        let met = self.game.accept_unless_marker::<W, WHOLE>(token.kind, out);
-        Step {
-            used,
-            outcome: settle(token.at, met, &mut self.fault),
+        match self.game.take_token::<W, WHOLE>(token.kind, token.at, out) {
+            Err(reason) => {
+                let outcome = self.settle(token.at, Err(reason));
+                Step { used, outcome }
+            }
+            Ok(finished) => {
+                if finished {
+                    let outcome = self.settle(token.at, Ok(true));
+                    return Step { used, outcome };
+                }
+                Step {
+                    used,
+                    outcome: Ok(false),
+                }
+            }
         }
     }
 
@@ -764,7 +741,7 @@ impl<const T: usize, const L: usize> Converter<T, L> {
     #[inline(always)]
     fn step_on<W: Sink>(&mut self, piece: &[u8], out: &mut W) -> Step
         requires { IsBeforePiece self.old piece.now }
-        ensures steps { StepsInPiece self.old piece.now self.new result.used result.outcome
+        ensures steps { StepsIn self.old piece.now self.new result.used result.outcome
             (sink_of self.old.reading W.taken W.failures out.old out.new) }
         ensures silent { KeepsSilence self.old.reading self.new.reading out.old out.new }
     {
@@ -773,46 +750,89 @@ impl<const T: usize, const L: usize> Converter<T, L> {
         match scan.outcome {
             Outcome::NeedMore => Step {
                 used,
-                outcome: Ok(None),
+                outcome: Ok(false),
             },
             Outcome::Token(token) => {
                 let at = token.at;
-                let met = self.game.accept_copied(token.kind, out);
+                let taken = self.game.take_copied(token.kind, at, out);
                 Step {
                     used,
-                    outcome: settle(at, met, &mut self.fault),
+                    outcome: self.settle(at, taken),
                 }
             }
-            Outcome::Fault(fault) => Step {
-                used,
-                outcome: fail(lexical(fault), &mut self.fault),
-            },
+            Outcome::Fault(fault) => {
+                let fault = lexical(fault);
+                self.fault = Some(fault);
+                Step {
+                    used,
+                    outcome: Err(fault),
+                }
+            }
         }
     }
 
-    /// Takes the next of the tokens that are left after the last piece, unless it is a marker.
-    /// `None` is the end.
-    fn step_at_end<W: Sink>(&mut self, out: &mut W) -> Result<Option<StepEnd>, Fault>
-        requires { IsBeforeToken self.old }
-        ensures steps { StepsAtEnd self.old self.new result
+    /// Takes the next of the tokens that are left after the last piece. The last is the end.
+    fn step_at_end<W: Sink>(&mut self, out: &mut W) -> Result<bool, Fault>
+        requires { IsGoing self.old }
+        ensures reads { ReadsOn self.old None self.new result
+            (sink_of self.old.reading W.taken W.failures out.old out.new) }
+        ensures goes { GoesAtEnd self.old self.new result
             (sink_of self.old.reading W.taken W.failures out.old out.new) }
         ensures silent { KeepsSilence self.old.reading self.new.reading out.old out.new }
     {
         match self.lexer.finish() {
             // Never: `finish` gives a token or a fault.
-            Outcome::NeedMore => Ok(None),
+            Outcome::NeedMore => Ok(false),
             Outcome::Token(token) => {
                 let at = token.at;
                 let is_end = is_end(token.kind);
-                let met = self.game.accept_copied(token.kind, out);
-                let outcome = settle(at, met, &mut self.fault);
-                if is_end && outcome.is_ok() {
-                    self.is_finished = true;
-                    return Ok(None);
+                match self.game.take_copied(token.kind, at, out) {
+                    Err(reason) => {
+                        let fault = Fault { at, reason };
+                        self.has_finished_game = false;
+                        self.fault = Some(fault);
+                        Err(fault)
+                    }
+                    Ok(finished) => {
+                        if finished {
+                            self.games += 1;
+                            self.has_finished_game = true;
+                        } else {
+                            self.is_finished = is_end;
+                            self.has_finished_game &= self.game.is_between();
+                        }
+                        Ok(finished)
+                    }
                 }
-                outcome
             }
-            Outcome::Fault(fault) => fail(lexical(fault), &mut self.fault),
+            Outcome::Fault(fault) => {
+                let fault = lexical(fault);
+                self.has_finished_game = false;
+                self.fault = Some(fault);
+                Err(fault)
+            }
+        }
+    }
+
+    // Counts a game that a token finished, and keeps a fault.
+    fn settle(&mut self, at: u64, taken: Result<bool, Reason>) -> Result<bool, Fault>
+        requires { HasTaken self.old taken }
+        ensures outcome { result ≡ taken_at at taken }
+        ensures settled { self.new ≡ settled at taken self.old }
+    {
+        match taken {
+            Err(reason) => {
+                let fault = Fault { at, reason };
+                self.fault = Some(fault);
+                Err(fault)
+            }
+            Ok(finished) => {
+                if finished {
+                    self.games += 1;
+                    self.has_finished_game = true;
+                }
+                Ok(finished)
+            }
         }
     }
 }
@@ -838,32 +858,6 @@ pub fn too_long(kept: &mut Option<Fault>) -> Fault
     let reason = Reason::InputTooLong;
     *kept = Some(Fault { at, reason });
     Fault { at, reason }
-}
-
-// Keeps the fault that a token has. Returns what was met, with the token's place.
-fn settle(
-    at: u64,
-    met: Result<Option<Marker>, Reason>,
-    fault: &mut Option<Fault>,
-) -> Result<Option<StepEnd>, Fault>
-    requires no_fault { fault.old ≡ None }
-    ensures outcome { result ≡ outcome_at at met }
-    ensures fault { fault.new ≡ fault_of result }
-{
-    match met {
-        Ok(None) => Ok(Some(StepEnd::NoMarker)),
-        Ok(Some(marker)) => Ok(Some(StepEnd::Marker(PlacedMarker { marker, at }))),
-        Err(reason) => fail(Fault { at, reason }, fault),
-    }
-}
-
-// Keeps the fault.
-fn fail(fault: Fault, kept: &mut Option<Fault>) -> Result<Option<StepEnd>, Fault>
-    ensures outcome { result ≡ Err fault }
-    ensures kept { kept.new ≡ Some fault }
-{
-    *kept = Some(fault);
-    Err(fault)
 }
 
 // Makes a fault of the converter from one of the lexer.

@@ -46,7 +46,7 @@ pub struct CurrentGame<const T: usize, const L: usize> {
     word: ArrayVec<u8, WORD_LENGTH>,
     games: u64,
     last: Option<Item>,
-    // The item behind the tags, which the same token gives.
+    // The item after the tags, which the same token gives.
     pending: Option<Item>,
 }
 

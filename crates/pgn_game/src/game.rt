@@ -17,12 +17,12 @@ ghost use Rattle.pgn_game.specs.steps.ItemResult.{ItemCall};
 ghost use Rattle.pgn_layout.specs.Lines.{IsToken};
 ghost use Rattle.pgn_game.specs.declared.event.Event.TheVariants as events;
 ghost use Rattle.pgn_game.specs.steps.Judged.{IsAnnotation, IsFound, IsPlayed, TakesMeant, WritesMove, after_move_at, game_by, section_unless};
-ghost use Rattle.pgn_game.specs.steps.PutResult.{BeginsText, MeetsEntry, TakesMarker, TakesUnlessMarker};
-ghost use Rattle.pgn_game.specs.steps.ReaderState.{ReaderCall, known_of, plies_of_finished_games, silenced, unread, with_announced};
+ghost use Rattle.pgn_game.specs.steps.PutResult.{BeginsText, EndsAtPlace, MeetsEntry, TakesMarker, TakesPlaced, TakesUnlessMarker};
+ghost use Rattle.pgn_game.specs.steps.ReaderState.{ReaderCall, expected_of, is_unexpected, known_of, plies_of_finished_games, silenced, unread, with_announced};
 ghost use Rattle.pgn_game.specs.steps.TokenInMovetext.{MayTakeMove, has_whole_pairs, may_have_movetext};
 
 use crate::event::Event;
-use crate::marker::{Marker, MissingResult};
+use crate::marker::{Marker, MissingResult, PlacedMarker};
 use crate::mode::{Mode, Written};
 use crate::reader::Reader;
 use crate::reason::Reason;
@@ -34,7 +34,7 @@ use pgn_lexer::TokenKind;
 use std::marker::Model;
 
 /// The callers of `take`: the loop of movetext, the step that takes one token whole, and
-/// `accept_copied`. The compiler makes a copy of the code for each, and all do the same.
+/// `take_copied`. The compiler makes a copy of the code for each, and all do the same.
 const MOVETEXT: u8 = 0;
 
 pub const WHOLE: u8 = 1;
@@ -107,6 +107,17 @@ impl<const T: usize, const L: usize> Game<T, L> {
         self.reader.marker()
     }
 
+    /// Returns the marker of the game just read, and its place.
+    pub fn placed_marker(&self) -> PlacedMarker
+        ensures marker { marker_text result.marker ≡ self.now.marker }
+        ensures place { result.at ≡ self.now.marker_at }
+    {
+        PlacedMarker {
+            marker: self.reader.marker(),
+            at: self.reader.marker_at(),
+        }
+    }
+
     /// Returns the number of moves outside variations that the game has so far, or had.
     pub fn plies(&self) -> u64
         ensures { result ≡ self.now.text.plies }
@@ -170,10 +181,10 @@ impl<const T: usize, const L: usize> Game<T, L> {
         self.writer.write_nothing();
     }
 
-    /// Announces the marker that the next game ends with. A missing Result that takes it is written
-    /// so, where it would be written as nothing.
-    pub fn announce_marker(&mut self, marker: Marker)
-        ensures { self.new ≡ with_announced (marker_text marker) self.old }
+    /// Announces the marker that the next game has to end with. A missing Result that takes it is
+    /// written so, where it would be written as nothing.
+    pub fn announce_marker(&mut self, marker: PlacedMarker)
+        ensures { self.new ≡ with_announced marker self.old }
     {
         self.writer.announce_marker(marker);
     }
@@ -205,26 +216,6 @@ impl<const T: usize, const L: usize> Game<T, L> {
         }
     }
 
-    /// Takes one token as `accept_unless_marker` does, and is not inlined. Few tokens come here:
-    /// those that lie in no piece as a whole, and those that the end of the text ends.
-    ///
-    /// # Errors
-    ///
-    /// As `accept_unless_marker`.
-    #[inline(never)]
-    pub fn accept_copied<W: Sink>(
-        &mut self,
-        kind: TokenKind<'_>,
-        out: &mut W,
-    ) -> Result<Option<Marker>, Reason>
-        requires few { self.old.earlier_plies + self.old.text.plies < 2 ^ 64 - 1 }
-        requires token { HasLength (kind_of kind) }
-        ensures { ReaderCall W.taken W.failures self.old self.new out.old out.new
-            (TakesUnlessMarker self.old (kind_of kind.entry) self.new result) }
-    {
-        self.accept_unless_marker::<W, COPIED>(kind, out)
-    }
-
     /// Takes a token in movetext, unless it is a marker.
     ///
     /// # Errors
@@ -243,6 +234,84 @@ impl<const T: usize, const L: usize> Game<T, L> {
             (MeetsEntry self.old (kind_of kind.entry) self.new result) }
     {
         self.take::<W, MOVETEXT>(true, kind, out)
+    }
+
+    /// Takes the token at this place, and returns whether it finished the game.
+    ///
+    /// # Errors
+    ///
+    /// The row of the fault table that rejects the token, or `Reason::WriteFault` if a write
+    /// failed. `Reason::ResultDiffers` if the token is another marker than was announced. Do not
+    /// call this again after an error.
+    #[inline(always)]
+    pub fn take_token<W: Sink, const CALLER: u8>(
+        &mut self,
+        kind: TokenKind<'_>,
+        at: u64,
+        out: &mut W,
+    ) -> Result<bool, Reason>
+        requires few { self.old.earlier_plies + self.old.text.plies < 2 ^ 64 - 1 }
+        requires token { HasLength (kind_of kind) }
+        ensures { ReaderCall W.taken W.failures self.old self.new out.old out.new
+            (TakesPlaced self.old (kind_of kind.entry) at self.new result) }
+    {
+        match self.accept_unless_marker::<W, CALLER>(kind, out) {
+            Err(reason) => Err(reason),
+            Ok(None) => Ok(false),
+            Ok(Some(marker)) => {
+                self.end_game_at(marker, at, out)?;
+                Ok(true)
+            }
+        }
+    }
+
+    /// Takes a token of movetext as `take_token` does, where movetext has begun.
+    ///
+    /// # Errors
+    ///
+    /// As `take_token`.
+    #[inline(always)]
+    pub fn take_entry<W: Sink>(
+        &mut self,
+        kind: TokenKind<'_>,
+        at: u64,
+        out: &mut W,
+    ) -> Result<bool, Reason>
+        requires few { self.old.earlier_plies + self.old.text.plies < 2 ^ 64 - 1 }
+        requires stage { self.old.stage ≡ InMovetext }
+        requires token { HasLength (kind_of kind) }
+        ensures { ReaderCall W.taken W.failures self.old self.new out.old out.new
+            (TakesPlaced self.old (kind_of kind.entry) at self.new result) }
+    {
+        match self.accept_entry(kind, out) {
+            Err(reason) => Err(reason),
+            Ok(None) => Ok(false),
+            Ok(Some(marker)) => {
+                self.end_game_at(marker, at, out)?;
+                Ok(true)
+            }
+        }
+    }
+
+    /// Takes a token as `take_token` does, and is not inlined. Few tokens come here: those that lie
+    /// in no piece as a whole, and those that the end of the text ends.
+    ///
+    /// # Errors
+    ///
+    /// As `take_token`.
+    #[inline(never)]
+    pub fn take_copied<W: Sink>(
+        &mut self,
+        kind: TokenKind<'_>,
+        at: u64,
+        out: &mut W,
+    ) -> Result<bool, Reason>
+        requires few { self.old.earlier_plies + self.old.text.plies < 2 ^ 64 - 1 }
+        requires token { HasLength (kind_of kind) }
+        ensures { ReaderCall W.taken W.failures self.old self.new out.old out.new
+            (TakesPlaced self.old (kind_of kind.entry) at self.new result) }
+    {
+        self.take_token::<W, COPIED>(kind, at, out)
     }
 
     // Takes a token of movetext, or the first one, unless it is a marker. Each event is written
@@ -317,9 +386,34 @@ impl<const T: usize, const L: usize> Game<T, L> {
         }
     }
 
-    /// Ends the game with its marker, which `accept_unless_marker` has returned (PGN 8.2.6).
+    // Ends the game with its marker at this place, unless another one was announced.
     #[inline(never)]
-    pub fn end_game<W: Sink>(&mut self, marker: Marker, out: &mut W) -> Result<(), Reason>
+    fn end_game_at<W: Sink>(&mut self, marker: Marker, at: u64, out: &mut W) -> Result<(), Reason>
+        requires { IsTrue (may_have_movetext self.old.stage) }
+        ensures { ReaderCall W.taken W.failures self.old self.new out.old out.new
+            (EndsAtPlace self.old marker at self.new result) }
+    {
+        if self.is_unexpected(marker, at) {
+            return Err(Reason::ResultDiffers);
+        }
+        self.end_game(marker, out)?;
+        self.reader.place_marker(at);
+        Ok(())
+    }
+
+    // Whether the game has to end with another marker, or with this one at another place.
+    fn is_unexpected(&self, marker: Marker, at: u64) -> bool
+        ensures { result ≡ is_unexpected (expected_of self.now) (marker_text marker) at }
+    {
+        match self.writer.expected(self.reader.missing_result()) {
+            Some(expected) => marker != expected.marker || at != expected.at,
+            None => false,
+        }
+    }
+
+    /// Ends the game with its marker, which `accept_unless_marker` has returned (PGN 8.2.6).
+    #[inline(always)]
+    fn end_game<W: Sink>(&mut self, marker: Marker, out: &mut W) -> Result<(), Reason>
         requires { IsTrue (may_have_movetext self.old.stage) }
         ensures { ReaderCall W.taken W.failures self.old self.new out.old out.new
             (TakesMarker self.old marker self.new result) }

@@ -1,5 +1,5 @@
 //! Games one at a time, from a source.
-ghost use Rattle.std.specs.Prelude.{◌≡◌, ◌-◌, ◌<◌, ◌≤◌, ◌^◌, ℕ, List, [], Option, None, Ok};
+ghost use Rattle.std.specs.Prelude.{◌≡◌, ◌-◌, ◌<◌, ◌≤◌, ℕ, List, [], Option, None, Ok};
 ghost use Rattle.std.specs.Prelude.{true, false, IsTrue, length};
 ghost use Rattle.std.specs.Option.{option_copied};
 ghost use Rattle.pgn_layout.specs.Device.{Counts, device};
@@ -8,13 +8,12 @@ ghost use Rattle.pgn_game.specs.public.ConverterCalls.{finished_game_value, fini
 ghost use Rattle.pgn_game.specs.public.ConverterCalls.{NoWriteFails, writing_nothing};
 ghost use Rattle.pgn_game.specs.public.GamesCalls.{HaveRead, ReadsNext, NextAgain, NextAtEnd, CountsNext};
 ghost use Rattle.pgn_game.specs.public.GamesCalls.{StillReadNone, games_of, most_left};
-ghost use Rattle.pgn_game.specs.steps.GamesSteps.{FeedsRest, GoesToNextGame, GoesToNextMarker};
-ghost use Rattle.pgn_game.specs.steps.GamesSteps.{MoreResult, ReadsNextMarker};
+ghost use Rattle.pgn_game.specs.steps.GamesSteps.{GoesToNextGame, MoreResult};
 ghost use Rattle.pgn_game.specs.steps.ConverterSteps.{IsGoing};
+ghost use Rattle.pgn_game.specs.steps.SourceFlow.{ReadsSource};
 ghost use Rattle.pgn_game.specs.steps.ReaderState.{KeepsSilence, sink_of};
 
-use crate::converter::{Converter, FedUpTo};
-use crate::marker::PlacedMarker;
+use crate::converter::{Converter, Fed};
 use crate::mode::Mode;
 use crate::read_buffer::ReadBuffer;
 use crate::reason::Fault;
@@ -210,63 +209,37 @@ fn convert_game<const T: usize, const L: usize, R: Source, W: Sink>(
         (sink_of converter.old.reading W.taken W.failures out.old out.new) }
     ensures silent { KeepsSilence converter.old.reading converter.new.reading out.old out.new }
 {
-    match next_marker(converter, buffer, source, out)? {
-        Some(marker) => {
-            converter.end_game(marker, out)?;
-            Ok(true)
-        }
-        None => converter.finish(out),
+    if read_source(converter, buffer, source, out)? {
+        return Ok(true);
     }
+    converter.finish_left(out)
 }
 
-/// Reads up to the next marker of a source whose end was not read yet, which `end_game` takes then.
-/// `None` if the source has ended: all bytes are used, and `finish` or `finish_to_marker` is next.
-pub(crate) fn next_marker<const T: usize, const L: usize, R: Source, W: Sink>(
+/// Converts up to the end of the next game of a source, or to the end of the source. Returns
+/// whether a game was finished.
+pub(crate) fn read_source<const T: usize, const L: usize, R: Source, W: Sink>(
     converter: &mut Converter<T, L>,
     buffer: &mut ReadBuffer,
     source: &mut R,
     out: &mut W,
-) -> Result<Option<PlacedMarker>, Fault>
+) -> Result<bool, Fault>
     requires { IsGoing converter.old }
-    ensures reads { ReadsNextMarker (games_of converter.old buffer.old)
+    ensures reads { ReadsSource (games_of converter.old buffer.old)
         (games_of converter.new buffer.new) result
-        (device R.left R.failures source.old source.new)
-        (sink_of converter.old.reading W.taken W.failures out.old out.new) }
-    ensures goes { GoesToNextMarker converter.old converter.new result
         (device R.left R.failures source.old source.new)
         (sink_of converter.old.reading W.taken W.failures out.old out.new) }
     ensures silent { KeepsSilence converter.old.reading converter.new.reading out.old out.new }
 {
     loop {
-        if let Some(marker) = feed_rest(converter, buffer, out)? {
-            return Ok(Some(marker));
+        match converter.feed_piece(buffer.unused(), out)? {
+            Fed::Game(used) => {
+                buffer.skip(used);
+                return Ok(true);
+            }
+            Fed::All => {}
         }
         if !read_more(converter, buffer, source)? {
-            return Ok(None);
-        }
-    }
-}
-
-// Feeds the bytes that are not used yet, up to the next marker that ends in them.
-fn feed_rest<const T: usize, const L: usize, W: Sink>(
-    converter: &mut Converter<T, L>,
-    buffer: &mut ReadBuffer,
-    out: &mut W,
-) -> Result<Option<PlacedMarker>, Fault>
-    requires { IsGoing converter.old }
-    ensures feeds { FeedsRest (games_of converter.old buffer.old)
-        (games_of converter.new buffer.new) result
-        (sink_of converter.old.reading W.taken W.failures out.old out.new) }
-    ensures silent { KeepsSilence converter.old.reading converter.new.reading out.old out.new }
-{
-    match converter.feed_to_marker(buffer.unused(), out)? {
-        FedUpTo::All => {
-            buffer.clear();
-            Ok(None)
-        }
-        FedUpTo::Marker(used, marker) => {
-            buffer.skip(used);
-            Ok(Some(marker))
+            return Ok(false);
         }
     }
 }

@@ -233,7 +233,7 @@ impl<const T: usize, const L: usize> Items<T, L> {
 
     /// Returns the value of a tag of the current game, roster defaults included.
     ///
-    /// A game is the current one from its `Tags` to the call behind its `Marker`. At any other time
+    /// A game is the current one from its `Tags` to the call after its `Marker`. At any other time
     /// the result is `None`. `take_marker_for_missing_result` says what a missing Result is.
     pub fn tag(&self, name: &[u8]) -> Option<&[u8]>
         ensures { option_copied result ≡ shown_value self.now.current name.now }
@@ -265,7 +265,7 @@ impl<const T: usize, const L: usize> Items<T, L> {
         self.current.pair(index)
     }
 
-    /// Writes the tag section of the current game, with the empty line behind it (PGN 8.1).
+    /// Writes the tag section of the current game, with the empty line after it (PGN 8.1).
     ///
     /// Without a current game nothing is written.
     ///
@@ -382,7 +382,7 @@ impl<const T: usize, const L: usize> Items<T, L> {
 
     /// Returns the place of the next byte: how many were used.
     ///
-    /// After a `Marker` it is the place behind the marker: `begin_at` reads on from there, with
+    /// After a `Marker` it is the place after the marker: `begin_at` reads on from there, with
     /// `in_first_column` false.
     pub fn place(&self) -> u64
         ensures place { result ≡ self.now.lexer.count }
@@ -508,7 +508,7 @@ impl<const T: usize, const L: usize> Items<T, L> {
         }
     }
 
-    // Reads the next item behind the last bytes of the source.
+    // Reads the next item after the last bytes of the source.
     fn next_at_end(&mut self) -> Result<Option<Item>, Fault>
         requires going { AreGoing self.old }
         requires all { self.old.has_read_all ≡ true }
@@ -528,7 +528,7 @@ impl<const T: usize, const L: usize> Items<T, L> {
         }
     }
 
-    // Takes the next token behind the last bytes of the source. Returns whether it is the end.
+    // Takes the next token after the last bytes of the source. Returns whether it is the end.
     fn take_at_end(&mut self) -> (bool, Result<Option<Item>, Fault>)
         requires going { AreGoing self.old }
         requires all { self.old.has_read_all ≡ true }
@@ -609,7 +609,7 @@ fn read_by_bytes<const T: usize, const L: usize>(
     }
 }
 
-// Reads the next token behind the last piece. Returns whether it is the end, and the item that the
+// Reads the next token after the last piece. Returns whether it is the end, and the item that the
 // token gives, if it gives one.
 fn read_last_token<const T: usize, const L: usize>(
     lexer: &mut Lexer,

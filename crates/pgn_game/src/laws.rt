@@ -28,11 +28,11 @@ pub fn due_grows()
     ensures { laws.DueGrows }
 {}
 
-/// Just behind the marker of a game, the rest of a text can be converted on its own.
+/// Just after the marker of a game, the rest of a text can be converted on its own.
 ///
 /// `Converter::begin_at` does that, with `in_first_column` false. The games of the whole are those
 /// so far and those of the rest, and so is the output. A fault of the rest is that of the whole, at
-/// the same place. Without one, games and plies add up. The rest can be cut again behind its first
+/// the same place. Without one, games and plies add up. The rest can be cut again after its first
 /// game, and so on.
 pub fn games_restart()
     ensures { restart.GamesRestart }
@@ -73,7 +73,7 @@ pub fn items_join()
 
 /// The token that finishes a game is its marker, and the Result of its tag section is that marker.
 ///
-/// Behind it the output is that of whole games.
+/// After it the output is that of whole games.
 pub fn games_end_by_marker()
     ensures { game_ends.GamesEndByMarker }
 {}

@@ -56,7 +56,7 @@ impl<'a> OrderedPairs<'a> {
         &self.stored[order[index]]
     }
 
-    /// Returns the first so many pairs, and those behind them.
+    /// Returns the first so many pairs, and those after them.
     pub fn split_at(&self, index: usize) -> (OrderedPairs<'a>, OrderedPairs<'a>)
         requires { index ≤ length self.now }
         ensures front { result.0 ≡ take index self.now }

@@ -54,6 +54,7 @@ pub struct Reader<const T: usize, const L: usize> {
     mode: Mode,
     missing_result: MissingResult,
     marker: Marker,
+    marker_at: u64,
     stage: Stage,
 }
 
@@ -79,6 +80,7 @@ impl<const T: usize, const L: usize> Model for Reader<T, L> {
       most_probes = r.most_probes;
       line = [];
       marker = marker_text r.marker;
+      marker_at = r.marker_at;
     } };
 
     ghost invariant = { λ r. AreSound T r.stage r.tags × (r.most_probes ≤ 1040) };
@@ -94,6 +96,7 @@ impl<const T: usize, const L: usize> Reader<T, L> {
             mode,
             missing_result: MissingResult::CountsAs(Marker::Unknown),
             marker: Marker::Unknown,
+            marker_at: 0,
             stage: Stage::Between,
             tags: TagPairs::new(),
             levels: Levels::new(),
@@ -568,6 +571,21 @@ impl<const T: usize, const L: usize> Reader<T, L> {
         self.stage = Stage::Between;
         self.marker = marker;
         Ok(())
+    }
+
+    /// Stores the place of the marker that has ended the game.
+    #[inline(always)]
+    pub fn place_marker(&mut self, at: u64)
+        ensures { self.new ≡ record self.old { marker_at = at } }
+    {
+        self.marker_at = at;
+    }
+
+    /// Returns the place of the marker that has ended the game before.
+    pub fn marker_at(&self) -> u64
+        ensures { result ≡ self.now.marker_at }
+    {
+        self.marker_at
     }
 
     /// From now on the game is in movetext: its first token there was judged.

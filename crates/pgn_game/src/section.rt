@@ -135,7 +135,7 @@ fn nth_pair<'a>(
     Err(left)
 }
 
-// Returns how many pairs are left to pass behind this one. `None` if it is the one that is sought.
+// Returns how many pairs are left to pass after this one. `None` if it is the one that is sought.
 fn left_behind(pair: &TagPair, has_fen: bool, left: usize) -> Option<usize>
     ensures { result ≡ spec.left_behind (spec.is_other has_fen pair.now) left }
 {

@@ -1,4 +1,4 @@
-//! Where reading goes on behind a bad game of a source that can be set back.
+//! Where reading goes on after a bad game of a source that can be set back.
 ghost use Rattle.std.specs.Prelude.{◌≡◌, ◌<◌, ◌≤◌, ◌^◌, OnErr};
 ghost use Rattle.pgn_layout.specs.Device.{device};
 ghost use Rattle.pgn_game.specs.steps.SkippingSteps.{FindsSection, IsReadFault, SetsTo};
@@ -17,7 +17,7 @@ fn read_fault(at: u64) -> Fault
     Fault { at, reason }
 }
 
-// Returns where the section behind a bad game begins, if there is one. The game begins at `begin`.
+// Returns where the section after a bad game begins, if there is one. The game begins at `begin`.
 pub fn section_behind<R: Rewinds>(
     source: &mut R,
     begin: u64,

@@ -12,13 +12,13 @@ use std::marker::Model;
 /// The tag pairs of one game, at most `T`. One more has a name and no value yet, if there is room.
 #[derive(Drop)]
 pub struct TagPairs<const T: usize> {
-    // As they were read. Those behind the pairs of the game are of earlier games, and are written
+    // As they were read. Those after the pairs of the game are of earlier games, and are written
     // over.
     stored: ArrayVec<TagPair, T>,
     // Where the pairs of the game are stored, in the order of their names. So a new one moves no
     // other pair.
     order: ArrayVec<usize, T>,
-    // How many pairs come before the name that has no value yet, which is stored behind them.
+    // How many pairs come before the name that has no value yet, which is stored after them.
     place: usize,
     has_pending_name: bool,
 }

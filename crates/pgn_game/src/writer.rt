@@ -1,12 +1,12 @@
 //! Writes what the tokens of a game mean.
-ghost use Rattle.std.specs.Prelude.{◌≡◌, ◌+◌, ◌<◌, ◌≤◌, ◌^◌, [], None, Some, OnOk, codes, decimal, false, option_map, true, ◌++◌};
+ghost use Rattle.std.specs.Prelude.{◌≡◌, ◌+◌, ◌<◌, ◌≤◌, ◌^◌, [], None, Some, OnOk, codes, decimal, false, true, ◌++◌};
 ghost use Rattle.chess_rules.specs.Legal.{legal};
 ghost use Rattle.chess_text.specs.San.{disambiguation_pairs};
 ghost use Rattle.pgn_layout.specs.Device.{WritesText, device};
 ghost use Rattle.pgn_layout.specs.Lines.{IsToken};
 ghost use Rattle.pgn_game.specs.declared.mode.Written.TheVariants.{Nothing};
 ghost use Rattle.pgn_game.specs.public.MostTried.{CostsToWrite};
-ghost use Rattle.pgn_game.specs.public.Written.{written_of_mode};
+ghost use Rattle.pgn_game.specs.public.Written.{is_nothing, written_of_mode};
 ghost use Rattle.pgn_game.specs.export.TagSection.{tag_section};
 ghost use Rattle.pgn_game.specs.export.Text.{number_before, tokens_at};
 ghost use Rattle.pgn_game.specs.games.Chess.{is_black_to_move};
@@ -14,9 +14,9 @@ ghost use Rattle.pgn_game.specs.games.Game as games;
 ghost use Rattle.pgn_game.specs.games.Markers.{marker_text, missing_of};
 ghost use Rattle.pgn_game.specs.games.Profile.{known_result};
 ghost use Rattle.pgn_game.specs.steps.ItemResult.{ItemCall, PutsAnnotation, PutsMarker, PutsTokens};
-ghost use Rattle.pgn_game.specs.steps.ReaderState.{known_text};
+ghost use Rattle.pgn_game.specs.steps.ReaderState.{expected_by, known_text};
 
-use crate::marker::{Marker, MissingResult};
+use crate::marker::{Marker, MissingResult, PlacedMarker};
 use crate::mode::{Mode, Written};
 use crate::number::{put_glyph, put_move_number};
 use crate::ordered::OrderedPairs;
@@ -30,8 +30,8 @@ use pgn_layout::{CurrentLine, Sink, WriteFault};
 pub struct Writer {
     pub line: CurrentLine,
     pub written: Written,
-    // The marker that the next game ends with, if it was announced.
-    pub announced: Option<Marker>,
+    // The marker that the next game has to end with, if it was announced.
+    pub announced: Option<PlacedMarker>,
     // Whether a move was written last.
     pub is_after_move: bool,
 }
@@ -61,9 +61,9 @@ impl Writer {
         self.written = Written::Nothing;
     }
 
-    /// Announces the marker that the next game ends with. A missing Result that takes it is written
-    /// so, where it would be written as nothing.
-    pub fn announce_marker(&mut self, marker: Marker)
+    /// Announces the marker that the next game has to end with. A missing Result that takes it is
+    /// written so, where it would be written as nothing.
+    pub fn announce_marker(&mut self, marker: PlacedMarker)
         ensures { self.new ≡ record self.old { announced = Some marker } }
     {
         self.announced = Some(marker);
@@ -83,7 +83,7 @@ impl Writer {
     ) -> Result<(), WriteFault>
         ensures section { ItemCall self.old.written W.taken W.failures out.old out.new
             (λ by d. WritesText d result (tag_section mode (known_text (missing_of missing_result)
-            (option_map marker_text self.old.announced)) pairs.now)) }
+            self.old.announced) pairs.now)) }
         ensures writer { self.new ≡ record self.old { is_after_move = false } }
     {
         self.is_after_move = false;
@@ -97,11 +97,27 @@ impl Writer {
     #[inline(always)]
     fn known(&self, missing_result: MissingResult) -> MissingResult
         ensures { known_result (missing_of result) ≡ known_text (missing_of missing_result)
-            (option_map marker_text self.now.announced) }
+            self.now.announced }
     {
         match (missing_result, self.announced) {
-            (MissingResult::TakesTheMarker, Some(announced)) => MissingResult::CountsAs(announced),
+            (MissingResult::TakesTheMarker, Some(announced)) => {
+                MissingResult::CountsAs(announced.marker)
+            }
             (missing, _) => missing,
+        }
+    }
+
+    /// Returns the marker that the game has to end with, if it was announced to a writer that
+    /// writes it for a missing Result.
+    #[inline(always)]
+    pub fn expected(&self, missing_result: MissingResult) -> Option<PlacedMarker>
+        ensures { result ≡ expected_by (is_nothing self.now.written) (missing_of missing_result)
+            self.now.announced }
+    {
+        match (self.written, missing_result) {
+            (Written::Nothing, _) => None,
+            (_, MissingResult::TakesTheMarker) => self.announced,
+            _ => None,
         }
     }
 

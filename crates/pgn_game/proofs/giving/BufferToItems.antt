@@ -1,5 +1,5 @@
 -- From a token of the bytes that were read to what is read of the source.
-use Rattle.pgn_game.proofs.Words.{◌≡◌, ℕ, ◌+◌, ◌-◌, ◌^◌, ◌<◌, ◌≤◌, ◌==◌, true, false, List, [], ◌∷◌, ◌++◌, length, take, drop, Option, None, Some, Ok, Err, refl, sym, ap, subst, ◌∙◌, arith, inl, append-nil, Consumes-nil, append_assoc, length-append, length-take, take-append-drop, take_all, take-take, drop-take, drop_of_length-le, eqb-true, Token, Fault, InputTooLong, Profile, IsDecided, StandsAfter, Standing, first, within_limit, AreNext, HasRead}
+use Rattle.pgn_game.proofs.Words.{ahead_of, ◌≡◌, ℕ, ◌+◌, ◌-◌, ◌^◌, ◌<◌, ◌≤◌, ◌==◌, true, false, List, [], ◌++◌, length, take, drop, Option, None, Some, Ok, Err, refl, sym, ap, subst, ◌∙◌, arith, inl, append-nil, Consumes-nil, append_assoc, length-append, length-take, take-append-drop, take-take, drop-take, eqb-true, Token, Fault, InputTooLong, Profile, StandsAfter, Standing, first, within_limit, AreNext, HasRead}
 use Rattle.pgn_game.specs.declared.item.Item.{Item as CodeItem}
 use Rattle.pgn_game.specs.public.GamesCalls.{ReadsOn}
 use Rattle.pgn_game.specs.public.ItemsCalls.{Current, Items, games_of_items}
@@ -7,12 +7,7 @@ use Rattle.pgn_game.specs.steps.ItemsSteps.{AfterBuffered, AfterToken, AreGoing,
 use Rattle.pgn_game.specs.steps.ReaderState.{Writing}
 use Rattle.pgn_game.proofs.stepping.AcceptedToConverter.{read_as}
 use Rattle.pgn_game.proofs.stepping.BytesWithinLimit.{front_within}
-use Rattle.pgn_game.proofs.stepping.StepsInPiece.{before_more, decided_at_end, decided_before}
-
-first_front : (n : ℕ) (xs : List ℕ) → 0 < n → first (take n xs) ≡ first xs
-first_front n [] h = ap first (take_all n [] (omega arith))
-first_front (Prim.Native.Nat.zero) (x ∷ xs) h = absurd (omega (arith, h))
-first_front (Prim.Native.Nat.suc n) (x ∷ xs) h = refl
+use Rattle.pgn_game.proofs.stepping.ReadsInText.{decided_by_used}
 
 pub empty_if : (n : ℕ) → true ≡ (n == 0) → n ≡ 0
 empty_if n h = eqb-true n 0 (sym h)
@@ -62,7 +57,9 @@ module _ (old : Items) (going : AreGoing old) (count : old.lexer.count ≤ 2 ^ 6
       record {
         after = λ p u given reads.
             let end : length reads.used ≡ 2 ^ 62 = omega (arith, full, place p u given reads) in
-            too_long reads.used old.unused reads.bytes end some (reads.at_limit end);
+            let none : 2 ^ 62 - length reads.used ≡ 0 = omega (arith, end) in
+            too_long reads.used old.unused reads.bytes end some
+            (decided_by_used reads.used old.unused given (ap (λ (n : ℕ). take n old.unused) none) reads.decided);
         goes = (refl, going.last, going.pending);
         read_all = tt;
         short = count;
@@ -89,13 +86,10 @@ module _ (old : Items) (going : AreGoing old) (count : old.lexer.count ≤ 2 ^ 6
     goes_on (Some i) p given tokens after = after.0.has_read
 
     module _ (some : 0 < length piece) where
-      some_room : 0 < room
-      some_room = omega (arith, some, length-take room old.unused)
-
       stands_before : (p : Profile) (u : List ℕ) (given : List Token) (reads : ReadsOn p u (games_of_items old) given)
           → StandsAfter old.lexer reads.used (first piece) given
       stands_before p u given reads =
-          subst (λ (b : Option ℕ). StandsAfter old.lexer reads.used b given) (sym (first_front room old.unused some_room)) reads.stands.lexer
+          subst (λ (n : ℕ). StandsAfter old.lexer reads.used (first (take (2 ^ 62 - n) old.unused)) given) (sym reads.stands.lexer.count) reads.stands.lexer
 
       module _ (item : Option CodeItem) (reads_token : ReadsToken old.lexer old.current piece lexer current used (Ok item)) where
         within : used ≤ room
@@ -109,6 +103,19 @@ module _ (old : Items) (going : AreGoing old) (count : old.lexer.count ≤ 2 ^ 6
             let sum : room ≡ used + (room - used) = omega (arith, within) in
             ap (λ (k : ℕ). drop used (take k old.unused)) sum ∙ drop-take used (room - used) old.unused
 
+        left_is : (p : Profile) (u : List ℕ) (given : List Token) (reads : ReadsOn p u (games_of_items old) given)
+            → drop used piece ≡ ahead_of (reads.used ++ take used old.unused) (drop used old.unused)
+        left_is p u given reads =
+            let size : room - used ≡ 2 ^ 62 - length (reads.used ++ take used old.unused) = omega (
+              arith,
+              place p u given reads,
+              reads_token.within,
+              length-take room old.unused,
+              length-append reads.used (take used old.unused),
+              length-take used old.unused,
+            ) in
+            rest ∙ ap (λ (n : ℕ). take n (drop used old.unused)) size
+
         reads_to : (p : Profile) (u : List ℕ) (given : List Token) → ReadsOn p u (games_of_items old) given → AfterBuffered p u given (new None) (Ok item)
         reads_to p u given reads =
             let after = reads_token.after p reads.used given (stands_before p u given reads) (has_read p u given reads) in
@@ -121,15 +128,10 @@ module _ (old : Items) (going : AreGoing old) (count : old.lexer.count ≤ 2 ^ 6
                     ∙ sym (append_assoc reads.used (take used old.unused) (drop used old.unused));
                 stands = record {
                   known = λ silent. reads.stands.known (ap (λ (w : Writing). w.is_silent) (sym reads_token.writing) ∙ silent);
-                  lexer = before_more (drop used old.unused) (room - used) (rw rest at (rw front at after.1));
+                  lexer = rw (left_is p u given reads) at (rw front at after.1);
                   has_read = read_as (goes_on item p given tokens after.3) refl refl refl tt;
                 };
-                at_limit = λ full.
-                    let all : room ≤ used = omega (arith, full, place p u given reads, length-append reads.used (take used old.unused), length-take used old.unused) in
-                    decided_at_end (reads.used ++ take used old.unused) tokens
-                    (subst (λ (xs : List ℕ). IsDecided (reads.used ++ take used old.unused) xs tokens)
-                    (drop_of_length-le piece (omega (arith, all, length-take room old.unused))) is_decided);
-                decided = decided_before (reads.used ++ take used old.unused) (drop used old.unused) (room - used) (rw rest at is_decided);
+                decided = rw (left_is p u given reads) at is_decided;
                 not_finished = going.not_finished;
               },
               after.3,

@@ -1,6 +1,6 @@
 -- What is given of the tokens of a text, call by call.
 use Rattle.std.proofs.lemmas.List.{map-append}
-use Rattle.pgn_game.proofs.Words.{◌≡◌, ℕ, ◌^◌, ◌≤◌, ◌⊎◌, List, [], ◌∷◌, ◌++◌, map, length, Option, None, Some, refl, sym, ap, subst, ◌∙◌, inl, inr, arith, append-nil, append_assoc, length-append, take_all, Kind, Token, Fault, Stage, InMovetext, Profile, Part, no_progress, Progress, progress_after, going, whole, next, next_in, items_of, marker_of, read, read_from, tokens_of, first, Follows, Consumes, IsAtEnd, Parts, position_at_fault}
+use Rattle.pgn_game.proofs.Words.{◌-◌, ◌≡◌, ℕ, ◌^◌, ◌≤◌, ◌⊎◌, List, [], ◌∷◌, ◌++◌, map, length, Option, None, Some, refl, sym, ap, subst, ◌∙◌, inl, inr, arith, append-nil, append_assoc, length-append, take_all, Kind, Token, Fault, Stage, InMovetext, Profile, Part, no_progress, Progress, progress_after, going, whole, next, next_in, items_of, marker_of, read, read_from, tokens_of, first, Follows, Consumes, IsAtEnd, Parts, position_at_fault}
 use Rattle.pgn_layout.specs.Device.{Device}
 use Rattle.pgn_lexer.specs.Standing.{coming}
 use Rattle.pgn_game.specs.public.Given.{Given, given_at, given_of, given_of_games, given_of_next, given_of_part, given_with, item, marker, tags}
@@ -9,6 +9,7 @@ use Rattle.pgn_game.specs.public.ItemsCalls.{GivesFault, GivesNoItem, HaveGiven,
 use Rattle.pgn_game.specs.laws.ItemsJoined.{EndGivesAll, EndUsesAll, FaultGivesAll, FaultKeepsPosition, GivenAll, GivenGrows, GivenIsFront, IsFront, ReadHasFailed, TokensAreFirst, all_given}
 use Rattle.pgn_game.proofs.giving.TokenToItems.{given_after}
 use Rattle.pgn_game.proofs.stepping.OneMoreToken.{by_token, goes_on, stops_from}
+use Rattle.pgn_game.proofs.stepping.StepsInPiece.{before_more}
 
 -- ---- a token takes nothing back
 
@@ -72,7 +73,7 @@ first_tokens : (p : Profile) (u rest : List ℕ) (i : Items) (tokens : List Toke
 first_tokens p u rest i tokens (calls.within more on) = (
   coming i.lexer (i.unused ++ rest),
   ap (λ (s : List ℕ). tokens_of (s ++ rest)) on.bytes ∙ ap tokens_of (append_assoc on.used i.unused rest)
-      ∙ on.stands.lexer.tokens (i.unused ++ rest) (follows_first i.unused rest),
+      ∙ (before_more i.unused (2 ^ 62 - length on.used) on.stands.lexer).tokens (i.unused ++ rest) (follows_first i.unused rest),
 )
 first_tokens p u rest i tokens (calls.behind more left) = (
   coming i.lexer [],

@@ -6,6 +6,7 @@ use Rattle.pgn_lexer.specs.WhiteSpace.{white_space}
 use Rattle.pgn_game.specs.public.ItemsCalls.{Current, HaveGiven, within}
 use Rattle.pgn_game.specs.steps.ItemsSteps.{restarted_game}
 use Rattle.pgn_game.proofs.giving.ItemsAtStart.{spaces_decide_none}
+use Rattle.pgn_game.proofs.stepping.StepsInPiece.{before_any}
 
 pub restarts : (c : Current) (l : Standing) (left : Option (List ℕ)) (place : ℕ) (in_first_column : Bool)
     → StandsAfter l (white_space place in_first_column) None [] → c.reading.line ≡ [] → c.reading.writing.is_silent ≡ true
@@ -24,7 +25,7 @@ restarts c l left place in_first_column stands line silent = record {
     bytes = sym (append-nil _);
     stands = record {
       known = λ writes. absurd (false≢true (sym writes ∙ silent));
-      lexer = stands;
+      lexer = before_any stands;
       has_read = record {
         profile = refl;
         no_fault = refl;
@@ -37,7 +38,6 @@ restarts c l left place in_first_column stands line silent = record {
         just_finished = tt;
       };
     };
-    at_limit = λ full. sym (spaces_decide_none place in_first_column);
     decided = inl (sym (spaces_decide_none place in_first_column));
     not_finished = refl;
   });

@@ -86,7 +86,6 @@ module _ (p : Profile) where
       lexer = on.stands.lexer;
       has_read = reads_by_marker (converter_of i) ts on.stands.has_read;
     };
-    at_limit = on.at_limit;
     decided = on.decided;
     not_finished = on.not_finished;
   })

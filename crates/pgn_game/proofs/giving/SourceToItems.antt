@@ -1,5 +1,5 @@
 -- What is given of a source, call by call.
-use Rattle.pgn_game.proofs.Words.{◌≡◌, ℕ, ◌^◌, ◌≤◌, ◌⊎◌, ◌||◌, length-map, Bool, true, false, IsTrue, is_some, List, [], ◌∷◌, ◌++◌, length, fold-append, Option, None, Some, IsSomeAnd, Result, Ok, Err, refl, sym, ap, subst, ◌∙◌, arith, inl, inr, append-nil, append_assoc, append_cancel_left, coming, EndsAt, Parts, SymbolsStandInText, false≢true, none-some, Consumes, Consumes-kept, Consumes-nil, Consumes-trans, one_more, IsAtEnd, Token, Fault, Profile, no_progress, Pair, HasLeft, IsDecided, Stands, first, HasRead, HasReadAll, Standing, decided, read, here, levels_of, start_of, StoredLevels, tokens_of}
+use Rattle.pgn_game.proofs.Words.{◌≡◌, ℕ, ◌^◌, ◌≤◌, ◌⊎◌, ◌||◌, length-map, Bool, true, false, IsTrue, is_some, List, [], ◌∷◌, ◌++◌, length, fold-append, Option, None, Some, IsSomeAnd, Result, Ok, Err, refl, sym, ap, subst, ◌∙◌, arith, inl, inr, append-nil, append_assoc, append_cancel_left, coming, EndsAt, Parts, SymbolsStandInText, false≢true, none-some, Consumes, Consumes-kept, Consumes-nil, Consumes-trans, one_more, IsAtEnd, Token, Fault, Profile, no_progress, Pair, HasLeft, Stands, first, HasRead, HasReadAll, Standing, decided, read, here, levels_of, start_of, StoredLevels, tokens_of}
 use Rattle.std.specs.Io.KnownBytes.{Keeps}
 use Rattle.pgn_game.specs.declared.item.Item.{Item as CodeItem}
 use Rattle.pgn_game.specs.declared.item.Item.TheVariants as items
@@ -17,7 +17,8 @@ use Rattle.pgn_game.proofs.giving.ItemsAhead.{lowers_end, lowers_on}
 use Rattle.pgn_game.proofs.giving.TokenToItems.{no_marker}
 use Rattle.pgn_game.proofs.stepping.MarkersAtEnd.{markers_end}
 use Rattle.pgn_game.proofs.stepping.OneMoreToken.{stops_from}
-use Rattle.pgn_game.proofs.stepping.StepsInPiece.{decided_at_end, stands_before_any}
+use Rattle.pgn_game.proofs.stepping.ReadsInText.{decided_by_used, none_ahead}
+use Rattle.pgn_game.proofs.stepping.StepsInPiece.{stands_before_any}
 
 -- ---- what is shown
 
@@ -141,14 +142,14 @@ module _ (p : Profile) (u : List ℕ) (given : List Given) (left_old left_now : 
   decided_now none =
       let used : so.reads.used ≡ u ++ so.more = sym (append-nil so.reads.used) ∙ ap (λ (xs : List ℕ). so.reads.used ++ xs) (sym none) ∙ sym so.reads.bytes in
       let all : so.tokens ≡ decided so.reads.used =
-      decided_at_end so.reads.used so.tokens (subst (λ (xs : List ℕ). IsDecided so.reads.used xs so.tokens) none so.reads.decided) in
+      decided_by_used so.reads.used now.unused so.tokens (none_ahead so.reads.used now.unused none) so.reads.decided in
       ap (λ (ts : List Token). given_of (read p ts).progress) (sym (all ∙ ap decided used)) ∙ so.whole
 
   passes_now : now.unused ≡ [] → (read p (decided (u ++ so.more))).fault ≡ None
   passes_now none =
       let used : so.reads.used ≡ u ++ so.more = sym (append-nil so.reads.used) ∙ ap (λ (xs : List ℕ). so.reads.used ++ xs) (sym none) ∙ sym so.reads.bytes in
       let all : so.tokens ≡ decided so.reads.used =
-      decided_at_end so.reads.used so.tokens (subst (λ (xs : List ℕ). IsDecided so.reads.used xs so.tokens) none so.reads.decided) in
+      decided_by_used so.reads.used now.unused so.tokens (none_ahead so.reads.used now.unused none) so.reads.decided in
       subst (λ (ts : List Token). (read p ts).fault ≡ None) (all ∙ ap decided used) so.reads.stands.has_read.passes
 
   module _ (left_new : Option (List ℕ)) (new : Items) where
@@ -173,7 +174,7 @@ module _ (p : Profile) (u : List ℕ) (given : List Given) (left_old left_now : 
             let same : new ≡ record now { unused = fills.more } = fills.new_is ∙ ap (λ (xs : List ℕ). record now { unused = xs ++ fills.more }) empty in
             let used : so.reads.used ≡ u ++ so.more = sym (append-nil so.reads.used) ∙ ap (λ (xs : List ℕ). so.reads.used ++ xs) (sym empty) ∙ sym so.reads.bytes in
             let all : so.tokens ≡ decided so.reads.used =
-            decided_at_end so.reads.used so.tokens (subst (λ (xs : List ℕ). IsDecided so.reads.used xs so.tokens) empty so.reads.decided) in
+            decided_by_used so.reads.used now.unused so.tokens (none_ahead so.reads.used now.unused empty) so.reads.decided in
             rw same (record {
               more = so.more ++ fills.more;
               consumed = Consumes-trans left_old left_now left_new so.more fills.more so.consumed fills.consumed;
@@ -181,8 +182,8 @@ module _ (p : Profile) (u : List ℕ) (given : List Given) (left_old left_now : 
               reads = record {
                 used = so.reads.used;
                 bytes = sym (append_assoc u so.more fills.more) ∙ ap (λ (xs : List ℕ). xs ++ fills.more) (sym used);
-                stands = stands_before_any (subst (λ (xs : List ℕ). Stands p (converter_of now) so.reads.used (first xs) so.tokens) empty so.reads.stands);
-                at_limit = so.reads.at_limit;
+                stands = stands_before_any
+                    (subst (λ (xs : List ℕ). Stands p (converter_of now) so.reads.used (first xs) so.tokens) (none_ahead so.reads.used now.unused empty) so.reads.stands);
                 decided = inl all;
                 not_finished = so.reads.not_finished;
               };
@@ -323,7 +324,7 @@ module _ (p : Profile) (u : List ℕ) (given : List Given) (left_old left_now : 
         → HaveGiven p left_new (u ++ so.more) new given
     rest_begins stand none going short is ended =
         let used : so.reads.used ≡ u ++ so.more = sym (append-nil so.reads.used) ∙ ap (λ (xs : List ℕ). so.reads.used ++ xs) (sym none) ∙ sym so.reads.bytes in
-        let stands = subst (λ (xs : List ℕ). Stands p (converter_of now) so.reads.used (first xs) so.tokens) none so.reads.stands in
+        let stands = subst (λ (xs : List ℕ). Stands p (converter_of now) so.reads.used (first xs) so.tokens) (none_ahead so.reads.used now.unused none) so.reads.stands in
         let rest : HasLeft now.lexer so.reads.used so.tokens = ap tokens_of (sym (append-nil so.reads.used)) ∙ stands.lexer.tokens [] tt in
         rw is (record {
           tokens = so.tokens;

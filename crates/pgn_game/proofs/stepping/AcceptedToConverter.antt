@@ -1,11 +1,10 @@
 -- One token that the lexer gave, and what the reader answered to it.
 use Rattle.pgn_lexer.specs.PartialToken.{refusal as refusal_token}
-use Rattle.pgn_game.proofs.Words.{Writing, Reason, Lexical, WriteFault, Profile, Game, Part, ◌≡◌, ℕ, ◌+◌, ◌<◌, ◌≤◌, ◌⊎◌, Bool, List, [], ◌∷◌, ◌++◌, length, take, Option, None, Some, Ok, Err, refl, sym, ap, subst, ◌∙◌, append_assoc, append-nil, length-append, le_refl, arith, IsTrue, map, sum, map-append, list_any-append, or_cases, Appends-nil, Appends, Token, Standing, Follows, first, still, More, Finished, refusal, marker_of, position_if_move, position_in, Next, going, whole, next, Progress, progress_with, progress_after, Read, read, gain, text_next, Gains, plies_of, has_move, ReaderState, Agrees, as_written, IsBehind, plies_of_finished_games, plies_added, Leads, Answers, AppendsFront, MostTried, Raises, Tries, TriesUnwritten, sum_by-append, sum_by-cons, LexFault, finished_game_of, Converter, game_in_reader, play_moves, has_played_move, HasRead, IsLastGame, refused_stop as refused, unwritten, reported_position, FaultAtEnd, SameGames, OneGame, GainsAs, Meets, NotTaken, ReadsMore, due_as, part_after, TakesToken, Device, Marker, rules, inl, inr, position_at_fault, due, torn, text_of_games as text_of, MeetsMarker, common_steps, coming, AreNext, take-append-drop, drop, tokens_of, StandsAfter}
+use Rattle.pgn_game.proofs.Words.{Writing, Reason, Lexical, WriteFault, Profile, Game, Part, ◌≡◌, ℕ, ◌+◌, ◌<◌, ◌≤◌, ◌⊎◌, Bool, List, [], ◌∷◌, ◌++◌, length, take, Option, None, Some, Err, refl, sym, ap, subst, ◌∙◌, append_assoc, append-nil, length-append, arith, IsTrue, map, sum, map-append, list_any-append, or_cases, Appends, Token, Standing, Follows, first, still, More, Finished, refusal, position_if_move, position_in, Next, going, whole, next, Progress, progress_with, progress_after, Read, read, gain, text_next, plies_of, has_move, ReaderState, Agrees, as_written, IsBehind, plies_of_finished_games, plies_added, Leads, Answers, AppendsFront, MostTried, Raises, Tries, TriesUnwritten, sum_by-append, sum_by-cons, LexFault, finished_game_of, Converter, game_in_reader, play_moves, has_played_move, HasRead, IsLastGame, refused_stop as refused, unwritten, reported_position, FaultAtEnd, SameGames, due_as, rules, inl, inr, position_at_fault, due, torn, text_of_games as text_of, common_steps, coming, AreNext, take-append-drop, drop, tokens_of, StandsAfter}
 use Rattle.pgn_game.specs.steps.ReaderState as reader_state
-use Rattle.pgn_game.proofs.stepping.PairsTriedForToken.{most_with, most_to_refused, part_probed, raises_none}
+use Rattle.pgn_game.proofs.stepping.PairsTriedForToken.{most_with, most_to_refused, part_probed}
 use Rattle.pgn_game.proofs.stepping.OneMoreToken.{read-passes, read-refuses, due-passes}
 use Rattle.pgn_game.proofs.stepping.NextGrows.{next_is}
-use Rattle.pgn_game.specs.steps.ReaderState.{refused as refused_by}
 
 pub follows_first : (xs s : List ℕ) → Follows (first xs) (xs ++ s)
 follows_first [] s = tt
@@ -18,10 +17,6 @@ follows_own (x ∷ xs) = refl
 pub follows_none : (b : Option ℕ) → Follows b []
 follows_none None = tt
 follows_none (Some x) = tt
-
--- what is written for a missing Result follows from the profile and the announced marker
-pub written_same : (old new : ReaderState) → new.profile ≡ old.profile → new.writing ≡ old.writing → as_written new ≡ as_written old
-written_same old new profile writing = rw (profile, writing) refl
 
 -- what a token leads to, with the games before; one that finishes no game counts no move
 leads_more : (nx : Next) (games : List Game) (r : ReaderState) → Leads nx More r
@@ -42,7 +37,7 @@ leads_finished (going part) games r h = absurd h
 leads_finished (whole g) games r h = (g, refl, h.agrees, h, refl)
 
 -- what the reader still holds of the game that it is behind
-finished_behind : {r : ReaderState} {g : Game} → IsBehind r g → game_in_reader r ≡ finished_game_of g
+pub finished_behind : {r : ReaderState} {g : Game} → IsBehind r g → game_in_reader r ≡ finished_game_of g
 finished_behind h = cc (h.pairs, h.plies, h.position, h.marker)
 
 plies-snoc : (games : List Game) (g : Game) → sum (map plies_of (games ++ g ∷ [])) ≡ sum (map plies_of games) + plies_of g
@@ -120,10 +115,6 @@ module _ (p : Profile) (old : Converter) (given : List Token) (t : Token) (l : S
         just_finished = tt;
       }
 
-  pub one_game : refusal old.reading.profile b.part t.kind ≡ None → Leads (next b.part t.kind) Finished new
-      → (g : Game) × OneGame p given (given ++ t ∷ []) g × (game_in_reader new ≡ finished_game_of g)
-  one_game h leads = grind (arith, common_steps, leads_finished, reads, finished_behind)
-
   pub has_read_game : refusal old.reading.profile b.part t.kind ≡ None → Leads (next b.part t.kind) Finished new
       → plies_of_finished_games new ≡ plies_of_finished_games old.reading + plies_added (next b.part t.kind)
       → Raises (Tries old.reading.writing.is_silent old.reading.profile b.part t.kind) old.reading.most_probes new.most_probes
@@ -192,10 +183,6 @@ module _ (p : Profile) (old : Converter) (given : List Token) (t : Token) (l : S
     shown : as_written old.reading ≡ p
     shown = written ∙ has_read.profile
 
-    pub gains_token : {a c : Option (List ℕ)} → refusal old.reading.profile b.part t.kind ≡ None
-        → Appends a c (gain (as_written old.reading) b.part t.kind) → Gains p given (given ++ t ∷ []) a c
-    gains_token h wrote = search (rules, due-passes, passes, shown)
-
     pub at_unwritten : (us : List Token) {a c : Option (List ℕ)} → refusal old.reading.profile b.part t.kind ≡ None
         → AppendsFront a c (gain (as_written old.reading) b.part t.kind)
         → Raises (TriesUnwritten old.reading.writing.is_silent old.reading.profile b.part t.kind) old.reading.most_probes new.most_probes
@@ -248,10 +235,6 @@ pub still_none : (b : Option ℕ) (piece : List ℕ) → 0 < length piece → st
 still_none b [] h = absurd (omega arith)
 still_none b (x ∷ xs) h = refl
 
--- where nothing was read, nothing was gained
-pub gains_as_none : (w p : Profile) (given : List Token) {a c : Option (List ℕ)} → c ≡ a → GainsAs w p given given a c
-gains_as_none w p given {a} same = record { text = []; due_for = sym (append-nil (due_as w p given)); appended = rw same (Appends-nil a) }
-
 -- the same was read by a converter with the same reader and count
 pub read_as : {p : Profile} {old new : Converter} {given : List Token} → HasRead p old given → new.reading ≡ old.reading → new.games ≡ old.games
     → new.fault ≡ None → IsLastGame new.just_finished (read p given).progress.games → HasRead p new given
@@ -262,74 +245,7 @@ module _ (p : Profile) (old : Converter) (given : List Token) where
   pub read_at : (l : Standing) (finished : Bool) → HasRead p old given → HasRead p (now_at l old.reading old.games finished) given
   read_at l finished h = read_as h refl refl refl tt
 
-  -- No token more was read.
-  pub reads_none : (l : Standing) (finished : Bool) {a c : Option (List ℕ)} → HasRead p old given → c ≡ a
-      → ReadsMore p given given (now_at l old.reading old.games finished) a c
-  reads_none l finished has_read same = record {
-    more = [];
-    extends = sym (append-nil given);
-    has_read = read_at l finished has_read;
-    no_game = refl;
-    gains = gains_as_none (as_written old.reading) p given same;
-  }
-
-  -- A token was taken.
-  pub reads_token : (t : Token) (l : Standing) (new : ReaderState) (finished : Bool) (d : Device) → HasRead p old given
-      → TakesToken old.reading t.kind new (Ok More) d → ReadsMore p given (given ++ t ∷ []) (now_at l new old.games finished) d.before d.after
-  reads_token t l new finished d has_read takes =
-      let h = takes.accepts (part_after p given) has_read.agrees in
-      let keeps = takes.keeps in
-      let w = as_written old.reading in
-      record {
-        more = t ∷ [];
-        extends = refl;
-        has_read = has_read_more p old given t l new finished has_read keeps.profile keeps.probes keeps.writing h.free h.leads h.plies h.tried;
-        no_game = same_games p old given t l new finished has_read keeps.profile keeps.probes keeps.writing h.free h.leads;
-        gains = subst (λ w. GainsAs w p given (given ++ t ∷ []) d.before d.after) (sym (written_same old.reading new keeps.profile keeps.writing))
-            (record {
-              text = gain w (part_after p given) t.kind;
-              due_for = due_more p old given t l new finished has_read keeps.profile keeps.probes keeps.writing w h.free h.leads;
-              appended = h.appended;
-            });
-      }
-
-  -- A marker was met.
-  pub meets_marker : (t : Token) (marker : Marker) (l : Standing) (new : ReaderState) (finished : Bool) (d : Device) → HasRead p old given
-      → MeetsMarker old.reading t.kind marker new d → Meets p given given t (record { marker = marker; at = t.at })
-      (now_at l new old.games finished) d.before d.after
-  meets_marker t marker l new finished d has_read meets = record {
-    reader = old.reading;
-    reads = reads_none l finished has_read meets.unwritten;
-    is = meets.is;
-    place = refl;
-    enters = meets.enters;
-  }
-
-  -- A token was not taken.
-  pub not_taken : (t : Token) (new : ReaderState) (reason : Reason) (d : Device) → HasRead p old given
-      → TakesToken old.reading t.kind new (Err reason) d → (reason ≡ WriteFault → marker_of t.kind ≡ None)
-      → NotTaken p given given t (record { at = t.at; reason = reason }) new d.before d.after
-  not_taken t new reason d has_read takes no_marker = grind (arith, common_steps, reads, reads_none)
-
 -- a rejection of the lexer is a row of its own
 pub lexical-refusal : (p : Profile) (part : Part) (f : LexFault) → refusal p part (refusal_token f).kind ≡ Some (Lexical f.reason)
 unfolding refusal
 lexical-refusal p part f = refl
-
--- it tries no pair, and rejects no move
-module _ (p : Profile) (old : Converter) where
-  pub not_taken_lexical : (given : List Token) (f : LexFault) (new : ReaderState) (o : Option (List ℕ)) → HasRead p old given → new ≡ old.reading
-      → NotTaken p given given (refusal_token f) (record { at = f.at; reason = Lexical f.reason }) new o o
-  not_taken_lexical given f new o has_read same =
-      let some = lexical-refusal old.reading.profile (part_after p given) f in
-      rw same (record {
-        now = now_at old.lexer old.reading old.games old.is_finished;
-        mid = o;
-        reads = reads_none p old given old.lexer old.is_finished has_read refl;
-        place = refl;
-        no_marker = λ is. absurd (cc);
-        stopped = refused_by (Lexical f.reason) some (Appends-nil o) (raises_none some) refl;
-        profile = refl;
-        writing = refl;
-        probes = le_refl old.reading.most_probes;
-      })

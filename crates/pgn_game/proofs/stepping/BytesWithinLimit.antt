@@ -1,6 +1,10 @@
 -- The bytes of a text before place 2^62, and the tokens that they decide.
-use Rattle.pgn_game.proofs.Words.{Consumes, Option, Token, tokens_of, ◌≡◌, ℕ, ◌+◌, ◌^◌, List, [], ◌++◌, length, take, drop, refl, sym, ap, ◌∙◌, append_assoc, append-nil, arith, subst, length-take, take-append-add, take-append-drop, AreNext, within_limit, AreShown, so_far, Decides}
+use Rattle.pgn_game.proofs.Words.{drop-drop, Consumes, Option, Token, tokens_of, ◌≡◌, ℕ, ◌+◌, ◌^◌, List, [], ◌++◌, length, take, drop, refl, sym, ap, ◌∙◌, append_assoc, append-nil, arith, subst, length-take, take_all, ◌≤◌, take-append-add, take-append-drop, AreNext, within_limit, AreShown, so_far, Decides}
 use Rattle.pgn_game.specs.public.ConverterCalls.{at_end}
+
+-- a short text is all within it
+pub all_within : (s : List ℕ) → length s ≤ 2 ^ 62 → within_limit s ≡ s
+all_within s short = take_all (2 ^ 62) s short
 
 -- of a piece behind bytes within it, a front is within it
 pub front_within : (u piece : List ℕ) (n : ℕ) → length u + n ≡ 2 ^ 62 → within_limit (u ++ piece) ≡ u ++ take n piece
@@ -31,3 +35,7 @@ decides_by left_old left_new u ts consumed next =
 -- no token is decided by all bytes
 pub none_next : (u : List ℕ) → AreNext u []
 none_next u x = (tokens_of (u ++ x), refl)
+
+-- what is unused after more bytes are used
+pub unused_now : (s unused : List ℕ) (old new used : ℕ) → drop old s ≡ unused → new ≡ old + used → drop new s ≡ drop used unused
+unused_now s unused old new used is count = ap (λ n. drop n s) count ∙ sym (drop-drop used old s) ∙ ap (drop used) is

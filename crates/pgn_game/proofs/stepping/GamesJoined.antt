@@ -1,10 +1,11 @@
 -- Calls of `next` one after another.
-use Rattle.pgn_game.proofs.Words.{Profile, Game, ◌≡◌, ℕ, ◌∷◌, ◌++◌, true, false, List, [], map, Option, Some, Ok, Err, refl, subst, Consumes-nil, Consumes-trans, Appends, Consumes, coming, first, Token, tokens_of, plies_of, FinishedGame, finished_game_of, Games, HaveRead, ReadSoFar, NextGame, games_read, append_assoc, append-nil, map-append, length-map, IfSome, rules, length, sum, sym, ap, read, totals, ◌∙◌, arith, common_steps}
+use Rattle.pgn_game.proofs.Words.{Profile, Game, ◌≡◌, ℕ, ◌-◌, ◌^◌, ◌∷◌, ◌++◌, true, false, List, [], map, Option, Some, Ok, Err, refl, subst, Consumes-nil, Consumes-trans, Appends, Consumes, coming, first, Token, tokens_of, plies_of, FinishedGame, finished_game_of, Games, HaveRead, ReadSoFar, NextGame, games_read, append_assoc, append-nil, map-append, length-map, IfSome, rules, length, sum, sym, ap, read, totals, ◌∙◌, arith, common_steps}
 use Rattle.pgn_game.specs.public.GamesCalls as games_calls
 use Rattle.pgn_game.specs.laws.GamesJoined as games_joined
 use Rattle.pgn_game.specs.laws.GamesJoined.{TakesGames, GamesJoin}
 use Rattle.pgn_game.proofs.stepping.AcceptedToConverter.{follows_first}
 use Rattle.pgn_game.proofs.stepping.OneMoreToken.{gains_none, gains_more}
+use Rattle.pgn_game.proofs.stepping.StepsInPiece.{before_more}
 use Rattle.pgn_game.proofs.stepping.WholeInput.{games_stop, verdict_passes, appended, known_left, known_whole}
 
 abbrev finished : List Game → List FinishedGame
@@ -23,7 +24,7 @@ first_of_text : {p : Profile} (left : Option (List ℕ)) {left_new : Option (Lis
 first_of_text left {left_new} {u} {now} {given} consumed (games_calls.within on) =
     known_left left left_new u (λ s. (later : List Token) × (tokens_of s ≡ given ++ later)) consumed (λ rest. (
       coming now.converter.lexer (now.unused ++ rest),
-      cc (on.bytes, append_assoc on.used now.unused rest, on.stands.lexer.tokens (now.unused ++ rest) (follows_first now.unused rest)),
+      cc (on.bytes, append_assoc on.used now.unused rest, (before_more now.unused (2 ^ 62 - length on.used) on.stands.lexer).tokens (now.unused ++ rest) (follows_first now.unused rest)),
     ))
 first_of_text left {left_new} {u} {given} consumed (games_calls.at_end all) = search (rules, append-nil, known_whole)
 

@@ -2,13 +2,11 @@
 use Rattle.pgn_lexer.specs.Tokens.{period}
 use Rattle.pgn_lexer.specs.WholeTokens.{none}
 use Rattle.pgn_lexer.specs.declared.token.TokenKind.TheVariants as token_kinds
-use Rattle.pgn_game.proofs.Words.{length-drop, Agrees, Bool, Marker, Kind, next, Standing, waiting, InMovetext, ReaderState, Device, Reason, ◌≡◌, ℕ, ◌+◌, ◌*◌, ◌<◌, ◌≤◌, List, [], length, take, drop, Option, None, Ok, IsTrue, refl, sym, ap, subst, ◌∙◌, arith, Appends-nil, More, kind_of, TokenKind, Result, Accepted, may_have_movetext, TakesToken, ReadsOn, false, take-append-drop, symbol, Passes, is_passed, over_space, over_token, MeetsEntry, Part, IsEntry, IsOpen, PutResult, CostsToFind, mode_written, going, in_text, text_refusal, with_items, TakesEntry, TakesUnlessMarker, common_steps}
+use Rattle.pgn_game.proofs.Words.{Agrees, Bool, Marker, Kind, next, Standing, waiting, InMovetext, ReaderState, Device, Reason, ◌≡◌, ℕ, ◌+◌, ◌*◌, ◌≤◌, List, [], Option, None, Ok, IsTrue, refl, sym, ap, subst, ◌∙◌, arith, Appends-nil, More, kind_of, TokenKind, Result, Accepted, may_have_movetext, TakesToken, symbol, Passes, is_passed, over_space, over_token, MeetsEntry, Part, IsEntry, IsOpen, PutResult, CostsToFind, mode_written, going, in_text, text_refusal, with_items, TakesEntry, TakesUnlessMarker, common_steps}
 use Rattle.pgn_game.proofs.putting.ItemToReader.{begun_before, puts_number, to_items}
 use Rattle.pgn_game.proofs.stepping.PairsTriedForToken.{adds_none}
 use Rattle.pgn_game.proofs.stepping.PutToAnswer.{entry_met, takes_put}
 use Rattle.pgn_game.proofs.ReaderLemmas.{counting_none, enters, entry_in_movetext, number_no_score, number_free, number_leads, number_untried}
-use Rattle.pgn_game.proofs.stepping.AcceptedToConverter.{now_at}
-use Rattle.pgn_game.proofs.stepping.ReadsInText.{between, reads_met, reads_nothing, reads_space, reads_then}
 
 -- ---- how far the lexer gets
 
@@ -21,11 +19,6 @@ pub passes_few : {skips : Bool} {old : Standing} {piece : List ℕ} {new : Stand
 passes_few none = omega arith
 passes_few (over_space l new m passes within is_white scans waits) = let before = passes_few passes in omega (arith, before, waits)
 passes_few (over_token l new m n t passes within some scans skipped passed) = grind (arith, common_steps)
-
-pub passes_sooner : {skips : Bool} {old : Standing} {piece : List ℕ} {new : Standing} {n : ℕ} → Passes skips old piece new n → 0 < n → waiting new < 2 * n + waiting old
-passes_sooner none h = absurd (omega arith)
-passes_sooner (over_space l new m passes within is_white scans waits) h = let before = passes_few passes in omega (arith, before, waits)
-passes_sooner (over_token l new m n t passes within some scans skipped passed) h = grind (arith, common_steps, passes_few)
 
 -- ---- what the reader does with them
 
@@ -96,19 +89,3 @@ pub meets_in_movetext : (r new : ReaderState) (k : TokenKind) (met : Result (Opt
     → MeetsEntry r (kind_of k) new met d → TakesUnlessMarker r (kind_of k) new met d
 meets_in_movetext r new k met d at meets =
     entry_met r r new (kind_of k) met d (enters r k (ap may_have_movetext at) (λ part agrees. entry_in_movetext r k part at agrees)) meets
-
--- ---- what a converter has read then
-
-module _ (lexer : Standing) (reading : ReaderState) (games : ℕ) (piece : List ℕ) (o : Option (List ℕ))
-    {skips : Bool} (at : IsTrue skips → reading.stage ≡ InMovetext) where
-  pub reads_past : {l : Standing} {used : ℕ} → Passes skips lexer piece l used → used ≤ length piece
-      → ReadsOn (now_at lexer reading games false) piece (now_at l reading games false) (Ok None) (between o o 0 0)
-  reads_past none inside = reads_nothing (now_at lexer reading games false) piece o
-  reads_past (over_space l new m passes within is_white scans waits) inside =
-      reads_then _ (now_at l reading games false) _ piece m (Ok None) o o o within (reads_past passes (omega (arith, within))) (passes_count passes)
-      (reads_space (now_at l reading games false) (drop m piece) (take 1 (drop m piece)) (drop 1 (drop m piece)) (take-append-drop 1 (drop m piece))
-      (omega (arith, scans.reads.0)) scans false o)
-  reads_past (over_token l new m count t passes within some scans skipped passed) inside =
-      reads_then _ (now_at l reading games false) _ piece m (Ok None) o o o within (reads_past passes (omega (arith, within))) (passes_count passes)
-      (reads_met (now_at l reading games false) (drop m piece) (omega (arith, inside, length-drop m piece)) (omega (arith, within, length-drop m piece)) t scans reading false (between o o 0 0) (Ok None)
-      (takes_passed reading t.kind o 0 (at skipped) passed))

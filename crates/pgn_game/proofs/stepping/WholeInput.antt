@@ -1,6 +1,6 @@
 -- Conversions of whole inputs.
 use Rattle.std.specs.Io.KnownBytes.{Keeps}
-use Rattle.pgn_game.proofs.Words.{Token, InputTooLong, Fault, Profile, ◌≡◌, ℕ, false, ◌^◌, ◌≤◌, List, [], ◌++◌, length, Option, None, Some, Result, Ok, Err, IfSome, OnOk, sym, ap, subst, ◌∙◌, append-nil, map, sum, Consumes-nil, Consumes-trans, tokens_of, decided, plies_of, plies_of_finished_games, Gains, IsConverted, IsTotalled, MostProbes, ReadsNoMore, FailsOn, Fails, AfterEnd, AfterConversion, AfterSlice, verdict_in, Games, games_of, HaveRead, NextGame, NoGame, NextStops, ReadSoFar, ReaderState, Bool, Appends, Consumes, Totals, Read, read, due, refused as is_refused, totals, verdict, verdict_of, Converter, HasRead, Stands, Stops, refused_stop as refused, unwritten, StopsIn, at_token, too_long, FedFault, FedWhole, ReadsUpTo, Finishes, rules, no_progress, inl, refl, within, first, writing_nothing, IsAtEnd, IfSome_then, AreShown, IsRefused, arith, common_steps}
+use Rattle.pgn_game.proofs.Words.{Token, InputTooLong, Fault, Profile, ◌≡◌, ℕ, false, ◌^◌, ◌≤◌, List, [], ◌++◌, length, Option, None, Some, Result, Ok, Err, IfSome, OnOk, sym, ap, subst, ◌∙◌, append-nil, map, sum, Consumes-nil, Consumes-trans, tokens_of, decided, plies_of, plies_of_finished_games, Gains, IsConverted, IsTotalled, MostProbes, ReadsNoMore, FailsOn, Fails, AfterEnd, AfterConversion, AfterSlice, verdict_in, Games, games_of, ahead_of, HaveRead, NextGame, NoGame, NextStops, ReadSoFar, ReaderState, Bool, Appends, Consumes, Totals, Read, read, due, refused as is_refused, totals, verdict, verdict_of, Converter, HasRead, Stands, Stops, refused_stop as refused, unwritten, StopsIn, at_token, too_long, FedFault, FedWhole, ReadsUpTo, Finishes, rules, no_progress, inl, refl, within, first, writing_nothing, IsAtEnd, IfSome_then, AreShown, IsRefused, arith, common_steps}
 use Rattle.pgn_game.specs.public.GamesCalls as games_calls
 use Rattle.pgn_game.specs.public.Conversion as conversion
 use Rattle.pgn_game.proofs.stepping.OneMoreToken.{torn-none, gains_none, gains_more, stops_more, stops_from}
@@ -34,7 +34,7 @@ module _ {p : Profile} where
 
   pub none_read : {c : Converter} {left : Option (List ℕ)} → Stands p c [] None [] → c.is_finished ≡ false → HaveRead p left [] (games_of c []) []
   none_read stands not_finished =
-      within (record { used = []; bytes = refl; stands = stands; at_limit = λ h. refl; decided = inl refl; not_finished = not_finished })
+      within (record { used = []; bytes = refl; stands = stands; decided = inl refl; not_finished = not_finished })
 
   pub read_none : {now : Games} (left : Option (List ℕ)) {o : Option (List ℕ)} → HaveRead p left [] now [] → ReadSoFar p left left now o o
   read_none left have =
@@ -47,8 +47,7 @@ read_none_silently p left u now (within on) =
     within (record {
       used = on.used;
       bytes = on.bytes;
-      stands = stands_silently now.converter p on.used (first now.unused) on.stands;
-      at_limit = on.at_limit;
+      stands = stands_silently now.converter p on.used (first (ahead_of on.used now.unused)) on.stands;
       decided = on.decided;
       not_finished = on.not_finished;
     })

@@ -1,5 +1,5 @@
 -- Which device counts a failure in a step, of the reasons one by one.
-use Rattle.pgn_game.proofs.Words.{Reason, ReadFault, WriteFault, Changed, ◌≡◌, ℕ, refl, ap, subst, ◌∙◌, inl, inr, arith, Device, Bool, true, false, IsTrue, Result, Ok, Err, Fault, seen, nowhere, no_sink, CountsResult, CountsSink, CountsWriting, NoWriteFails, Totals, CountsReading, CountsThree, IsStill, one_more, CountsReason, CountsDevices, changed_reason}
+use Rattle.pgn_game.proofs.Words.{Reason, ReadFault, WriteFault, Changed, ◌≡◌, ℕ, refl, ap, subst, ◌∙◌, inl, inr, arith, Device, Bool, true, false, sym, Result, Ok, Err, Fault, CountsFault, CountsReading, seen, nowhere, no_sink, CountsResult, CountsSink, CountsWriting, NoWriteFails, Totals, CountsThree, IsStill, one_more, CountsReason, CountsDevices, changed_reason}
 
 -- an error of the reader is no difference, and no failed read
 pub reader_reason : (r : Reason) (s o n : ℕ) → CountsReason r o n → CountsDevices r s s o n
@@ -15,13 +15,6 @@ no_write r s t h is = absurd (omega (arith, (subst (λ x. CountsDevices x s t 0 
 pub seen_none : (P : Device → Type 0) (silent : Bool) → P (seen silent no_sink) → P no_sink
 seen_none P true h = h
 seen_none P false h = h
-
--- a sink that is not seen
-pub no_write_seen : {A : Type 0} (r : Result A Fault) (source sink : Device) (silent : Bool) → IsTrue silent
-    → CountsReading r source (seen silent sink) → NoWriteFails r
-no_write_seen (Ok x) source sink silent is h = tt
-no_write_seen (Err f) source sink true is h = no_write f.reason _ _ h
-no_write_seen (Err f) source sink false is h = absurd (cc)
 
 -- a conversion to a sink that counts nothing
 pub no_write_in : (r : Result Totals Fault) (source : Device) → CountsResult r source nowhere → NoWriteFails r
@@ -59,3 +52,15 @@ pub first_counts : (r : Reason) (first second sink : Device) (s : ℕ) → s ≡
 first_counts ReadFault first second sink s here still none h = (inl (h.0 ∙ ap one_more here, still), none)
 first_counts WriteFault first second sink s here still none h = absurd (omega (arith, h.1))
 first_counts _ first second sink s here still none h = (h.0 ∙ here, still, none)
+
+-- what is counted behind the bytes of a source
+pub counts_behind : (r : Result Bool Fault) (source sink last : Device) → source.failures_after ≡ source.failures → last.failures ≡ sink.failures
+    → last.failures_after ≡ sink.failures_after → CountsFault r last → CountsReading r source sink
+counts_behind (Ok finished) source sink last still before after h = (still, sym after ∙ h ∙ before)
+counts_behind (Err f) source sink last still before after h =
+    behind_still f.reason _ _ _ _ _ _ still before (rw after at (reader_reason f.reason source.failures_after last.failures last.failures_after h))
+
+-- a silent reader counts no failure of a sink
+pub none_written : (silent : Bool) (f : Fault) (source d : Device) → silent ≡ true → CountsReading {A = Bool} (Err f) source (seen silent d) → f.reason ≡ WriteFault → ⊥
+none_written true f source d is h = no_write f.reason _ _ h
+none_written false f source d is h = absurd (cc (is))

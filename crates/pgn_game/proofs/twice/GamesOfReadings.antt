@@ -1,22 +1,25 @@
--- One game of each reading: from the tokens up to its marker to the marker that is taken, or to the
--- token at which reading stops.
+-- One game of each reading: from what was read up to its end to its marker, or to where reading
+-- stopped.
 use Rattle.pgn_lexer.specs.Tokens as tokens
 use Rattle.pgn_game.specs.declared.marker.PlacedMarker.{PlacedMarker as CodePlacedMarker}
-use Rattle.pgn_game.proofs.Words.{Kind, Token, Reason, Changed, WriteFault, Fault, Profile, takes_the_marker, Game, Part, no_part, ◌≡◌, ℕ, ◌+◌, ◌^◌, ◌<◌, ◌≤◌, ◌||◌, ◌&&◌, ◌==◌, not, is_some, bytes_eq, Bool, true, false, List, [], ◌∷◌, ◌++◌, length, take, drop, Option, None, Some, Ok, Err, refl, sym, ap, subst, ◌∙◌, append_assoc, append-nil, drop-length, arith, and_parts, not-false, bytes_eq-Decides, Appends-nil, Appends-trans, Appends, Device, TokensRise, tokens_of, Standing, Stage, Between, InMovetext, HoldsText, Marker, counting, refusal, is_end, marker_of, torn, gain, text_next, Next, going, whole, next, read, IsLastGame, game_in_reader, ReaderState, with_announced, as_written, IsStopped, Converter, marker_text, game_of, PlacedMarker, is_other, is_changed, HasMarkers, HasMatched, Reading, model_marker, changed_reason, OneGame, ReadsMore, EndsGame, part_after, append_cancel_left, game_text, AfterMarker, AllRead, ComesNext, FirstFails, GameRead, GameWritten, HasGiven, HasGivenIn, IsGivenLast, ReadingStops, first, known_by, Known, AreNextIn, first_bytes, all_bytes, decided, SecondFails, StandsBetween, at_read, as_changed, announcing, AreShown, writing_nothing, common_steps}
-use Rattle.pgn_game.specs.steps.ConverterSteps.{start_of}
+use Rattle.pgn_game.proofs.Words.{Kind, Token, Reason, Changed, WriteFault, Fault, Profile, Game, Part, no_part, ◌≡◌, ℕ, ◌+◌, ◌^◌, ◌<◌, ◌≤◌, ◌||◌, ◌&&◌, ◌==◌, not, is_some, bytes_eq, Bool, true, false, true≢false, false≢true, inl, inr, List, [], ◌∷◌, ◌++◌, length, length-append, take, drop, Option, None, Some, Ok, refl, sym, ap, subst, ◌∙◌, append_assoc, append-nil, append_cancel_left, drop-length, arith, Appends-nil, Appends, TokensRise, tokens_of, Stage, Between, InMovetext, HoldsText, counting, refusal, is_end, marker_of, torn, gain, text_next, text_of_games as text_of, Next, going, whole, next, Read, progress_with, HasLeft, first, within_limit, read, ReaderState, with_announced, as_written, IsStopped, Converter, IsGoing, marker_text, PlacedMarker, is_other, is_changed, HasMarkers, HasMatched, Reading, model_marker, changed_reason, OneGame, SameGames, GainsAs, due_as, part_after, game_text, AfterGameEnd, AllRead, BeginsAt, ComesNext, FirstFails, GameRead, GameWritten, HasGiven, HasGivenIn, ReadingStops, SourceGives, SecondFails, StandsBetween, known_by, decided, as_changed, announcing, AreShown, writing_nothing, common_steps}
+use Rattle.pgn_game.specs.steps.Flow.{At, Closes, IsNextIn, Known, Since, Start, ended, so_far}
 use Rattle.pgn_game.specs.steps.ReaderState as reader_state
-use Rattle.pgn_game.specs.steps.Readings.{at_token}
+use Rattle.pgn_game.specs.steps.ReaderState.{is_unexpected}
+use Rattle.pgn_game.specs.steps.Readings.{at_read, at_token}
 use Rattle.pgn_game.specs.steps.Readings as readings
 use Rattle.pgn_game.specs.public.ConverterCalls.{at_end}
-use Rattle.pgn_game.proofs.stepping.AcceptedToConverter.{read_as}
-use Rattle.pgn_game.proofs.stepping.MarkerToGame.{game_accepted, has_read_marker, takes, written_at_fault, written_at_marker}
+use Rattle.pgn_game.proofs.flow.GamesGoOn.{same_if_as_many}
+use Rattle.pgn_game.proofs.flow.KnownResults.{written_so}
+use Rattle.pgn_game.proofs.flow.Stops.{same_since}
+use Rattle.pgn_game.proofs.stepping.EndOfText.{end_place}
+use Rattle.pgn_game.proofs.stepping.GamesInTurn.{none_behind, none_or_some, passes_before}
 use Rattle.pgn_game.proofs.stepping.MissingCountsAs.{reads_silently}
-use Rattle.pgn_game.proofs.stepping.NextGrows.{next_is}
-use Rattle.pgn_game.proofs.stepping.OneMoreToken.{read-passes, torn-none}
-use Rattle.pgn_game.proofs.stepping.StepsAtEnd.{end_at, is_the_end}
-use Rattle.pgn_game.proofs.twice.MarkerCounts.{changes, marker_finishes, no_marker_goes, refusals_are_inside, same_game_text}
-use Rattle.pgn_game.proofs.twice.MarkerToReading.{next_in, of_whole, shown_in, some_coming}
-use Rattle.pgn_game.proofs.twice.MarkersInTurn.{marked_game, marked_more, marked_on, matched_next, matched_on, no_end_before}
+use Rattle.pgn_game.proofs.stepping.OneMoreToken.{read-passes, read-refuses, text_of-snoc, torn-none}
+use Rattle.pgn_game.proofs.stepping.StepsAtEnd.{end_at, is_the_end, left_of}
+use Rattle.pgn_game.proofs.twice.MarkerCounts.{changes, marker_finishes, no_marker_goes, refusals_are_inside}
+use Rattle.pgn_game.proofs.twice.MarkersInTurn.{HasNoEnd, marked_game, marked_on, matched_next, matched_on, no_end_before}
+use Rattle.pgn_game.proofs.twice.SourceToReading.{AreNextIn, next_in, some_coming, whole_has}
 
 -- The end adds nothing, and is no marker.
 end_part : (s : Stage) (ps : List _) (name : List ℕ) (items : List _) → s ≡ Between
@@ -31,183 +34,229 @@ end_gains_nothing : (q w : Profile) (part : Part) (k : Kind) → is_end k ≡ tr
 end_gains_nothing q w part k is free =
     ap (λ n. drop (length (torn w part)) (text_next w n)) (end_leads q part k is free) ∙ drop-length (torn w part)
 
--- what a text begins with of which these tokens are known
-begins_known : (text : Known) (ts : List Token) (t : Token) → AreNextIn text (ts ++ t ∷ []) → (s : List ℕ) × (rest : List Token) × (tokens_of s ≡ ts ++ t ∷ rest)
-begins_known (first_bytes s) ts t next = (s ++ [], (next []).0, (next []).1 ∙ append_assoc ts (t ∷ []) (next []).0)
-begins_known (all_bytes s) ts t next = (s, next.0, next.1 ∙ append_assoc ts (t ∷ []) next.0)
+head_same : {A : Type 0} {x y : A} {xs ys : List A} → x ∷ xs ≡ y ∷ ys → x ≡ y
+head_same e = cc
 
--- the token given last is one that was given
-given_last : (text : Known) (l : Standing) (t : Token) (ts : List Token) → IsGivenLast text l t ts → HasGivenIn text l ts
-given_last (first_bytes s) l t ts last = last.0
-given_last (all_bytes s) l t ts last = last
+tail_same : {A : Type 0} {x y : A} {xs ys : List A} → x ∷ xs ≡ y ∷ ys → xs ≡ ys
+tail_same e = cc
+
+-- what a text begins with of which this token comes next
+begins_known : (text : Known) (ts : List Token) (t : Token) → IsNextIn text ts t → (s : List ℕ) × (rest : List Token) × (tokens_of s ≡ ts ++ t ∷ rest)
+begins_known (so_far s) ts t next = (s ++ [], (next []).0, (next []).1 ∙ append_assoc ts (t ∷ []) (next []).0)
+begins_known (ended s) ts t next = (s, next.0, next.1)
+
+-- what it begins with of which these tokens were given
+known_cut : (text : Known) (ts front : List Token) (t : Token) → AreNextIn text ts → ts ≡ front ++ t ∷ [] → (s : List ℕ) × (rest : List Token) × (tokens_of s ≡ front ++ t ∷ rest)
+known_cut (so_far s) ts front t next cut =
+    (s ++ [], (next []).0, (next []).1 ∙ ap (λ l. l ++ (next []).0) cut ∙ append_assoc front (t ∷ []) (next []).0)
+known_cut (ended s) ts front t next cut = (s, next.0, next.1 ∙ ap (λ l. l ++ next.0) cut ∙ append_assoc front (t ∷ []) next.0)
+
+-- the last token of those that pass is not rejected
+last_passes : (q : Profile) (ts : List Token) (t : Token) → (read q (ts ++ t ∷ [])).fault ≡ None → refusal q (part_after q ts) t.kind ≡ None
+last_passes q ts t passes = by_row (refusal q (part_after q ts) t.kind) refl
+  where
+    by_row : (o : Option Reason) → refusal q (part_after q ts) t.kind ≡ o → refusal q (part_after q ts) t.kind ≡ None
+    by_row None is = is
+    by_row (Some reason) is =
+        let rejected = ap (λ (r : Read). r.fault) (read-refuses q ts t [] reason (passes_before q ts (t ∷ []) passes) is) in
+        absurd (none_or_some _ rejected passes)
+
+-- the end changes nothing
+end_same : (q : Profile) (ts : List Token) (t : Token) → (read q (ts ++ t ∷ [])).fault ≡ None → is_end t.kind ≡ true
+    → (read q (ts ++ t ∷ [])).progress ≡ (read q ts).progress
+end_same q ts t passes is =
+    let free = last_passes q ts t passes in
+    ap (λ (r : Read). r.progress) (read-passes q ts t (passes_before q ts (t ∷ []) passes) free)
+    ∙ ap (progress_with (read q ts).progress.games) (end_leads q (part_after q ts) t.kind is free)
+
+-- tokens that go on behind these, none of which is the end, up to the end
+before_end : (given more front : List Token) (e : Token) → given ++ more ≡ front ++ e ∷ [] → is_end e.kind ≡ true → HasNoEnd given
+    → (rest : List Token) × (front ≡ given ++ rest)
+before_end [] more front e cut is none = (front, refl)
+before_end (x ∷ xs) more [] e cut is none = absurd (true≢false (sym is ∙ ap (λ (t : Token). is_end t.kind) (sym (head_same cut)) ∙ none.0))
+before_end (x ∷ xs) more (y ∷ ys) e cut is none =
+    let rest = before_end xs more ys e (tail_same cut) is none.1 in
+    (rest.0, cc (head_same cut, rest.1))
+
+-- ---- where a call begins
+
+abbrev pub start_at : Profile → Reading → List Token → Option (List ℕ) → Option CodePlacedMarker → Start
+start_at q r given before expected =
+    record { profile = q; count = r.converter.lexer.count; given = given; before = before; expected = expected }
+
+module _ (q : Profile) (left_old left : Option (List ℕ)) (r : Reading) (given : List Token) (a : Option (List ℕ)) (has : HasGiven q left_old left r given)
+    (going : IsGoing r.converter) where
+  pub begins_first : r.converter.reading.writing.is_silent ≡ true → BeginsAt left_old left (start_at q r given a None) r has.bytes a
+  begins_first silent =
+      record {
+        source = has.source;
+        count = refl;
+        lexer = has.lexer;
+        has_read = has.has_read;
+        known = λ writes. absurd (true≢false (sym silent ∙ writes));
+        going = going.not_finished;
+        begun = refl;
+      }
+
+  pub begins_second : (m : CodePlacedMarker) → r.converter.reading.writing.announced ≡ Some m → BeginsAt left_old left (start_at q r given a (Some m)) r has.bytes a
+  begins_second m announced =
+      record {
+        source = has.source;
+        count = refl;
+        lexer = has.lexer;
+        has_read = has.has_read;
+        known = λ writes. (has.takes, announced);
+        going = going.not_finished;
+        begun = refl;
+      }
+
+-- ---- a game that was read
+
+given_in : (e : Bool) (start : Start) (u : List ℕ) (c : Converter) (ts : List Token) (o : Option (List ℕ)) → At start (known_by e u) c ts o → c.is_finished ≡ false
+    → (ts ≡ start.given → ⊥) → HasGivenIn (known_by e u) c.lexer ts
+given_in false start u c ts o here goes more =
+    record {
+      inside = here.lexer.0;
+      stands = here.lexer.1;
+      decided = elim here.decided [ inl is ↦ is | inr none ↦ absurd (more none.1) ];
+    }
+given_in true start u c ts o here goes more = rw goes at here.lexer
+
+module _ (q : Profile) (left_old left left_new : Option (List ℕ)) (given : List Token) (old new : Reading) (a c : Option (List ℕ)) (expected : Option CodePlacedMarker)
+    (has : HasGiven q left_old left old given) where
+  abbrev start : Start
+  start = start_at q old given a expected
+
+  module _ (u : List ℕ) (gives : SourceGives left_old left_new new u) (ts : List Token) (here : At (start_at q old given a expected) (known_by new.has_ended u) new.converter ts c)
+      (ends : Closes (start_at q old given a expected) (known_by new.has_ended u) new.converter ts) (one : new.converter.games ≡ old.converter.games + 1)
+      (going : new.converter.is_finished ≡ false) where
+    abbrev front : List Token
+    front = given ++ ends.more
+
+    size : length (read q ts).progress.games ≡ length (read q (given ++ ends.more)).progress.games + 1
+    size = ap (length {A = Game}) ends.one_game ∙ length-append (read q front).progress.games (ends.game ∷ [])
+
+    same : SameGames q given (given ++ ends.more)
+    same = same_if_as_many q given ends.more (omega (arith, size, one, has.has_read.games, here.since.has_read.games))
+
+    passes : (read q (given ++ ends.more)).fault ≡ None
+    passes = passes_before q front (ends.marker ∷ []) (rw ends.cut at here.since.has_read.passes)
+
+    more : ts ≡ given → ⊥
+    more is = absurd (omega (arith, one, has.has_read.games, here.since.has_read.games, ap (λ l. length (read q l).progress.games) is))
+
+    none : part_after q ts ≡ no_part
+    none = rw ends.cut (none_behind q front ends.marker ends.game (rw ends.cut at here.since.has_read.passes) (rw ends.cut at ends.one_game))
+
+    pub stands : StandsBetween q left_old left_new ts new
+    stands =
+        record {
+          has_given = record {
+            takes = has.takes;
+            bytes = u;
+            source = gives;
+            lexer = given_in new.has_ended start u new.converter ts c here going more;
+            has_read = here.since.has_read;
+          };
+          between = none;
+        }
+
+    pub one_game : OneGame q given ts ends.game
+    one_game = ends.one_game ∙ ap (λ l. l ++ ends.game ∷ []) same
+
+    -- by the first reading
+    pub game_read : (m : CodePlacedMarker) → marker_text m.marker ≡ new.converter.reading.marker → m.at ≡ new.converter.reading.marker_at
+        → GameRead q left_old left_new given m new
+    game_read m text place =
+        record {
+          tokens = ts;
+          stands = stands;
+          marked = λ ms h.
+              let marked = marked_game q front ends.marker ms ends.game passes ends.free ends.leads (marked_on q given ends.more has.has_read.passes passes same ms h) in
+              subst (λ (m : PlacedMarker). HasMarkers q ts (ms ++ m ∷ []))
+              (ap (λ x. record { text = x; at = ends.marker.at }) (sym ends.held ∙ sym text)
+              ∙ ap (λ x. record { text = marker_text m.marker; at = x }) (sym ends.place ∙ sym place))
+              (rw ends.cut marked);
+        }
+
+  -- what was read without a game
+  module _ (ts : List Token) (now : Converter) (o : Option (List ℕ)) (since : Since (start_at q old given a expected) now ts o) (games : now.games ≡ old.converter.games) where
+    pub no_game : SameGames q given ts
+    no_game = same_since start now ts o since (games ∙ has.has_read.games)
+
+    same_front : SameGames q given (given ++ since.more)
+    same_front = rw since.extends at no_game
+
+    passes_front : (read q (given ++ since.more)).fault ≡ None
+    passes_front = rw since.extends at since.has_read.passes
+
+    pub still_marked : (ms : List PlacedMarker) → HasMarkers q given ms → HasMarkers q ts ms
+    still_marked ms h = rw since.extends (marked_on q given since.more has.has_read.passes passes_front same_front ms h)
+
+    -- tokens behind which another comes show no difference
+    pub still_matched : TokensRise → (t : Token) → (s : List ℕ) × (rest : List Token) × (tokens_of s ≡ ts ++ t ∷ rest)
+        → (ms : List PlacedMarker) (m : PlacedMarker) → HasMatched q ms given (m ∷ []) → HasMatched q ms ts (m ∷ [])
+    still_matched rise t behind ms m h =
+        rw since.extends (matched_on q given since.more has.has_read.passes passes_front same_front
+        (no_end_before rise behind.0 given since.more ts t behind.1 behind.2 since.extends) ms m h)
 
 -- ---- the first reading
 
-module _ (q : Profile) (left_old left_new : Option (List ℕ)) (given : List Token) (so : (read q given).fault ≡ None) where
-  -- more tokens bring no marker
-  still_marked : (ts : List Token) (now : Converter) (a c : Option (List ℕ)) → ReadsMore q given ts now a c
-      → (ms : List PlacedMarker) → HasMarkers q given ms → HasMarkers q ts ms
-  still_marked ts now a c reads ms h = grind (arith, common_steps, marked_on, read)
-
-  pub all_read : (old new : Reading) (a c : Option (List ℕ))
-      → AfterMarker left_old left_new (start_of q old.converter (first old.unused) given a) new (Ok None) c → AllRead q left_old given new
-  all_read old new a c (u, (count, short, text), h) =
-      let ts = h.tokens ++ h.token ∷ [] in
+module _ (q : Profile) (left_old left left_new : Option (List ℕ)) (given : List Token) (old new : Reading) (a c : Option (List ℕ)) (has : HasGiven q left_old left old given) where
+  pub all_read : AfterGameEnd (start_at q old given a None) left_old left_new new (Ok false) c → new.converter.games ≡ old.converter.games → new.converter.is_finished ≡ true
+      → AllRead q left_old given new
+  all_read (u, stores, ts, here) games over =
+      let all : ts ≡ tokens_of u = rw over at here.lexer in
       record {
         tokens = ts;
-        whole = of_whole left_old u text (λ s. (length s ≤ 2 ^ 62) × (tokens_of s ≡ ts)) (short, h.whole);
-        has_read = h.has_read;
-        marked = λ ms so.
-            marked_more q h.tokens h.token ms (part_after q h.tokens) h.reads.has_read.passes h.passes
-            (end_leads q (part_after q h.tokens) h.token.kind h.is_end h.passes) (still_marked h.tokens new.converter a c h.reads ms so);
+        whole = whole_has left_old new.converter.lexer.count new.unused u stores (λ s. (length s ≤ 2 ^ 62) × (tokens_of s ≡ ts)) (stores.1, sym all);
+        has_read = here.since.has_read;
+        marked = still_marked q left_old left left_new given old new a c None has ts new.converter c here.since games;
       }
 
   -- nothing is written, so it is no write that fails
-  refused_first : (ts : List Token) (t : Token) (f : Fault) (old new : ReaderState) (a c : Option (List ℕ)) → old.profile ≡ q → f.at ≡ t.at
-      → (f.reason ≡ WriteFault → ⊥) → ComesNext left_old ts t → IsStopped old (part_after q ts) t.kind new a c f.reason
+  refused_first : (ts : List Token) (t : Token) (f : Fault) (r s : ReaderState) (b d : Option (List ℕ)) → r.profile ≡ q → f.at ≡ t.at
+      → (f.reason ≡ WriteFault → ⊥) → ComesNext left_old ts t → IsStopped r (part_after q ts) t.kind s b d f.reason
       → readings.WhyFirst q left_old left_new ts f
-  refused_first ts t f old new a c profile place no_write comes stopped = by_stop f.reason refl stopped
+  refused_first ts t f r s b d profile place no_write comes stopped = by_stop f.reason refl stopped
     where
-      by_stop : (r : Reason) → f.reason ≡ r → IsStopped old (part_after q ts) t.kind new a c r → readings.WhyFirst q left_old left_new ts f
-      by_stop r is (reader_state.refused reason some wrote tries here) =
+      by_stop : (x : Reason) → f.reason ≡ x → IsStopped r (part_after q ts) t.kind s b d x → readings.WhyFirst q left_old left_new ts f
+      by_stop x is (reader_state.refused reason some wrote tries here) =
           subst (readings.WhyFirst q left_old left_new ts)
-          (ap (λ n. record { at = n; reason = r }) (sym place) ∙ ap (λ (x : Reason). record { at = f.at; reason = x }) (sym is))
-          (readings.refused t reason comes
-          (subst (λ (p : Profile). refusal p (part_after q ts) t.kind ≡ Some reason) profile some))
-      by_stop r is (reader_state.unwritten none wrote tries) = absurd (no_write is)
+          (ap (λ n. record { at = n; reason = x }) (sym place) ∙ ap (λ (y : Reason). record { at = f.at; reason = y }) (sym is))
+          (readings.refused t reason comes (subst (λ (p : Profile). refusal p (part_after q ts) t.kind ≡ Some reason) profile some))
+      by_stop x is (reader_state.unwritten free wrote tries) = absurd (no_write is)
 
-  pub first_fails : (new : Reading) (f : Fault) (a c : Option (List ℕ)) → (f.reason ≡ WriteFault → ⊥)
-      → ReadingStops q left_old left_new given f new a c → FirstFails q left_old left_new given f
-  first_fails new f a c no_write (at_token text h comes) =
-      let n = h.fails in
+  pub first_fails : (f : Fault) → (f.reason ≡ WriteFault → ⊥) → new.converter.games ≡ old.converter.games
+      → ReadingStops (start_at q old given a None) left_old left_new f new.converter c → FirstFails q left_old left_new given f
+  first_fails f no_write games (at_token text h comes) =
       record {
         tokens = h.tokens;
-        passes = n.reads.has_read.passes;
-        marked = still_marked h.tokens n.now a n.mid n.reads;
-        why = refused_first h.tokens h.token f n.now.reading new.converter.reading n.mid c n.reads.has_read.profile n.place no_write comes n.stopped;
+        passes = h.since.has_read.passes;
+        marked = still_marked q left_old left left_new given old new a c None has h.tokens h.now h.mid h.since (sym h.games ∙ games);
+        why = elim h.stopped [
+          | inl stopped ↦ refused_first h.tokens h.token f h.now.reading new.converter.reading h.mid c h.since.has_read.profile h.place no_write comes stopped
+          | inr another ↦ absurd (false≢true another.other)
+        ];
       }
-  first_fails new f a c no_write (at_read u fails h) =
+  first_fails f no_write games (at_read u fails all) =
       record {
         tokens = decided u;
-        passes = h.reads.has_read.passes;
-        marked = still_marked (decided u) h.now a c h.reads;
+        passes = all.since.has_read.passes;
+        marked = still_marked q left_old left left_new given old new a c None has (decided u) all.now c all.since (sym all.games ∙ games);
         why = readings.unread f fails;
-      }
-
--- ---- the marker
-
--- The marker that one of the readings has met is taken.
-module _ (q : Profile) (left_old left_new : Option (List ℕ)) (given : List Token) (old : Reading) (m : CodePlacedMarker) (mid new : Reading) (a : Option (List ℕ)) (sink : Device)
-    (takes_it : q.missing_result ≡ takes_the_marker) (so : (read q given).fault ≡ None)
-    (h : AfterMarker left_old left_new (start_of q old.converter (first old.unused) given a) mid (Ok (Some m)) sink.before) where
-  abbrev ts : List Token
-  ts = h.2.tokens
-
-  abbrev t : Token
-  t = h.2.token
-
-  abbrev part : Part
-  part = part_after q h.2.tokens
-
-  abbrev reader : ReaderState
-  reader = h.2.meets.reader
-
-  profile : reader.profile ≡ q
-  profile = h.2.meets.reads.has_read.profile
-
-  pub passes : (read q h.2.tokens).fault ≡ None
-  passes = h.2.meets.reads.has_read.passes
-
-  given_known : HasGivenIn (known_by mid.has_ended h.0) mid.converter.lexer (h.2.tokens ++ h.2.token ∷ [])
-  given_known = given_last (known_by mid.has_ended h.0) mid.converter.lexer t (ts ++ t ∷ []) h.2.lexer
-
-  pub next_known : AreNextIn (known_by mid.has_ended h.0) (h.2.tokens ++ h.2.token ∷ [])
-  next_known = next_in (known_by mid.has_ended h.0) mid.converter.lexer (ts ++ t ∷ []) given_known
-
-  pub comes : ComesNext left_old h.2.tokens h.2.token
-  comes = shown_in left_old left_new mid h.0 (ts ++ t ∷ []) h.1 next_known
-
-  pub met_marked : (ms : List PlacedMarker) → HasMarkers q given ms → HasMarkers q h.2.tokens ms
-  met_marked = still_marked q left_old left_new given so ts (record mid.converter { reading = reader }) a sink.before h.2.meets.reads
-
-  module _ (ends : EndsGame mid.converter.reading m new.converter.reading (Ok tt) sink) where
-    free : refusal q part t.kind ≡ None
-    free =
-        subst (λ (p : Profile). refusal p part t.kind ≡ None) profile
-        (game_accepted q given ts t m mid.converter a sink h.2.meets new.converter.reading ends).free
-
-    pub game : Game
-    game = game_of part (marker_text m.marker)
-
-    leads : next part t.kind ≡ whole (game_of part (marker_text m.marker))
-    leads = marker_finishes q part t.kind (marker_text m.marker) h.2.meets.is free
-
-    abbrev more : List Token
-    more = h.2.tokens ++ h.2.token ∷ []
-
-    pub one_more : OneGame q given (h.2.tokens ++ h.2.token ∷ []) (game_of (part_after q h.2.tokens) (marker_text m.marker))
-    one_more = grind (arith, common_steps, read-passes, passes, free, leads)
-
-    between : part_after q more ≡ no_part
-    between = grind (arith, common_steps, read-passes, passes, free, leads)
-
-    module _ (lexer : new.converter.lexer ≡ mid.converter.lexer) (unused : new.unused ≡ mid.unused) (ended : new.has_ended ≡ mid.has_ended)
-        (games : new.converter.games ≡ mid.converter.games + 1)
-        (finished : new.converter.just_finished ≡ Some (game_in_reader new.converter.reading)) (fault : new.converter.fault ≡ None) where
-      pub stands_behind : StandsBetween q left_old left_new (h.2.tokens ++ h.2.token ∷ []) new
-      stands_behind =
-          record {
-            has_given = record {
-              takes = takes_it;
-              bytes = h.0;
-              source = record { consumed = h.1.consumed; stores = rw (ended, lexer, unused) h.1.stores };
-              lexer = rw (ended, lexer) given_known;
-              has_read =
-                  let marked = has_read_marker q given ts t m mid.converter a sink h.2.meets new.converter.reading ends new.converter.lexer false in
-                  read_as marked refl games fault (subst (λ o. IsLastGame o (read q more).progress.games) (sym finished) marked.just_finished);
-            };
-            between = between;
-          }
-
-      -- by the first reading
-      pub game_read : GameRead q left_old left_new given m new
-      game_read =
-          record {
-            tokens = more;
-            stands = stands_behind;
-            marked = λ ms marked.
-                subst (λ n. HasMarkers q more (ms ++ record { text = marker_text m.marker; at = n } ∷ [])) h.2.meets.place
-                (marked_game q ts t ms (game_of part (marker_text m.marker)) passes free leads (met_marked ms marked));
-          }
-
-  -- It is rejected: nothing is written of it by the first reading.
-  pub marker_refused_first : (f : Fault) → (f.reason ≡ WriteFault → ⊥) → EndsGame mid.converter.reading m new.converter.reading (Err f) sink
-      → FirstFails q left_old left_new given f
-  marker_refused_first f no_write ends =
-      record {
-        tokens = ts;
-        passes = passes;
-        marked = met_marked;
-        why = refused_first q left_old left_new given so ts t f reader new.converter.reading sink.before sink.after profile
-            (ends.place ∙ sym h.2.meets.place) no_write comes
-            ((takes q given ts t m mid.converter a sink h.2.meets new.converter.reading (Err f) ends).accepts part h.2.meets.reads.has_read.agrees);
       }
 
 -- ---- the second reading, to which the marker of the game was announced
 
--- what it writes by
-announced_written : (q : Profile) (r : ReaderState) (marker : List ℕ) → q.missing_result ≡ takes_the_marker → r.profile ≡ q → r.writing.announced ≡ Some marker
-    → as_written r ≡ counting q marker
-announced_written q r marker takes_it profile announced = grind (arith, common_steps, takes_the_marker)
-
 -- an announced marker changes nothing else
-text_announced : (marker : List ℕ) (r : ReaderState) (here : Part) (stage : Stage) → HoldsText stage r here
+text_announced : (marker : CodePlacedMarker) (r : ReaderState) (here : Part) (stage : Stage) → HoldsText stage r here
     → HoldsText stage (with_announced marker r) here
 text_announced marker r here InMovetext h = h
 text_announced marker r here _ h = h
 
 module _ (q : Profile) (left_old left : Option (List ℕ)) (r : Reading) where
-  pub announced_reading : (given : List Token) (m : Marker) (d : Converter) → d ≡ announcing m r.converter → HasGiven q left_old left r given
+  pub announced_reading : (given : List Token) (m : CodePlacedMarker) (d : Converter) → d ≡ announcing m r.converter → HasGiven q left_old left r given
       → HasGiven q left_old left (record { converter = d; unused = r.unused; has_ended = r.has_ended }) given
   announced_reading given m d is h = grind (arith, common_steps, text_announced)
 
@@ -215,10 +264,6 @@ module _ (q : Profile) (left_old left : Option (List ℕ)) (r : Reading) where
   pub silent_reading : (d : Converter) → d ≡ writing_nothing r.converter → HasGiven q left_old left r []
       → HasGiven q left_old left (record { converter = d; unused = r.unused; has_ended = r.has_ended }) []
   silent_reading d is h = grind (arith, common_steps, reads_silently)
-
-pub announced_by : (q : Profile) (c d : Converter) (m : Marker) → d ≡ announcing m c → q.missing_result ≡ takes_the_marker → c.reading.profile ≡ q
-    → as_written d.reading ≡ counting q (marker_text m)
-announced_by q c d m is takes_it profile = grind (arith, common_steps, announced_written)
 
 -- a token that shows a difference, by the markers
 module _ (q : Profile) (m : PlacedMarker) (part : Part) (t : Token) where
@@ -231,11 +276,14 @@ module _ (q : Profile) (m : PlacedMarker) (part : Part) (t : Token) where
   -- another marker, or one at another place, whether it is rejected or not
   differs_at_marker : (marker : List ℕ) → marker_of t.kind ≡ Some marker → not (bytes_eq marker m.text && (t.at == m.at)) ≡ true
       → is_changed q m part t ≡ true
-  differs_at_marker marker is other =
-      grind (arith, common_steps, differs_refused, free, differs_if, marker_finishes)
+  differs_at_marker marker is other = by_row (refusal q part t.kind) refl
+    where
+      by_row : (o : Option Reason) → refusal q part t.kind ≡ o → is_changed q m part t ≡ true
+      by_row (Some reason) row = differs_refused reason row
+      by_row None row = differs_if true row (ap (λ (n : Next). is_other m n t) (marker_finishes q part t.kind marker is row) ∙ other)
 
-module _ (q : Profile) (left_old left_new : Option (List ℕ)) (given : List Token) (announced : CodePlacedMarker) (rise : TokensRise)
-    (takes_it : q.missing_result ≡ takes_the_marker) (so : (read q given).fault ≡ None) (between : part_after q given ≡ no_part) where
+module _ (q : Profile) (left_old left left_new : Option (List ℕ)) (given : List Token) (old new : Reading) (a c : Option (List ℕ)) (announced : CodePlacedMarker) (rise : TokensRise)
+    (has : HasGiven q left_old left old given) (between : part_after q given ≡ no_part) where
   abbrev expected : PlacedMarker
   expected = model_marker announced
 
@@ -243,172 +291,167 @@ module _ (q : Profile) (left_old left_new : Option (List ℕ)) (given : List Tok
   w = counting q (marker_text announced.marker)
 
   -- what is written of the game behind these tokens
-  written_of : (ts : List Token) (now : Converter) (a c : Option (List ℕ)) → as_written now.reading ≡ w → ReadsMore q given ts now a c
-      → Appends a c (torn w (part_after q ts))
-  written_of ts now a c by reads =
-      grind (arith, common_steps, torn-none, append-nil, append_cancel_left)
+  written_of : (ts : List Token) (o : Option (List ℕ)) → SameGames q given ts → GainsAs w q given ts a o → Appends a o (torn w (part_after q ts))
+  written_of ts o same gains =
+      let none : torn w (part_after q given) ≡ [] = ap (torn w) between ∙ torn-none w.missing_result w.mode in
+      let before : due_as w q given ≡ text_of q (read q given).progress.games = ap (λ l. text_of q (read q given).progress.games ++ l) none ∙ append-nil _ in
+      let after : text_of q (read q given).progress.games ++ torn w (part_after q ts) ≡ text_of q (read q given).progress.games ++ gains.text =
+      ap (λ gs. text_of q gs ++ torn w (part_after q ts)) (sym same) ∙ gains.due_for ∙ ap (λ l. l ++ gains.text) before in
+      subst (Appends a o) (sym (append_cancel_left (text_of q (read q given).progress.games) _ _ after)) gains.appended
 
-  -- tokens behind which another comes show no difference
-  still_matched : (ts : List Token) (now : Converter) (a c : Option (List ℕ)) (reads : ReadsMore q given ts now a c)
-      → (t : Token) → (s : List ℕ) × (rest : List Token) × (tokens_of s ≡ ts ++ t ∷ rest)
-      → (ms : List PlacedMarker) → HasMatched q ms given (expected ∷ []) → HasMatched q ms ts (expected ∷ [])
-  still_matched ts now a c reads t (s, rest, cut) ms h = grind (arith, common_steps, matched_on, read, no_end_before)
+  -- and of a game that is whole
+  game_text_of : (ts : List Token) (g : Game) (o : Option (List ℕ)) → part_after q ts ≡ no_part → OneGame q given ts g → GainsAs w q given ts a o
+      → Appends a o (game_text q g)
+  game_text_of ts g o behind one gains =
+      let games : List Game = (read q given).progress.games in
+      let none_before : torn w (part_after q given) ≡ [] = ap (torn w) between ∙ torn-none w.missing_result w.mode in
+      let none_after : torn w (part_after q ts) ≡ [] = ap (torn w) behind ∙ torn-none w.missing_result w.mode in
+      let before : due_as w q given ≡ text_of q games = ap (λ l. text_of q games ++ l) none_before ∙ append-nil _ in
+      let now : due_as w q ts ≡ text_of q (games ++ g ∷ []) = ap (λ l. text_of q (read q ts).progress.games ++ l) none_after ∙ append-nil _ ∙ ap (text_of q) one in
+      let after : text_of q games ++ game_text q g ≡ text_of q games ++ gains.text =
+      sym (text_of-snoc q games g) ∙ sym now ∙ gains.due_for ∙ ap (λ l. l ++ gains.text) before in
+      subst (Appends a o) (sym (append_cancel_left (text_of q games) _ _ after)) gains.appended
 
   -- it stops behind these tokens
-  fails_behind : (ts : List Token) (now : Converter) (f : Fault) (a c d : Option (List ℕ)) → as_written now.reading ≡ w → ReadsMore q given ts now a c
-      → (text : Known) (t : Token) → AreNextIn text (ts ++ t ∷ []) → readings.WhySecond q left_old left_new ts announced c d f → SecondFails q left_old left_new given announced f a d
-  fails_behind ts now f a c d by reads text t next why =
+  module _ (ts : List Token) (now : Converter) (o : Option (List ℕ)) (since : Since (start_at q old given a (Some announced)) now ts o) (games : now.games ≡ old.converter.games)
+      (writes : now.reading.writing.is_silent ≡ false) where
+    fails_behind : (f : Fault) (d : Option (List ℕ)) (t : Token) → (s : List ℕ) × (rest : List Token) × (tokens_of s ≡ ts ++ t ∷ rest)
+        → readings.WhySecond q left_old left_new ts announced o d f → SecondFails q left_old left_new given announced f a d
+    fails_behind f d t behind why =
+        let same = no_game q left_old left left_new given old new a c (Some announced) has ts now o since games in
+        record {
+          tokens = ts;
+          passes = since.has_read.passes;
+          no_game = same;
+          matched = λ ms h. still_matched q left_old left left_new given old new a c (Some announced) has ts now o since games rise t behind ms expected h;
+          mid = o;
+          wrote = written_of ts o same (since.gains writes);
+          why = why;
+        }
+
+    -- a token that is not taken shows a difference, or its text could not be written
+    why_token : (t : Token) (f : Fault) (s : ReaderState) (d : Option (List ℕ)) → f.at ≡ t.at → ComesNext left_old ts t
+        → (f.reason ≡ WriteFault → (text : List ℕ) → marker_of t.kind ≡ Some text → is_unexpected (Some announced) text t.at ≡ false)
+        → IsStopped now.reading (part_after q ts) t.kind s o d f.reason → readings.WhySecond q left_old left_new ts announced o d (as_changed f)
+    why_token t f s d place comes expects stopped = by_stop f.reason refl stopped
+      where
+        by : as_written now.reading ≡ counting q (marker_text announced.marker)
+        by = written_so (Some announced) q now.reading since.has_read.profile (since.known writes)
+
+        -- the token shows no difference
+        same_marker : f.reason ≡ WriteFault → refusal q (part_after q ts) t.kind ≡ None → (n : ℕ) → n < length (gain w (part_after q ts) t.kind)
+            → (o : Option (List ℕ)) → marker_of t.kind ≡ o → is_other expected (next (part_after q ts) t.kind) t ≡ false
+        same_marker failed free n short (Some text) is =
+            ap (λ (n : Next). is_other expected n t) (marker_finishes q (part_after q ts) t.kind text is free) ∙ expects failed text is
+        same_marker failed free n short None is = by_end (is_end t.kind) refl
+          where
+            by_end : (e : Bool) → is_end t.kind ≡ e → is_other expected (next (part_after q ts) t.kind) t ≡ false
+            by_end true end = absurd (omega (arith, short, ap (length {A = ℕ}) (end_gains_nothing q w (part_after q ts) t.kind end free)))
+            by_end false end = ap (λ (n : Next). is_other expected n t) (no_marker_goes (part_after q ts) t.kind is).1 ∙ end
+
+        by_stop : (r : Reason) → f.reason ≡ r → IsStopped now.reading (part_after q ts) t.kind s o d r
+            → readings.WhySecond q left_old left_new ts announced o d (as_changed f)
+        by_stop r is (reader_state.refused reason some wrote tries here) =
+            let row = subst (λ (p : Profile). refusal p (part_after q ts) t.kind ≡ Some reason) since.has_read.profile some in
+            let changed : changed_reason f.reason ≡ Changed = ap changed_reason is ∙ changes reason (refusals_are_inside q (part_after q ts) t.kind reason row) in
+            subst (readings.WhySecond q left_old left_new ts announced o d)
+            (ap (λ n. record { at = n; reason = Changed }) (sym place) ∙ ap (λ (x : Reason). record { at = f.at; reason = x }) (sym changed))
+            (readings.differs t comes (differs_refused q expected (part_after q ts) t reason row) wrote)
+        by_stop r is (reader_state.unwritten none (n, short, wrote) tries) =
+            let row = subst (λ (p : Profile). refusal p (part_after q ts) t.kind ≡ None) since.has_read.profile none in
+            let less = subst (λ (w : Profile). n < length (gain w (part_after q ts) t.kind)) by short in
+            subst (readings.WhySecond q left_old left_new ts announced o d)
+            (ap (λ n. record { at = n; reason = WriteFault }) (sym place) ∙ ap (λ (x : Reason). record { at = f.at; reason = x }) (sym (ap changed_reason is)))
+            (readings.unwritten t comes (differs_if q expected (part_after q ts) t false row (same_marker is row n less (marker_of t.kind) refl))
+            (n, less, subst (λ (w : Profile). Appends o d (take n (gain w (part_after q ts) t.kind))) by wrote))
+
+  -- Reading stops.
+  pub second_fails : (f : Fault) → new.converter.games ≡ old.converter.games → new.converter.reading.writing.is_silent ≡ false
+      → ReadingStops (start_at q old given a (Some announced)) left_old left_new f new.converter c → SecondFails q left_old left_new given announced (as_changed f) a c
+  second_fails f games writes (at_token text h comes) =
+      let still : h.now.reading.writing.is_silent ≡ false = ap (λ (w : reader_state.Writing). w.is_silent) (sym h.writing) ∙ writes in
+      fails_behind h.tokens h.now h.mid h.since (sym h.games ∙ games) still (as_changed f) c h.token (begins_known text h.tokens h.token h.next)
+      (elim h.stopped [
+        | inl stopped ↦ why_token h.tokens h.now h.mid h.since (sym h.games ∙ games) still h.token f new.converter.reading c h.place comes (h.expected still) stopped
+        | inr another ↦
+            subst (readings.WhySecond q left_old left_new h.tokens announced h.mid c)
+            (ap (λ n. record { at = n; reason = Changed }) (sym h.place) ∙ ap (λ (x : Reason). record { at = f.at; reason = changed_reason x }) (sym another.why))
+            (readings.differs h.token comes (differs_at_marker q expected (part_after q h.tokens) h.token another.text another.is another.other)
+            (rw another.unwritten (Appends-nil h.mid)))
+      ])
+  second_fails f games writes (at_read u fails all) =
+      let behind = some_coming all.now.lexer in
+      let still : all.now.reading.writing.is_silent ≡ false = ap (λ (r : ReaderState). r.writing.is_silent) (sym all.same) ∙ writes in
+      fails_behind (decided u) all.now c all.since (sym all.games ∙ games) still (as_changed f) c behind.0
+      (u, behind.1, all.left ∙ ap (λ (ts : List Token). decided u ++ ts) behind.2) (readings.unread f fails (Appends-nil c))
+
+  -- The game that it has read is the one of the marker.
+  pub game_written : AfterGameEnd (start_at q old given a (Some announced)) left_old left_new new (Ok true) c → new.converter.games ≡ old.converter.games + 1
+      → new.converter.is_finished ≡ false → new.converter.reading.writing.is_silent ≡ false → GameWritten q left_old left_new given announced new a c
+  unfolding stands
+  game_written (u, gives, ts, here, ends) one goes writes =
+      let front = given ++ ends.more in
+      let no_more = same q left_old left left_new given old new a c (Some announced) has u gives ts here ends one goes in
+      let free = passes q left_old left left_new given old new a c (Some announced) has u gives ts here ends one goes in
+      let still = stands q left_old left left_new given old new a c (Some announced) has u gives ts here ends one goes in
+      let known = known_cut (known_by new.has_ended u) ts front ends.marker (next_in (known_by new.has_ended u) new.converter.lexer ts still.has_given.lexer) ends.cut in
       record {
         tokens = ts;
-        passes = reads.has_read.passes;
-        no_game = reads.no_game;
-        matched = still_matched ts now a c reads t (begins_known text ts t next);
-        mid = c;
-        wrote = written_of ts now a c by reads;
-        why = why;
+        stands = still;
+        game = ends.game;
+        one_game = one_game q left_old left left_new given old new a c (Some announced) has u gives ts here ends one goes;
+        matched = λ ms h.
+            rw ends.cut (matched_next q ms expected front ends.marker (whole ends.game) free
+            (differs_if q expected (part_after q front) ends.marker false ends.free (ap (λ (n : Next). is_other expected n ends.marker) ends.leads ∙ ends.expected writes)) ends.leads
+            (matched_on q given ends.more has.has_read.passes free no_more
+            (no_end_before rise known.0 given ends.more front ends.marker known.1 known.2 refl) ms expected h));
+        written = game_text_of ts ends.game c still.between (one_game q left_old left left_new given old new a c (Some announced) has u gives ts here ends one goes)
+            (here.since.gains writes);
       }
 
-  -- a token that is not taken shows a difference, or its text could not be written
-  why_token : (ts : List Token) (t : Token) (f : Fault) (old new : ReaderState) (c d : Option (List ℕ)) → old.profile ≡ q → as_written old ≡ w
-      → f.at ≡ t.at → ComesNext left_old ts t
-      → ((n : ℕ) → refusal q (part_after q ts) t.kind ≡ None → n < length (gain w (part_after q ts) t.kind)
-      → f.reason ≡ WriteFault → is_other expected (next (part_after q ts) t.kind) t ≡ false)
-      → IsStopped old (part_after q ts) t.kind new c d f.reason → readings.WhySecond q left_old left_new ts announced c d (as_changed f)
-  why_token ts t f old new c d profile by place comes same stopped = by_stop f.reason refl stopped
+  -- It has ended before that.
+  pub ends_before : AfterGameEnd (start_at q old given a (Some announced)) left_old left_new new (Ok false) c → new.converter.games ≡ old.converter.games
+      → new.converter.is_finished ≡ true → new.converter.reading.writing.is_silent ≡ false
+      → SecondFails q left_old left_new given announced (record { at = new.converter.lexer.count; reason = Changed }) a c
+  ends_before (u, stores, ts, here) games over writes =
+      let all : ts ≡ tokens_of u = rw over at here.lexer in
+      let last = (here.over over).1 in
+      let front = last.0 in
+      let e = last.1 in
+      let cut : ts ≡ front ++ e ∷ [] = last.2 in
+      let whole : tokens_of u ≡ front ++ e ∷ [] = sym all ∙ cut in
+      let passes : (read q (front ++ e ∷ [])).fault ≡ None = rw cut at here.since.has_read.passes in
+      let passes_front = passes_before q front (e ∷ []) passes in
+      let free = last_passes q front e passes in
+      let end_is = end_same q front e passes last.3 in
+      let none_more : SameGames q given ts = no_game q left_old left left_new given old new a c (Some announced) has ts new.converter c here.since games in
+      let same : SameGames q given front = ap (λ b. b.games) (sym end_is) ∙ ap (λ l. (read q l).progress.games) (sym cut) ∙ none_more in
+      let no_end = given_no_end old.has_ended has.bytes has.lexer in
+      let rest = before_end given here.since.more front e (sym here.since.extends ∙ cut) last.3 no_end in
+      let part_is : part_after q ts ≡ part_after q front = ap (part_after q) cut ∙ ap (λ b. b.part) end_is in
+      record {
+        tokens = front;
+        passes = passes_front;
+        no_game = same;
+        matched = λ ms h.
+            rw rest.1 (matched_on q given rest.0 has.has_read.passes (rw rest.1 at passes_front) (rw rest.1 at same)
+            (no_end_before rise u given rest.0 front e [] whole rest.1) ms expected h);
+        mid = c;
+        wrote = rw part_is at (written_of ts c none_more (here.since.gains writes));
+        why = subst (λ n. readings.WhySecond q left_old left_new front announced c c (record { at = n; reason = Changed }))
+            (end_place u front e whole last.3 ∙ sym stores.0)
+            (readings.differs e (whole_has left_old new.converter.lexer.count new.unused u stores (λ s. AreShown s (front ++ e ∷ [])) (at_end stores.1 [] (whole ∙ sym (append-nil (front ++ e ∷ [])))))
+            (differs_if q expected (part_after q front) e true free (ap (λ (n : Next). is_other expected n e) (end_leads q (part_after q front) e.kind last.3 free) ∙ last.3))
+            (Appends-nil c));
+      }
     where
-      part : Part
-      part = part_after q ts
+      no_end_in : (s : List ℕ) → HasLeft old.converter.lexer s given → HasNoEnd given
+      no_end_in s left =
+          let next = some_coming old.converter.lexer in
+          no_end_before rise s [] given given next.0 next.1 (left ∙ ap (λ ts. given ++ ts) next.2) refl
 
-      by_stop : (r : Reason) → f.reason ≡ r → IsStopped old (part_after q ts) t.kind new c d r
-          → readings.WhySecond q left_old left_new ts announced c d (as_changed f)
-      by_stop r is (reader_state.refused reason some wrote tries here) =
-          let row = subst (λ (p : Profile). refusal p (part_after q ts) t.kind ≡ Some reason) profile some in
-          let changed : changed_reason f.reason ≡ Changed = ap changed_reason is ∙ changes reason (refusals_are_inside q (part_after q ts) t.kind reason row) in
-          subst (readings.WhySecond q left_old left_new ts announced c d)
-          (ap (λ n. record { at = n; reason = Changed }) (sym place) ∙ ap (λ (x : Reason). record { at = f.at; reason = x }) (sym changed))
-          (readings.differs t comes (differs_refused q expected (part_after q ts) t reason row) wrote)
-      by_stop r is (reader_state.unwritten none (n, short, wrote) tries) =
-          let row = subst (λ (p : Profile). refusal p (part_after q ts) t.kind ≡ None) profile none in
-          let less = subst (λ (w : Profile). n < length (gain w (part_after q ts) t.kind)) by short in
-          subst (readings.WhySecond q left_old left_new ts announced c d)
-          (ap (λ n. record { at = n; reason = WriteFault }) (sym place) ∙ ap (λ (x : Reason). record { at = f.at; reason = x }) (sym (ap changed_reason is)))
-          (readings.unwritten t comes (differs_if q expected (part_after q ts) t false row (same n row less is))
-          (n, less, subst (λ (w : Profile). Appends c d (take n (gain w (part_after q ts) t.kind))) by wrote))
-
-  -- Reading stops before a marker.
-  pub second_fails : (new : Reading) (f : Fault) (a d : Option (List ℕ)) → as_written new.converter.reading ≡ w
-      → ReadingStops q left_old left_new given f new a d → SecondFails q left_old left_new given announced (as_changed f) a d
-  second_fails new f a d by (at_token text h comes) =
-      let n = h.fails in
-      let by_now : as_written n.now.reading ≡ w = written_at_fault n ∙ by in
-      let part : Part = part_after q h.tokens in
-      fails_behind h.tokens n.now (as_changed f) a n.mid d by_now n.reads text h.token h.next
-      (why_token h.tokens h.token f n.now.reading new.converter.reading n.mid d n.reads.has_read.profile by_now n.place comes
-      (λ k free short is. by_end (is_end h.token.kind) refl k free short (n.no_marker is)) n.stopped)
-    where
-      by_end : (e : Bool) → is_end h.token.kind ≡ e → (k : ℕ) → refusal q (part_after q h.tokens) h.token.kind ≡ None
-          → k < length (gain w (part_after q h.tokens) h.token.kind) → marker_of h.token.kind ≡ None
-          → is_other expected (next (part_after q h.tokens) h.token.kind) h.token ≡ false
-      by_end true is k free short none =
-          absurd (omega (arith, short, ap (length {A = ℕ}) (end_gains_nothing q w (part_after q h.tokens) h.token.kind is free)))
-      by_end false is k free short none =
-          ap (λ (n : Next). is_other expected n h.token) (no_marker_goes (part_after q h.tokens) h.token.kind none).1 ∙ is
-  second_fails new f a d by (at_read u fails h) =
-      let behind = some_coming h.now.lexer in
-      fails_behind (decided u) h.now (as_changed f) a d d (ap as_written (sym h.same) ∙ by) h.reads (all_bytes u) behind.0
-      (behind.1, h.left ∙ ap (λ (ts : List Token). decided u ++ ts) behind.2 ∙ sym (append_assoc (decided u) (behind.0 ∷ []) behind.1))
-      (readings.unread f fails (Appends-nil d))
-
-  -- It has ended before a marker.
-  pub ends_before : (old new : Reading) (a d : Option (List ℕ)) → as_written new.converter.reading ≡ w
-      → AfterMarker left_old left_new (start_of q old.converter (first old.unused) given a) new (Ok None) d
-      → SecondFails q left_old left_new given announced (record { at = new.converter.lexer.count; reason = Changed }) a d
-  ends_before old new a d by (u, (count, short, text), h) =
-      let ts = h.tokens ++ h.token ∷ [] in
-      let cut = h.whole ∙ sym (append-nil ts) in
-      fails_behind h.tokens new.converter (record { at = new.converter.lexer.count; reason = Changed }) a d d by h.reads (all_bytes u) h.token ([], cut)
-      (subst (λ n. readings.WhySecond q left_old left_new h.tokens announced d d (record { at = n; reason = Changed })) (h.place ∙ sym count)
-      (readings.differs h.token (of_whole left_old u text (λ s. AreShown s ts) (at_end short [] cut))
-      (differs_if q expected (part_after q h.tokens) h.token true h.passes
-      (ap (λ (n : Next). is_other expected n h.token) (end_leads q (part_after q h.tokens) h.token.kind h.is_end h.passes) ∙ h.is_end))
-      (Appends-nil d)))
-
-  -- The marker that it has met.
-  module _ (old : Reading) (m : CodePlacedMarker) (mid new : Reading) (a : Option (List ℕ)) (sink : Device) (by : as_written mid.converter.reading ≡ w)
-      (h : AfterMarker left_old left_new (start_of q old.converter (first old.unused) given a) mid (Ok (Some m)) sink.before) where
-    by_reader : as_written h.2.meets.reader ≡ w
-    by_reader = written_at_marker h.2.meets ∙ by
-
-    known_now : AreNextIn (known_by mid.has_ended h.0) (h.2.tokens ++ h.2.token ∷ [])
-    known_now = next_known q left_old left_new given old m mid new a sink takes_it so h
-
-    -- it is another one
-    pub marker_differs : not (bytes_eq (marker_text m.marker) (marker_text announced.marker) && (m.at == announced.at)) ≡ true
-        → SecondFails q left_old left_new given announced (record { at = m.at; reason = Changed }) a sink.before
-    marker_differs other =
-        fails_behind h.2.tokens (record mid.converter { reading = h.2.meets.reader }) (record { at = m.at; reason = Changed }) a sink.before sink.before
-        by_reader h.2.meets.reads (known_by mid.has_ended h.0) h.2.token known_now
-        (subst (λ n. readings.WhySecond q left_old left_new h.2.tokens announced sink.before sink.before (record { at = n; reason = Changed })) h.2.meets.place
-        (readings.differs h.2.token (comes q left_old left_new given old m mid new a sink takes_it so h)
-        (differs_at_marker q expected (part_after q h.2.tokens) h.2.token (marker_text m.marker) h.2.meets.is
-        (subst (λ n. not (bytes_eq (marker_text m.marker) (marker_text announced.marker) && (n == announced.at)) ≡ true) (sym h.2.meets.place)
-        other))
-        (Appends-nil sink.before)))
-
-    module _ (same : not (bytes_eq (marker_text m.marker) (marker_text announced.marker) && (m.at == announced.at)) ≡ false) where
-      same_there : not (bytes_eq (marker_text m.marker) (marker_text announced.marker) && (h.2.token.at == announced.at)) ≡ false
-      same_there = subst (λ n. not (bytes_eq (marker_text m.marker) (marker_text announced.marker) && (n == announced.at)) ≡ false)
-          (sym h.2.meets.place) same
-
-      -- it is not taken
-      pub marker_refused_second : (f : Fault) → EndsGame mid.converter.reading m new.converter.reading (Err f) sink
-          → SecondFails q left_old left_new given announced (as_changed f) a sink.after
-      marker_refused_second f ends =
-          let part : Part = part_after q h.2.tokens in
-          fails_behind h.2.tokens (record mid.converter { reading = h.2.meets.reader }) (as_changed f) a sink.before sink.after
-          by_reader h.2.meets.reads (known_by mid.has_ended h.0) h.2.token known_now
-          (why_token h.2.tokens h.2.token f h.2.meets.reader new.converter.reading sink.before sink.after h.2.meets.reads.has_read.profile by_reader
-          (ends.place ∙ sym h.2.meets.place) (comes q left_old left_new given old m mid new a sink takes_it so h)
-          (λ n free short is. ap (λ (n : Next). is_other expected n h.2.token) (marker_finishes q part h.2.token.kind (marker_text m.marker) h.2.meets.is free)
-          ∙ same_there)
-          ((takes q given h.2.tokens h.2.token m mid.converter a sink h.2.meets new.converter.reading (Err f) ends).accepts part
-          h.2.meets.reads.has_read.agrees))
-
-      -- it is taken
-      module _ (ends : EndsGame mid.converter.reading m new.converter.reading (Ok tt) sink)
-          (lexer : new.converter.lexer ≡ mid.converter.lexer) (unused : new.unused ≡ mid.unused) (ended : new.has_ended ≡ mid.has_ended)
-          (games : new.converter.games ≡ mid.converter.games + 1)
-          (finished : new.converter.just_finished ≡ Some (game_in_reader new.converter.reading)) (fault : new.converter.fault ≡ None) where
-        abbrev g : Game
-        g = game_of (part_after q h.2.tokens) (marker_text m.marker)
-
-        row : refusal q (part_after q h.2.tokens) h.2.token.kind ≡ None
-        row = free q left_old left_new given old m mid new a sink takes_it so h ends
-
-        goes_to : next (part_after q h.2.tokens) h.2.token.kind ≡ whole (game_of (part_after q h.2.tokens) (marker_text m.marker))
-        goes_to = leads q left_old left_new given old m mid new a sink takes_it so h ends
-
-        text_is : text_next w (next (part_after q h.2.tokens) h.2.token.kind) ≡ game_text q (game_of (part_after q h.2.tokens) (marker_text m.marker))
-        text_is =
-            grind (arith, common_steps, bytes_eq-Decides, and_parts, not-false, goes_to, same_game_text)
-
-        pub game_written : GameWritten q left_old left_new given announced new a sink.after
-        game_written =
-            record {
-              tokens = h.2.tokens ++ h.2.token ∷ [];
-              stands = stands_behind q left_old left_new given old m mid new a sink takes_it so h ends lexer unused ended games finished fault;
-              game = g;
-              one_game = one_more q left_old left_new given old m mid new a sink takes_it so h ends;
-              matched = λ ms matched.
-                  matched_next q ms expected h.2.tokens h.2.token (whole g) h.2.meets.reads.has_read.passes
-                  (differs_if q expected (part_after q h.2.tokens) h.2.token false row
-                  (ap (λ (n : Next). is_other expected n h.2.token) goes_to ∙ same_there)) goes_to
-                  (still_matched h.2.tokens (record mid.converter { reading = h.2.meets.reader }) a sink.before h.2.meets.reads h.2.token
-                  (begins_known (known_by mid.has_ended h.0) h.2.tokens h.2.token known_now) ms matched);
-              written = subst (Appends a sink.after)
-                  (sym (next_is w (part_after q h.2.tokens) h.2.token.kind) ∙ text_is)
-                  (Appends-trans a sink.before sink.after _ _
-                  (written_of h.2.tokens (record mid.converter { reading = h.2.meets.reader }) a sink.before by_reader h.2.meets.reads)
-                  (subst (λ (w : Profile). Appends sink.before sink.after (gain w (part_after q h.2.tokens) h.2.token.kind)) by_reader
-                  (game_accepted q given h.2.tokens h.2.token m mid.converter a sink h.2.meets new.converter.reading ends).appended));
-            }
+      given_no_end : (ended : Bool) (u : List ℕ) → HasGivenIn (known_by ended u) old.converter.lexer given → HasNoEnd given
+      given_no_end false u on =
+          let l = old.converter.lexer in
+          no_end_in (take l.count (within_limit u)) (left_of l (take l.count (within_limit u)) (first (drop l.count (within_limit u))) given on.stands)
+      given_no_end true u left = no_end_in u left

@@ -1,6 +1,6 @@
 -- One token more, of either reading: the markers of the first, and the tokens of the second up to a
 -- marker.
-use Rattle.pgn_game.proofs.Words.{Token, Reason, Profile, Game, Part, ◌≡◌, ℕ, Bool, false, ◌||◌, is_some, List, [], ◌∷◌, ◌++◌, length, Option, None, Some, refl, sym, ap, subst, ◌∙◌, append_assoc, append-nil, tokens_of, RisesTo, TokensRise, refusal, is_end, Next, going, whole, next, Progress, progress_with, no_progress, progress_after, Read, read, read_from, PlacedMarker, marker_at, markers, markers_from, is_other, is_changed, markers_after, compared_from, compared, HasMarkers, HasMatched, SameGames, part_after, arith, common_steps}
+use Rattle.pgn_game.proofs.Words.{Token, Reason, Profile, Game, Part, ◌≡◌, ℕ, Bool, false, ◌||◌, is_some, List, [], ◌∷◌, ◌++◌, length, Option, None, Some, refl, sym, ap, subst, ◌∙◌, append_assoc, tokens_of, RisesTo, TokensRise, refusal, is_end, Next, going, whole, next, Progress, progress_with, no_progress, progress_after, Read, read, read_from, PlacedMarker, marker_at, markers, markers_from, is_other, is_changed, markers_after, compared_from, compared, HasMarkers, HasMatched, SameGames, part_after, arith, common_steps}
 use Rattle.pgn_game.proofs.EqualReadings.{after_markers, markers_test, after_change, change_test}
 use Rattle.pgn_game.proofs.reading.RunsToEnd.{not_end}
 use Rattle.pgn_game.proofs.stepping.NoneBeforeFault.{reads_behind}
@@ -13,10 +13,6 @@ module _ (q : Profile) (given : List Token) (t : Token) (ms : List PlacedMarker)
       (ms ++ marker_at t.at (next (part_after q given) t.kind))
   marked_token passes free so ts =
       grind (arith, common_steps, append_assoc, markers_test, read-passes)
-
-  pub marked_more : (to : Part) → (read q given).fault ≡ None → refusal q (part_after q given) t.kind ≡ None
-      → next (part_after q given) t.kind ≡ going to → HasMarkers q given ms → HasMarkers q (given ++ t ∷ []) ms
-  marked_more to passes free leads so = grind (arith, common_steps, append-nil, marked_token)
 
   pub marked_game : (g : Game) → (read q given).fault ≡ None → refusal q (part_after q given) t.kind ≡ None
       → next (part_after q given) t.kind ≡ whole g → HasMarkers q given ms → HasMarkers q (given ++ t ∷ [])

@@ -1,5 +1,5 @@
 -- From what the calls of each game return, in both readings, to the conversion.
-use Rattle.pgn_game.proofs.Words.{Token, Reason, Changed, ReadFault, Fault, Profile, takes_the_marker, Game, no_part, ◌≡◌, ℕ, ◌+◌, ◌^◌, ◌<◌, ◌≤◌, max, Bool, true, false, List, [], ◌∷◌, ◌++◌, length, take, Option, None, Some, Ok, IfSome, refl, sym, ap, subst, ◌∙◌, append_assoc, append-nil, length-append, arith, IsTrue, map, sum, take-append-add, Appends-nil, Appends-trans, and_parts, not-false, bytes_eq-Decides, Appends, Device, FailsOnce, tokens_of, decided, plies_of, text_next, gain, refusal, plies_of_finished_games, play_moves, verdict_in, MostTried, PlacedMarker, markers_from, is_other, is_changed, markers_after, Comparison, compared_from, compared, with_marker, torn_before, written_by, earlier_fault, BothSoFar, HasMarkers, Reading, changed_reason, model_marker, part_after, IfSome_then, Totals, game_text, torn, Next, going, whole, next, Progress, progress_with, progress_after, Read, read, totals, verdict_of, Decides, IsTokenPrefix, AreConverted, AreRefused, AreTotalled, HasTaken, MatchesAllMarkers, FirstStops, SecondStops, WriteStops, TwoReadingsFail, TwoReadingsConvert, AllRead, ComesNext, FirstFails, GameRead, GameWritten, HasGiven, ReadFails, SecondFails, Stores, WhyFirst, WhySecond, as_changed, AreNextIn, AreShown, known_by, common_steps}
+use Rattle.pgn_game.proofs.Words.{Token, Reason, Changed, ReadFault, Fault, Profile, takes_the_marker, Game, no_part, ◌≡◌, ℕ, ◌+◌, ◌^◌, ◌<◌, ◌≤◌, max, Bool, true, false, List, [], ◌∷◌, ◌++◌, length, take, Option, None, Some, Ok, IfSome, refl, sym, ap, subst, ◌∙◌, append_assoc, append-nil, length-append, arith, IsTrue, map, sum, take-append-add, Appends-nil, Appends-trans, and_parts, not-false, bytes_eq-Decides, Appends, Device, FailsOnce, tokens_of, decided, plies_of, text_next, gain, refusal, plies_of_finished_games, play_moves, verdict_in, MostTried, PlacedMarker, markers_from, is_other, is_changed, markers_after, Comparison, compared_from, compared, with_marker, torn_before, written_by, earlier_fault, BothSoFar, HasMarkers, Reading, changed_reason, model_marker, part_after, IfSome_then, Totals, game_text, torn, Next, going, whole, next, Progress, progress_with, progress_after, Read, read, totals, verdict_of, Decides, IsTokenPrefix, AreConverted, AreRefused, AreTotalled, HasTaken, MatchesAllMarkers, FirstStops, SecondStops, WriteStops, TwoReadingsFail, TwoReadingsConvert, AllRead, ComesNext, FirstFails, GameRead, GameWritten, HasGiven, ReadFails, SecondFails, Stores, WhyFirst, WhySecond, as_changed, AreShown, known_by, common_steps}
 use Rattle.pgn_game.specs.declared.marker.PlacedMarker.{PlacedMarker as CodePlacedMarker}
 use Rattle.pgn_game.specs.export.Text.{text_of}
 use Rattle.pgn_game.specs.games.Progress.{refused as is_refused}
@@ -9,7 +9,7 @@ use Rattle.pgn_game.proofs.stepping.NextGrows.{next_is}
 use Rattle.pgn_game.proofs.stepping.OneMoreToken.{read-refuses, text_of-snoc}
 use Rattle.pgn_game.proofs.stepping.AcceptedToConverter.{in_games}
 use Rattle.pgn_game.proofs.stepping.BytesWithinLimit.{decides_by, shown_begins}
-use Rattle.pgn_game.proofs.twice.MarkerToReading.{next_in, shown_in}
+use Rattle.pgn_game.proofs.twice.SourceToReading.{AreNextIn, next_in, shown_in}
 use Rattle.pgn_game.proofs.twice.MarkersInTurn.{matched_marker, not_changed, both_read}
 
 -- what follows for both texts, if both are known

@@ -5,12 +5,11 @@
 -- reports them; `left_old` and `left_new` are these before a call and after it. `source` and `sink`
 -- are the devices before a call and after it, `before` and `after` the bytes that the sink has
 -- taken.
-use Rattle.std.specs.Prelude.{◌≡◌, ℕ, ◌+◌, ◌-◌, ◌^◌, ◌<◌, ◌≤◌, Bool, true, false, List, [], ◌∷◌, ◌++◌, length, Option, None, Some, Result, Ok, Err}
+use Rattle.std.specs.Prelude.{◌≡◌, ℕ, ◌+◌, ◌-◌, ◌^◌, ◌<◌, ◌≤◌, Bool, true, false, List, [], ◌∷◌, ◌++◌, length, take, Option, None, Some, Result, Ok, Err}
 use Rattle.std.specs.Io.KnownBytes.{Consumes, IsAtEnd}
 use Rattle.pgn_layout.specs.Device.{Device, IsStill}
 use Rattle.pgn_lexer.specs.Tokens.{Token}
 use Rattle.pgn_lexer.specs.TokensOf.{tokens_of}
-use Rattle.pgn_lexer.specs.Decided.{decided}
 use Rattle.pgn_lexer.specs.Stands.{IsDecided, first}
 use Rattle.pgn_game.specs.declared.reason.Reason.TheVariants.{ReadFault, InputTooLong}
 use Rattle.pgn_game.specs.declared.reason.Fault.{Fault}
@@ -34,14 +33,17 @@ pub record Games : Type 0 where
 abbrev pub games_of : Converter → List ℕ → Games
 games_of converter unused = record { converter = converter; unused = unused }
 
+-- of the bytes that are not used yet, those before place 2^62
+abbrev pub ahead_of : List ℕ → List ℕ → List ℕ
+ahead_of used unused = take (2 ^ 62 - length used) unused
+
 -- The converter stands after the bytes `used`, and the other bytes that the source gave are not
--- used yet. The tokens read are those that are decided then. The end of the text was not read.
+-- used yet. Those before place 2^62 decide the tokens read. The end of the text was not read.
 pub record ReadsOn (p : Profile) (u : List ℕ) (games : Games) (given : List Token) : Type 0 where
   pub used : List ℕ
   pub bytes : u ≡ used ++ games.unused
-  pub stands : Stands p games.converter used (first games.unused) given
-  pub at_limit : length used ≡ 2 ^ 62 → given ≡ decided used
-  pub decided : IsDecided used games.unused given
+  pub stands : Stands p games.converter used (first (ahead_of used games.unused)) given
+  pub decided : IsDecided used (ahead_of used games.unused) given
   pub not_finished : games.converter.is_finished ≡ false
 
 -- The source is at its end, so u is the whole text. It has at most 2^62 bytes, and all its tokens

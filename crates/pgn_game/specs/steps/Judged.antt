@@ -4,7 +4,7 @@
 -- `new` are the reader before a call and after it.
 --
 -- What a reader does is stated of the games of all writers beside it.
-use Rattle.std.specs.Prelude.{◌≡◌, ℕ, ◌<◌, ◌≤◌, max, Bool, true, false, IsFalse, IsSomeAnd, IsTrue, List, [], ◌∷◌, length, Option, None, Some, option_map, Result, Ok, Err}
+use Rattle.std.specs.Prelude.{◌≡◌, ℕ, ◌<◌, ◌≤◌, max, Bool, true, false, IsFalse, IsSomeAnd, IsTrue, List, [], ◌∷◌, length, Option, None, Some, Result, Ok, Err}
 use Rattle.chess_rules.specs.declared.position.Move.{Move}
 use Rattle.chess_rules.specs.declared.position.Parts.{Parts}
 use Rattle.chess_rules.specs.Legal.{legal}
@@ -47,7 +47,7 @@ after_move_at _ is_after_move = false
 
 abbrev pub writing_of : Writer → Writing
 writing_of w =
-    record { announced = option_map marker_text w.announced; is_silent = is_nothing w.written }
+    record { announced = w.announced; is_silent = is_nothing w.written }
 
 -- the game of a writer, where this says whether a move was written last
 abbrev pub game_at : Bool → Writer → ReaderState → ReaderState

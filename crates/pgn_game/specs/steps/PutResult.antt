@@ -1,7 +1,7 @@
 -- **Bookkeeping**: what the reader returns for a token of one stage, and what putting one does.
 -- Letters: k is the kind of a token, s the text of a symbol, r the result of a call, d the sink
 -- before the call and after it. `old` and `new` are the reader before a call and after it.
-use Rattle.std.specs.Prelude.{◌≡◌, ℕ, ◌+◌, ◌≤◌, ◌<◌, max, IsTrue, List, [], length, drop, Option, None, Some, Result, Ok, Err, IfOk, OnOk}
+use Rattle.std.specs.Prelude.{◌≡◌, ℕ, ◌+◌, ◌≤◌, ◌<◌, ◌⊎◌, max, Bool, true, false, IsTrue, List, [], length, drop, Option, None, Some, Result, Ok, Err, IfOk, OnOk}
 use Rattle.std.specs.Io.KnownBytes.{Appends}
 use Rattle.std.specs.Option.{ok_or}
 use Rattle.chess_rules.specs.declared.position.Move.{Move}
@@ -17,7 +17,7 @@ use Rattle.pgn_game.specs.declared.mode.Mode.{Mode}
 use Rattle.pgn_game.specs.declared.stage.Stage.{Stage}
 use Rattle.pgn_game.specs.declared.stage.Stage.TheVariants.{Between, AfterTags, InMovetext}
 use Rattle.pgn_game.specs.declared.reason.Reason.{Reason}
-use Rattle.pgn_game.specs.declared.reason.Reason.TheVariants.{IllegalMove, WriteFault}
+use Rattle.pgn_game.specs.declared.reason.Reason.TheVariants.{IllegalMove, ResultDiffers, WriteFault}
 use Rattle.pgn_game.specs.games.Markers.{marker_text}
 use Rattle.pgn_game.specs.games.FaultTable.{marker_of}
 use Rattle.pgn_game.specs.games.Profile.{Profile}
@@ -32,7 +32,7 @@ use Rattle.pgn_game.specs.games.Progress.{Next, next, in_text}
 use Rattle.pgn_game.specs.export.Due.{text_next}
 use Rattle.pgn_game.specs.public.FoundMove.{found_in}
 use Rattle.pgn_game.specs.steps.Movetext.{movetext_from}
-use Rattle.pgn_game.specs.steps.ReaderState.{Accepted, More, Finished, ReaderState, Agrees, Answers, as_written, FinishesAtMarker, Leads, Stays, CountsWrites, known_of, plies_added, plies_of_finished_games}
+use Rattle.pgn_game.specs.steps.ReaderState.{Accepted, More, Finished, ReaderState, Agrees, Answers, as_written, FinishesAtMarker, Leads, Stays, CountsWrites, expected_of, is_unexpected, known_of, plies_added, plies_of_finished_games}
 use Rattle.pgn_game.specs.steps.TokenInMovetext.{IsEntry, may_have_movetext}
 
 -- A game begins.
@@ -189,6 +189,52 @@ TakesUnlessMarker old k new (Ok (Some marker)) d = MeetsMarker old k marker new 
 TakesUnlessMarker old k new (Ok None) d = TakesToken old k new (Ok More) d
 TakesUnlessMarker old k new (Err reason) d =
     TakesToken old k new (Err reason) d × (reason ≡ WriteFault → marker_of k ≡ None)
+
+-- ---- a token at its place
+
+-- A marker with this text, at this place, was not taken: another one was announced. Nothing was
+-- written of it.
+pub record IsUnexpected (old : ReaderState) (text : List ℕ) (at : ℕ) (new : ReaderState) (reason : Reason) (d : Device) : Type 0 where
+  pub other : is_unexpected (expected_of old) text at ≡ true
+  pub why : reason ≡ ResultDiffers
+  pub keeps : Keeps old new
+  pub unwritten : d.after ≡ d.before
+  pub still : IsStill d
+
+-- the marker at this place ends the game, or it is not taken
+abbrev pub EndsAtPlace : ReaderState → Marker → ℕ → ReaderState → Result Unit Reason → Device → Type 0
+EndsAtPlace old marker at new (Ok done) d =
+    TakesMarker old marker new (Ok done) d × (new.marker_at ≡ at) × (is_unexpected (expected_of old) (marker_text marker) at ≡ false)
+EndsAtPlace old marker at new (Err reason) d =
+    (TakesMarker old marker new (Err reason) d × (is_unexpected (expected_of old) (marker_text marker) at ≡ false))
+    ⊎ IsUnexpected old (marker_text marker) at new reason d
+
+-- The token at this place finished the game: it is the marker that was announced, if one was.
+pub record EndsPlaced (old : ReaderState) (k : Kind) (at : ℕ) (new : ReaderState) (d : Device) : Type 0 where
+  pub takes : TakesToken old k new (Ok Finished) d
+  pub place : new.marker_at ≡ at
+  pub text : List ℕ
+  pub is : marker_of k ≡ Some text
+  pub expected : is_unexpected (expected_of old) text at ≡ false
+
+-- The token at this place is another marker than was announced.
+pub record MeetsAnother (old : ReaderState) (k : Kind) (at : ℕ) (new : ReaderState) (reason : Reason) (d : Device) : Type 0 where
+  pub text : List ℕ
+  pub is : marker_of k ≡ Some text
+  pub unexpected : IsUnexpected old text at new reason d
+
+-- If it is a marker of which a write failed, it is no other one than was announced.
+abbrev pub IsExpectedIf : ReaderState → Kind → ℕ → Reason → Type 0
+IsExpectedIf old k at reason =
+    (text : List ℕ) → marker_of k ≡ Some text → reason ≡ WriteFault → is_unexpected (expected_of old) text at ≡ false
+
+-- The token at this place is taken, and the result says whether it finished the game; or it is not
+-- taken.
+abbrev pub TakesPlaced : ReaderState → Kind → ℕ → ReaderState → Result Bool Reason → Device → Type 0
+TakesPlaced old k at new (Ok true) d = EndsPlaced old k at new d
+TakesPlaced old k at new (Ok false) d = TakesToken old k new (Ok More) d
+TakesPlaced old k at new (Err reason) d =
+    (TakesToken old k new (Err reason) d × IsExpectedIf old k at reason) ⊎ MeetsAnother old k at new reason d
 
 -- Moves.
 

@@ -2,7 +2,7 @@
 -- Letters: k is the kind of a token, g a game, p a profile. `old` and `new` are the reader before a
 -- call and after it. `before` and `after` are the bytes that the sink has taken then, if it reports
 -- them.
-use Rattle.std.specs.Prelude.{◌≡◌, ℕ, ◌+◌, ◌-◌, codes, ◌<◌, ◌≤◌, nat_le, false, IsTrue, is_some, Bool, true, List, [], length, Option, None, Some, IsSomeAnd, Result, Ok, Err}
+use Rattle.std.specs.Prelude.{◌≡◌, ℕ, ◌+◌, ◌-◌, codes, ◌<◌, ◌≤◌, ◌==◌, ◌&&◌, not, bytes_eq, nat_le, false, IsTrue, is_some, Bool, true, List, [], length, Option, None, Some, IsSomeAnd, Result, Ok, Err}
 use Rattle.std.specs.Io.KnownBytes.{Appends}
 use Rattle.pgn_layout.specs.Device.{AppendsFront, Device, IsStill, device, one_more}
 use Rattle.pgn_lexer.specs.Tokens.{Kind}
@@ -11,6 +11,8 @@ use Rattle.pgn_game.specs.declared.reason.Reason.TheVariants.{WriteFault}
 use Rattle.pgn_game.specs.declared.stage.Stage.{Stage}
 use Rattle.pgn_game.specs.declared.stage.Stage.TheVariants.{Between, AfterLeftBracket, AfterName, InMovetext}
 use Rattle.pgn_game.specs.declared.mode.Mode.{Mode}
+use Rattle.pgn_game.specs.declared.marker.PlacedMarker.{PlacedMarker}
+use Rattle.pgn_game.specs.games.Markers.{marker_text}
 use Rattle.pgn_game.specs.public.Written.{mode_unless, seen}
 use Rattle.pgn_game.specs.games.Profile.{Missing, Profile, counting, counts_as, known_result, takes_the_marker}
 use Rattle.pgn_game.specs.games.Chess.{first_position}
@@ -26,15 +28,15 @@ use Rattle.pgn_game.specs.games.Progress.{Next, going, whole, next}
 use Rattle.pgn_game.specs.export.Due.{gain}
 use Rattle.pgn_game.specs.public.MostTried.{Raises, Tries, TriesUnwritten}
 
--- How a reader writes. `announced` is the marker that was announced for a missing Result, if one
--- was. If `is_silent`, nothing is written.
+-- How a reader writes. `announced` is the marker that was announced, with its place, if one was:
+-- the next game has to end with it. If `is_silent`, nothing is written.
 pub record Writing : Type 0 where
-  pub announced : Option (List ℕ)
+  pub announced : Option PlacedMarker
   pub is_silent : Bool
 
 -- The profile, how the reader writes, the stage of the game, its pairs, its movetext, the number of
 -- moves outside variations of the games before it, the most pairs tried for a move, the line of
--- movetext, and the marker that ended the game before.
+-- movetext, and the marker that ended the game before, with its place.
 pub record ReaderState : Type 0 where
   pub profile : Profile
   pub writing : Writing
@@ -45,6 +47,7 @@ pub record ReaderState : Type 0 where
   pub most_probes : ℕ
   pub line : List ℕ
   pub marker : List ℕ
+  pub marker_at : ℕ
 
 -- a reader that has read no token, with room for so many pairs and levels
 abbrev pub unread : (tags levels : ℕ) → Mode → ReaderState
@@ -63,6 +66,7 @@ unread tags levels mode = record {
   most_probes = 0;
   line = [];
   marker = codes "*";
+  marker_at = 0;
 }
 
 -- the same reader before its first token
@@ -80,7 +84,7 @@ abbrev pub mode_written : ReaderState → Option Mode
 mode_written reading = mode_unless reading.writing.is_silent reading.profile.mode
 
 -- the reader to which this marker was announced
-abbrev pub with_announced : List ℕ → ReaderState → ReaderState
+abbrev pub with_announced : PlacedMarker → ReaderState → ReaderState
 with_announced marker reading = record reading { writing = record reading.writing { announced = Some marker } }
 
 -- the reader that writes nothing from now on
@@ -173,10 +177,10 @@ Leads (whole g) Finished new = IsBehind new g
 
 -- The value by which a reader writes a missing Result: the text that it counts as. If it takes the
 -- marker, it is the announced marker, or empty if none was announced.
-abbrev pub known_text : Missing → Option (List ℕ) → List ℕ
+abbrev pub known_text : Missing → Option PlacedMarker → List ℕ
 known_text (counts_as text) announced = text
 known_text takes_the_marker None = []
-known_text takes_the_marker (Some marker) = marker
+known_text takes_the_marker (Some m) = marker_text m.marker
 
 -- the same, of a reader
 abbrev pub known_of : ReaderState → List ℕ
@@ -185,6 +189,21 @@ known_of reading = known_text reading.profile.missing_result reading.writing.ann
 -- the profile by which a reader writes: a missing Result counts as that value
 abbrev pub as_written : ReaderState → Profile
 as_written reading = counting reading.profile (known_of reading)
+
+-- The marker that the game has to end with: the one that was announced to a reader that writes, and
+-- whose missing Result takes the marker.
+abbrev pub expected_by : Bool → Missing → Option PlacedMarker → Option PlacedMarker
+expected_by false takes_the_marker announced = announced
+expected_by _ _ announced = None
+
+-- the same, of a reader
+abbrev pub expected_of : ReaderState → Option PlacedMarker
+expected_of reading = expected_by reading.writing.is_silent reading.profile.missing_result reading.writing.announced
+
+-- a marker with this text, at this place, is another one than the game has to end with
+abbrev pub is_unexpected : Option PlacedMarker → List ℕ → ℕ → Bool
+is_unexpected None text at = false
+is_unexpected (Some m) text at = not (bytes_eq text (marker_text m.marker) && (at == m.at))
 
 -- a missing Result counts as a text, so it is known before the marker
 abbrev pub IsKnown : Profile → Type 0

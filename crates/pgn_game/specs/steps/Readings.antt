@@ -6,14 +6,14 @@
 -- has left now. `left_before` and `left_after` (or `left_new`) are those that it has left before
 -- and after a call. `old` and `new` are the reading then, and `before` and `after` the bytes that
 -- the sink has taken.
-use Rattle.std.specs.Prelude.{◌≡◌, ℕ, ◌+◌, ◌^◌, ◌<◌, ◌≤◌, Bool, true, false, List, [], ◌∷◌, ◌++◌, length, drop, Option, None, Some, Result, Ok, Err, IfOk, IfSome}
+use Rattle.std.specs.Prelude.{◌≡◌, ℕ, ◌+◌, ◌^◌, ◌<◌, ◌≤◌, Bool, true, false, List, [], ◌∷◌, ◌++◌, length, drop, Option, None, Some, Result, Ok, Err, IfSome}
 use Rattle.std.specs.Io.KnownBytes.{Appends, Consumes}
 use Rattle.pgn_layout.specs.Device.{AppendsFront, Device}
 use Rattle.pgn_lexer.specs.Tokens.{Token}
 use Rattle.pgn_lexer.specs.TokensOf.{tokens_of}
 use Rattle.pgn_lexer.specs.Decided.{decided}
 use Rattle.pgn_lexer.specs.Standing.{Standing}
-use Rattle.pgn_lexer.specs.Stands.{HasLeft, first}
+use Rattle.pgn_lexer.specs.Stands.{HasLeft}
 use Rattle.pgn_game.specs.declared.marker.PlacedMarker.{PlacedMarker as CodePlacedMarker}
 use Rattle.pgn_game.specs.declared.reason.Reason.{Reason}
 use Rattle.pgn_game.specs.declared.reason.Reason.TheVariants.{ReadFault, WriteFault, InputTooLong, Changed}
@@ -26,9 +26,9 @@ use Rattle.pgn_game.specs.export.Text.{game_text, text_of, torn}
 use Rattle.pgn_game.specs.games.Progress.{no_progress, read}
 use Rattle.pgn_game.specs.export.Due.{gain}
 use Rattle.pgn_game.specs.public.ConverterCalls.{Converter, AreShown, within_limit, HasRead}
-use Rattle.pgn_game.specs.steps.ConverterSteps.{FailsIn, IsGoing, IsReady, Known, MeetsAt, OneGame, ReadsToEnd, SameGames, StandsInText, Start, all_bytes, first_bytes, part_after, start_of}
-use Rattle.pgn_game.specs.steps.ReaderState.{as_written}
-use Rattle.pgn_game.specs.steps.GamesSteps.{CountsReading, ReadsAllOf}
+use Rattle.pgn_game.specs.steps.ConverterSteps.{IsGoing, OneGame, SameGames, fault_of, part_after}
+use Rattle.pgn_game.specs.steps.Flow.{At, Closes, Known, KnowsResult, Since, StandsInText, Start, StopsAt, ended, games_in, is_over, so_far}
+use Rattle.pgn_game.specs.steps.GamesSteps.{CountsReading}
 use Rattle.pgn_game.specs.public.Checked.{PlacedMarker, markers, markers_from, is_changed, compared_from, with_marker}
 
 -- a reading: its converter, the bytes that were read and are not used yet, and whether the source
@@ -38,6 +38,10 @@ pub record Reading : Type 0 where
   pub unused : List ℕ
   pub has_ended : Bool
 
+-- the reading of these parts
+abbrev pub reading_of : Converter → List ℕ → Bool → Reading
+reading_of converter unused has_ended = record { converter = converter; unused = unused; has_ended = has_ended }
+
 -- a placed marker of the code as one of `Checked`: its text and its place
 abbrev pub model_marker : CodePlacedMarker → PlacedMarker
 model_marker m = record { text = marker_text m.marker; at = m.at }
@@ -45,13 +49,13 @@ model_marker m = record { text = marker_text m.marker; at = m.at }
 -- What is known of the text of a source that has given the bytes u, by whether it has ended. Only
 -- the bytes before place 2^62 are read.
 abbrev pub known_by : Bool → List ℕ → Known
-known_by false u = first_bytes (within_limit u)
-known_by true u = all_bytes u
+known_by false u = so_far (within_limit u)
+known_by true u = ended u
 
 -- The lexer has given these tokens of that text.
 abbrev pub HasGivenIn : Known → Standing → List Token → Type 0
-HasGivenIn (first_bytes s) l given = StandsInText s l given
-HasGivenIn (all_bytes s) l given = HasLeft l s given
+HasGivenIn (so_far s) l given = StandsInText s l given
+HasGivenIn (ended s) l given = HasLeft l s given
 
 -- Of the bytes u so many are used.
 -- - If the source has not ended (`false`), the other ones are stored.
@@ -107,38 +111,55 @@ pub data ReadFails (left_old left_new : Option (List ℕ)) (given : List Token) 
   too_long : (u rest : List ℕ) → Consumes left_old left_new (u ++ rest) → length u ≡ 2 ^ 62 → 0 < length rest → given ≡ decided u
       → ReadFails left_old left_new given (record { at = length u; reason = InputTooLong })
 
--- ---- up to a marker
+-- ---- up to the end of a game
 
--- How a reading stops before a marker.
+-- A call begins at this start: the reading has read the tokens given, of the bytes u that its
+-- source has given.
+pub record BeginsAt (left_old left : Option (List ℕ)) (start : Start) (r : Reading) (u : List ℕ) (before : Option (List ℕ)) : Type 0 where
+  pub source : SourceGives left_old left r u
+  pub count : r.converter.lexer.count ≡ start.count
+  pub lexer : HasGivenIn (known_by r.has_ended u) r.converter.lexer start.given
+  pub has_read : HasRead start.profile r.converter start.given
+  pub known : r.converter.reading.writing.is_silent ≡ false → KnowsResult start.expected start.profile r.converter.reading
+  pub going : r.converter.is_finished ≡ false
+  pub begun : before ≡ start.before
+
+-- All tokens that the bytes u decide were read. `new` still has the reader of `now`.
+pub record ReadsAllOf (start : Start) (u : List ℕ) (new : Converter) (after : Option (List ℕ)) : Type 0 where
+  pub now : Converter
+  pub same : new.reading ≡ now.reading
+  pub games : new.games ≡ now.games
+  pub left : HasLeft now.lexer u (decided u)
+  pub since : Since start now (decided u) after
+
+-- How a reading stops before the end of a game.
 -- - `at_token`: a token was not taken, which comes next in the text.
 -- - `at_read`: all tokens that the bytes u decide were read, and none is at fault.
 -- Even if the source does not report its text, there is one with these tokens.
-pub data ReadingStops (q : Profile) (left_old left_new : Option (List ℕ)) (given : List Token) (f : Fault) (new : Reading) (before after : Option (List ℕ)) : Type 0 where
-  at_token : (text : Known) (h : FailsIn q text given f new.converter.reading before after) → ComesNext left_old h.tokens h.token
-      → ReadingStops q left_old left_new given f new before after
-  at_read : (u : List ℕ) → ReadFails left_old left_new (decided u) f → ReadsAllOf q given u new.converter before after
-      → ReadingStops q left_old left_new given f new before after
+pub data ReadingStops (start : Start) (left_old left_new : Option (List ℕ)) (f : Fault) (new : Converter) (after : Option (List ℕ)) : Type 0 where
+  at_token : (text : Known) (h : StopsAt start text f new after) → ComesNext left_old h.tokens h.token
+      → ReadingStops start left_old left_new f new after
+  at_read : (u : List ℕ) → ReadFails left_old left_new (decided u) f → ReadsAllOf start u new after
+      → ReadingStops start left_old left_new f new after
 
--- What `read_to_marker` results in: a marker was met, the end of the text was read, or reading
--- stopped. Even if the source does not report its text, there is such a text.
-abbrev pub AfterMarker : Option (List ℕ) → Option (List ℕ) → Start → Reading → Result (Option CodePlacedMarker) Fault → Option (List ℕ) → Type 0
-AfterMarker left_old left_new start new (Ok (Some m)) after =
-    (u : List ℕ) × SourceGives left_old left_new new u × MeetsAt start (known_by new.has_ended u) m new.converter after
-AfterMarker left_old left_new start new (Ok None) after =
-    (u : List ℕ) × Stores true new.converter.lexer.count new.unused u left_old
-    × ReadsToEnd start.profile u start.given new.converter start.before after
-AfterMarker left_old left_new start new (Err f) after =
-    ReadingStops start.profile left_old left_new start.given f new start.before after
+-- What `next_game` results in: a game was finished, the end of the text was read, or reading
+-- stopped.
+abbrev pub AfterGameEnd : Start → Option (List ℕ) → Option (List ℕ) → Reading → Result Bool Fault → Option (List ℕ) → Type 0
+AfterGameEnd start left_old left_new new (Ok true) after =
+    (u : List ℕ) × SourceGives left_old left_new new u × (tokens : List Token) × At start (known_by new.has_ended u) new.converter tokens after
+    × Closes start (known_by new.has_ended u) new.converter tokens
+AfterGameEnd start left_old left_new new (Ok false) after =
+    (u : List ℕ) × Stores true new.converter.lexer.count new.unused u left_old × (tokens : List Token) × At start (ended u) new.converter tokens after
+AfterGameEnd start left_old left_new new (Err f) after = ReadingStops start left_old left_new f new.converter after
 
--- What `read_to_marker` does to a reading that has read any tokens, what it keeps, and what it
--- counts.
-pub record ReadsUpToMarker (old new : Reading) (result : Result (Option CodePlacedMarker) Fault) (source sink : Device) : Type 0 where
-  pub reads : (q : Profile) (left_old : Option (List ℕ)) (given : List Token) → HasGiven q left_old source.before old given
-      → AfterMarker left_old source.after (start_of q old.converter (first old.unused) given sink.before) new result sink.after
-  pub ready : IfOk result (λ marker. IfSome marker (λ m. IsReady new.converter))
-  pub games : new.converter.games ≡ old.converter.games
-  pub written : as_written new.converter.reading ≡ as_written old.converter.reading
-  pub probes : old.converter.reading.most_probes ≤ new.converter.reading.most_probes
+-- What `next_game` does to a reading, and what it counts.
+pub record ReadsToGameEnd (old new : Reading) (result : Result Bool Fault) (source sink : Device) : Type 0 where
+  pub reads : (start : Start) (left_old : Option (List ℕ)) (u : List ℕ) → BeginsAt left_old source.before start old u sink.before
+      → AfterGameEnd start left_old source.after new result sink.after
+  pub games : new.converter.games ≡ old.converter.games + games_in result
+  pub few : result ≡ Ok true → old.converter.games < 2 ^ 64
+  pub finished : new.converter.is_finished ≡ is_over result
+  pub fault : new.converter.fault ≡ fault_of result
   pub counted : CountsReading result source sink
 
 -- ---- one game

@@ -37,8 +37,7 @@ module _ (g : Over) (c : After-write_game g) where
 
   writes : WritesGame second_here.before second_here.after c.loop-marker.behind c.in-Some.marker c.write_game.new.self c.write_game.result
       sink_here.before sink_here.after
-  writes = unseen (λ d. WritesGame second_here.before second_here.after c.loop-marker.behind c.in-Some.marker c.write_game.new.self c.write_game.result d.before d.after)
-      _ sink_here c.loop-marker.invariant.second_writes c.write_game.ensures.writes
+  writes = c.write_game.ensures.writes c.loop-marker.invariant.second_writes
 
   counted : CountsReading c.write_game.result second_here sink_here
   counted = unseen (CountsReading c.write_game.result second_here) _ sink_here c.loop-marker.invariant.second_writes c.write_game.ensures.counted
@@ -65,7 +64,7 @@ returns-in_err-marker-clause-converts g c =
     rw (error_returned _ c.from_residual.ensures.1)
     (first_stops (q g read) (first g read) (second g read) (sink g read) _ c.loop-marker.ahead c.loop-marker.behind so.both f
     (λ is. source_fails f.reason _ _ _ _ c.in_err-marker.ensures.counted is ∙ ap one_more so.first)
-    (c.in_err-marker.ensures.reads (q g read) _ so.both.first_tokens so.both.first_stands))
+    (c.in_err-marker.ensures.reads so.first_silent (q g read) _ so.both.first_tokens so.both.first_stands))
 
 pub returns-in_err-marker-clause-counted : goal.returns-in_err-marker-clause-counted
 returns-in_err-marker-clause-counted g c =
@@ -82,7 +81,7 @@ returns-clause-converts g c =
     let reads = rw c.in_default.is at c.in_ok-marker.ensures.reads in
     both_end (q g read) (first g read) (second g read) (sink g read) _ c.loop-marker.ahead c.loop-marker.behind x c.read_game.new.self
     c.totals.result
-    (reads (q g read) _ x.first_tokens x.first_stands) (c.in_ok-marker.ensures.silent ∙ so.first_silent)
+    (reads so.first_silent (q g read) _ x.first_tokens x.first_stands) (c.in_ok-marker.ensures.silent ∙ so.first_silent)
     so.second_writes c.totals.ensures.games c.totals.ensures.plies
     (c.totals.ensures.probes ∙ ap (λ n. max n c.loop-marker.behind.converter.reading.most_probes) c.most_probes.ensures.value)
     (omega (arith, c.most_probes.ensures.value, c.most_probes.ensures.bound))
@@ -105,7 +104,7 @@ loop-marker-preserved g c =
       sink = counts.1 ∙ so.sink;
       both =
           both_more q _ _ _ _ c.loop-marker.ahead c.loop-marker.behind _ _ x c.in-Some.marker c.read_game.new.self c.write_game.new.self _ _ _
-          ((rw c.in-Some.is at c.in_ok-marker.ensures.reads) q _ x.first_tokens x.first_stands)
+          ((rw c.in-Some.is at c.in_ok-marker.ensures.reads) so.first_silent q _ x.first_tokens x.first_stands)
           ((rw c.in_ok-write_game.was at (writes g write)) q _ x.second_tokens x.second_stands);
     }
 
@@ -119,7 +118,7 @@ returns-in_err-write_game-clause-converts g c =
     let f = c.in_err-write_game.field-0.0 in
     rw (error_returned _ c.from_residual-in_err-write_game.ensures.1)
     (second_stops (q g read) (first g read) (second_read g write) (written g write) _ _ _ c.loop-marker.ahead c.loop-marker.behind x c.in-Some.marker c.read_game.new.self f
-    ((rw c.in-Some.is at c.in_ok-marker.ensures.reads) (q g read) _ x.first_tokens x.first_stands)
+    ((rw c.in-Some.is at c.in_ok-marker.ensures.reads) so.first_silent (q g read) _ x.first_tokens x.first_stands)
     ((rw c.in_err-write_game.was at (writes g write)) (q g read) _ x.second_tokens x.second_stands)
     (λ is. source_fails f.reason _ _ _ _ c.in_err-write_game.ensures.counted is ∙ ap one_more so.second))
 

@@ -1,6 +1,6 @@
 use Rattle.pgn_game.proofs.Words.{◌-◌, profile_of}
 use Rattle.pgn_game.proofs.ReaderFitsInMemory.{reading_fits_converter}
-use Rattle.pgn_game.proofs.twice.MarkerToReading.{given_none}
+use Rattle.pgn_game.proofs.twice.SourceToReading.{given_none}
 use Rattle.pgn_game.proofs.checked.Reading.new.Goals as goal
 
 pub new-converter-requires : goal.new-converter-requires

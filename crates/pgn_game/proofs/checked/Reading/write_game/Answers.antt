@@ -1,147 +1,112 @@
-use Rattle.pgn_game.proofs.Words.{◌≡◌, seen, Device, ℕ, List, Option, Profile, Token, counting, marker_text, Converter, Reading, as_written, ap, refl, sym, ◌∙◌, device, sink_of, CountsFault, EndsGame, IsStill, KeepsSilence, false, Err, [], AfterMarker, ReadsUpToMarker, StandsBetween, first}
-use Rattle.pgn_game.specs.steps.ConverterSteps.{start_of}
-use Rattle.pgn_game.proofs.ReaderFitsInMemory.{reading_alike, reading_fits_converter}
-use Rattle.pgn_game.proofs.putting.SilentReader.{seen_alike, silence_then}
-use Rattle.pgn_game.proofs.twice.FailuresOfSteps.{behind_still, counts_changed, reader_reason}
-use Rattle.pgn_game.proofs.twice.GamesOfReadings.{ends_before, game_written, marker_differs, marker_refused_second, second_fails, announced_by, announced_reading}
-use Rattle.pgn_game.proofs.checked.Reading.write_game.Given.{Over}
-use Rattle.pgn_game.proofs.checked.Reading.write_game.Goals.{After-read_to_marker}
+use Rattle.pgn_game.proofs.Words.{◌≡◌, ◌∙◌, ℕ, ap, arith, refl, Bool, true, false, Option, Some, Ok, Err, List, Profile, Token, Fault, Result, Reading, Converter, Device, HasGiven, KeepsSilence, ReadsToGameEnd, AfterGameEnd, StandsBetween, CountsReading, device, sink_of}
+use Rattle.pgn_game.specs.steps.Readings.{reading_of}
+use Rattle.pgn_game.proofs.ReaderFitsInMemory.{reading_fits_converter}
+use Rattle.pgn_game.proofs.putting.SilentReader.{seen_alike, silence_then, unseen}
+use Rattle.pgn_game.proofs.twice.FailuresOfSteps.{counts_changed}
+use Rattle.pgn_game.proofs.twice.GamesOfReadings.{announced_reading, begins_second, ends_before, game_written, second_fails, start_at}
 use Rattle.pgn_game.proofs.checked.Reading.write_game.Goals as goal
+use Rattle.pgn_game.proofs.checked.Reading.write_game.Goals.{After-next_game-read}
 
--- The second reading, up to a marker. The marker of the first reading is announced to it.
-module _ (g : Over) (c : After-read_to_marker g) where
+-- The second reading, up to the end of the game. The marker of the first reading is announced to
+-- it.
+module _ (g : _) (c : After-next_game-read g) where
   abbrev old : Reading
-  old = record { converter = c.self.inside.converter; unused = c.self.inside.buffer; has_ended = c.self.inside.has_ended }
+  old = reading_of c.self.inside.converter c.self.inside.buffer c.self.inside.has_ended
 
   abbrev announced : Reading
-  announced = record { converter = c.announce_marker.new.self; unused = c.self.inside.buffer; has_ended = c.self.inside.has_ended }
+  announced = reading_of c.announce_marker.new.self c.self.inside.buffer c.self.inside.has_ended
+
+  abbrev new : Reading
+  new = reading_of c.next_game-read.new.converter c.next_game-read.new.buffer c.next_game-read.new.has_ended
 
   abbrev source : Device
-  source = device g.R.Source.left g.R.Source.failures c.args.source.now c.read_to_marker.new.source
+  source = device g.R.Source.left g.R.Source.failures c.args.source.now c.next_game-read.new.source
 
   abbrev sink : Device
-  sink = sink_of c.self.inside.converter.reading g.W.Sink.taken g.W.Sink.failures c.args.out.now c.read_to_marker.new.out
+  sink = device g.W.Sink.taken g.W.Sink.failures c.args.out.now c.next_game-read.new.out
 
   same : c.announce_marker.new.self.reading.writing.is_silent ≡ c.self.inside.converter.reading.writing.is_silent
   same = ap (λ (s : Converter). s.reading.writing.is_silent) c.announce_marker.ensures
 
-  met : ReadsUpToMarker announced c.read_to_marker.new.self c.read_to_marker.result source sink
-  met = seen_alike (ReadsUpToMarker _ _ _ _) _ _ _ same c.read_to_marker.ensures.reads
+  silent : KeepsSilence c.self.inside.converter.reading c.next_game-read.new.converter.reading c.args.out.now c.next_game-read.new.out
+  silent = silence_then _ _ _ _ _ _ (record { silent = same; untouched = λ silent. refl }) c.next_game-read.ensures.silent
 
-  silent : KeepsSilence c.self.inside.converter.reading c.read_to_marker.new.self.converter.reading c.args.out.now c.read_to_marker.new.out
-  silent = silence_then _ _ _ _ _ _ (record { silent = same; untouched = λ silent. refl }) c.read_to_marker.ensures.silent
+  still : c.self.inside.converter.reading.writing.is_silent ≡ false → c.next_game-read.new.converter.reading.writing.is_silent ≡ false
+  still writes = c.next_game-read.ensures.silent.silent ∙ same ∙ writes
 
-  module _ (q : Profile) (left_old : Option (List ℕ)) (given : List Token) (here : StandsBetween q left_old source.before given old) where
-    reads : AfterMarker left_old source.after (start_of q announced.converter (first announced.unused) given sink.before)
-        c.read_to_marker.new.self c.read_to_marker.result sink.after
-    reads = met.reads q left_old given
-        (announced_reading q left_old source.before old given c.args.expected.marker c.announce_marker.new.self c.announce_marker.ensures
-        here.has_given)
+  module _ (r : Result Bool Fault) (is : c.next_game-read.result ≡ r) where
+    all : ReadsToGameEnd announced new r source (sink_of c.announce_marker.new.self.reading g.W.Sink.taken g.W.Sink.failures c.args.out.now c.next_game-read.new.out)
+    all = rw is at c.next_game-read.ensures.reads
 
-    by : as_written c.read_to_marker.new.self.converter.reading ≡ counting q (marker_text c.args.expected.marker)
-    by = met.written
-        ∙ announced_by q c.self.inside.converter c.announce_marker.new.self c.args.expected.marker c.announce_marker.ensures here.has_given.takes here.has_given.has_read.profile
+    has : (q : Profile) (left_old : Option (List ℕ)) (given : List Token) → StandsBetween q left_old source.before given old → HasGiven q left_old source.before announced given
+    has q left_old given stands = announced_reading q left_old source.before old given c.args.expected c.announce_marker.new.self c.announce_marker.ensures stands.has_given
+
+    games : announced.converter.games ≡ old.converter.games
+    games = ap (λ (s : Converter). s.games) c.announce_marker.ensures
+
+    told : c.announce_marker.new.self.reading.writing.announced ≡ Some c.args.expected
+    told = ap (λ (s : Converter). s.reading.writing.announced) c.announce_marker.ensures
+
+    after : c.self.inside.converter.reading.writing.is_silent ≡ false → (q : Profile) (left_old : Option (List ℕ)) (given : List Token)
+        → (stands : StandsBetween q left_old source.before given old)
+        → AfterGameEnd (start_at q announced given sink.before (Some c.args.expected)) left_old source.after new r sink.after
+    after writes q left_old given stands =
+        let going = rw (← c.self.view_is) at c.requires.going in
+        (unseen (λ d. ReadsToGameEnd announced new r source d) _ sink (same ∙ writes) all).reads _ left_old (has q left_old given stands).bytes
+        (begins_second q left_old source.before announced given sink.before (has q left_old given stands)
+        (rw c.announce_marker.ensures (record { no_fault = going.no_fault; not_finished = going.not_finished })) c.args.expected told)
+
+    counted : CountsReading r source (sink_of c.self.inside.converter.reading g.W.Sink.taken g.W.Sink.failures c.args.out.now c.next_game-read.new.out)
+    counted = seen_alike (CountsReading r source) _ _ sink same all.counted
 
 pub announce_marker-requires : goal.announce_marker-requires
 announce_marker-requires g c = search reading_fits_converter
 
-pub read_to_marker-requires : goal.read_to_marker-requires
-read_to_marker-requires g c =
+pub next_game-read-requires : goal.next_game-read-requires
+next_game-read-requires g c =
     let going = rw (← c.self.view_is) at c.requires.going in
-    (search reading_alike, rw c.announce_marker.ensures (record { no_fault = going.no_fault; not_finished = going.not_finished }))
+    (search reading_fits_converter, rw c.announce_marker.ensures (record { no_fault = going.no_fault; not_finished = going.not_finished }))
 
 pub place-requires : goal.place-requires
 place-requires g c = search reading_fits_converter
 
 pub returns-in-Err : goal.returns-in-Err
 returns-in-Err g c =
-    let place = (goal.at.returns-in-Err g c).After-read_to_marker in
-    rw (← c.self.view_is, c.changed.ensures)
-    (record {
-      writes = λ q left_old given here.
-          let h = here.has_given in
-          second_fails q left_old _ given c.args.expected c.tokens_rise.ensures h.takes h.has_read.passes here.between
-          c.read_to_marker.new.self c.in-Err.fault _ _ (by g place q left_old given here)
-          (rw c.in-Err.is at (reads g place q left_old given here));
+    let place = (goal.at.returns-in-Err g c).After-next_game-read in
+    let f = c.in-Err.fault in
+    rw (← c.self.view_is, c.changed.ensures) (record {
+      writes = λ writes q left_old given stands.
+          second_fails q left_old _ _ given (announced g place) (new g place) _ _ c.args.expected c.tokens_rise.ensures (has g place (Err f) c.in-Err.is q left_old given stands)
+          stands.between f (omega (arith, (all g place (Err f) c.in-Err.is).games)) (still g place writes) (after g place (Err f) c.in-Err.is writes q left_old given stands);
       going = tt;
-      counted = counts_changed c.in-Err.fault.reason _ _ _ _ (rw c.in-Err.is at (met g place).counted);
+      counted = counts_changed f.reason _ _ _ _ (counted g place (Err f) c.in-Err.is);
       silent = silent g place;
     })
 
-pub returns-in-Ok-None : goal.returns-in-Ok-None
-returns-in-Ok-None g c =
-    let place = (goal.at.returns-in-Ok-None g c).After-read_to_marker in
-    rw (← c.self.view_is, c.differs.ensures)
-    (record {
-      writes = λ q left_old given here.
-          let h = here.has_given in
-          rw (c.place.ensures ∙ ap (λ (r : Reading). r.converter.lexer.count) c.self-2.view_is)
-          (ends_before q left_old _ given c.args.expected c.tokens_rise.ensures h.takes h.has_read.passes here.between
-          (announced g place) c.read_to_marker.new.self _ _ (by g place q left_old given here) (rw (c.in-Ok-None.is, c.in-Ok-None.field-0-is) at (reads g place q left_old given here)));
-      going = tt;
-      counted = rw c.in-Ok-None.is at (met g place).counted;
+pub returns-then-finished : goal.returns-then-finished
+returns-then-finished g c =
+    let place = (goal.at.returns-then-finished g c).After-next_game-read in
+    let is : c.next_game-read.result ≡ Ok true = c.in-Ok.is ∙ ap Ok c.if-finished.true in
+    let all = all g place (Ok true) is in
+    rw (← c.self.view_is) (record {
+      writes = λ writes q left_old given stands.
+          game_written q left_old _ _ given (announced g place) (new g place) _ _ c.args.expected c.tokens_rise.ensures (has g place (Ok true) is q left_old given stands)
+          stands.between (after g place (Ok true) is writes q left_old given stands) all.games all.finished (still g place writes);
+      going = record { no_fault = all.fault; not_finished = all.finished };
+      counted = counted g place (Ok true) is;
       silent = silent g place;
     })
 
-pub returns-then-is_other : goal.returns-then-is_other
-returns-then-is_other g c =
-    let place = (goal.at.returns-then-is_other g c).After-read_to_marker in
-    rw (← c.self.view_is, c.differs-then-is_other.ensures)
-    (record {
-      writes = λ q left_old given here.
-          let h = here.has_given in
-          marker_differs q left_old _ given c.args.expected c.tokens_rise.ensures h.takes h.has_read.passes here.between
-          (announced g place) c.in-Ok-Some.found c.read_to_marker.new.self c.read_to_marker.new.self _
-          (sink_of c.self.inside.converter.reading g.W.Sink.taken g.W.Sink.failures c.read_to_marker.new.out c.read_to_marker.new.out) (by g place q left_old given here)
-          (rw (c.in-Ok-Some.is, c.in-Ok-Some.field-0-is) at (reads g place q left_old given here)) (sym c.is_other.ensures ∙ c.if-is_other.true);
+pub returns : goal.returns
+returns g c =
+    let place = (goal.at.returns g c).After-next_game-read in
+    let is : c.next_game-read.result ≡ Ok false = c.in-Ok.is ∙ ap Ok c.if-finished.false in
+    let all = all g place (Ok false) is in
+    rw (← c.self.view_is, c.differs.ensures, c.place.ensures) (record {
+      writes = λ writes q left_old given stands.
+          ends_before q left_old _ _ given (announced g place) (new g place) _ _ c.args.expected c.tokens_rise.ensures (has g place (Ok false) is q left_old given stands)
+          stands.between (after g place (Ok false) is writes q left_old given stands) (omega (arith, all.games)) all.finished (still g place writes);
       going = tt;
-      counted = rw c.in-Ok-Some.is at (met g place).counted;
+      counted = counted g place (Ok false) is;
       silent = silent g place;
-    })
-
-pub end_game-requires : goal.end_game-requires
-end_game-requires g c =
-    (search reading_fits_converter, rw (← c.self-2.view_is) at (rw c.in-Ok-Some.field-0-is at c.in-Ok-Some.ensures.reads.ready))
-
-pub returns-in-Err-end_game : goal.returns-in-Err-end_game
-returns-in-Err-end_game g c =
-    let place = (goal.at.returns-in-Err-end_game g c).After-read_to_marker in
-    let s = c.self.inside.converter.reading in
-    let last = device g.W.Sink.taken g.W.Sink.failures c.read_to_marker.new.out c.end_game.new.out in
-    let behind = ap (λ (r : Reading). r.converter.reading.writing.is_silent) c.self-2.view_is ∙ (silent g place).silent in
-    let f = c.in-Err-end_game.fault in
-    let counted = rw c.in-Ok-Some.is at (met g place).counted in
-    rw (← c.self.view_is, c.changed-in-Err-end_game.ensures)
-    (record {
-      writes = λ q left_old given here.
-          let h = here.has_given in
-          marker_refused_second q left_old _ given c.args.expected c.tokens_rise.ensures h.takes h.has_read.passes here.between
-          (announced g place) c.in-Ok-Some.found _ (record { converter = c.end_game.new.self; unused = []; has_ended = false }) _ (seen _ last) (rw (← c.self-2.view_is) at (by g place q left_old given here))
-          (rw (c.in-Ok-Some.is, c.in-Ok-Some.field-0-is, ← c.self-2.view_is) at (reads g place q left_old given here))
-          (sym c.is_other.ensures ∙ c.if-is_other.false) f (seen_alike (EndsGame _ _ _ _) _ _ _ behind c.in-Err-end_game.ensures.ends);
-      going = tt;
-      counted = counts_changed f.reason _ _ _ _ (behind_still f.reason _ _ _ _ _ _ counted.0 counted.1
-          (reader_reason f.reason _ _ _ (seen_alike (CountsFault {A = Unit} (Err f)) _ _ last behind c.in-Err-end_game.ensures.counts.counted)));
-      silent = silence_then _ _ _ _ _ _ (silent g place) (rw (ap (λ (r : Reading). r.converter) c.self-2.view_is) at c.end_game.ensures.silent);
-    })
-
-pub returns-in_default : goal.returns-in_default
-returns-in_default g c =
-    let place = (goal.at.returns-in_default g c).After-read_to_marker in
-    let last = device g.W.Sink.taken g.W.Sink.failures c.read_to_marker.new.out c.end_game.new.out in
-    let behind = ap (λ (r : Reading). r.converter.reading.writing.is_silent) c.self-2.view_is ∙ (silent g place).silent in
-    let ended = c.in_default.ensures in
-    let counted = rw c.in-Ok-Some.is at (met g place).counted in
-    rw (← c.self.view_is)
-    (record {
-      writes = λ q left_old given here.
-          let h = here.has_given in
-          game_written q left_old _ given c.args.expected c.tokens_rise.ensures h.takes h.has_read.passes here.between
-          (announced g place) c.in-Ok-Some.found _ _ _ (seen _ last) (rw (← c.self-2.view_is) at (by g place q left_old given here))
-          (rw (c.in-Ok-Some.is, c.in-Ok-Some.field-0-is, ← c.self-2.view_is) at (reads g place q left_old given here))
-          (sym c.is_other.ensures ∙ c.if-is_other.false) (seen_alike (EndsGame _ _ _ _) _ _ _ behind ended.ends)
-          ended.counts.lexer refl refl ended.counts.games ended.counts.just_finished ended.counts.fault;
-      going = record { not_finished = ended.counts.not_finished; no_fault = ended.counts.fault };
-      counted = (counted.0, seen_alike IsStill _ _ last behind ended.counts.counted ∙ counted.1);
-      silent = silence_then _ _ _ _ _ _ (silent g place) (rw (ap (λ (r : Reading). r.converter) c.self-2.view_is) at ended.silent);
     })

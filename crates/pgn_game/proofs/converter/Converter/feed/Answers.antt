@@ -1,71 +1,63 @@
-use Rattle.pgn_game.proofs.putting.SilentReader.{none_fails, seen_alike, silence_then}
-use Rattle.pgn_game.proofs.Words.{device, le_trans, ◌∙◌, Err, err_from_is_err_and, at_token, CountsGame, EndsGame}
+use Rattle.pgn_game.specs.declared.converter.Fed.{Fed}
+use Rattle.pgn_game.proofs.Words.{◌-◌, ◌^◌, refl, arith, Err, take-nil, device}
 use Rattle.pgn_game.proofs.ReaderFitsInMemory.{fits_alike}
-use Rattle.pgn_game.proofs.stepping.PieceToGame.{fed_all, fed_game, fed_stops, marker_fails}
+use Rattle.pgn_game.proofs.putting.SilentReader.{none_fails, silence_kept}
+use Rattle.pgn_game.proofs.flow.FedFront.{after_feed}
+use Rattle.pgn_game.proofs.flow.Stops.{shown_if, stop_shown_if}
 use Rattle.pgn_game.proofs.converter.Converter.feed.Goals as goal
 
-pub feed_to_marker-requires : goal.feed_to_marker-requires
-feed_to_marker-requires g c = (search fits_alike, c.requires.not_finished)
+pub feed_piece-requires : goal.feed_piece-requires
+feed_piece-requires g c =
+    (search fits_alike, rw (← c.self.view_is) (record { no_fault = c.in_default.is; not_finished = rw (← c.self.view_is) at c.requires.not_finished }))
 
-pub end_game-requires : goal.end_game-requires
-end_game-requires g c =
-    (search fits_alike, rw c.in-Marker.is at c.in_ok-feed_to_marker.ensures.goes.ready)
-
-pub returns-in_err-feed_to_marker-clause-feeds : goal.returns-in_err-feed_to_marker-clause-feeds
-returns-in_err-feed_to_marker-clause-feeds g c =
-    let e = err_from_is_err_and c.from_residual.result c.from_residual.ensures.1 in
-    let fed = c.in_err-feed_to_marker.ensures in
-    rw (e.1, e.2) (λ p u b given stands follows.
-    fed_stops p _ u b given _ _ c.args.piece.now stands.known stands follows (le_trans fed.goes.grows fed.short)
-    _ c.feed_to_marker.new.self _ fed.silent.silent
-    (λ silent. none_fails {A = Unit} _ (Err c.in_err-feed_to_marker.field-0.0)
-    (device g.W.Sink.taken g.W.Sink.failures c.args.out.now c.feed_to_marker.new.out) silent (fed.goes.counted stands.has_read.no_fault))
-    fed.feeds)
-
-pub returns-in-All-clause-feeds : goal.returns-in-All-clause-feeds
-returns-in-All-clause-feeds g c =
-    let fed = rw c.in-All.is at c.in_ok-feed_to_marker.ensures in
+pub returns-clause-feeds : goal.returns-clause-feeds
+returns-clause-feeds g c =
+    let feeds = c.feed_piece.ensures.feeds in
+    let same = c.feed_piece.ensures.silent.silent in
+    let sink = device g.W.Sink.taken g.W.Sink.failures c.args.out.now c.feed_piece.new.out in
     λ p u b given stands follows.
-    fed_all p _ u b given _ _ c.args.piece.now stands.known stands follows (le_trans fed.goes.grows fed.short)
-    c.feed_to_marker.new.self _ fed.goes.count fed.short fed.silent.silent fed.goes.keeps.none_just_finished fed.feeds
+    after_feed p u b given c.args.self.now c.feed_piece.new.self c.args.piece.now (2 ^ 62 - c.args.self.now.lexer.count) _ _ _ _ stands c.requires.not_finished follows
+    (omega (arith, stands.lexer.count, feeds.goes.grows, feeds.goes.short)) c.feed_piece.result (shown_if _ _ _ same)
+    (λ f is. stop_shown_if _ _ _ _ same (λ silent. none_fails {A = Fed} _ (Err f) sink silent (rw is at feeds.goes.counted))) feeds
 
-pub returns-in_err-end_game-in-Marker-clause-feeds : goal.returns-in_err-end_game-in-Marker-clause-feeds
-returns-in_err-end_game-in-Marker-clause-feeds g c =
-    let e = err_from_is_err_and c.from_residual-in_err-end_game-in-Marker.result c.from_residual-in_err-end_game-in-Marker.ensures.1 in
-    let quiet = c.feed_to_marker.ensures.silent.silent in
-    let fed = rw c.in-Marker.is at c.in_ok-feed_to_marker.ensures in
-    let ended = c.in_err-end_game-in-Marker.ensures in
-    let sink = device g.W.Sink.taken g.W.Sink.failures c.feed_to_marker.new.out c.end_game.new.out in
-    let counts = seen_alike (CountsGame _ _ _) _ _ sink quiet ended.counts in
-    rw (e.1, e.2) (λ p u b given stands follows.
-    at_token _ (marker_fails p _ u b given _ _ c.args.piece.now stands.known stands follows
-    (le_trans fed.goes.grows fed.short) c.in-Marker.marker c.feed_to_marker.new.self _
-    fed.feeds c.end_game.new.self _
-    (λ silent. none_fails {A = Unit} _ (Err c.in_err-end_game-in-Marker.field-0.0) sink silent counts.counted)
-    (seen_alike (EndsGame _ _ _ _) _ _ sink quiet ended.ends)))
+pub returns-clause-empty : goal.returns-clause-empty
+returns-clause-empty g c = λ none going. (rw none at (c.feed_piece.ensures.feeds.none (rw none (take-nil _)))).0.0
 
-pub returns-in_ok-end_game-in-Marker-clause-feeds : goal.returns-in_ok-end_game-in-Marker-clause-feeds
-returns-in_ok-end_game-in-Marker-clause-feeds g c =
-    let quiet = c.feed_to_marker.ensures.silent.silent in
-    let fed = rw c.in-Marker.is at c.in_ok-feed_to_marker.ensures in
-    let ended = c.in_ok-end_game-in-Marker.ensures in
-    let ends = seen_alike (EndsGame _ _ _ _) _ _ _ quiet ended.ends in
-    let counts = seen_alike (CountsGame _ _ _) _ _ _ quiet ended.counts in
-    λ p u b given stands follows.
-    fed_game p _ u b given _ _ c.args.piece.now stands.known stands follows (le_trans fed.goes.grows fed.short)
-    c.in-Marker.marker c.feed_to_marker.new.self _ fed.feeds c.end_game.new.self
-    c.in-Marker.used fed.goes.count (c.end_game.ensures.silent.silent ∙ quiet) ends counts
+pub returns-clause-used : goal.returns-clause-used
+returns-clause-used g c = c.feed_piece.ensures.feeds.goes.used
 
-pub returns-in_err-end_game-in-Marker-clause-silent : goal.returns-in_err-end_game-in-Marker-clause-silent
-returns-in_err-end_game-in-Marker-clause-silent g c =
-    silence_then _ _ _ _ _ _ c.feed_to_marker.ensures.silent c.end_game.ensures.silent
+pub returns-clause-count : goal.returns-clause-count
+returns-clause-count g c = c.feed_piece.ensures.feeds.goes.count
 
-pub returns-in_ok-end_game-in-Marker-clause-silent : goal.returns-in_ok-end_game-in-Marker-clause-silent
-returns-in_ok-end_game-in-Marker-clause-silent g c =
-    silence_then _ _ _ _ _ _ c.feed_to_marker.ensures.silent c.end_game.ensures.silent
+pub returns-clause-grows : goal.returns-clause-grows
+returns-clause-grows g c = c.feed_piece.ensures.feeds.goes.grows
 
-pub returns-in_err-feed_to_marker-clause-silent : goal.returns-in_err-feed_to_marker-clause-silent
-returns-in_err-feed_to_marker-clause-silent g c = c.feed_to_marker.ensures.silent
+pub returns-clause-within : goal.returns-clause-within
+returns-clause-within g c = c.feed_piece.ensures.feeds.goes.within
 
-pub returns-in-All-clause-silent : goal.returns-in-All-clause-silent
-returns-in-All-clause-silent g c = c.feed_to_marker.ensures.silent
+pub returns-clause-short : goal.returns-clause-short
+returns-clause-short g c = c.feed_piece.ensures.feeds.goes.short
+
+pub returns-clause-advances : goal.returns-clause-advances
+returns-clause-advances g c = c.feed_piece.ensures.feeds.goes.advances
+
+pub returns-clause-not_finished : goal.returns-clause-not_finished
+returns-clause-not_finished g c = c.feed_piece.ensures.feeds.goes.not_finished
+
+pub returns-clause-fault : goal.returns-clause-fault
+returns-clause-fault g c = c.feed_piece.ensures.feeds.goes.fault
+
+pub returns-clause-games : goal.returns-clause-games
+returns-clause-games g c = c.feed_piece.ensures.feeds.goes.games
+
+pub returns-clause-probes : goal.returns-clause-probes
+returns-clause-probes g c = c.feed_piece.ensures.feeds.goes.probes
+
+pub returns-clause-counted : goal.returns-clause-counted
+returns-clause-counted g c = λ going. c.feed_piece.ensures.feeds.goes.counted
+
+pub returns-clause-silent : goal.returns-clause-silent
+returns-clause-silent g c = c.feed_piece.ensures.silent
+
+pub returns-in-Some-clause-silent : goal.returns-in-Some-clause-silent
+returns-in-Some-clause-silent g c = silence_kept _ _ _ refl

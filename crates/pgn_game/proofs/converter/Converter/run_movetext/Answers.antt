@@ -1,133 +1,184 @@
-use Rattle.pgn_game.specs.declared.converter.StepEnd.TheVariants.{NoMarker}
-use Rattle.pgn_game.proofs.Words.{IsSound, KeepsSilence, false, sink_of, kind_of, ◌≡◌, ◌∙◌, arith, ap, None, Ok, Some, take_rest, device, drop, refl, StepsInPiece, outcome_at, MeetsEntry, TakesUnlessMarker}
+use Rattle.pgn_game.proofs.Words.{Bool, Converter, IsSound, KeepsSilence, Err, Reason, ReaderState, Result, false, true, sink_of, kind_of, ◌≡◌, ◌∙◌, arith, ap, subst, Ok, take_rest, device, drop, refl}
+use Rattle.pgn_game.specs.steps.Flow.{HasTaken, ReadsIn, StepsIn, settled, taken_at}
+use Rattle.pgn_game.specs.steps.PutResult.{TakesPlaced}
 use Rattle.pgn_game.proofs.ReaderFitsInMemory.{fits_alike, fits_game}
+use Rattle.pgn_game.proofs.flow.InTurn.{goes_none, reads_in_then, steps_then}
+use Rattle.pgn_game.proofs.flow.PastNumbers.{reads_past}
+use Rattle.pgn_game.proofs.flow.StepsIn.{before_now, before_rest, has_taken_behind, room_behind, sound_behind, steps_behind, steps_run}
 use Rattle.pgn_game.proofs.putting.SilentReader.{seen_alike, silence_kept, silence_then}
 use Rattle.pgn_game.proofs.stepping.AcceptedToConverter.{now_at}
-use Rattle.pgn_game.proofs.stepping.PastNumbers.{meets_in_movetext}
-use Rattle.pgn_game.proofs.stepping.RunsInPiece.{Runs, before_rest, room_behind, runs_none, runs_step, runs_then, steps_behind, steps_run}
-use Rattle.pgn_game.proofs.stepping.StepsAtEnd.{after_at_end, fields_before}
-use Rattle.pgn_game.proofs.stepping.StepsOverTokens.{runs_past, sound_met_behind, sound_past, steps_met_behind}
+use Rattle.pgn_game.proofs.stepping.StepsAtEnd.{FieldsBefore, fields_before, view_of}
+use Rattle.pgn_game.proofs.stepping.StepsOverTokens.{sound_past}
 use Rattle.pgn_game.proofs.converter.Converter.run_movetext.Goals as goal
-use Rattle.pgn_game.proofs.converter.Converter.run_movetext.Goals.{After-accept_entry-met, Left-loop-used, else-loop-used-test, then-loop-used-test+in_default}
+use Rattle.pgn_game.proofs.converter.Converter.run_movetext.Goals.{After-take_entry, Left-loop-used, else-loop-used-test, then-loop-used-test+in_default}
 
 pub loop-used-init : goal.loop-used-init
 loop-used-init g c =
-    let old = fields_before c.self.view_is c.self.invariant c.requires.piece.before in
-    rw (← old.same) (record {
-      flag = old.flag;
-      not_finished = old.not_over;
-      fault = old.none;
-      stage = rw (← old.same) at c.requires.stage;
-      sound = old.sound;
-      runs = runs_none _ _ _ _ (rw (← old.same) at c.requires.piece.before);
-      silent = silence_kept _ _ _ refl;
-    })
+    record { stage = c.requires.stage; reads = goes_none _ _ _ _ c.requires.piece.before; silent = silence_kept _ _ _ refl }
 
-pub accept_entry-met-requires : goal.accept_entry-met-requires
-accept_entry-met-requires g c =
-    let here = c.loop-used.invariant in
-    let behind = rw (take_rest, c.in-Some.is) at c.whole_token-count.ensures.reads in (
-      search fits_game,
-      (
-        here.stage,
-        (omega (arith, here.sound.few_plies refl, here.sound.count), behind.reads.lengths),
-      ),
-    )
+pub whole_token-count-requires : goal.whole_token-count-requires
+whole_token-count-requires g c = rw take_rest (rw (← c.self.view_is) at (room_behind c.requires.piece.short c.loop-used.invariant.reads))
 
-pub invariant_of-self-in_default : goal.invariant_of-self-in_default
-invariant_of-self-in_default g c =
-    let here = c.loop-used.invariant in
+pub take_entry-requires : goal.take_entry-requires
+take_entry-requires g c =
+    let at = c.loop-used.invariant in
+    let old = fields_before c.self.view_is c.self.invariant (before_now at.reads) in
+    let behind = rw (take_rest, c.in-Some.is) at c.whole_token-count.ensures.reads in
+    (search fits_game, (omega (arith, old.sound.few_plies refl, old.sound.count), (rw (← c.self.view_is) at at.stage, behind.reads.lengths)))
+
+pub invariant_of-self : goal.invariant_of-self
+invariant_of-self g c =
+    let at = c.loop-used.invariant in
+    let old = fields_before c.self.view_is c.self.invariant (before_now at.reads) in
     let within = rw take_rest at c.whole_token-count.ensures.used in
-    let short = room_behind c.requires.piece.short here.runs.goes in
     let passes = rw (take_rest, c.in_default.is) at c.whole_token-count.ensures.reads in
-    rw (here.flag, here.not_finished, here.fault) (sound_past _ _ _ _ here.sound short (λ _. here.stage) passes within)
+    rw (old.flag, old.not_over, old.none)
+    (sound_past _ _ _ _ old.sound (rw (← c.self.view_is) at (room_behind c.requires.piece.short at.reads)) (λ _. rw (← c.self.view_is) at at.stage) passes within)
 
--- The token of an iteration, which the reader meets in movetext.
-module _ (g : _) (c : After-accept_entry-met g) where
-  takes : TakesUnlessMarker c.loop-used.self-inside.game (kind_of c.in-Some.token.kind) c.accept_entry-met.new.self c.accept_entry-met.result
-      (sink_of c.args.self.now.reading g.W.Sink.taken g.W.Sink.failures c.loop-used.out c.accept_entry-met.new.out)
-  takes =
-      let here = c.loop-used.invariant in
-      meets_in_movetext c.loop-used.self-inside.game c.accept_entry-met.new.self c.in-Some.token.kind c.accept_entry-met.result _ here.stage
-      (seen_alike (λ d. MeetsEntry c.loop-used.self-inside.game (kind_of c.in-Some.token.kind) c.accept_entry-met.new.self c.accept_entry-met.result d) _ _
-      (device g.W.Sink.taken g.W.Sink.failures c.loop-used.out c.accept_entry-met.new.out) here.silent.silent c.accept_entry-met.ensures.takes)
+-- The token of an iteration, which the reader takes in movetext.
+module _ (g : _) (c : After-take_entry g) where
+  old : FieldsBefore c.self.inside.lexer c.self.inside.game c.self.inside.games c.self.inside.has_finished_game c.self.inside.is_finished c.self.inside.fault c.loop-used.self
+  old = fields_before c.self.view_is c.self.invariant (before_now c.loop-used.invariant.reads)
 
-  -- the step that it is
-  steps : StepsInPiece (now_at c.loop-used.self-inside.lexer c.loop-used.self-inside.game c.loop-used.self-inside.games false)
-      (drop c.loop-used.used c.args.piece.now)
-      (after_at_end c.whole_token-count.new.self c.accept_entry-met.new.self c.loop-used.self-inside.games false c.in-Some.token.at c.accept_entry-met.result)
-      c.whole_token-count.result.0 (outcome_at c.in-Some.token.at c.accept_entry-met.result)
-      (sink_of c.args.self.now.reading g.W.Sink.taken g.W.Sink.failures c.loop-used.out c.accept_entry-met.new.out)
-  steps =
-      let here = c.loop-used.invariant in
-      steps_met_behind _ _ _ _ here.sound (room_behind c.requires.piece.short here.runs.goes) (λ _. here.stage)
-      (rw (take_rest, c.in-Some.is) at c.whole_token-count.ensures.reads) (rw take_rest at c.whole_token-count.ensures.used)
-      c.accept_entry-met.new.self c.accept_entry-met.result _ takes
+  alike : c.self.inside.game.writing.is_silent ≡ c.args.self.now.reading.writing.is_silent
+  alike = ap (λ (s : Converter). s.reading.writing.is_silent) c.self.view_is ∙ c.loop-used.invariant.silent.silent
 
-  still_sound : {finished : _} {fault : _}
-      → IsSound c.whole_token-count.new.self c.accept_entry-met.new.self c.loop-used.self-inside.games false finished fault
-  still_sound =
-      let here = c.loop-used.invariant in
-      sound_met_behind _ _ _ _ here.sound (room_behind c.requires.piece.short here.runs.goes) (λ _. here.stage)
-      (rw (take_rest, c.in-Some.is) at c.whole_token-count.ensures.reads) (rw take_rest at c.whole_token-count.ensures.used)
-      c.accept_entry-met.new.self c.accept_entry-met.result _ takes
+  silent : KeepsSilence c.args.self.now.reading c.take_entry.new.self c.args.out.now c.take_entry.new.out
+  silent =
+      silence_then _ _ _ _ _ _ c.loop-used.invariant.silent
+      (subst (λ (r : ReaderState). KeepsSilence r c.take_entry.new.self c.loop-used.out c.take_entry.new.out) (ap (λ (s : Converter). s.reading) c.self.view_is)
+      c.take_entry.ensures.silent)
+
+  module _ (taken : Result Bool Reason) (is : c.take_entry.result ≡ taken) where
+    takes : TakesPlaced c.self.inside.game (kind_of c.in-Some.token.kind) c.in-Some.token.at c.take_entry.new.self taken
+        (sink_of c.args.self.now.reading g.W.Sink.taken g.W.Sink.failures c.loop-used.out c.take_entry.new.out)
+    takes =
+        seen_alike (λ d. TakesPlaced c.self.inside.game (kind_of c.in-Some.token.kind) c.in-Some.token.at c.take_entry.new.self taken d) _ _
+        (device g.W.Sink.taken g.W.Sink.failures c.loop-used.out c.take_entry.new.out) alike (rw is at c.take_entry.ensures.takes)
+
+    abbrev here : Converter
+    here = now_at c.whole_token-count.new.self c.take_entry.new.self c.self.inside.games false
+
+    -- the step that it is
+    steps : StepsIn c.loop-used.self (drop c.loop-used.used c.args.piece.now) (settled c.in-Some.token.at taken here)
+        c.whole_token-count.result.0 (taken_at c.in-Some.token.at taken)
+        (sink_of c.args.self.now.reading g.W.Sink.taken g.W.Sink.failures c.loop-used.out c.take_entry.new.out)
+    steps =
+        let at = c.loop-used.invariant in
+        subst (λ (s : Converter). StepsIn s (drop c.loop-used.used c.args.piece.now) (settled c.in-Some.token.at taken here)
+        c.whole_token-count.result.0 (taken_at c.in-Some.token.at taken)
+        (sink_of c.args.self.now.reading g.W.Sink.taken g.W.Sink.failures c.loop-used.out c.take_entry.new.out)) old.same
+        (steps_behind _ _ _ _ old.sound (rw (← c.self.view_is) at (room_behind c.requires.piece.short at.reads)) (λ _. rw (← c.self.view_is) at at.stage)
+        (rw (take_rest, c.in-Some.is) at c.whole_token-count.ensures.reads) (rw take_rest at c.whole_token-count.ensures.used)
+        c.take_entry.new.self taken _ takes)
+
+    still_sound : IsSound c.whole_token-count.new.self c.take_entry.new.self c.self.inside.games c.self.inside.has_finished_game c.self.inside.is_finished c.self.inside.fault
+    still_sound =
+        let at = c.loop-used.invariant in
+        rw (old.flag, old.not_over, old.none)
+        (sound_behind _ _ _ _ old.sound (rw (← c.self.view_is) at (room_behind c.requires.piece.short at.reads)) (λ _. rw (← c.self.view_is) at at.stage)
+        (rw (take_rest, c.in-Some.is) at c.whole_token-count.ensures.reads) (rw take_rest at c.whole_token-count.ensures.used)
+        c.take_entry.new.self taken _ takes)
+
+    has_taken : HasTaken here taken
+    has_taken =
+        let at = c.loop-used.invariant in
+        has_taken_behind _ _ _ _ old.sound (rw (← c.self.view_is) at (room_behind c.requires.piece.short at.reads)) (λ _. rw (← c.self.view_is) at at.stage)
+        (rw (take_rest, c.in-Some.is) at c.whole_token-count.ensures.reads) (rw take_rest at c.whole_token-count.ensures.used)
+        c.take_entry.new.self taken _ takes
+
+    -- the same of its fields
+    room_for : HasTaken (view_of c.whole_token-count.new.self c.take_entry.new.self c.self.inside.games c.self.inside.has_finished_game c.self.inside.is_finished c.self.inside.fault) taken
+    room_for = rw (old.flag, old.not_over, old.none) has_taken
+
+pub invariant_of-self-in-Err : goal.invariant_of-self-in-Err
+invariant_of-self-in-Err g c = still_sound g (goal.at.invariant_of-self-in-Err g c).After-take_entry (Err c.in-Err.reason) c.in-Err.is
+
+pub settle-outcome-requires : goal.settle-outcome-requires
+settle-outcome-requires g c =
+    (search fits_alike, room_for g ((goal.at.settle-outcome-requires g c).After-take_entry) (Err c.in-Err.reason) c.in-Err.is)
+
+pub returns-in-Err-clause-steps : goal.returns-in-Err-clause-steps
+returns-in-Err-clause-steps g c =
+    let after = (goal.at.returns-in-Err-clause-steps g c).After-take_entry in
+    let old = old g after in
+    rw (c.settle-outcome.ensures.settled, c.settle-outcome.ensures.outcome, old.flag, old.not_over)
+    (steps_then c.loop-used-test.true c.loop-used.invariant.reads (steps g after (Err c.in-Err.reason) c.in-Err.is))
+
+pub returns-in-Err-clause-silent : goal.returns-in-Err-clause-silent
+returns-in-Err-clause-silent g c =
+    rw c.settle-outcome.ensures.settled (silent g ((goal.at.returns-in-Err-clause-silent g c).After-take_entry))
+
+pub invariant_of-self-then-finished : goal.invariant_of-self-then-finished
+invariant_of-self-then-finished g c =
+    let read : c.take_entry.result ≡ Ok c.in-Ok.finished = c.in-Ok.is in
+    still_sound g (goal.at.invariant_of-self-then-finished g c).After-take_entry (Ok true) (read ∙ ap Ok c.if-finished.true)
+
+pub settle-outcome-requires-then-finished : goal.settle-outcome-requires-then-finished
+settle-outcome-requires-then-finished g c =
+    (search fits_alike, room_for g ((goal.at.settle-outcome-requires-then-finished g c).After-take_entry) (Ok true) (c.in-Ok.is ∙ ap Ok c.if-finished.true))
+
+pub returns-then-finished-clause-steps : goal.returns-then-finished-clause-steps
+returns-then-finished-clause-steps g c =
+    let after = (goal.at.returns-then-finished-clause-steps g c).After-take_entry in
+    let old = old g after in
+    let read : c.take_entry.result ≡ Ok c.in-Ok.finished = c.in-Ok.is in
+    rw (c.settle-outcome-then-finished.ensures.settled, c.settle-outcome-then-finished.ensures.outcome, old.not_over, old.none)
+    (steps_then c.loop-used-test.true c.loop-used.invariant.reads (steps g after (Ok true) (read ∙ ap Ok c.if-finished.true)))
+
+pub returns-then-finished-clause-silent : goal.returns-then-finished-clause-silent
+returns-then-finished-clause-silent g c =
+    rw c.settle-outcome-then-finished.ensures.settled (silent g ((goal.at.returns-then-finished-clause-silent g c).After-take_entry))
+
+pub invariant_of-self-else-finished : goal.invariant_of-self-else-finished
+invariant_of-self-else-finished g c =
+    let read : c.take_entry.result ≡ Ok c.in-Ok.finished = c.in-Ok.is in
+    still_sound g (goal.at.invariant_of-self-else-finished g c).After-take_entry (Ok false) (read ∙ ap Ok c.if-finished.false)
 
 pub loop-used-preserved : goal.loop-used-preserved
 loop-used-preserved g c =
-    let here = c.loop-used.invariant in
-    let after = (goal.at.loop-used-preserved g c).After-accept_entry-met in
-    let read : c.accept_entry-met.result ≡ Ok c.in-Ok-None.field-0 = c.in-Ok-None.is in
-    let is : c.accept_entry-met.result ≡ Ok None = read ∙ ap Ok (rw read at c.in-Ok-None.field-0-is) in
-    record {
-      flag = here.flag;
-      not_finished = here.not_finished;
-      fault = here.fault;
-      stage = (rw is at (takes g after)).stays.1 here.stage;
-      sound = still_sound g after;
-      runs = runs_then _ _ _ _ _ _ _ _ _ _ _ _ _ c.loop-used-test.true here.runs (runs_step (rw is at (steps g after)));
-      silent = silence_then _ _ _ _ _ _ here.silent c.accept_entry-met.ensures.silent;
-    }
-
-pub invariant_of-self-in_default-met : goal.invariant_of-self-in_default-met
-invariant_of-self-in_default-met g c =
-    rw c.loop-used.invariant.flag (still_sound g (goal.at.invariant_of-self-in_default-met g c).After-accept_entry-met)
-
-pub returns-in_default-met-clause-steps : goal.returns-in_default-met-clause-steps
-returns-in_default-met-clause-steps g c =
-    let here = c.loop-used.invariant in
-    rw (here.flag, here.not_finished, c.settle-outcome.ensures.fault, c.settle-outcome.ensures.outcome)
-    (steps_behind _ _ _ _ _ _ _ _ _ _ _ _ _ c.loop-used-test.true here.runs (steps g (goal.at.returns-in_default-met-clause-steps g c).After-accept_entry-met))
+    let at = c.loop-used.invariant in
+    let after = (goal.at.loop-used-preserved g c).After-take_entry in
+    let read : c.take_entry.result ≡ Ok c.in-Ok.finished = c.in-Ok.is in
+    let is : c.take_entry.result ≡ Ok false = read ∙ ap Ok c.if-finished.false in
+    let old = old g after in
+    rw (old.flag, old.not_over, old.none) (record {
+      stage = (takes g after (Ok false) is).stays.1 (rw (← c.self.view_is) at at.stage);
+      reads = reads_in_then c.loop-used-test.true at.reads (steps g after (Ok false) is).reads;
+      silent = silent g after;
+    })
 
 -- What the loop has taken when it ends. Behind its last token it may have passed numbers.
-ran : (g : _) (c : Left-loop-used g) → Runs c.args.self.now c.args.piece.now c.loop-used-test.self c.loop-used-test.used (Ok (Some NoMarker))
+ran : (g : _) (c : Left-loop-used g) → ReadsIn c.args.self.now c.args.piece.now c.loop-used-test.self c.loop-used-test.used (Ok false)
     (sink_of c.args.self.now.reading g.W.Sink.taken g.W.Sink.failures c.args.out.now c.loop-used.out)
 ran g c =
-    let here = c.loop-used.invariant in
+    let at = c.loop-used.invariant in
     elim c.loop-used-test.branch [
-      | else-loop-used-test w ↦ rw (w.self-is, w.used-is, here.flag, here.not_finished, here.fault) here.runs
+      | else-loop-used-test w ↦ rw (w.self-is, w.used-is) at.reads
       | then-loop-used-test+in_default w ↦
-          rw (w.self-is, w.used-is, here.flag, here.not_finished, here.fault)
-          (runs_then _ _ _ _ _ _ _ _ _ _ _ _ _ w.loop-used-test.true here.runs
-          (runs_past _ _ _ _ here.sound (room_behind c.requires.piece.short here.runs.goes) (λ _. here.stage)
-          (rw (take_rest, w.in_default.is) at w.whole_token-count.ensures.reads) (rw take_rest at w.whole_token-count.ensures.used) _ _))
+          let old = fields_before w.self.view_is w.self.invariant (before_now at.reads) in
+          rw (w.self-is, w.used-is, old.flag, old.not_over, old.none)
+          (reads_in_then w.loop-used-test.true at.reads
+          (subst (λ (s : Converter). ReadsIn s (drop c.loop-used.used c.args.piece.now)
+          (now_at w.whole_token-count.new.self w.self.inside.game w.self.inside.games false) w.whole_token-count.result.0 (Ok false) (sink_of c.args.self.now.reading g.W.Sink.taken g.W.Sink.failures c.loop-used.out c.loop-used.out)) old.same
+          (reads_past _ _ _ _ _ _ (λ _. rw (← w.self.view_is) at at.stage) (rw (take_rest, w.in_default.is) at w.whole_token-count.ensures.reads) (rw take_rest at w.whole_token-count.ensures.used))))
     ]
 
 pub returns-then-used-piece-clause-steps : goal.returns-then-used-piece-clause-steps
 returns-then-used-piece-clause-steps g c =
-    steps_run (Ok (Some NoMarker)) (omega (arith, c.requires.piece.some, c.if-used-piece.true))
-    (ran g (goal.at.returns-then-used-piece-clause-steps g c).Left-loop-used)
+    steps_run (omega (arith, c.requires.piece.some, c.if-used-piece.true)) (ran g (goal.at.returns-then-used-piece-clause-steps g c).Left-loop-used)
 
 pub step_on-step-requires : goal.step_on-step-requires
 step_on-step-requires g c =
     let ran = ran g (goal.at.step_on-step-requires g c).Left-loop-used in
-    (search fits_alike, rw take_rest (before_rest c.requires.piece.short ran.goes (omega (arith, ran.goes.within, c.if-used-piece.false))))
+    (search fits_alike, rw take_rest (before_rest c.requires.piece.short ran (omega (arith, ran.goes.within, c.if-used-piece.false))))
 
 -- and that it kept silence
 kept : (g : _) (c : Left-loop-used g) → KeepsSilence c.args.self.now.reading c.loop-used-test.self.reading c.args.out.now c.loop-used.out
 kept g c =
     elim c.loop-used-test.branch [
       | else-loop-used-test w ↦ rw w.self-is c.loop-used.invariant.silent
-      | then-loop-used-test+in_default w ↦ rw w.self-is c.loop-used.invariant.silent
+      | then-loop-used-test+in_default w ↦ rw w.self-is (rw (← w.self.view_is) at c.loop-used.invariant.silent)
     ]
 
 pub returns-then-used-piece-clause-silent : goal.returns-then-used-piece-clause-silent
@@ -137,23 +188,9 @@ pub returns-clause-steps : goal.returns-clause-steps
 returns-clause-steps g c =
     let left = (goal.at.returns-clause-steps g c).Left-loop-used in
     let ran = ran g left in
-    steps_behind _ _ _ _ _ _ _ _ _ _ _ _ _ (omega (arith, ran.goes.within, c.if-used-piece.false)) ran
-    (rw take_rest at (seen_alike (StepsInPiece _ _ _ _ _) _ _ _ (kept g left).silent c.step_on-step.ensures.steps))
+    steps_then (omega (arith, ran.goes.within, c.if-used-piece.false)) ran
+    (rw take_rest at (seen_alike (StepsIn _ _ _ _ _) _ _ _ (kept g left).silent c.step_on-step.ensures.steps))
 
 pub returns-clause-silent : goal.returns-clause-silent
 returns-clause-silent g c =
     silence_then _ _ _ _ _ _ (kept g (goal.at.returns-clause-silent g c).Left-loop-used) c.step_on-step.ensures.silent
-
-pub returns-in_default-met-clause-silent : goal.returns-in_default-met-clause-silent
-returns-in_default-met-clause-silent g c = silence_then _ _ _ _ _ _ c.loop-used.invariant.silent c.accept_entry-met.ensures.silent
-
-pub invariant_of-self : goal.invariant_of-self
-invariant_of-self g c =
-    let here = c.loop-used.invariant in
-    rw (here.flag, here.not_finished, here.fault) here.sound
-
-pub whole_token-count-requires : goal.whole_token-count-requires
-whole_token-count-requires g c = rw take_rest (room_behind c.requires.piece.short c.loop-used.invariant.runs.goes)
-
-pub settle-outcome-requires : goal.settle-outcome-requires
-settle-outcome-requires g c = record { no_fault = c.loop-used.invariant.fault }

@@ -1,155 +1,137 @@
+use Rattle.pgn_game.proofs.Words.{◌≡◌, ◌∙◌, Ok, Err, None, true, false, arith, refl, sym, ap, kind_of, Result, Bool, Reason, sink_of}
 use Rattle.pgn_lexer.specs.Scanned.{token}
-use Rattle.pgn_lexer.specs.PartialToken.{refusal as refusal_token}
-use Rattle.pgn_lexer.specs.Stands.{Finishes}
-use Rattle.pgn_game.proofs.Words.{[], ◌∷◌, ◌++◌, append-nil, all_bytes, IsSound, IsTrue, Keeps, LexFault, Lexical, List, Marker, None, Ok, Err, Option, Reason, ReaderState, Result, Device, Some, Standing, Token, ℕ, arith, le_refl, sym, ap, refl, ◌∙◌, ◌≡◌, ◌&&◌, true, false, is_ok, is_end, kind_of, outcome_at, game_in_reader_if, fault, StepsAtEnd, TakesUnlessMarker}
-use Rattle.pgn_game.proofs.stepping.AcceptedToConverter.{now_at}
-use Rattle.pgn_game.proofs.stepping.ReadsInText.{between}
-use Rattle.pgn_game.proofs.stepping.MarkerToGame.{rejects_at}
-use Rattle.pgn_game.proofs.stepping.StepsAtEnd.{Nearer, after_at_end, keeps_met, closes_end, closes_token, fields_before, kept, left_by, nearer_by, counts_token, advances_at_end, counts_ok, goes_on_at, no_fault_if_ok, ready_at_end, sound_at_end, sound_behind, sound_behind_fault, sound_if_not_ok}
 use Rattle.pgn_game.proofs.ReaderFitsInMemory.{fits_game}
+use Rattle.pgn_game.proofs.putting.SilentReader.{silence_kept}
+use Rattle.pgn_game.proofs.stepping.StepsAtEnd.{counts_reason, marker_or_end, nearer_by}
+use Rattle.pgn_lexer.specs.Stands.{Finishes}
+use Rattle.pgn_game.specs.steps.PutResult.{TakesPlaced}
+use Rattle.pgn_game.proofs.flow.MarkerTaken.{placed_counts, placed_keeps}
+use Rattle.pgn_game.proofs.flow.AtEnd.{kept_or_none, left_fault, left_game_at, left_on_at, left_stop_at, nearer_end, sound_game_at_end, sound_on}
 use Rattle.pgn_game.proofs.converter.Converter.step_at_end.Goals as goal
-use Rattle.pgn_game.proofs.converter.Converter.step_at_end.Goals.{else-is_end-via-then-is_end+else-is_ok, else-is_end-via-else-is_end}
+use Rattle.pgn_game.proofs.converter.Converter.step_at_end.Goals.{After-take_copied}
 
-module _ (lexer : Standing) (reading : ReaderState) (games : ℕ) (l : Standing) where
-  -- The text is rejected.
-  steps_fault : (f : LexFault) → Finishes lexer l (fault f) → (o : Option (List ℕ)) (failures : ℕ)
-      → StepsAtEnd (now_at lexer reading games false)
-      (record (now_at l reading games false) { fault = Some (record { at = f.at; reason = Lexical f.reason }) })
-      (Err (record { at = f.at; reason = Lexical f.reason })) (between o o failures failures)
-  steps_fault f gives o failures =
-      record {
-        after = λ start u given here.
-            rejects_at start (all_bytes u) (now_at lexer reading games false) given f reading o here.reads refl
-            ([], gives.left u given here.lexer ∙ sym (append-nil (given ++ refusal_token f ∷ [])));
-        count = gives.count;
-        advances = tt;
-        ready = tt;
-        keeps = record { written = refl; games = refl; none_just_finished = refl; finished = refl; probes = le_refl _; fault = refl };
-        counted = refl;
-      }
-
-  -- The lexer gives a token, which the reader meets.
-  module _ (sound : IsSound lexer reading games false false None) (t : Token) (gives : Finishes lexer l (token t))
-      (new : ReaderState) (met : Result (Option Marker) Reason) (sink : Device) (takes : TakesUnlessMarker reading t.kind new met sink) where
-    near : Nearer (is_end t.kind) lexer l
-    near = nearer_by t.kind lexer l t gives.count gives.closes
-
-    keeps : Keeps reading new
-    keeps = kept reading new t.kind sink met takes
-
-    steps_end : is_end t.kind ≡ true → IsTrue (is_ok (outcome_at t.at met))
-        → StepsAtEnd (now_at lexer reading games false) (after_at_end l new games true t.at met) (Ok None) sink
-    steps_end is_e ok =
-        record {
-          after = λ start u given here.
-              closes_end start u _ given t l new sink here met is_e ok (rw is_e at (left_by u given t.kind l t (gives.left u given here.lexer))) takes;
-          count = gives.count;
-          advances = tt;
-          ready = tt;
-          keeps = keeps_met refl keeps refl refl refl (no_fault_if_ok t.at met ok);
-          counted = counts_ok t.at met ok sink (counts_token reading new t.kind t.at met sink takes);
-        }
-
-    steps_token : (is_end t.kind && is_ok (outcome_at t.at met)) ≡ false
-        → StepsAtEnd (now_at lexer reading games false) (after_at_end l new games false t.at met) (outcome_at t.at met) sink
-    steps_token not_ended =
-        record {
-          after = λ start u given here.
-              closes_token start u _ given t l new sink here false (is_end t.kind) met not_ended (left_by u given t.kind l t (gives.left u given here.lexer)) takes;
-          count = gives.count;
-          advances = advances_at_end lexer l t.at (is_end t.kind) met not_ended near;
-          ready = ready_at_end lexer l reading new games t.at t.kind sink (is_end t.kind) met not_ended near takes (sound.few refl) (sound.fewer_plies refl refl);
-          keeps = keeps_met refl keeps refl refl (goes_on_at t.at met) refl;
-          counted = counts_token reading new t.kind t.at met sink takes;
-        }
-
-    sound_end : is_end t.kind ≡ true → {fault : _} → IsSound l new games false true fault
-    sound_end is_e =
-        sound_at_end lexer l reading new games (rw is_e at near) sound.count (sound.few refl) (sound.fewer_plies refl refl) keeps
-
-    sound_token : is_end t.kind ≡ false → {finished : _} {fault : _} → IsSound l new games false finished fault
-    sound_token not_end =
-        sound_behind lexer l reading new games (rw not_end at near) sound.count (sound.few refl) (sound.fewer_plies refl refl) keeps
-
-pub accept_copied-met-requires : goal.accept_copied-met-requires
-accept_copied-met-requires g c =
-    let old = fields_before c.self.view_is c.self.invariant c.requires in (
+pub take_copied-requires : goal.take_copied-requires
+take_copied-requires g c =
+    let none = rw (← c.self.view_is) at c.requires.no_fault in
+    let going = rw (← c.self.view_is) at c.requires.not_finished in (
       search fits_game,
-      (omega (arith, old.sound.few_plies refl, old.sound.count), rw c.in-Token.is at c.finish.follows.holds-at-none.lengths),
+      (omega (arith, c.self.invariant.fewer_plies none going, c.self.invariant.count), rw c.in-Token.is at c.finish.follows.holds-at-none.lengths),
     )
 
-pub returns-then-is_ok-clause-steps : goal.returns-then-is_ok-clause-steps
-returns-then-is_ok-clause-steps g c =
-    let old = fields_before c.self.view_is c.self.invariant c.requires in
-    let gives = rw c.in-Token.is at c.finish.follows.holds-at-none in
-    let met = c.accept_copied-met in
-    let is_e = sym c.is_end-is_end.ensures ∙ c.if-is_end.true in
-    let ok = ap is_ok (sym c.settle-outcome.ensures.outcome) ∙ sym c.is_ok.ensures.value ∙ c.if-is_ok.true in
-    rw (← old.same, old.flag, c.settle-outcome.ensures.fault, c.settle-outcome.ensures.outcome)
-    (steps_end _ _ _ _ old.sound _ gives met.new.self met.result _ met.ensures.takes is_e ok)
+pub is_between-requires : goal.is_between-requires
+is_between-requires g c = search fits_game
 
-pub returns-in-Fault-clause-steps : goal.returns-in-Fault-clause-steps
-returns-in-Fault-clause-steps g c =
-    let old = fields_before c.self.view_is c.self.invariant c.requires in
-    rw (← old.same, old.flag, old.not_over, c.fail.ensures.kept, c.fail.ensures.outcome, c.lexical.ensures)
-    (steps_fault _ _ _ _ c.in-Fault.fault (rw c.in-Fault.is at c.finish.follows.holds-at-none) _ _)
+-- the token was taken
+module _ (g : _) (c : After-take_copied g) where
+  none : c.self.inside.fault ≡ None
+  none = rw (← c.self.view_is) at c.requires.no_fault
 
--- not the end, or a token that was not taken
-not_ended : (g : _) (c : goal.Joined-else-is_end g)
-    → (is_end (kind_of c.in-Token.token.kind) && is_ok (outcome_at c.in-Token.token.at c.accept_copied-met.result)) ≡ false
-not_ended g c =
-    let ok = ap is_ok c.settle-outcome.ensures.outcome in
-    elim c.else-is_end.branch [
-      | else-is_end-via-then-is_end+else-is_ok w ↦
-          rw (← c.is_end-is_end.ensures, w.if-is_end.true, ← ok, ← w.is_ok.ensures.value) w.if-is_ok.false
-      | else-is_end-via-else-is_end w ↦ rw (← c.is_end-is_end.ensures, w.if-is_end.false) refl
-    ]
+  going : c.self.inside.is_finished ≡ false
+  going = rw (← c.self.view_is) at c.requires.not_finished
 
-now_is : (g : _) (c : goal.Joined-else-is_end g) → c.else-is_end.self ≡ record {
-  lexer = c.finish.follows.lender-at-none;
-  reading = c.accept_copied-met.new.self;
-  games = c.self.inside.games;
-  just_finished = game_in_reader_if c.self.inside.has_finished_game c.accept_copied-met.new.self;
-  is_finished = c.self.inside.is_finished;
-  fault = c.settle-outcome.new.fault;
-}
-now_is g c =
-    elim c.else-is_end.branch [
-      | else-is_end-via-then-is_end+else-is_ok w ↦ w.self-is
-      | else-is_end-via-else-is_end w ↦ w.self-is
-    ]
+  gives : Finishes c.self.inside.lexer c.finish.follows.lender-at-none (token (record { at = c.in-Token.token.at; kind = kind_of c.in-Token.token.kind }))
+  gives = rw c.in-Token.is at c.finish.follows.holds-at-none
 
-pub returns-else-is_end-clause-steps : goal.returns-else-is_end-clause-steps
-returns-else-is_end-clause-steps g c =
-    let old = fields_before c.self.view_is c.self.invariant c.requires in
-    let gives = rw c.in-Token.is at c.finish.follows.holds-at-none in
-    let met = c.accept_copied-met in
-    rw (← old.same, now_is g c, old.flag, old.not_over, c.settle-outcome.ensures.fault, c.settle-outcome.ensures.outcome)
-    (steps_token _ _ _ _ old.sound _ gives met.new.self met.result _ met.ensures.takes (not_ended g c))
+  takes : (r : Result Bool Reason) → c.take_copied.result ≡ r → TakesPlaced c.self.inside.game (kind_of c.in-Token.token.kind) c.in-Token.token.at c.take_copied.new.self r
+      (sink_of c.self.inside.game g.W.Sink.taken g.W.Sink.failures c.args.out.now c.take_copied.new.out)
+  takes r is = rw is at c.take_copied.ensures.takes
 
-pub invariant_of-self-else-is_end : goal.invariant_of-self-else-is_end
-invariant_of-self-else-is_end g c =
-    let old = fields_before c.self.view_is c.self.invariant c.requires in
-    let gives = rw c.in-Token.is at c.finish.follows.holds-at-none in
-    let met = c.accept_copied-met in
-    rw old.flag (sound_token _ _ _ _ old.sound _ gives met.new.self met.result _ met.ensures.takes (sym c.is_end-is_end.ensures ∙ c.if-is_end.false))
+pub returns-in-Err-clause-reads : goal.returns-in-Err-clause-reads
+returns-in-Err-clause-reads g c =
+    let after = (goal.at.returns-in-Err-clause-reads g c).After-take_copied in
+    rw (← c.self.view_is) (left_stop_at _ _ _ c.take_copied.new.self _ _ _ _ (going g after) (none g after) _ (gives g after) _ c.in-Err.reason
+    (takes g after (Err c.in-Err.reason) c.in-Err.is) _ refl refl)
 
-pub invariant_of-self-in-Fault : goal.invariant_of-self-in-Fault
-invariant_of-self-in-Fault g c =
-    let old = fields_before c.self.view_is c.self.invariant c.requires in
-    rw (c.fail.ensures.kept, old.flag)
-    (sound_behind_fault _ _ _ _ _ (omega (arith, c.finish.follows.holds-at-none.count, c.self.invariant.count)))
+pub returns-in-Fault-clause-reads : goal.returns-in-Fault-clause-reads
+returns-in-Fault-clause-reads g c =
+    rw (← c.self.view_is, c.lexical-fault.ensures)
+    (left_fault _ (rw (← c.self.view_is) at c.requires.not_finished) _ (rw c.in-Fault.is at c.finish.follows.holds-at-none) _ refl refl _ 0)
 
-pub invariant_of-self-then-is_ok : goal.invariant_of-self-then-is_ok
-invariant_of-self-then-is_ok g c =
-    let old = fields_before c.self.view_is c.self.invariant c.requires in
-    let gives = rw c.in-Token.is at c.finish.follows.holds-at-none in
-    let met = c.accept_copied-met in
-    rw old.flag (sound_end _ _ _ _ old.sound _ gives met.new.self met.result _ met.ensures.takes (sym c.is_end-is_end.ensures ∙ c.if-is_end.true))
+pub returns-then-finished-clause-reads : goal.returns-then-finished-clause-reads
+returns-then-finished-clause-reads g c =
+    let after = (goal.at.returns-then-finished-clause-reads g c).After-take_copied in
+    let read : c.take_copied.result ≡ Ok c.in-Ok.finished = c.in-Ok.is in
+    let took = takes g after (Ok true) (read ∙ ap Ok c.if-finished.true) in
+    rw (← c.self.view_is, c.if-finished.true)
+    (left_game_at c.self.inside.lexer c.finish.follows.lender-at-none c.self.inside.game c.take_copied.new.self c.self.inside.games c.self.inside.has_finished_game
+    c.self.inside.is_finished c.self.inside.fault (going g after) (none g after) _ (gives g after) _ (marker_or_end _ took.takes.finished.0) took)
 
-pub invariant_of-self-else-is_ok : goal.invariant_of-self-else-is_ok
-invariant_of-self-else-is_ok g c =
-    let old = fields_before c.self.view_is c.self.invariant c.requires in
-    let not_ok = ap is_ok (sym c.settle-outcome.ensures.outcome) ∙ sym c.is_ok.ensures.value ∙ c.if-is_ok.false in
-    rw (old.flag, c.settle-outcome.ensures.fault, c.settle-outcome.ensures.outcome)
-    (sound_if_not_ok _ _ _ _ c.in-Token.token.at c.accept_copied-met.result not_ok (omega (arith, c.finish.follows.holds-at-none.count, c.self.invariant.count)))
+pub returns-else-finished-clause-reads : goal.returns-else-finished-clause-reads
+returns-else-finished-clause-reads g c =
+    let after = (goal.at.returns-else-finished-clause-reads g c).After-take_copied in
+    let read : c.take_copied.result ≡ Ok c.in-Ok.finished = c.in-Ok.is in
+    let took = takes g after (Ok false) (read ∙ ap Ok c.if-finished.false) in
+    rw (← c.self.view_is, c.if-finished.false)
+    (left_on_at c.self.inside.lexer c.finish.follows.lender-at-none c.self.inside.game c.take_copied.new.self c.self.inside.games c.self.inside.has_finished_game
+    c.self.inside.is_finished c.self.inside.fault (going g after) (none g after) _ (gives g after) _ c.is_between.result
+    c.is_end-is_end.result took c.is_between.ensures.0 (sym c.is_end-is_end.ensures))
+
+pub returns-in-Err-clause-goes : goal.returns-in-Err-clause-goes
+returns-in-Err-clause-goes g c =
+    let after = (goal.at.returns-in-Err-clause-goes g c).After-take_copied in
+    let took = takes g after (Err c.in-Err.reason) c.in-Err.is in
+    rw (← c.self.view_is) (record {
+      count = (gives g after).count;
+      nearer = tt;
+      games = omega arith;
+      kept = refl;
+      unfinished = going g after;
+      fault = refl;
+      probes = (placed_keeps _ _ _ _ (Err c.in-Err.reason) _ took).probes;
+      counted = counts_reason c.in-Err.reason (sink_of c.self.inside.game g.W.Sink.taken g.W.Sink.failures c.args.out.now c.take_copied.new.out)
+          (placed_counts _ _ _ _ c.in-Err.reason _ took);
+    })
+
+pub returns-then-finished-clause-goes : goal.returns-then-finished-clause-goes
+returns-then-finished-clause-goes g c =
+    let after = (goal.at.returns-then-finished-clause-goes g c).After-take_copied in
+    let read : c.take_copied.result ≡ Ok c.in-Ok.finished = c.in-Ok.is in
+    let took = takes g after (Ok true) (read ∙ ap Ok c.if-finished.true) in
+    let near = rw (marker_or_end _ took.takes.finished.0) at (nearer_by _ _ _ _ (gives g after).count (gives g after).closes) in
+    rw (← c.self.view_is, going g after, none g after, c.if-finished.true) (record {
+      count = (gives g after).count;
+      nearer = omega (arith, near.0);
+      games = refl;
+      kept = refl;
+      unfinished = refl;
+      fault = refl;
+      probes = took.takes.keeps.probes;
+      counted = took.takes.counted;
+    })
+
+pub returns-else-finished-clause-goes : goal.returns-else-finished-clause-goes
+returns-else-finished-clause-goes g c =
+    let after = (goal.at.returns-else-finished-clause-goes g c).After-take_copied in
+    let read : c.take_copied.result ≡ Ok c.in-Ok.finished = c.in-Ok.is in
+    let took = takes g after (Ok false) (read ∙ ap Ok c.if-finished.false) in
+    rw (← c.self.view_is, going g after, none g after, c.if-finished.false) (record {
+      count = (gives g after).count;
+      nearer = nearer_end _ _ c.is_end-is_end.result (rw (sym c.is_end-is_end.ensures) at (nearer_by _ _ _ _ (gives g after).count (gives g after).closes));
+      games = omega arith;
+      kept = kept_or_none c.self.inside.game c.take_copied.new.self c.self.inside.has_finished_game c.is_between.result took.stays.0 c.is_between.ensures.1;
+      unfinished = tt;
+      fault = refl;
+      probes = took.keeps.probes;
+      counted = took.counted;
+    })
+
+pub invariant_of-self-then-finished : goal.invariant_of-self-then-finished
+invariant_of-self-then-finished g c =
+    let after = (goal.at.invariant_of-self-then-finished g c).After-take_copied in
+    let read : c.take_copied.result ≡ Ok c.in-Ok.finished = c.in-Ok.is in
+    let took = takes g after (Ok true) (read ∙ ap Ok c.if-finished.true) in
+    let near = rw (marker_or_end _ took.takes.finished.0) at (nearer_by _ _ _ _ (gives g after).count (gives g after).closes) in
+    sound_game_at_end c.self.inside.lexer c.finish.follows.lender-at-none c.self.inside.game c.take_copied.new.self c.self.inside.games near.0 near.1 c.self.invariant.count (c.self.invariant.few (none g after))
+    (c.self.invariant.fewer_plies (none g after) (going g after)) took.takes.keeps took.takes.finished.1 (none g after)
+
+pub invariant_of-self-else-finished : goal.invariant_of-self-else-finished
+invariant_of-self-else-finished g c =
+    let after = (goal.at.invariant_of-self-else-finished g c).After-take_copied in
+    let read : c.take_copied.result ≡ Ok c.in-Ok.finished = c.in-Ok.is in
+    let took = takes g after (Ok false) (read ∙ ap Ok c.if-finished.false) in
+    sound_on c.self.inside.lexer c.finish.follows.lender-at-none c.self.inside.game c.take_copied.new.self c.self.inside.games c.is_end-is_end.result _ _
+    (rw (sym c.is_end-is_end.ensures) at (nearer_by _ _ _ _ (gives g after).count (gives g after).closes)) c.self.invariant.count
+    (c.self.invariant.few (none g after)) (c.self.invariant.fewer_plies (none g after) (going g after)) took.keeps c.is_between.ensures.0 (none g after)
+
+pub returns-in-Fault-clause-silent : goal.returns-in-Fault-clause-silent
+returns-in-Fault-clause-silent g c = rw (← c.self.view_is) (silence_kept _ _ _ refl)

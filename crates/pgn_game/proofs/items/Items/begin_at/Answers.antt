@@ -1,6 +1,7 @@
 use Rattle.pgn_game.proofs.Words.{arith, refl, sym, inl, no_progress, none, false≢true, append-nil, []}
 use Rattle.pgn_game.specs.public.ItemsCalls.{within}
 use Rattle.pgn_game.proofs.stepping.SoundAtStart.{sound_at_start}
+use Rattle.pgn_game.proofs.stepping.StepsInPiece.{before_any}
 use Rattle.pgn_game.proofs.giving.CurrentFitsInMemory.{items_fit_current}
 use Rattle.pgn_game.proofs.giving.ItemsAtStart.{spaces_decide_none}
 use Rattle.pgn_game.proofs.items.Items.begin_at.Goals as goal
@@ -20,7 +21,7 @@ returns-clause-begins g c = λ left. rw (c.new.ensures, c.new-2.ensures) (record
     bytes = sym (append-nil _);
     stands = record {
       known = λ writes. refl;
-      lexer = c.begin_at.ensures.stands;
+      lexer = before_any c.begin_at.ensures.stands;
       has_read = record {
         profile = refl;
         no_fault = refl;
@@ -33,7 +34,6 @@ returns-clause-begins g c = λ left. rw (c.new.ensures, c.new-2.ensures) (record
         just_finished = tt;
       };
     };
-    at_limit = λ full. sym (spaces_decide_none c.args.place c.args.in_first_column);
     decided = inl (sym (spaces_decide_none c.args.place c.args.in_first_column));
     not_finished = refl;
   });
