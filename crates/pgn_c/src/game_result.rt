@@ -18,7 +18,7 @@ use pgn_game::{Converter, Fault, Marker, Reason};
 pub const NO_GAME: u32 = 4;
 /// The text has a fault only if it ends here.
 pub const MORE: u32 = 5;
-/// The place is behind the text, or above 2^62.
+/// The place is after the text, or above 2^62.
 pub const BAD_PLACE: u32 = 6;
 
 /// The next game of a text, `struct pgn_game` in C.
@@ -26,7 +26,7 @@ pub const BAD_PLACE: u32 = 6;
 #[derive(Clone, Copy)]
 pub struct PgnGame {
     /// 0: a game. 1: a fault. 2: the buffer is full. 3: an argument has no such value. 4: no game
-    /// is left. 5: the fault is there only if the text ends here. 6: `from` is behind the text.
+    /// is left. 5: the fault is there only if the text ends here. 6: `from` is after the text.
     pub status: u32,
     /// The number of the fault, 1 to 52; 0 where there is none.
     pub fault: u32,
@@ -34,7 +34,7 @@ pub struct PgnGame {
     pub place: u64,
     /// How many bytes of the buffer were written.
     pub written: usize,
-    /// The place behind the game's termination marker; 0 if there is no game.
+    /// The place after the game's termination marker; 0 if there is no game.
     pub end: usize,
     /// The place of the marker; 0 if there is no game.
     pub marker_at: usize,
@@ -44,10 +44,10 @@ pub struct PgnGame {
     pub reason_at: usize,
     /// The marker: 1 White wins, 2 Black wins, 3 a draw, 4 not known; 0 if there is no game.
     pub marker: u32,
-    /// The fault as a line, and zeros behind it; zeros alone where there is none.
+    /// The fault as a line, and zeros after it; zeros alone where there is none.
     pub message: [u8; 104],
     /// The FEN of the position at the end of the game, or in which a move was rejected, and zeros
-    /// behind it; zeros alone where there is neither.
+    /// after it; zeros alone where there is neither.
     pub fen: [u8; 96],
 }
 
@@ -165,7 +165,7 @@ pub fn marker_of_number(number: u32) -> Marker
     }
 }
 
-// The FEN of a position, and zeros behind it.
+// The FEN of a position, and zeros after it.
 #[inline(always)]
 fn fen_of(position: Option<&Position>) -> [u8; 96]
     ensures { result ≡ fen_bytes (option_copied position.entry) }

@@ -68,13 +68,13 @@ pub struct PgnItems {
     pub place: u64,
     /// How many bytes of the buffer were written.
     pub written: usize,
-    /// The number of the item behind those that were written.
+    /// The number of the item after those that were written.
     pub next_item: u64,
-    /// The place behind the game's marker; 0 unless all its items were written.
+    /// The place after the game's marker; 0 unless all its items were written.
     pub end: usize,
     /// Where the reason begins in the message.
     pub reason_at: usize,
-    /// The fault as a line, `byte N: REASON`, and zeros behind it; zeros alone where there is none.
+    /// The fault as a line, `byte N: REASON`, and zeros after it; zeros alone where there is none.
     pub message: [u8; 104],
 }
 

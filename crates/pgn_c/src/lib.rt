@@ -182,7 +182,7 @@ pub extern "C" fn pgn_san(fen: &[u8], text: &[u8], notation: u32) -> PgnMove
 /// The text has moves in one notation with white space between them. Move numbers and periods that
 /// stand alone, as `1.` and `12...`, are passed. Each ply is a line. Of the six formats, 0, 2 and 4
 /// read SAN, and 1, 3 and 5 read UCI. With 0 and 1 the line has the ply's SAN and its UCI, each
-/// with a tab behind it, and the FEN of the position after it, with LF. With 2 and 3 it has the FEN
+/// with a tab after it, and the FEN of the position after it, with LF. With 2 and 3 it has the FEN
 /// and LF alone, and with 4 and 5 the key of that position (`pgn_key`) and LF.
 ///
 /// - Status 0: the buffer has the lines of all plies.
@@ -212,14 +212,14 @@ pub extern "C" fn pgn_line(fen: &[u8], text: &[u8], format: u32, buffer: &mut [u
 /// missing Result counts as `*`. If it is 1, it takes the game's marker, and then nothing is
 /// written of a game at fault. Another number is status 3.
 ///
-/// - Status 0: a game. The buffer has its export text. Bytes behind the one at `end` do not matter.
-/// - Status 1: a token of the game is rejected, whatever comes behind the text. Or the text has a
+/// - Status 0: a game. The buffer has its export text. Bytes after the one at `end` do not matter.
+/// - Status 1: a token of the game is rejected, whatever comes after the text. Or the text has a
 ///   byte at place 2^62, and those before it hold no game.
 /// - Status 2: the buffer is full.
 /// - Status 3: there is no such mode or missing Result. Nothing was read or written.
 /// - Status 4: no game is left.
 /// - Status 5: no token is rejected so far. If the text ends here, this is its fault.
-/// - Status 6: the place is behind the text, or above 2^62. Nothing was read or written.
+/// - Status 6: the place is after the text, or above 2^62. Nothing was read or written.
 #[unsafe(no_mangle)]
 pub extern "C" fn pgn_next_game(
     text: &[u8],
@@ -270,14 +270,14 @@ pub extern "C" fn pgn_read_game(
 /// of a call whose buffer was full. `from` and the places are as for `pgn_next_game`, a missing
 /// Result counts as `*`, and the text ends where it ends: no more comes.
 ///
-/// - Status 0: the buffer has the lines of all items. `end` is the place behind the game's marker.
+/// - Status 0: the buffer has the lines of all items. `end` is the place after the game's marker.
 /// - Status 1: the text has a fault before the game's marker. The buffer has the lines of the items
 ///   before it. The last one has no LF if a comment is open there.
 /// - Status 2: the buffer is full. It has as many whole lines as there is room for, and `next_item`
 ///   is the number of the next one. The other bytes of the buffer may have changed.
 /// - Status 3: there are no such fields. Nothing was read or written.
 /// - Status 4: no game is left.
-/// - Status 6: `from` is behind the text, or the text has more than 2^62 bytes. Nothing was read or
+/// - Status 6: `from` is after the text, or the text has more than 2^62 bytes. Nothing was read or
 ///   written.
 #[unsafe(no_mangle)]
 pub extern "C" fn pgn_items(
@@ -303,7 +303,7 @@ pub extern "C" fn pgn_items(
 ///
 /// - Status 0: the result has the places of name and value, and that of the next line. The length
 ///   of the value counts its backslashes.
-/// - Status 1: no such line begins there, or the place is behind the text.
+/// - Status 1: no such line begins there, or the place is after the text.
 #[unsafe(no_mangle)]
 pub extern "C" fn pgn_tag_at(text: &[u8], at: usize) -> PgnTag
     ensures { TagResult text.now at result }
@@ -315,7 +315,7 @@ pub extern "C" fn pgn_tag_at(text: &[u8], at: usize) -> PgnTag
 /// look at the game pays.
 ///
 /// The text is that of one game, from its first byte to its marker. A move number is a symbol of
-/// digits with a period behind it, outside comments and variations. It runs if it is not lower than
+/// digits with a period after it, outside comments and variations. It runs if it is not lower than
 /// the number before it, and higher by at most the moves between, of which a single ply counts as
 /// one. The first number of a game runs, whatever it is.
 ///
@@ -337,7 +337,7 @@ pub extern "C" fn pgn_check_numbers(text: &[u8]) -> PgnNumber
     check_numbers(text)
 }
 
-/// Reads the next piece of the text of a bad game, and finds where reading goes on behind it.
+/// Reads the next piece of the text of a bad game, and finds where reading goes on after it.
 ///
 /// The first piece begins at `begin`, where the game before ends, and `at` is the same place. Each
 /// further one begins at the byte `at` of the text. If `is_last` is not 0, nothing follows the
@@ -345,9 +345,9 @@ pub extern "C" fn pgn_check_numbers(text: &[u8]) -> PgnNumber
 ///
 /// - Status 0: the result has the place, which lies above `begin`. It is a guess: the next line
 ///   that begins a tag section. `at` is this place.
-/// - Status 4: no place is in this text. All the rest belongs to the bad game. `at` is behind the
+/// - Status 4: no place is in this text. All the rest belongs to the bad game. `at` is after the
 ///   text, and `comment_at` is the comment that is open there, if `has_comment`.
-/// - Status 5: the whole lines of the piece are read. `at` is behind them, and the next piece
+/// - Status 5: the whole lines of the piece are read. `at` is after them, and the next piece
 ///   begins there.
 /// - Status 3: there are no such `ends`. Nothing was read.
 /// - Status 6: the piece would end at 2^64 or above. Nothing was read.

@@ -167,7 +167,7 @@ fn push_next(
     }
 }
 
-// Adds a field, and the byte behind it.
+// Adds a field, and the byte after it.
 fn push_field(line: &mut ArrayVec<u8, 108>, field: &[u8], end: u8)
     requires { length line.old.items + length field.now + 1 ≤ 108 }
     ensures { line.new.items ≡ line.old.items ++ spec.field field.now end }

@@ -47,7 +47,7 @@ pub struct WrongNumber {
     pub before: u64,
 }
 
-/// What is found in a game. What is behind a wrong number is not looked at.
+/// What is found in a game. What is after a wrong number is not looked at.
 #[derive(Clone, Copy)]
 pub struct Findings {
     pub wrong: Option<WrongNumber>,
@@ -59,7 +59,7 @@ pub struct Findings {
 pub struct Numbering {
     /// How many variations are open.
     pub depth: usize,
-    /// How many plies of the main line are behind its last number.
+    /// How many plies of the main line are after its last number.
     pub plies: usize,
     /// The last number of the main line.
     pub before: Option<u64>,
@@ -176,7 +176,7 @@ fn begins_glyph(text: &[u8]) -> bool
     false
 }
 
-// What is known behind a symbol that begins with a letter, and so is no number.
+// What is known after a symbol that begins with a letter, and so is no number.
 #[inline(always)]
 fn with_ply(numbering: Numbering) -> Numbering
     requires { numbering.plies < 2 ^ 63 }
@@ -196,7 +196,7 @@ fn with_ply(numbering: Numbering) -> Numbering
     }
 }
 
-// What is known behind a symbol.
+// What is known after a symbol.
 #[inline(always)]
 fn with_symbol(numbering: Numbering, at: usize, text: &[u8]) -> Numbering
     requires { numbering.plies < 2 ^ 63 }
@@ -231,7 +231,7 @@ fn wrong_at_period(numbering: &Numbering) -> Option<WrongNumber>
     })
 }
 
-// Whether a number runs behind the one before it, with so many plies between them.
+// Whether a number runs after the one before it, with so many plies between them.
 fn runs(before: u64, plies: usize, number: u64) -> bool
     requires { plies < 2 ^ 63 }
     ensures { result ≡ spec.runs before plies number }
@@ -241,7 +241,7 @@ fn runs(before: u64, plies: usize, number: u64) -> bool
     before <= number && number - before <= rounded / 2
 }
 
-// What is known behind a period.
+// What is known after a period.
 #[inline(always)]
 fn with_period(numbering: Numbering) -> Numbering
     ensures { result ≡ steps.with_period numbering }
@@ -268,7 +268,7 @@ fn with_period(numbering: Numbering) -> Numbering
     }
 }
 
-// What is known behind another byte, and what belongs to it.
+// What is known after another byte, and what belongs to it.
 #[inline(always)]
 fn with_other(numbering: Numbering, byte: u8) -> Numbering
     requires { numbering.depth < 2 ^ 63 }
@@ -362,7 +362,7 @@ fn symbol_length(text: &[u8]) -> usize
     end
 }
 
-// How many bytes behind this one belong to it, as a comment to its brace.
+// How many bytes after this one belong to it, as a comment to its brace.
 fn skipped_length(byte: u8, behind: &[u8]) -> usize
     ensures value { result ≡ parts.skipped byte behind.now }
     ensures within { result ≤ length behind.now }

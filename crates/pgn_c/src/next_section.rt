@@ -1,4 +1,4 @@
-//! Where reading goes on behind a bad game, as C gets it.
+//! Where reading goes on after a bad game, as C gets it.
 ghost use Rattle.std.specs.Prelude.{◌≡◌, ◌<◌, ◌^◌, Some};
 ghost use Rattle.pgn_c.specs.NextSection as spec;
 

@@ -34,7 +34,7 @@ pub struct PgnResult {
     pub plies: u64,
     /// Where the reason begins in the message.
     pub reason_at: usize,
-    /// The fault as a line, `byte N: REASON`, and zeros behind it; zeros alone where there is none.
+    /// The fault as a line, `byte N: REASON`, and zeros after it; zeros alone where there is none.
     pub message: [u8; 104],
 }
 
@@ -96,7 +96,7 @@ fn status_for(reason: Reason) -> u32
     }
 }
 
-// The text, and zeros behind it.
+// The text, and zeros after it.
 pub fn padded<const N: usize>(text: &[u8]) -> [u8; N]
     requires { length text.now ≤ N }
     ensures { result ≡ spec.padded N text.now }

@@ -19,11 +19,11 @@ pub struct PgnMove {
     pub fault: u32,
     /// The field of the FEN that is at fault, 1 to 7; 0 where none is.
     pub field: u32,
-    /// The move's SAN, and zeros behind it.
+    /// The move's SAN, and zeros after it.
     pub san: [u8; 8],
-    /// The move in UCI, and zeros behind it.
+    /// The move in UCI, and zeros after it.
     pub uci: [u8; 8],
-    /// The FEN of the position after the move, and zeros behind it.
+    /// The FEN of the position after the move, and zeros after it.
     pub fen: [u8; 96],
 }
 

@@ -16,7 +16,7 @@ pub struct PgnTag {
     /// Where the name begins, and how many bytes it has.
     pub name_at: usize,
     pub name_length: usize,
-    /// Where the value begins behind its quote, and how many bytes it has up to the other one. In
+    /// Where the value begins after its quote, and how many bytes it has up to the other one. In
     /// it each quote and each backslash has a backslash before it.
     pub value_at: usize,
     pub value_length: usize,
@@ -62,7 +62,7 @@ fn first_pair(text: &[u8]) -> Option<PairLengths>
     }
 }
 
-// The lengths of the pair, if the text has what is behind its bracket.
+// The lengths of the pair, if the text has what is after its bracket.
 fn pair_behind_bracket(text: &[u8]) -> Option<PairLengths>
     ensures { result ≡ tag_scan.pair_behind_name (tag_scan.name_length text.now) text.now }
 {
@@ -76,7 +76,7 @@ fn pair_behind_bracket(text: &[u8]) -> Option<PairLengths>
     }
 }
 
-// The lengths of the pair, if the text has what is behind the first quote.
+// The lengths of the pair, if the text has what is after the first quote.
 fn pair_behind_quote(name: usize, text: &[u8]) -> Option<PairLengths>
     ensures { result ≡ tag_scan.pair_behind_value name text.now (tag_scan.value_length text.now) }
 {
@@ -89,7 +89,7 @@ fn pair_behind_quote(name: usize, text: &[u8]) -> Option<PairLengths>
     }
 }
 
-// The text behind these bytes, if it begins with them.
+// The text after these bytes, if it begins with them.
 fn text_behind<'a>(text: &'a [u8], front: &[u8]) -> Option<&'a [u8]>
     ensures { MatchOption result (tag_scan.text_behind front.now text.now ≡ None)
         (λ rest. tag_scan.text_behind front.now text.now ≡ Some rest.now) }

@@ -14,7 +14,7 @@ pub trait Sink {
     // The bytes taken so far, if the sink reports them.
     ghost taken: { Self → Option (List ℕ) };
 
-    // How many calls have failed; the count stays at 2^64 - 1.
+    // How many calls have failed; the count stops at 2^64 - 1.
     ghost failures: { Self → ℕ };
 
     // The bytes taken that a flush has to pass on, if the sink reports them.

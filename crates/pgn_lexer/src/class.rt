@@ -118,7 +118,7 @@ pub(crate) fn run_end(bytes: &[u8], from: usize, set: Set) -> usize
 }
 
 /// How many bytes a run has that begins with the first of these, and goes on with bytes of the set.
-/// `None` if it may go on behind these bytes, or is longer than the longest.
+/// `None` if it may go on after these bytes, or is longer than the longest.
 #[inline(always)]
 pub(crate) fn run_length(bytes: &[u8], set: Set, longest: usize) -> Option<usize>
     requires some { 0 < length bytes.now }

@@ -51,7 +51,7 @@ pub fn numbers_are_symbols()
     ensures { laws.NumbersAreSymbols }
 {}
 
-/// Behind a symbol or an asterisk, the tokens are the same if all bytes up to its end are spaces.
+/// After a symbol or an asterisk, the tokens are the same if all bytes up to its end are spaces.
 ///
 /// So a text can be read on from the end of a termination marker (PGN 8.2.6), by a lexer of
 /// `Lexer::begin_at` that is not in the first column.

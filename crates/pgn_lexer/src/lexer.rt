@@ -67,7 +67,7 @@ impl Lexer {
     /// order mark is skipped at place 0 alone.
     ///
     /// `in_first_column` says whether the place is in the first column, where a percent sign begins
-    /// an escape line (PGN 6): behind a carriage return or a line feed, or behind a byte order
+    /// an escape line (PGN 6): after a carriage return or a line feed, or after a byte order
     /// mark. Place 0 always is. Above place 2^62 only `finish` can be called.
     pub fn begin_at(place: u64, in_first_column: bool) -> Lexer
         ensures stands { StandsAfter result (white_space place in_first_column) None [] }
@@ -130,12 +130,12 @@ impl Lexer {
     /// Returns how many bytes were used, and the first token of the piece if it lies there as a
     /// whole. Its text is borrowed from the piece.
     ///
-    /// A symbol, a word of a comment, a NAG or a suffix ends where the byte behind it does not
+    /// A symbol, a word of a comment, a NAG or a suffix ends where the byte after it does not
     /// continue it. So that byte has to be in the piece too; it is not used. If numbers are
     /// skipped, symbols of digits alone and periods are passed as white space is, and not returned.
     ///
     /// With `None` the bytes used were passed, and what comes is left to `next`. It began in an
-    /// earlier piece or may go on behind this one. Or it has an escape, is rejected, is an escape
+    /// earlier piece or may go on after this one. Or it has an escape, is rejected, is an escape
     /// line, or is the start of the text. `count` and the length of the piece must be together at
     /// most 2^62.
     ///

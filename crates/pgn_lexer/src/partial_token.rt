@@ -176,7 +176,7 @@ impl Text {
         }
     }
 
-    /// The mode behind it.
+    /// The mode after it.
     #[inline(always)]
     pub(crate) fn mode_behind(self) -> LexMode
         ensures { result ≡ mode_behind self }

@@ -22,7 +22,7 @@ pub enum Ends {
     Nowhere,
 }
 
-/// A bad game whose lines are read in turn, to find where reading goes on behind it.
+/// A bad game whose lines are read in turn, to find where reading goes on after it.
 #[derive(Clone, Copy, PartialEq, Eq, Debug)]
 pub struct BadGame {
     /// Where the game before it ends.
@@ -168,7 +168,7 @@ impl BadGame {
         }
     }
 
-    // Escape lines just before the next game belong to it, if they are behind the fault.
+    // Escape lines just before the next game belong to it, if they are after the fault.
     fn before_escapes(&self, place: usize) -> usize
         ensures before { result ≡ spec.before_escapes self.now.fault self.now.escapes_at place }
         ensures within { HasEscapesBefore self.now → self.now.at ≤ place → result ≤ place }
@@ -185,7 +185,7 @@ impl BadGame {
         }
     }
 
-    // Where reading goes on behind the end: also behind a byte order mark that stands there.
+    // Where reading goes on after the end: also after a byte order mark that stands there.
     fn behind_mark(&self, line: &Line, end: usize) -> usize
         requires { self.now.at + line.now.length < 2 ^ 64 }
         ensures place { result ≡ line_spec.behind_mark self.now line.now end }

@@ -1,4 +1,4 @@
-//! Where reading goes on behind a bad game.
+//! Where reading goes on after a bad game.
 //!
 //! A bad game says nothing sure of its end, so its end is a guess: before the next line that begins
 //! a tag section. [`next_section`] reads a whole text, a [`BadGame`] the whole lines of a text in
@@ -22,7 +22,7 @@ mod text;
 pub use crate::bad_game::{BadGame, Ends};
 pub use crate::search::SectionSearch;
 
-/// Returns where reading goes on behind a bad game, by guess.
+/// Returns where reading goes on after a bad game, by guess.
 ///
 /// `begin` is where the game before ends, and `fault` the place of the fault. Places are byte
 /// offsets in the text. The result lies above `begin`. It is `None` if no line of the text shows

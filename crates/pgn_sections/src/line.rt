@@ -35,7 +35,7 @@ pub(crate) struct Line {
     pub mark_at: usize,
     /// That mark.
     pub mark: MarkSearch,
-    /// Its tag pairs, and the text behind them.
+    /// Its tag pairs, and the text after them.
     pub front: FrontOfLine,
 }
 

@@ -1,4 +1,4 @@
-//! The lines of a text, and where reading goes on in them behind a bad game.
+//! The lines of a text, and where reading goes on in them after a bad game.
 ghost use Rattle.std.specs.Prelude.{◌≡◌, ◌+◌, ◌-◌, ◌<◌, ◌≤◌, ◌^◌, IfSome, Some, None, drop, length, take};
 ghost use Rattle.pgn_sections.specs.FirstLine.{line_from, line_to_return as line_to_return_of};
 ghost use Rattle.pgn_sections.specs.Pieces.{FindsPlace, IsSameGame};
@@ -6,13 +6,13 @@ ghost use Rattle.pgn_sections.specs.Pieces.{FindsPlace, IsSameGame};
 use crate::bad_game::BadGame;
 
 impl BadGame {
-    /// Reads the next piece of the text, and returns where reading goes on behind the game.
+    /// Reads the next piece of the text, and returns where reading goes on after the game.
     ///
     /// The piece begins at the byte `at` of the text. If it `is_last`, nothing follows it. `at` and
     /// the length of the piece are together below 2^64. The result lies above `begin`.
     ///
-    /// With `None` the game has read the whole lines of the piece, and `at` is behind them. The
-    /// bytes from there on are the front of the next piece. Behind the last piece `None` says that
+    /// With `None` the game has read the whole lines of the piece, and `at` is after them. The
+    /// bytes from there on are the front of the next piece. After the last piece `None` says that
     /// the place is not in this text. `comment_at` is then the comment that is open at its end.
     ///
     /// With a place, `at` is this place. The game has read the lines before the one that shows it.
@@ -70,7 +70,7 @@ fn line_length(text: &[u8], is_last: bool) -> Option<usize>
     }
 }
 
-// The length of a line that a CR ends, with this text behind it.
+// The length of a line that a CR ends, with this text after it.
 fn line_to_return(before: usize, text: &[u8], is_last: bool) -> Option<usize>
     requires { before + 1 + length text.now < 2 ^ 64 }
     ensures length { result ≡ line_to_return_of is_last before text.now }

@@ -15,7 +15,7 @@ pub(crate) enum Comment {
     RestOfLine,
 }
 
-/// How much of a move number is read: digits with a period behind them.
+/// How much of a move number is read: digits with a period after them.
 #[derive(Clone, Copy)]
 pub(crate) enum Number {
     Blank,

@@ -1,4 +1,4 @@
-//! Tag pairs at the front of a line, and the text behind them.
+//! Tag pairs at the front of a line, and the text after them.
 ghost use Rattle.std.specs.Prelude.{◌≡◌};
 ghost use Rattle.pgn_sections.specs.PairProgress as spec;
 ghost use Rattle.pgn_sections.specs.declared.pair.PairProgress.TheVariants.{BehindBackslash, BehindLeft, BehindValue};
@@ -36,7 +36,7 @@ pub(crate) struct FrontOfLine {
     pub pair: PairProgress,
     /// Whether the line begins with a whole tag pair.
     pub has_pair: bool,
-    /// The text behind the last whole pair.
+    /// The text after the last whole pair.
     pub text: Text,
 }
 

@@ -1,4 +1,4 @@
-//! A search for where reading goes on behind a bad game, in pieces that are cut anywhere.
+//! A search for where reading goes on after a bad game, in pieces that are cut anywhere.
 ghost use Rattle.std.specs.Prelude.{◌≡◌, ◌+◌, ◌<◌, ◌≤◌, ◌^◌, ◌++◌, [], Bool, IfSome, List, Some, ℕ, true, false, length};
 ghost use Rattle.pgn_sections.specs.Search as spec;
 
@@ -51,7 +51,7 @@ impl LineReader {
         }
     }
 
-    // A byte behind a CR ends the line, if it is no LF.
+    // A byte after a CR ends the line, if it is no LF.
     fn end_line_before(self, byte: u8) -> LineReader
         requires { IsSound self }
         ensures reader { result ≡ spec.line_ended_in self.found self byte }
@@ -145,7 +145,7 @@ impl LineReader {
     }
 }
 
-/// Searches a text that comes in pieces for where reading goes on behind a bad game, by guess.
+/// Searches a text that comes in pieces for where reading goes on after a bad game, by guess.
 ///
 /// The pieces may be cut anywhere: in a line, or between CR and LF. The search keeps what it needs
 /// of a line, and no text. So its size is constant, however long a line is.
@@ -205,7 +205,7 @@ impl SectionSearch {
     /// it.
     ///
     /// `None` says that the whole lines so far show no place. A line is whole if it ends with an
-    /// LF, or with a CR and another byte behind it. Once a place is found, each further call
+    /// LF, or with a CR and another byte after it. Once a place is found, each further call
     /// returns it. It lies above `begin`, and at most at the end of the bytes read. `begin` and the
     /// lengths of all pieces must be together below 2^64.
     pub fn feed(&mut self, piece: &[u8]) -> Option<usize>

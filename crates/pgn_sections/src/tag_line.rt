@@ -176,7 +176,7 @@ fn behind_name(name: EventName, byte: u8) -> TagProgress
     }
 }
 
-// A percent sign behind the bracket is that of a word such as `[%clk` in a comment.
+// A percent sign after the bracket is that of a word such as `[%clk` in a comment.
 fn behind_bracket(byte: u8) -> TagProgress
     ensures { result ≡ spec.tag_after BehindBracket byte }
 {

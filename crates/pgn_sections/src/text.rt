@@ -1,4 +1,4 @@
-//! The text of a line behind its tag pairs.
+//! The text of a line after its tag pairs.
 ghost use Rattle.std.specs.Prelude.{◌≡◌, ◌&&◌, ◌==◌};
 ghost use Rattle.pgn_sections.specs.Text as spec;
 
@@ -40,7 +40,7 @@ pub(crate) struct MarkerFronts {
 #[derive(Clone, Copy)]
 pub(crate) struct Word {
     pub fronts: MarkerFronts,
-    /// Whether white space is behind it.
+    /// Whether white space is after it.
     pub is_ended: bool,
 }
 

@@ -11,7 +11,7 @@ use crate::token::LexReason;
 /// What a byte between tokens begins.
 #[derive(Clone, Copy)]
 pub(crate) enum Begins {
-    /// White space, and the mode behind it.
+    /// White space, and the mode after it.
     Gap(LexMode),
     /// A text, of which it is the first byte.
     Text(Text),
@@ -19,7 +19,7 @@ pub(crate) enum Begins {
     Str,
     /// A NAG, whose digits follow.
     Dollar,
-    /// It is a token by itself, and this is the mode behind it.
+    /// It is a token by itself, and this is the mode after it.
     Alone(Sign, LexMode),
     Refused(LexReason),
 }

@@ -27,7 +27,7 @@ impl PartialToken {
     /// space before it, and past numbers and periods if these are skipped. The text of the token is
     /// borrowed from the piece.
     ///
-    /// `None` if what comes then may go on behind the piece, has an escape, or is rejected. It is
+    /// `None` if what comes then may go on after the piece, has an escape, or is rejected. It is
     /// not used.
     #[inline(always)]
     pub(crate) fn whole_token<'a>(
@@ -163,8 +163,8 @@ impl PartialToken {
     }
 }
 
-// The length of the token with which the bytes begin, outside comments, the mode behind it, and its
-// kind. `None` if it may go on behind the bytes, has an escape, or is rejected.
+// The length of the token with which the bytes begin, outside comments, the mode after it, and its
+// kind. `None` if it may go on after the bytes, has an escape, or is rejected.
 #[inline(always)]
 fn whole_at(piece: &[u8]) -> Option<(usize, LexMode, TokenKind<'_>)>
     ensures whole { IfSome result (λ r. IsWhole piece.now r.0 r.1 (kind_of r.2)) }
@@ -205,7 +205,7 @@ fn whole_text(piece: &[u8], text: Text) -> Option<(usize, LexMode, TokenKind<'_>
     Some((length, text.mode_behind(), text.kind(&piece[..length])))
 }
 
-// The length of the number with which the bytes begin. `None` if it may go on behind them, is no
+// The length of the number with which the bytes begin. `None` if it may go on after them, is no
 // number but a symbol that begins with digits, or is too long.
 #[inline(always)]
 fn number_length(piece: &[u8]) -> Option<usize>
@@ -218,7 +218,7 @@ fn number_length(piece: &[u8]) -> Option<usize>
     (!is_in(piece[length], Set::Symbol)).then_some(length)
 }
 
-// The length and the number of the NAG with which the bytes begin. `None` if it may go on behind
+// The length and the number of the NAG with which the bytes begin. `None` if it may go on after
 // them, has no digit, or is too large.
 fn glyph_in(piece: &[u8]) -> Option<(usize, u8)>
     requires some { 0 < length piece.now }
