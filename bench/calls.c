@@ -1,15 +1,6 @@
 /*
- * Reads a text in one of eight ways, and writes what is written to standard output:
- *
- *   calls whole          pgn_convert for the whole text
- *   calls games          pgn_next_game for each game
- *   calls from-marker    the same, where a missing Result takes the termination marker
- *   calls sections       pgn_read_game for each game
- *   calls check          pgn_check for the whole text
- *   calls lines          pgn_next_game for each game, in reduced format, and pgn_line for its moves:
- *                        SAN, UCI and FEN of each ply
- *   calls moves          the same, but pgn_san for each move
- *   calls items          pgn_items for each game: each item, with SAN, UCI and FEN of each ply
+ * Reads a text in one of the ways that calls.py names and describes, such as `calls whole`, and
+ * writes what is written to standard output.
  */
 #include <stdio.h>
 #include <string.h>

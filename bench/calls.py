@@ -21,6 +21,7 @@ The C library clears and copies much memory by string instructions. Callgrind co
 once for each byte, and a processor once. So the C library is told here to do without them.
 """
 import os
+import re
 import subprocess
 
 import library
@@ -36,10 +37,8 @@ NO_STRING_INSTRUCTIONS = ":".join("glibc.cpu.x86_rep_%s_threshold=%d" % (name, 1
 
 def without_results(archive):
     """The path of the archive without its Result tags, which is made."""
-    changed = archive.replace(".pgn", "-without-results.pgn")
-    with open(archive, "rb") as old, open(changed, "wb") as new:
-        new.writelines(line for line in old if not line.startswith(b"[Result "))
-    return changed
+    name = os.path.basename(archive).replace(".pgn", "-without-results.pgn")
+    return measure.made(name, re.sub(rb"(?m)^\[Result .*\n", b"", measure.read(archive)))
 
 
 def sections(text):

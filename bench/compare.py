@@ -26,15 +26,14 @@ def program(folder, crate):
 
 def timed(folder, crate, words):
     """What one run prints, and its seconds."""
-    words, source, place = list(words), subprocess.DEVNULL, os.path.join(folder, "bench")
+    words, source, place = list(words), os.devnull, os.path.join(folder, "bench")
     if words and words[-1].startswith("<"):
-        source = open(os.path.join(place, words.pop()[1:]), "rb")
-    begun = time.perf_counter()
-    ran = subprocess.run([program(folder, crate), *words], cwd=place, stdin=source,
-                         stdout=subprocess.PIPE, check=False)
-    seconds = time.perf_counter() - begun
-    if source is not subprocess.DEVNULL:
-        source.close()
+        source = os.path.join(place, words.pop()[1:])
+    with open(source, "rb") as data:
+        begun = time.perf_counter()
+        ran = subprocess.run([program(folder, crate), *words], cwd=place, stdin=data,
+                             stdout=subprocess.PIPE, check=False)
+        seconds = time.perf_counter() - begun
     if ran.returncode:
         stop("%s of %s ended with status %d" % (" ".join(words), folder, ran.returncode))
     return ran.stdout, seconds

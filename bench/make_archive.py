@@ -13,6 +13,7 @@ some of them nested. One of a server is a plain line with a clock time after eac
 import argparse
 import random
 import sys
+import textwrap
 
 FILES, RANKS = "abcdefgh", "12345678"
 NAMES = [f + r for r in RANKS for f in FILES]
@@ -265,19 +266,22 @@ def numbered(game, text, after_move):
     return [text] if after_move else ["%d..." % game.number, text]
 
 
+def notes(rng, game, move, depth, comments, variations):
+    """The words of a comment and of a variation behind a move, each at this chance."""
+    words = ["{%s}" % rng.choice(PHRASES)] if rng.random() < comments else []
+    if depth < 4 and rng.random() < variations:
+        words += variation(rng, game, (move,), depth)
+    return words
+
+
 def variation(rng, game, without, depth):
     """The words of a variation in the place of these moves."""
     words, after_move = [], False
     for game, move, after in game.played(rng, rng.randrange(1, 8), without):
         words += numbered(game, game.san(move, after), after_move)
-        after_move = True
-        if rng.random() < 0.1:
-            words.append("{%s}" % rng.choice(PHRASES))
-            after_move = False
-        if depth < 3 and rng.random() < 0.08:
-            inner = variation(rng, game, (move,), depth + 1)
-            words += inner
-            after_move = after_move and not inner
+        added = notes(rng, game, move, depth + 1, 0.1, 0.08)
+        words += added
+        after_move = not added
     if not words:
         return []
     words[0] = "(" + words[0]
@@ -289,41 +293,27 @@ def annotated(rng, line):
     words, after_move = [], False
     for game, move, text in line.moves:
         words += numbered(game, text, after_move)
-        after_move = True
-        chance = rng.random()
+        chance, added = rng.random(), []
         if chance < 0.06:
             words[-1] += rng.choice(SUFFIXES)
         elif chance < 0.12:
-            words.append(rng.choice(GLYPHS))
-            after_move = False
-        if rng.random() < 0.12:
-            words.append("{%s}" % rng.choice(PHRASES))
-            after_move = False
-        if rng.random() < 0.09:
-            inner = variation(rng, game, (move,), 1)
-            words += inner
-            after_move = after_move and not inner
+            added.append(rng.choice(GLYPHS))
+        added += notes(rng, game, move, 1, 0.12, 0.09)
+        words += added
+        after_move = not added
     return words
 
 
-def plain(line):
-    return [word for game, _, text in line.moves for word in numbered(game, text, True)]
-
-
-def server(line):
-    return [word for game, _, text in line.moves
-            for word in (*numbered(game, text, True), "{ [%clk 0:03:00] }")]
+def words_of(rng, line, style):
+    """The words of a line: plain, with a clock time behind each ply, or annotated."""
+    if style == "annotated":
+        return annotated(rng, line)
+    clock = ["{ [%clk 0:03:00] }"] * (style == "server")
+    return [word for game, _, text in line.moves for word in (*numbered(game, text, True), *clock)]
 
 
 def filled(words):
-    lines, line = [], ""
-    for word in " ".join(words).split():
-        if line and len(line) + 1 + len(word) > 79:
-            lines.append(line)
-            line = word
-        else:
-            line = line + " " + word if line else word
-    return "\n".join([*lines, line])
+    return textwrap.fill(" ".join(words), 79, break_long_words=False, break_on_hyphens=False)
 
 
 # ---- tag pairs
@@ -353,6 +343,12 @@ def tag_pairs(rng, style, result):
     return pairs
 
 
+def game_of(rng, style, result, movetext):
+    """The text of a game."""
+    head = "".join('[%s "%s"]\n' % it for it in tag_pairs(rng, style, result))
+    return "%s\n%s\n\n" % (head, movetext)
+
+
 def main():
     parser = argparse.ArgumentParser(description=__doc__, formatter_class=argparse.RawDescriptionHelpFormatter)
     parser.add_argument("--games", type=int, default=20000)
@@ -364,17 +360,10 @@ def main():
     for number in range(min(given.lines, given.games)):
         line = Line(random.Random("line %d %d" % (given.seed, number)))
         rng = random.Random("words %d %d" % (given.seed, number))
-        if given.style == "annotated":
-            words = annotated(rng, line)
-        else:
-            words = server(line) if given.style == "server" else plain(line)
-        lines.append((line.result, filled([*words, line.result])))
+        lines.append((line.result, filled([*words_of(rng, line, given.style), line.result])))
     rng = random.Random("games %d" % given.seed)
     for number in range(given.games):
-        result, text = lines[number % len(lines)]
-        pairs = tag_pairs(rng, given.style, result)
-        head = "".join('[%s "%s"]\n' % it for it in pairs)
-        sys.stdout.write("%s\n%s\n\n" % (head, text))
+        sys.stdout.write(game_of(rng, given.style, *lines[number % len(lines)]))
 
 
 if __name__ == "__main__":

@@ -31,26 +31,19 @@ def fen(game):
     return "%s %s %s %s" % (board, "w" if game.white else "b", game.rights or "-", target)
 
 
-def mates(game):
-    """The moves that mate, with their positions."""
-    for move in game.steps():
-        after = game.after(move)
-        if after and after.checked() and not after.has_move():
-            yield move, after
-
-
-def puzzle(rng, line, at):
-    """Whether it is a mate, a position some plies before this one, and the moves from there."""
-    game, _, _ = line.moves[at]
-    first = max(0, at - rng.randrange(0, 6))
-    before = [text for _, _, text in line.moves[first:at]]
-    start = line.moves[first][0]
-    for move, after in mates(game):
-        return True, start, before + [game.san(move, after)]
-    text = line.moves[at][2]
-    if text.endswith("+") and rng.random() < 0.05:
-        return False, start, before + [text]
-    return None
+def puzzles(rng, line):
+    """The puzzles of a game, from its end back to a mate: a position, and the moves from there."""
+    for at in range(len(line.moves) - 1, 3, -1):
+        game, _, text = line.moves[at]
+        first = max(0, at - rng.randrange(0, 6))
+        start, before = line.moves[first][0], [it[2] for it in line.moves[first:at]]
+        for move in game.steps():
+            after = game.after(move)
+            if after and after.checked() and not after.has_move():
+                yield start, [*before, game.san(move, after)]
+                return
+        if text.endswith("+") and rng.random() < 0.05:
+            yield start, [*before, text]
 
 
 def queens(rng):
@@ -62,22 +55,10 @@ def queens(rng):
         for square, piece in zip(squares, "Kk" + "Q" * 9 + "q" * 9):
             board[square] = piece
         game.board, game.rights = board, ""
-        white_safe = not game.attacked(board.index("k"), True)
-        if white_safe and not game.attacked(board.index("K"), False):
+        if not (game.attacked(board.index("k"), True) or game.attacked(board.index("K"), False)):
             break
     moves = [at.san(move, after) for at, move, after in game.played(rng, rng.randrange(4, 12))]
     return game, moves
-
-
-def puzzles(rng, line):
-    """The puzzles of a game, from its end back to a mate."""
-    for at in range(len(line.moves) - 1, 3, -1):
-        found = puzzle(rng, line, at)
-        if found:
-            is_mate, start, moves = found
-            yield start, moves
-            if is_mate:
-                return
 
 
 def write(name, lines):

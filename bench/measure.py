@@ -78,8 +78,7 @@ def work():
 
     Time that a virtual machine had to wait for its processors counts as work.
     """
-    with open("/proc/stat", encoding="ascii") as file:
-        user, nice, system, _, _, *others = map(int, file.readline().split()[1:9])
+    user, nice, system, _, _, *others = map(int, read("/proc/stat").split()[1:9])
     ours = os.times()
     busy = (user + nice + system + sum(others)) / os.sysconf("SC_CLK_TCK")
     return ours.elapsed, busy, sum(ours[:4])
@@ -117,17 +116,25 @@ def archive(style, games):
 
 
 def call(words, to="/dev/null", file="/dev/null"):
-    """Calls a program that reads a file and writes another one."""
+    """Calls a program that reads a file and writes another one; returns its messages."""
     with open(to, "wb") as out, open(file, "rb") as data:
         ran = subprocess.run(words, stdin=data, stdout=out, stderr=subprocess.PIPE, check=False)
     if ran.returncode:
         stop("%s failed: %s" % (shlex.join(words), ran.stderr.decode(errors="replace")[-300:]))
+    return ran.stderr
 
 
 def read(path):
     """The bytes of a file."""
     with open(path, "rb") as file:
         return file.read()
+
+
+def made(name, data):
+    """The path of a file of bench/out with these bytes, which is made."""
+    with open("%s/%s" % (OUT, name), "wb") as file:
+        file.write(data)
+    return file.name
 
 
 def output_of(name, folder=OUT):
@@ -158,12 +165,9 @@ def times(calls, rounds, file=None, folder=OUT, prepare=("true",)):
 
 def memory(words, file="/dev/null", at=0):
     """The most MiB that were resident: of the call, or of one process of its words from `at` on."""
-    words = [*words[:at], found("time"), "-f", "%M", *words[at:]]
-    with open(file, "rb") as data:
-        ran = subprocess.run(words, stdin=data, check=False, stdout=subprocess.DEVNULL,
-                             stderr=subprocess.PIPE)
+    said = call([*words[:at], found("time"), "-f", "%M", *words[at:]], file=file)
     # pgn-extract ends its count of games with a carriage return alone
-    return max(map(int, re.findall(rb"(?:^|\r)(\d+)$", ran.stderr, re.MULTILINE))) / 1024
+    return max(map(int, re.findall(rb"(?:^|\r)(\d+)$", said, re.MULTILINE))) / 1024
 
 
 def same(it):
@@ -193,12 +197,10 @@ def instructions(calls, styles):
 
 def callgrind(words, file="/dev/null"):
     """What callgrind counts in a call, as read_callgrind returns it."""
-    with tempfile.NamedTemporaryFile() as counts:
-        tool = [found("valgrind"), "--tool=callgrind", "--branch-sim=yes",
-                "--callgrind-out-file=" + counts.name]
-        call([*tool, *words], file=file)
-        with open(counts.name, encoding="utf-8", errors="replace") as lines:
-            return read_callgrind(lines)
+    with tempfile.NamedTemporaryFile("r", encoding="utf-8", errors="replace") as counts:
+        call([found("valgrind"), "--tool=callgrind", "--branch-sim=yes",
+              "--callgrind-out-file=" + counts.name, *words], file=file)
+        return read_callgrind(counts)
 
 
 def read_callgrind(lines):
@@ -267,9 +269,7 @@ def difference(small, large, games=LARGE - SMALL):
 
 
 def system_calls(words):
-    """The number of system calls, or None without strace."""
-    if not found("strace"):
-        return None
+    """The number of system calls."""
     with tempfile.NamedTemporaryFile("r") as file:
         call([found("strace"), "-f", "-c", "-o", file.name, *words])
         return read_strace(file)
@@ -342,13 +342,13 @@ def split_figures(program, file, games, rounds):
 
 def split_calls(program, small, large):
     """System calls a game of export and split, or None without strace."""
+    if not found("strace"):
+        return None
     spent = {"export": [], "split": []}
     for file in (small, large):
         with tempfile.TemporaryDirectory() as folder:
             for task, words in (("export", [file]), ("split", [folder, file])):
                 spent[task].append(system_calls([program, task, *words]))
-    if None in spent["export"]:
-        return None
     return {task: (b - a) / (LARGE - SMALL) for task, (a, b) in spent.items()}
 
 
@@ -379,8 +379,7 @@ def program_name(program):
         stop("%s --version failed" % program)
     folder = os.path.relpath(os.path.realpath(program), ROOT).split(os.sep)[0]
     kinds = {"crates": "proved and built by rt", "cargo": "built by Cargo"}
-    kind = kinds.get(folder, "another build")
-    return "%s, %s" % (ran.stdout.decode().strip(), kind)
+    return "%s, %s" % (ran.stdout.decode().strip(), kinds.get(folder, "another build"))
 
 
 def machine(*packages):
@@ -391,9 +390,6 @@ def machine(*packages):
         ran = subprocess.run(words, stdout=subprocess.PIPE, stderr=subprocess.DEVNULL, check=False)
         if ran.stdout:
             versions[package] = ran.stdout.decode()
-    with open("/proc/cpuinfo", encoding="utf-8") as file:
-        model = re.search(r"^model name\s*: (.*)|\Z", file.read(), re.MULTILINE)[1]
-    with open("/etc/debian_version", encoding="utf-8") as file:
-        debian = file.read().strip()
-    return {"processors": os.cpu_count(), "model": model or platform.machine(), "debian": debian,
-            "versions": versions}
+    model = re.search(r"(?m)^model name\s*: (.*)|\Z", read("/proc/cpuinfo").decode())[1]
+    return {"processors": os.cpu_count(), "model": model or platform.machine(),
+            "debian": read("/etc/debian_version").decode().strip(), "versions": versions}

@@ -9,18 +9,11 @@ import os
 
 import measure
 import tables
-from measure import OUT, ROOT, archive, output_of, read, stop
+from measure import ROOT, archive, output_of, read, stop
 
 TOOLS, OTHERS, VERSIONS = ("parallel", "hyperfine", "time"), (), ("parallel",)
 COPIES, BLOCK, PROCESSES = 10, "10M", (1, 2, 4)
 CUT = ["--recend", r"\n\n", "--recstart", '[Event "']
-
-
-def copied(file):
-    """The archive, so many times over."""
-    with open(OUT + "/copies.pgn", "wb") as to:
-        to.write(COPIES * read(file))
-    return to.name
 
 
 def calls_of(program, file):
@@ -41,7 +34,7 @@ def memory(name, words, file):
 
 
 def figures(given):
-    file = copied(archive("annotated", given.games))
+    file = measure.made("copies.pgn", COPIES * read(archive("annotated", given.games)))
     calls, rows = calls_of(given.program, file), []
     took, size = measure.times(calls, given.rounds, file), os.path.getsize(file) / 1e6
     alone, spent_alone = took["one run", 1]

@@ -36,9 +36,7 @@ def sized(file, size):
     """A file of so many bytes, to the end of a game: the games of another one, again and again."""
     text = measure.read(file)
     text *= size // len(text) + 1
-    with open(OUT + "/size.pgn", "wb") as data:
-        data.write(text[:text.rindex(b"\n\n[Event ", 0, size) + 2])
-    return data.name
+    return measure.made("size.pgn", text[:text.rindex(b"\n\n[Event ", 0, size) + 2])
 
 
 def check_output(peer, program, file):

@@ -161,9 +161,8 @@ def instructions(spent):
 
 
 def builds(result):
-    if result["builds"]:
-        return ["### The builds", "", *instructions(result["builds"])]
-    return ["### The builds", "", "The builds are not compared, without a cargo that builds them.", ""]
+    none = ["The builds are not compared, without a cargo that builds them.", ""]
+    return ["### The builds", "", *(instructions(result["builds"]) if result["builds"] else none)]
 
 
 def report(result):

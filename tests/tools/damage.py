@@ -20,7 +20,7 @@ from typing import NamedTuple
 
 if __name__ == "__main__":
     sys.path.insert(0, os.path.dirname(os.path.realpath(__file__)))
-from programs import ROOT, load
+from programs import ROOT, bytes_of, load
 
 RIGHT, UNMENDED, WRONG, SILENT = "right", "unmended", "wrong", "silent"
 NO_BREAK = ("\u00a0".encode(), b"\xa0", b"&nbsp;")
@@ -63,25 +63,21 @@ def sound_games():
     maker, texts = load("bench/make_archive.py"), []
     for number in range(36):
         line, rng = maker.Line(random.Random("damage %d" % number)), random.Random(number)
-        for style, words in (("plain", maker.plain(line)), ("server", maker.server(line)),
-                             ("annotated", maker.annotated(rng, line))):
-            pairs = maker.tag_pairs(rng, style, line.result)
-            head = "".join('[%s "%s"]\n' % it for it in pairs)
-            texts.append(("%s\n%s\n" % (head, maker.filled([*words, line.result]))).encode())
-    with open(ROOT + "/bench/games.txt", "rb") as file:
-        for number, line in enumerate(file.read().splitlines()):
-            result, _, moves = line.partition(b" ")
-            # of most games those with a promotion
-            if number >= 200 and b"=" not in moves:
-                continue
-            text = b'[Result "%s"]\n\n%s %s\n' % (result, moves, result)
-            export = next(gillspoon.games(text)).text
-            # some without move numbers, and all moves on a line
-            head = export.partition(b"\n\n")[0]
-            texts.append(export if number % 10 else b"%s\n\n%s %s\n" % (head, moves, result))
-    for path in sorted(glob.glob(ROOT + "/fuzz/corpus/*")):
-        with open(path, "rb") as file:
-            data = file.read()
+        styles = [(it, maker.words_of(rng, line, it)) for it in ("plain", "server", "annotated")]
+        for style, words in styles:
+            movetext = maker.filled([*words, line.result])
+            texts.append(maker.game_of(rng, style, line.result, movetext)[:-1].encode())
+    for number, line in enumerate(bytes_of("bench/games.txt").splitlines()):
+        result, _, moves = line.partition(b" ")
+        # of most games those with a promotion
+        if number >= 200 and b"=" not in moves:
+            continue
+        text = b'[Result "%s"]\n\n%s %s\n' % (result, moves, result)
+        export = next(gillspoon.games(text)).text
+        # some without move numbers, and all moves on a line
+        head = export.partition(b"\n\n")[0]
+        texts.append(export if number % 10 else b"%s\n\n%s %s\n" % (head, moves, result))
+    for data in map(bytes_of, sorted(glob.glob(ROOT + "/fuzz/corpus/*"))):
         for game in gillspoon.games(data, on_fault=lambda fault: None):
             text = data[game.offset:game.end].strip() + b"\n"
             if game.plies and is_sound(text):

@@ -123,31 +123,28 @@ use std::panic::{catch_unwind, set_hook};
 fn with_room_for(pairs: u32) -> Probes {
     unsafe { std::mem::transmute(u32::MAX - pairs) }
 }
+macro_rules! refused {
+    ($($call:expr;)*) => { [$(catch_unwind(|| { let _ = $call; }).is_err()),*] };
+}
 fn main() {
     set_hook(Box::new(|panic| println!("{panic}")));
     let position = Position::initial();
     let form = read_form(b"e4").unwrap();
     let played = resolve(&position, &form, &mut with_room_for(8)).unwrap();
     for room in [7, 8] {
-        let is_refused = [
-            catch_unwind(|| try_pair(&position, played.mv, &mut with_room_for(room - 7))).is_err(),
-            catch_unwind(|| has_legal_move(&position, &mut with_room_for(1016 + room))).is_err(),
-            catch_unwind(|| LegalMoves::new(&position).next(&mut with_room_for(4088 + room)))
-                .is_err(),
-            catch_unwind(|| resolve(&position, &form, &mut with_room_for(room)).is_ok()).is_err(),
-            catch_unwind(|| resolve_move(&position, &form, &mut with_room_for(room)).is_ok())
-                .is_err(),
-            catch_unwind(|| origins_of_form(&position, &form, &mut with_room_for(room)))
-                .is_err(),
-            catch_unwind(|| write_san(&position, &played, &mut with_room_for(1024 + room)))
-                .is_err(),
-            catch_unwind(|| read_uci(&position, b"e2e4", &mut with_room_for(room - 7)).is_ok())
-                .is_err(),
-            catch_unwind(|| write_position_key(&position, &mut with_room_for(room - 6))).is_err(),
-            catch_unwind(|| find_move(&position, b"e4", &mut with_room_for(room)).is_ok()).is_err(),
-            catch_unwind(|| read_move(&position, b"e4", Notation::San, &mut with_room_for(room))
-                .is_ok()).is_err(),
-        ];
+        let is_refused = refused! {
+            try_pair(&position, played.mv, &mut with_room_for(room - 7));
+            has_legal_move(&position, &mut with_room_for(1016 + room));
+            LegalMoves::new(&position).next(&mut with_room_for(4088 + room));
+            resolve(&position, &form, &mut with_room_for(room));
+            resolve_move(&position, &form, &mut with_room_for(room));
+            origins_of_form(&position, &form, &mut with_room_for(room));
+            write_san(&position, &played, &mut with_room_for(1024 + room));
+            read_uci(&position, b"e2e4", &mut with_room_for(room - 7));
+            write_position_key(&position, &mut with_room_for(room - 6));
+            find_move(&position, b"e4", &mut with_room_for(room));
+            read_move(&position, b"e4", Notation::San, &mut with_room_for(room));
+        };
         assert_eq!(is_refused, [room == 7; 11]);
     }
 }
@@ -164,16 +161,16 @@ OF_STANDARD = re.compile(
     r"|dead_code|File::\w+\(|(String|Vec|VecDeque)::new\(\)|\.try_\w+\(|PhantomData;")
 
 
-def cargo(*words, env=None):
+def cargo(*words, folder=OUT, target="target", **env):
     # nothing here needs what a debugger reads, and it takes two fifths of the time
-    env = dict(os.environ, PATH=programs.PATH, CARGO_TARGET_DIR=OUT + "/target",
-               CARGO_PROFILE_DEV_DEBUG="0", **(env or {}))
-    return run(["cargo", *words, "--offline"], cwd=OUT, env=env, timeout=500)
+    env = dict(os.environ, PATH=programs.PATH, CARGO_TARGET_DIR="%s/%s" % (OUT, target),
+               CARGO_NET_OFFLINE="true", CARGO_PROFILE_DEV_DEBUG="0", **env)
+    return run(["cargo", *words], cwd=folder, env=env, timeout=500)
 
 
-def write_out():
-    ran = run([sys.executable, "bin/to_cargo", OUT])
-    assert ran.returncode == 0, ran.stderr
+def write_out(out=OUT):
+    ran = run([sys.executable, "bin/to_cargo", out])
+    assert ran.returncode == 0, ran.stderr.decode()
 
 
 def built():
@@ -210,12 +207,25 @@ NOT_UNDERSTOOD = [(file, old, new, why) for file, why, rows in (
 OTHER_LINES = ("Function", "In", "The source has", "Cargo has")
 
 
+def packages(names):
+    return ["--package=" + it for it in names]
+
+
+def passed_in(said):
+    """How many tests passed, by what cargo says."""
+    return sum(map(int, re.findall(r"(\d+) passed; 0 failed", said)))
+
+
+def count_of_tests(files, mark="#[test]"):
+    return sum(text_of(it).count(mark) for it in files)
+
+
 class CargoTest(unittest.TestCase):
     """A test with calls of cargo that have to pass."""
 
-    def passed(self, *words, env=None):
+    def passed(self, *words, **env):
         """What cargo says, which has no warning."""
-        ran = cargo(*words, env=env)
+        ran = cargo(*words, **env)
         said = (ran.stdout + ran.stderr).decode()
         self.assertEqual(ran.returncode, 0, said)
         self.assertNotIn("warning", said)
@@ -229,23 +239,18 @@ class Built(CargoTest):
         need_cargo()
         write_out()
 
-    def check_tests(self, package, least, place="tests/*", words=("--lib",)):
-        files = glob.glob("%s/crates/%s/src/%s.rt" % (ROOT, package, place))
-        wanted = sum(text_of(it).count("#[test]") for it in files)
-        self.assertGreaterEqual(wanted, least)
-        said = self.passed("test", "--package", package, *words)
-        self.assertIn("test result: ok. %d passed; 0 failed" % wanted, said)
-
-    def test_the_tests_of_the_vectors_pass(self):
-        self.check_tests("pgn_vectors", 28)
-        said = self.passed("test", "--package=pgn_vectors", "--test=missing_results")
-        self.assertIn("test result: ok. 1 passed; 0 failed", said)
-
-    def test_the_tests_of_devices_pass(self):
-        self.check_tests("pgn_device_tests", 18)
-
-    def test_the_tests_of_the_program_pass(self):
-        self.check_tests("pgn_tool", 18, "*_tests", ())
+    def test_the_tests_of_each_crate_pass(self):
+        """Those in these files, of which there are so many at least."""
+        for least, words, files in (
+                (28, "pgn_vectors --lib", "crates/pgn_vectors/src/tests/*.rt"),
+                (1, "pgn_vectors --test=missing_results", "cargo/pgn_vectors/tests/*.rs"),
+                (18, "pgn_device_tests --lib", "crates/pgn_device_tests/src/tests/*.rt"),
+                (18, "pgn_tool", "crates/pgn_tool/src/*_tests.rt")):
+            with self.subTest(words):
+                wanted = count_of_tests(glob.glob(ROOT + "/" + files))
+                self.assertGreaterEqual(wanted, least)
+                said = self.passed("test", "--package", *words.split())
+                self.assertIn("test result: ok. %d passed; 0 failed" % wanted, said)
 
     def test_the_examples_of_the_docstrings_pass(self):
         files = [it for name in LIBRARIES for it in glob.glob("%s/crates/%s/src/*.rt" % (ROOT, name))]
@@ -254,39 +259,31 @@ class Built(CargoTest):
         files += glob.glob(ROOT + "/cargo/*/*.rs")
         fences = sum(len(re.findall("(?m)^(?: *//[/!] )?```", text_of(it))) for it in files + pages)
         self.assertGreaterEqual(fences, 52)
-        said = self.passed("test", "--doc", *("--package=" + it for it in LIBRARIES))
-        passed = sum(map(int, re.findall(r"(\d+) passed; 0 failed", said)))
-        self.assertEqual(2 * passed, fences)
-
-    def check_conditions(self, env, expected):
-        """The tests that are written for Cargo: of the libraries, and of pgn_c."""
-        packages = ["--package=" + it for it in ("pgn_c", *LIBRARIES)]
-        said = self.passed("test", *packages, "--lib", "--tests", env=env)
-        self.assertEqual(sum(map(int, re.findall(r"(\d+) passed; 0 failed", said))), expected)
+        said = self.passed("test", "--doc", *packages(LIBRARIES))
+        self.assertEqual(2 * passed_in(said), fences)
 
     def test_a_call_that_breaks_a_condition_panics(self):
-        files = [it for name in ("pgn_c", *LIBRARIES)
-                 for it in glob.glob("%s/cargo/%s/*/*.rs" % (ROOT, name))]
-        wanted = sum(text_of(it).count("#[test]") for it in files)
+        """By the tests that are written for Cargo: of the libraries, and of pgn_c."""
+        names = ("pgn_c", *LIBRARIES)
+        files = [it for name in names for it in glob.glob("%s/cargo/%s/*/*.rs" % (ROOT, name))]
+        wanted = count_of_tests(files)
         self.assertGreaterEqual(wanted, 18)
-        self.check_conditions({}, wanted)
+        call = ("test", *packages(names), "--lib", "--tests")
+        self.assertEqual(passed_in(self.passed(*call)), wanted)
         # In release builds all but those of debug_assert!.
-        checked_in_debug = sum(text_of(it).count("#[cfg(debug_assertions)]\nfn ") for it in files)
+        checked_in_debug = count_of_tests(files, "#[cfg(debug_assertions)]\nfn ")
         self.assertEqual(checked_in_debug, 5)
-        self.check_conditions({"CARGO_PROFILE_DEV_DEBUG_ASSERTIONS": "false"},
-                              wanted - checked_in_debug)
+        said = self.passed(*call, CARGO_PROFILE_DEV_DEBUG_ASSERTIONS="false")
+        self.assertEqual(passed_in(said), wanted - checked_in_debug)
 
     def test_four_libraries_build_without_std(self):
         """For this machine, and for each target without std that is installed."""
-        packages = ["--package=" + it for it in WITHOUT_STD]
         word = "clippy" if programs.found("cargo-clippy") else "check"
         for words in ([word], ["doc", "--no-deps"]):
-            self.passed(*words, "--no-default-features", *packages)
-        ran = self.bare("default-features = false")
-        self.assertEqual((ran.returncode, ran.stderr), (0, b""))
-        for target in self.targets_without_std():
-            ran = self.bare("default-features = false", "--target=" + target)
-            self.assertEqual((ran.returncode, ran.stderr), (0, b""), target)
+            self.passed(*words, "--no-default-features", *packages(WITHOUT_STD))
+        for words in ([], *(["--target=" + it] for it in self.targets_without_std())):
+            ran = self.bare("default-features = false", *words)
+            self.assertEqual((ran.returncode, ran.stderr), (0, b""), words)
         # The same with std is refused.
         ran = self.bare("default-features = true")
         self.assertIn("error[E0152]: found duplicate lang item `panic_impl`", ran.stderr.decode())
@@ -303,9 +300,7 @@ class Built(CargoTest):
                   for it in WITHOUT_STD]
         for name, text in (("Cargo.toml", "\n".join(lines) + "\n"), ("src/lib.rs", BARE)):
             write_file("%s/%s" % (folder, name), text)
-        env = dict(os.environ, PATH=programs.PATH, CARGO_TARGET_DIR=OUT + "/bare")
-        return run(["cargo", "build", "--offline", "--quiet", *words], cwd=folder, env=env,
-                   timeout=300)
+        return cargo("build", "--quiet", *words, folder=folder, target="bare")
 
     def targets_without_std(self):
         root = run(["rustc", "--print=sysroot"]).stdout.decode().strip() + "/lib/rustlib/"
@@ -319,14 +314,14 @@ class Built(CargoTest):
         ran = self.run_sample(SAMPLE_OF_ROOM)
         self.assertEqual((ran.returncode, ran.stderr), (0, b""))
         said = ran.stdout.decode()
-        lines = [SAMPLE_OF_ROOM[: it.start()].count("\n") + 1
-                 for it in re.finditer(r"catch_unwind\(\|\|", SAMPLE_OF_ROOM)]
-        self.assertEqual(re.findall(r"sample\.rs:(\d+):", said), [str(it) for it in lines])
+        lines = [str(number) for number, line in enumerate(SAMPLE_OF_ROOM.split("\n"), 1)
+                 if re.search(r"with_room_for\(.*;$", line) and "played =" not in line]
+        self.assertEqual(re.findall(r"sample\.rs:(\d+):", said), lines)
         rooms = re.findall(r"the count of Probes has room for ([\d,]+) more", said)
         self.assertEqual(rooms, ["1", "1,024", "4,096", "8", "8", "8", "1,032", "1", "2", "8", "8"])
 
     def build_libraries(self):
-        self.passed("build", "--lib", *("--package=" + it for it in LIBRARIES))
+        self.passed("build", "--lib", *packages(LIBRARIES))
 
     def test_each_reason_has_the_words_of_the_fault_table(self):
         rows = table("docs/PROFILE.md", "No", "Rejected", "Place", "In words", "Name")
@@ -427,20 +422,16 @@ class Built(CargoTest):
         blocks = [it for number, _, it in blocks_of(lines) if number > begin]
         for name, block in zip(("Cargo.toml", "src/main.rs"), blocks):
             write_file("%s/mine/%s" % (folder, name), "\n".join(block) + "\n")
-        env = dict(os.environ, PATH=programs.PATH, CARGO_TARGET_DIR=OUT + "/dependent")
-
-        def listed_by_mine(path):
-            words = ["cargo", "run", "--offline", "--quiet", "--", path]
-            return run(words, cwd=folder + "/mine", env=env, timeout=300)
-
-        ran = listed_by_mine(ROOT + "/examples/two-games.pgn")
+        call = {"folder": folder + "/mine", "target": "dependent"}
+        ran = cargo("run", "--quiet", "--", ROOT + "/examples/two-games.pgn", **call)
         self.assertEqual((ran.returncode, ran.stderr), (0, b""))
-        shown = ran.stdout.decode().splitlines()
+        plies = ran.stdout.decode().splitlines()
         listed = run([built(), "list", "examples/two-games.pgn"]).stdout.decode().splitlines()
-        self.assertEqual(shown, ["%s plies: %s" % tuple(it.split("\t")[-2:]) for it in listed])
+        self.assertEqual(plies, ["%s plies: %s" % tuple(it.split("\t")[-2:]) for it in listed])
         bad = ROOT + "/examples/no-such-move.pgn"
-        ran, said = listed_by_mine(bad), "%s: byte 77: move is not legal\n" % bad
-        self.assertEqual((ran.returncode, ran.stdout, ran.stderr.decode()), (0, b"", said))
+        ran = cargo("run", "--quiet", "--", bad, **call)
+        said = b"%s: byte 77: move is not legal\n" % os.fsencode(bad)
+        self.assertEqual(shown(ran), (0, b"", said))
 
     def test_the_program_passes_the_tests_of_devices(self):
         env = dict(os.environ, PGN_TOOL=built())
@@ -483,17 +474,13 @@ class Release(Folder, CargoTest):
         need_cargo()
         super().setUp()
 
-    def dist(self, script="bin/dist"):
-        """Into a repository of git, where cargo would package what is committed alone."""
+    def test_a_package_for_each_crate(self):
+        """In a repository of git, where cargo would package what is committed alone."""
         programs.need("git")
         run(["git", "init", "--quiet", self.folder])
-        out = self.folder + "/out"
-        ran = run([sys.executable, script, "--part", "cargo", "--part", "python", out], timeout=500)
-        return out, ran.returncode, ran.stdout.decode(), ran.stderr.decode()
-
-    def test_a_package_for_each_crate(self):
-        out, status, said, errors = self.dist()
-        self.assertEqual(status, 0, errors)
+        out, parts = self.folder + "/out", ["--part", "cargo", "--part", "python"]
+        ran = run([sys.executable, "bin/dist", *parts, out], timeout=500)
+        self.assertEqual(ran.returncode, 0, ran.stderr.decode())
         version = programs.load("bin/to_cargo").version()
         workspace = "%s/gillspoon-%s" % (out, version)
         crates = os.listdir(workspace + "/crates")
@@ -509,7 +496,7 @@ class Release(Folder, CargoTest):
         # nothing of this machine
         self.assertEqual(sorted(os.listdir(workspace)),
                          ["CHANGELOG.md", "Cargo.toml", "LICENSE-MIT", "README.md", "crates"])
-        self.assertIn("gillspoon-%s: " % version, said)
+        self.assertIn("gillspoon-%s: " % version, ran.stdout.decode())
 
     def test_the_page_of_changes_has_the_version(self):
         version = programs.load("bin/to_cargo").version()
@@ -541,8 +528,7 @@ class Workspace(unittest.TestCase):
     @classmethod
     def setUpClass(cls):
         cls.out = programs.new_folder(cls) + "/out"
-        ran = run([sys.executable, "bin/to_cargo", cls.out])
-        assert ran.returncode == 0, ran.stderr.decode()
+        write_out(cls.out)
 
     def pairs(self, crates=(*LIBRARIES, *RENAMED)):
         """Each file that is written from one of ours, and that one, which its first line names."""
@@ -563,10 +549,10 @@ class Workspace(unittest.TestCase):
         count = 0
         for path, lines, source in self.pairs((*LIBRARIES, "pgn_tool", "pgn_c")):
             is_renamed = "/pgn_tool/" in path or "/pgn_c/" in path
-            left = source.split("\n")
+            left = [forms_of(it) for it in source.split("\n")]
             lines = without_added(path, lines, source)
             for line in lines:
-                at = [n for n, it in enumerate(left) if is_made(line, it)]
+                at = [n for n, it in enumerate(left) if line in it]
                 if not at and is_renamed and (OF_STANDARD.search(line) or not line):
                     continue
                 self.assertTrue(at, (path, line))
@@ -598,12 +584,10 @@ class Workspace(unittest.TestCase):
         self.assertNotIn("dead_code", text_of(self.out + "/Cargo.toml"))
 
     def test_what_is_not_proved_says_so(self):
-        text = text_of(self.out + "/crates/rattle_std/src/lib.rs")
-        self.assertIn("**Not proved.**", text.split("\n", 1)[0])
-        self.assertLess(text.count("\n"), 110)
-        for file in ("src/ffi.rs", "build.rs"):
-            text = text_of(self.out + "/crates/pgn_c/" + file)
-            self.assertIn("**Not proved.**", text.split("\n", 1)[0])
+        for file in ("rattle_std/src/lib.rs", "pgn_c/src/ffi.rs", "pgn_c/build.rs"):
+            first = text_of(self.out + "/crates/" + file).split("\n", 1)[0]
+            self.assertIn("**Not proved.**", first)
+        self.assertLess(text_of(self.out + "/crates/rattle_std/src/lib.rs").count("\n"), 110)
         self.assertIn("**Nothing in this folder is proved", text_of(self.out + "/README.md"))
 
     def test_one_file_has_unsafe_code(self):
@@ -623,10 +607,6 @@ class Workspace(unittest.TestCase):
     def test_each_line_that_is_another_has_its_row(self):
         """In the README of the workspace, with the reason."""
         rows = [[it.strip("`") for it in row] for row in table("cargo/README.md", *OTHER_LINES)]
-        made = [[name, file.replace("crates/", "").replace(".rt", ".rs"), line, " ".join(others)]
-                for file, lines in programs.load("bin/to_cargo").OTHER_LINES.items()
-                for name, (line, others) in lines.items()]
-        self.assertEqual(sorted(it[:4] for it in rows), sorted(made))
         for _, file, line, other, reason in rows:
             text = " ".join(text_of(self.out + "/crates/" + file).split())
             self.assertIn("// Written for Cargo. The source has `%s` %s" % (line, other), text)
@@ -665,8 +645,7 @@ class Written(Folder, unittest.TestCase):
         return out, ran.returncode, (ran.stdout + ran.stderr).decode()
 
     def test_another_folder_is_left_alone(self):
-        os.mkdir(self.folder + "/out")
-        write_file(self.folder + "/out/Cargo.toml", "[package]\n")
+        self.put("out/Cargo.toml", "[package]\n")
         out, status, said = self.write()
         self.assertEqual(status, 2)
         self.assertIn("was not written by this script", said)
@@ -685,46 +664,37 @@ class Written(Folder, unittest.TestCase):
         config, lock = out + "/.cargo/config.toml", out + "/Cargo.lock"
         is_offline = os.path.exists(config)
         for is_same in (True, False):
-            open(lock, "w", encoding="utf-8").close()
+            self.put("out/Cargo.lock", "")
             if not is_same and is_offline:
                 os.remove(config)
             elif not is_same:
-                os.makedirs(out + "/.cargo")
-                open(config, "w", encoding="utf-8").close()
+                self.put("out/.cargo/config.toml", "")
             self.write()
             self.assertEqual(os.path.exists(config), is_offline)
             self.assertEqual(os.path.exists(lock), is_same)
 
     def test_a_file_that_is_gone_is_removed(self):
-        out, _, _ = self.write()
-        extra = out + "/crates/pgn_game/src/extra.rs"
-        open(extra, "w", encoding="utf-8").close()
+        self.write()
+        extra = self.put("out/crates/pgn_game/src/extra.rs", "")
         self.write()
         self.assertFalse(os.path.exists(extra))
 
     def test_source_that_is_not_understood_stops_it(self):
+        """In a copy of all that bin/to_cargo reads, with a change in one file."""
+        for form in ("bin/to_cargo", "crates.txt", "LICENSE-MIT", "CHANGELOG.md", "cargo/README.md",
+                     "crates/pgn_c/pgn.h", "cargo/[!o]*/**/*.*", "crates/*/src/**/*.rt"):
+            for name in glob.glob(form, root_dir=ROOT, recursive=True):
+                self.put(name, text_of(name))
         for file, old, new, why in NOT_UNDERSTOOD:
-            copy = self.copied(file, old, new)
-            _, status, said = self.write(copy + "/bin/to_cargo")
+            text = text_of(file)
+            self.assertEqual(text.count(old), 1, old)
+            self.put(file, text.replace(old, new))
+            _, status, said = self.write(self.folder + "/bin/to_cargo")
+            self.put(file, text)
             self.assertEqual(status, 1, (new, said))
             self.assertIn("not understood: " + file + why, said)
             self.assertFalse(os.path.exists(self.folder + "/out"))
-
-    def copied(self, file, old, new):
-        """A copy of all that bin/to_cargo reads, with a change in one file."""
-        copy = tempfile.mkdtemp(dir=self.folder)
-        names = ["bin/to_cargo", "crates.txt", "LICENSE-MIT", "CHANGELOG.md", "cargo/README.md",
-                 "crates/pgn_c/pgn.h"]
-        for folder in ("cargo/*/**/*.rs", "cargo/*/*.md", "crates/*/src/**/*.rt"):
-            found = glob.glob(os.path.join(ROOT, folder), recursive=True)
-            names += [os.path.relpath(it, ROOT) for it in found if not it.startswith(OUT + "/")]
-        for name in names:
-            os.makedirs(os.path.dirname(os.path.join(copy, name)), exist_ok=True)
-            shutil.copy(os.path.join(ROOT, name), os.path.join(copy, name))
-        text = text_of(os.path.join(copy, file))
-        assert text.count(old) == 1, old
-        write_file(os.path.join(copy, file), text.replace(old, new))
-        return copy
+        self.assertEqual(self.write(self.folder + "/bin/to_cargo")[1], 0)
 
 
 def without_added(path, lines, source):
@@ -734,24 +704,19 @@ def without_added(path, lines, source):
     joined = re.sub(r"\n *// (?!Cargo: )", " ", source)
     conditions = re.findall(r'// Cargo: (\w+)!\((.*), "(.*)"\)', joined)
     added = [line for words in conditions for line in script.assertion(*words)]
-    for line, others in script.OTHER_LINES.get(file, {}).values():
+    for _, line, others in script.other_lines(file):
         added += [script.SOURCE_HAS % line, *others]
-    modules = ("traits", "text", "played_moves", "ffi", "conditions", "own_pair")
-    of_source = source.split("\n")
-    for module in (it for it in modules
-                   if "mod %s;" % it in lines and "mod %s;" % it not in of_source):
-        is_test = module in ("conditions", "own_pair")
-        added += ["#[cfg(test)]"] if is_test else ["// Written for Cargo, not proved."]
-        added += ["mod %s;" % module]
+    for mark, modules in (
+            ("// Written for Cargo, not proved.", ("traits", "text", "played_moves", "ffi")),
+            ("#[cfg(test)]", ("conditions", "own_pair"))):
+        for module in ("mod %s;" % it for it in modules):
+            added += [mark, module] * (module in lines and module not in source.split("\n"))
     if path.endswith("/lib.rs"):
-        crate = path.split("/")[-3]
-        added += added_to_root(crate, lines, script)
-        lines = without_first_page(crate, lines)
+        more, lines = added_to_root(file.split("/")[1], lines, script)
+        added += more
     if file == "crates/pgn_game/src/reason.rt":
         added += ["#[non_exhaustive]"]
-    left = []
-    hints = ["#[track_caller]"]
-    hints += ["#[inline]"] * (path.split("/crates/")[1].split("/")[0] in LIBRARIES)
+    left, hints = [], ["#[track_caller]"] + ["#[inline]"] * (file.split("/")[1] in LIBRARIES)
     for line in lines:
         found = next((it for it in added if it.strip() == line.strip()), None)
         if found is not None:
@@ -765,7 +730,7 @@ def without_added(path, lines, source):
 
 
 def added_to_root(crate, lines, script):
-    """The lines that bin/to_cargo adds to the first file of a crate."""
+    """The lines that bin/to_cargo adds to the first file of a crate, and its others."""
     added = ["#[doc(hidden)]"] * ("pub mod laws;" in lines)
     if crate in script.COPIED:
         added += ["// What reads and writes a FEN is also in chess_text."]
@@ -777,33 +742,25 @@ def added_to_root(crate, lines, script):
     if crate in script.WITHOUT_STD:
         added += [script.NO_STD, *script.OTHER_LINKS.get(crate, [])]
         added += ['#[cfg(feature = "std")]'] * (2 * (crate == "pgn_layout"))
-    return added
+        # The page of cargo/CRATE/lib.md ends the documentation of the crate.
+        page = ["", *text_of("cargo/%s/lib.md" % crate).splitlines()]
+        end = max(at for at, it in enumerate(lines) if it.startswith("//!")) + 1
+        begin = end - len(page)
+        assert lines[begin:end] == [("//! " + it).rstrip() for it in page], crate
+        lines = lines[:begin] + lines[end:]
+    return added, lines
 
 
-def without_first_page(crate, lines):
-    """The lines without the documentation of cargo/CRATE/lib.md, which ends that of the crate."""
-    if crate not in WITHOUT_STD:
-        return lines
-    page = ["", *text_of("cargo/%s/lib.md" % crate).splitlines()]
-    page = [("//! " + it).rstrip() for it in page]
-    end = max(at for at, it in enumerate(lines) if it.startswith("//!")) + 1
-    assert lines[end - len(page) : end] == page, crate
-    return lines[: end - len(page)] + lines[end:]
+# What a line of the source has, and what may stand for it in Cargo's.
+CHANGED = ((", Drop", ""), (" + Drop", ""), ("#[rattlefmt::", "#[rustfmt::"),
+           ("{Brand, PhantomData}", "PhantomData"), ('pub extern "C" fn', "pub fn"),
+           ("use chess_rules::", "use crate::"), ("use std::", "use core::"),
+           (", Eq", ", Eq, Hash"), ("(Clone, Copy)", "(Clone, Copy, PartialEq, Eq, Hash)"))
 
 
-def is_made(line, source):
-    """Whether the line is the source's, or that with what stands behind a contract or without what
-    only the prover reads, or has `Hash`, `core` or `crate` for Cargo."""
-    source = source.replace('pub extern "C" fn', "pub fn")
-    if line.startswith("use crate::"):
-        source = re.sub("^use chess_rules::", "use crate::", source)
-    line = re.sub("^use core::", "use std::", line)
-    made = []
-    for left in (source, source.replace(", Drop", ""), source.replace(" + Drop", "")):
-        made += [left, left + " {", left + " {}", left + ";"]
-    made.append(source.replace("#[rattlefmt::", "#[rustfmt::"))
-    if source == "use std::marker::{Brand, PhantomData};":
-        made.append("use std::marker::PhantomData;")
-    without_hash = line.replace(", Eq, Hash", ", Eq")
-    without_eq = line.replace("(Clone, Copy, PartialEq, Eq, Hash)", "(Clone, Copy)")
-    return any(it in made for it in (line, without_hash, without_eq))
+def forms_of(source):
+    """The source's line, perhaps changed, and the same with what is behind a contract."""
+    forms = {source}
+    for words in CHANGED:
+        forms |= {it.replace(*words) for it in forms}
+    return {it + end for it in forms for end in ("", " {", " {}", ";")}

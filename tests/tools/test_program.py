@@ -3,7 +3,7 @@ import os
 import shutil
 import unittest
 
-from programs import HEAD, need_program, run, text_of
+from programs import HEAD, need_program, output_of, run, text_of
 from small_repository import CARGO, Repository
 
 BUILD = "bin/build_program"
@@ -117,13 +117,15 @@ class EachBuild:
 class ByRt(EachBuild, unittest.TestCase):
     commands, builder = ("rt",), b"rt"
     own_changes = {"crates/pgn_tool/specs/a.antt": True, "crates/pgn_tool/proofs/a.antt": True,
-                   "cargo/rattle_std/lib.rs": False, "bin/to_cargo": False}
+                   "cargo/rattle_std/lib.rs": False, "cargo/README.md": False,
+                   "bin/to_cargo": False}
 
 
 class ByCargo(EachBuild, unittest.TestCase):
     commands, builder = ("cargo", "rustc"), b"cargo"
     own_changes = {"crates/pgn_tool/specs/a.antt": False, "crates/pgn_tool/proofs/a.antt": False,
-                   "cargo/rattle_std/lib.rs": True, "bin/to_cargo": True}
+                   "cargo/rattle_std/lib.rs": True, "cargo/README.md": True,
+                   "bin/to_cargo": True}
 
 
 class Choice(unittest.TestCase):
@@ -192,8 +194,7 @@ class Choice(unittest.TestCase):
                                      "so the program cannot be built; do one of these:"])
         self.assertIn("bin/install --deps", lines[3])
         self.assertIn("Rust 1.74 or newer", lines[4])
-        ran = self.here.call("check")
-        self.assertEqual((ran.returncode, ran.stdout, ran.stderr.decode()), (127, b"", told))
+        self.assertEqual(self.here.told("check"), (127, "", told))
 
     def test_a_cargo_that_does_not_run(self):
         self.here.command("rustc", "#!/bin/sh\necho 'no default toolchain' >&2; exit 1\n")
@@ -302,8 +303,7 @@ class Helps(unittest.TestCase):
         for script in ("gillspoon", "gillspoon lint", "gillspoon fmt", "gillspoon where",
                        "gillspoon sieve", "install", "uninstall", "test_tools", "build_program",
                        "try_allocations"):
-            ran = run(["bin/" + script.split()[0], *script.split()[1:], "--help"])
-            self.assertEqual((ran.returncode, ran.stderr), (0, b""), script)
+            out = output_of(run(["bin/" + script.split()[0], *script.split()[1:], "--help"]))
             without_examples = ("test_tools", "build_program")
             for word in (b"xample", b"tatus") if script not in without_examples else (b"tatus",):
-                self.assertIn(word, ran.stdout)
+                self.assertIn(word, out)

@@ -1,10 +1,11 @@
 """Tests of bin/unused."""
 import os
 import re
+import shutil
 import sys
 import unittest
 
-from programs import ROOT, Folder, need, run
+from programs import ROOT, Folder, bytes_of, need, run
 
 # A small repository in which everything is used.
 FILES = {
@@ -184,19 +185,15 @@ class Unused(Folder, unittest.TestCase):
                 text = texts.get(name, "")
                 self.assertTrue(not old or text.count(old) == 1, old)
                 texts[name] = text.replace(old, new) if old else text + new
-            self.put_only(texts)
+            # without a file of the row before
+            shutil.rmtree(self.folder)
+            self.put_all(texts)
             with self.subTest(changes):
                 found = self.listed("--root", self.folder)
                 self.assertEqual([it.split(": ")[1] for it in found], expected)
 
-    def put_only(self, texts):
-        """Puts these files, and takes away another one of the row before."""
-        if os.path.exists(self.folder + "/" + WORDS):
-            os.remove(self.folder + "/" + WORDS)
-        self.put_all(texts)
-
     def test_a_place_is_shown(self):
-        self.put_only({**FILES, TOKENS: FILES[TOKENS] + "\npub spare : ℕ\nspare = 3\n"})
+        self.put_all({**FILES, TOKENS: FILES[TOKENS] + "\npub spare : ℕ\nspare = 3\n"})
         line = FILES[TOKENS].count("\n") + 2
         self.assertEqual(self.listed("--root", self.folder),
                          ["%s:%d: definition spare" % (TOKENS, line)])
@@ -204,14 +201,9 @@ class Unused(Folder, unittest.TestCase):
     def test_pyflakes(self):
         """No file of Python imports or assigns what it does not use."""
         need("pyflakes3")
-        files = []
         listed = run(["git", "ls-files", "--cached", "--others", "--exclude-standard"]).stdout
-        for name in listed.decode().split("\n")[:-1]:
-            if os.path.isfile(os.path.join(ROOT, name)):
-                with open(os.path.join(ROOT, name), "rb") as file:
-                    first = file.readline()
-                if name.endswith(".py") or re.match(rb"#!.*python3$", first):
-                    files.append(name)
+        files = [it for it in listed.decode().split("\n") if os.path.isfile(os.path.join(ROOT, it))
+                 and (it.endswith(".py") or re.match(rb"#!.*python3\n", bytes_of(it)))]
         self.assertGreater(len(files), 50)
         ran = run(["pyflakes3", *files], cwd=ROOT)
         self.assertEqual((ran.returncode, ran.stdout.decode()), (0, ""))

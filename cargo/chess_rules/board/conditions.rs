@@ -2,15 +2,10 @@
 //! Cargo.
 
 use super::{Board, Squares};
-use crate::{Colour, Position, PositionFault, Rights};
+use crate::{Colour, Position, PositionFault};
 
 fn build_on(board: Board) -> Result<Position, PositionFault> {
-    let rights = Rights {
-        white_short: false,
-        white_long: false,
-        black_short: false,
-        black_long: false,
-    };
+    let rights = Position::initial().rights();
     Position::build_on(board, Colour::White, rights, None, 0, 1)
 }
 

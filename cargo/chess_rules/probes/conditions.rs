@@ -1,51 +1,33 @@
 //! The condition of each call that takes `Probes`. Written for Cargo.
 
 use super::Probes;
-use crate::{has_legal_move, try_pair, LegalMoves, Move, Position, Square};
+use crate::{has_legal_move, try_pair, LegalMoves, Position};
+use std::panic::catch_unwind;
 
 fn with_room_for(pairs: u32) -> Probes {
-    Probes {
-        count: u32::MAX - pairs,
-    }
+    let count = u32::MAX - pairs;
+    Probes { count }
 }
 
-fn a1_to_a1() -> Move {
-    let square = Square::new(0, 0).unwrap();
-    Move {
-        from: square,
-        to: square,
-        promotion: None,
-    }
-}
+/// The room that a call needs, in words too, and the call.
+type Row = (u32, &'static str, fn(&Position, &mut Probes));
 
 #[test]
-#[should_panic(expected = "the count of Probes has room for 1 more")]
-fn try_pair_needs_room() {
-    try_pair(&Position::initial(), a1_to_a1(), &mut with_room_for(0));
-}
-
-#[test]
-#[should_panic(expected = "the count of Probes has room for 1,024 more")]
-fn has_legal_move_needs_room() {
-    has_legal_move(&Position::initial(), &mut with_room_for(1023));
-}
-
-#[test]
-#[should_panic(expected = "the count of Probes has room for 4,096 more")]
-fn legal_moves_need_room() {
-    LegalMoves::new(&Position::initial()).next(&mut with_room_for(4095));
-}
-
-#[test]
-fn there_is_room() {
-    let mut probes = with_room_for(1);
-    try_pair(&Position::initial(), a1_to_a1(), &mut probes);
-    assert_eq!(probes.count(), u32::MAX);
-    assert!(has_legal_move(
-        &Position::initial(),
-        &mut with_room_for(1024)
-    ));
+#[rustfmt::skip]
+fn each_call_needs_room() {
+    let rows: [Row; 3] = [
+        (1, "1", |position, probes| {
+            try_pair(position, "a1a1".parse().unwrap(), probes);
+            assert_eq!(probes.count(), u32::MAX);
+        }),
+        (1024, "1,024", |position, probes| assert!(has_legal_move(position, probes))),
+        (4096, "4,096", |it, probes| assert!(LegalMoves::new(it).next(probes).is_some())),
+    ];
     let position = Position::initial();
-    let mut moves = LegalMoves::new(&position);
-    assert!(moves.next(&mut with_room_for(4096)).is_some());
+    for (room, words, call) in rows {
+        call(&position, &mut with_room_for(room));
+        let refused = catch_unwind(|| call(&position, &mut with_room_for(room - 1)));
+        let said = *refused.unwrap_err().downcast::<&str>().unwrap();
+        assert_eq!(said, format!("the count of Probes has room for {words} more"));
+    }
 }

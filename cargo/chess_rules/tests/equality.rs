@@ -3,6 +3,7 @@
 //! Written for Cargo.
 
 use chess_rules::{try_pair, LegalMoves, Move, Parts, Piece, Played, Position, Probes, Square};
+use std::array;
 use std::collections::hash_map::RandomState;
 use std::collections::{HashMap, HashSet};
 use std::hash::BuildHasher;
@@ -25,12 +26,11 @@ fn read(fen: &str) -> Position {
 
 /// The position after these moves of the usual first position.
 fn after(moves: &str) -> Position {
-    moves
-        .split(' ')
-        .fold(Position::initial(), |position, text| {
-            let mv = text.parse::<Move>().unwrap();
-            try_pair(&position, mv, &mut Probes::new()).unwrap()
-        })
+    let mut position = Position::initial();
+    for mv in moves.split(' ').map(|it| it.parse().unwrap()) {
+        position = try_pair(&position, mv, &mut Probes::new()).unwrap();
+    }
+    position
 }
 
 fn are_equal(one: &Position, other: &Position) -> bool {
@@ -65,32 +65,24 @@ fn another_way_to_a_position_makes_no_other() {
 #[test]
 fn the_counters_count() {
     // The same position by the rule of repetition. (FIDE Laws 9.2.3)
-    assert!(!are_equal(
-        &after("g1f3 g8f6 f3g1 f6g8"),
-        &Position::initial()
-    ));
+    let repeated = after("g1f3 g8f6 f3g1 f6g8");
+    assert!(!are_equal(&repeated, &Position::initial()));
 }
 
 #[test]
 fn a_position_of_parts_is_equal() {
     for fen in PAIRS.iter().flat_map(|it| [it.0, it.1]) {
         let position = read(fen);
-        let mut parts = Parts {
-            board: [None; 64],
+        let square_of = |index: u8| Square::new(index % 8, index / 8).unwrap();
+        let built = Position::build(&Parts {
+            board: array::from_fn(|index| position.at(square_of(index as u8))),
             side: position.side(),
             rights: position.rights(),
             target: position.target(),
             half: position.half(),
             full: position.full(),
-        };
-        for index in 0..64u8 {
-            let square = Square::new(index % 8, index / 8).unwrap();
-            parts.board[usize::from(index)] = position.at(square);
-        }
-        assert!(
-            are_equal(&position, &Position::build(&parts).unwrap()),
-            "{fen}"
-        );
+        });
+        assert!(are_equal(&position, &built.unwrap()), "{fen}");
     }
 }
 
@@ -100,9 +92,8 @@ fn what_is_equal_is_one_key() {
     assert_eq!(squares.len(), 2);
     let pieces: HashSet<Piece> = ["N", "n", "P", "N"].map(|it| it.parse().unwrap()).into();
     assert_eq!(pieces.len(), 3);
-    let moves: HashSet<Move> = ["e7e8", "e7e8q", "e7e8n", "e8e7", "e7e8q"]
-        .map(|it| it.parse().unwrap())
-        .into();
+    let texts = ["e7e8", "e7e8q", "e7e8n", "e8e7", "e7e8q"];
+    let moves: HashSet<Move> = texts.map(|it| it.parse().unwrap()).into();
     assert_eq!(moves.len(), 4);
     let mut counts: HashMap<Position, u32> = HashMap::new();
     for moves in ["e2e3 e7e6", "e2e4 e7e6", "e2e3 e7e6"] {
@@ -130,8 +121,6 @@ fn a_played_move_is_its_move_and_the_position_after_it() {
     let mut repeated = LegalMoves::new(&knights_out).into_iter();
     let same_move = repeated.find(|it| it.mv == first[0].mv).unwrap();
     assert!(same_move != first[0] && !again.contains(&same_move));
-    assert_eq!(
-        hasher.hash_one(first[0]),
-        hasher.hash_one(again.get(&first[0]).unwrap())
-    );
+    let hash_again = hasher.hash_one(again.get(&first[0]).unwrap());
+    assert_eq!(hasher.hash_one(first[0]), hash_again);
 }

@@ -81,11 +81,8 @@ fn a_move_is_its_text_in_uci() {
     for (origin, from) in squares() {
         for (target, to) in squares() {
             for (letter, promotion) in PROMOTIONS {
-                let mv = Move {
-                    from,
-                    to,
-                    promotion,
-                };
+                #[rustfmt::skip]
+                let mv = Move { from, to, promotion };
                 let text = [origin.as_str(), &target, letter].concat();
                 assert_eq!(mv.to_string(), text);
                 assert_eq!(text.parse(), Ok(mv));
@@ -133,11 +130,13 @@ fn a_text_has_the_width_that_is_asked_for() {
 
 #[test]
 fn a_fault_is_an_error_in_words() {
-    fn said(fault: TextFault) -> String {
-        Box::<dyn Error + Send + Sync>::from(fault).to_string()
+    for (fault, words) in [
+        (TextFault::NotASquare, "not a square"),
+        (TextFault::NotAPiece, "not a piece"),
+        (TextFault::NotAMove, "not a move"),
+        (TextFault::BadFen(4), "bad FEN, field 4"),
+    ] {
+        let error = Box::<dyn Error + Send + Sync>::from(fault);
+        assert_eq!(error.to_string(), words);
     }
-    assert_eq!(said(TextFault::NotASquare), "not a square");
-    assert_eq!(said(TextFault::NotAPiece), "not a piece");
-    assert_eq!(said(TextFault::NotAMove), "not a move");
-    assert_eq!(said(TextFault::BadFen(4)), "bad FEN, field 4");
 }

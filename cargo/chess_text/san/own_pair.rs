@@ -20,30 +20,20 @@ const FENS: [&str; 6] = [
     "3k4/8/8/8/8/8/R6R/3K4 w - - 0 1",
 ];
 
-// The body of the proved source.
-fn try_own_pair(position: &Position, mv: &Move, probes: &mut Probes) {
-    let _next = try_pair(position, *mv, probes);
-}
-
-fn name(square: Square) -> String {
-    let file = char::from(b'a' + square.file());
-    format!("{file}{}", 1 + square.rank())
-}
-
 // The SAN of the move (PGN 8.2.3). Each origin of its kind and target is tried, its own too.
 fn san_by_trying(position: &Position, played: &Played, probes: &mut Probes) -> String {
     let mv = played.mv;
     let kind = position.at(mv.from).unwrap().kind;
-    let takes = position.at(mv.to).is_some();
-    let from = name(mv.from);
+    let capture = position.at(mv.to).map_or("", |_| "x");
+    let (from, to) = (mv.from.to_string(), mv.to.to_string());
     let mut text = match kind {
         Kind::King if mv.from.file() == 4 && mv.to.file() == 6 => "O-O".to_string(),
         Kind::King if mv.from.file() == 4 && mv.to.file() == 2 => "O-O-O".to_string(),
-        Kind::King => ["K", if takes { "x" } else { "" }, &name(mv.to)].concat(),
-        Kind::Pawn if mv.from.file() != mv.to.file() => [&from[..1], "x", &name(mv.to)].concat(),
-        Kind::Pawn => name(mv.to),
+        Kind::King => ["K", capture, &to].concat(),
+        Kind::Pawn if mv.from.file() != mv.to.file() => [&from[..1], "x", &to].concat(),
+        Kind::Pawn => to,
         _ => {
-            let rivals = rivals_by_trying(position, kind, &mv, probes);
+            let rivals = rivals_of(position, kind, &mv, probes);
             let has_file = rivals.iter().any(|it| it.file() == mv.from.file());
             let has_rank = rivals.iter().any(|it| it.rank() == mv.from.rank());
             let disambiguation = match (rivals.is_empty(), has_file, has_rank) {
@@ -53,8 +43,7 @@ fn san_by_trying(position: &Position, played: &Played, probes: &mut Probes) -> S
                 _ => &from,
             };
             let letter = char::from(letter(kind)).to_string();
-            let capture = if takes { "x" } else { "" };
-            [&letter, disambiguation, capture, &name(mv.to)].concat()
+            [&letter, disambiguation, capture, &to].concat()
         }
     };
     text += match mv.promotion {
@@ -72,19 +61,10 @@ fn san_by_trying(position: &Position, played: &Played, probes: &mut Probes) -> S
 }
 
 // The other squares from which the same move is legal.
-fn rivals_by_trying(
-    position: &Position,
-    kind: Kind,
-    mv: &Move,
-    probes: &mut Probes,
-) -> Vec<Square> {
-    let mut rivals = Vec::new();
-    for from in origins(position, kind, mv.to) {
-        let is_legal = try_pair(position, Move { from, ..*mv }, probes).is_some();
-        if is_legal && from != mv.from {
-            rivals.push(from);
-        }
-    }
+fn rivals_of(position: &Position, kind: Kind, mv: &Move, probes: &mut Probes) -> Vec<Square> {
+    let mut rivals = origins(position, kind, mv.to).to_vec();
+    rivals.retain(|&from| try_pair(position, Move { from, ..*mv }, probes).is_some());
+    rivals.retain(|from| *from != mv.from);
     rivals
 }
 
@@ -92,7 +72,8 @@ fn rivals_by_trying(
 fn compare(position: &Position, played: &Played) {
     let (mut counted, mut tried) = (Probes::new(), Probes::new());
     count_own_pair(position, &played.mv, &mut counted);
-    try_own_pair(position, &played.mv, &mut tried);
+    // The body of the proved source.
+    let _next = try_pair(position, played.mv, &mut tried);
     assert_eq!(counted, tried);
     let text = write_san(position, played, &mut counted);
     let expected = san_by_trying(position, played, &mut tried);

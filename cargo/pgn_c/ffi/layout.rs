@@ -5,31 +5,31 @@ use crate::{
     PgnTag, PgnText,
 };
 use std::mem::{align_of, align_of_val, size_of, size_of_val};
-use std::path::Path;
 use std::process::Command;
 use std::{env, fs};
 
-/// What is known of a struct: its name in C, its fields, and a line for each of them.
-struct Struct {
-    name: &'static str,
-    fields: &'static [&'static str],
-    lines: String,
-}
+/// What C has to say of a struct, and of a field of it.
+const HEAD: &str = r#"#include <stddef.h>
+#include "pgn.h"
+#define STRUCT(S, SIZE, ALIGN) _Static_assert(sizeof(S) == SIZE && _Alignof(S) == ALIGN, #S);
+#define FIELD(S, F, AT, SIZE, ALIGN) _Static_assert(offsetof(S, F) == AT \
+    && sizeof ((S *)0)->F == SIZE && _Alignof(((S *)0)->F) == ALIGN, #S "." #F);
+"#;
 
-/// A struct of Rust's, by a value of it, with all of its fields.
+/// The lines of a struct of Rust's for C, by a value of it, with all of its fields.
 macro_rules! layout {
     ($name:literal, $type:ident { $($field:ident),* $(,)? }, $value:expr) => {{
         let value: $type = $value;
         let begin = &value as *const $type as usize;
         // A field that the list lacks is an error here.
         let $type { $($field),* } = &value;
-        let mut lines = format!("{} {} {}\n", $name, size_of::<$type>(), align_of::<$type>());
+        let mut lines = format!("STRUCT({}, {}, {})\n", $name, size_of::<$type>(), align_of::<$type>());
         $(
             let at = $field as *const _ as usize - begin;
             let (size, align) = (size_of_val($field), align_of_val($field));
-            lines += &format!("{}.{} {} {} {}\n", $name, stringify!($field), at, size, align);
+            lines += &format!("FIELD({}, {}, {at}, {size}, {align})\n", $name, stringify!($field));
         )*
-        Struct { name: $name, fields: &[$(stringify!($field)),*], lines }
+        lines
     }};
 }
 
@@ -40,7 +40,7 @@ const NO_GAME: PgnBadGame = PgnBadGame {
 };
 
 #[rustfmt::skip]
-fn structs() -> [Struct; 11] {
+fn structs() -> [String; 11] {
     [
         layout!("pgn_result", PgnResult { status, fault, place, written, games, plies, reason_at,
             message }, crate::pgn_check(b"")),
@@ -67,42 +67,16 @@ fn structs() -> [Struct; 11] {
     ]
 }
 
-/// A program in C that prints the same lines.
-fn program(structs: &[Struct]) -> String {
-    let mut text = String::from("#include <stdio.h>\n#include \"pgn.h\"\n");
-    text += "#define FIELD(S, F) printf(#S \".\" #F \" %zu %zu %zu\\n\", offsetof(S, F), \\\n";
-    text += "    sizeof ((S *)0)->F, _Alignof(((S *)0)->F))\n";
-    text += "#define STRUCT(S) printf(#S \" %zu %zu\\n\", sizeof(S), _Alignof(S))\n";
-    text += "int main(void) {\n";
-    for it in structs {
-        text += &format!("    STRUCT({});\n", it.name);
-        for field in it.fields {
-            text += &format!("    FIELD({}, {});\n", it.name, field);
-        }
-    }
-    text + "    return 0;\n}\n"
-}
-
-/// What the C program prints.
-fn lines_of_c(text: &str, folder: &Path) -> String {
-    let (source, program) = (folder.join("layout.c"), folder.join("layout"));
-    fs::write(&source, text).unwrap();
-    let built = Command::new(env::var("CC").unwrap_or("cc".into()))
-        .args(["-std=gnu11", "-I", env!("CARGO_MANIFEST_DIR"), "-o"])
-        .args([&program, &source])
-        .status();
-    assert!(built.unwrap().success());
-    String::from_utf8(Command::new(program).output().unwrap().stdout).unwrap()
-}
-
 #[test]
 fn the_structs_are_those_of_the_header() {
-    let folder = env::temp_dir().join(format!("pgn_c-{}", std::process::id()));
-    fs::create_dir_all(&folder).unwrap();
-    let structs = structs();
-    let lines: String = structs.iter().map(|it| it.lines.as_str()).collect();
-    let of_c = lines_of_c(&program(&structs), &folder);
-    fs::remove_dir_all(&folder).unwrap();
-    assert_eq!(lines, of_c);
+    let lines = structs().concat();
     assert_eq!(lines.lines().count(), 11 + 8 + 3 + 6 + 6 + 11 + 8 + 6 + 5 + 11 + 2 + 7);
+    let file = env::temp_dir().join(format!("pgn_c-{}.c", std::process::id()));
+    fs::write(&file, [HEAD, &lines].concat()).unwrap();
+    let compiled = Command::new(env::var("CC").unwrap_or("cc".into()))
+        .args(["-std=gnu11", "-fsyntax-only", "-I", env!("CARGO_MANIFEST_DIR")])
+        .arg(&file)
+        .status();
+    fs::remove_file(&file).unwrap();
+    assert!(compiled.unwrap().success());
 }

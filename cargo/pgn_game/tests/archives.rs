@@ -1,11 +1,12 @@
 //! Bad games of an archive are skipped as by a converter and `next_section`. Written for Cargo.
 
 use pgn_game::{
-    ArchiveItems, Converter, Fault, Fed, Inlet, Item, Mode, Nowhere, ReadFailed, Reason, Rewinds,
-    SliceSource, Source,
+    ArchiveItems, Converter, Fault, Fed, Inlet, Item, Mode, Nowhere, Reason, Rewinds, SliceSource,
 };
 use pgn_sections::next_section;
+use std::cell::Cell;
 use std::io::{self, Cursor, Read, Seek, SeekFrom};
+use std::rc::Rc;
 
 /// Texts with bad games. Each is also read with bytes changed, left out and put in.
 const TEXTS: [&str; 6] = [
@@ -24,10 +25,8 @@ struct Numbers(u64);
 
 impl Numbers {
     fn below(&mut self, end: usize) -> usize {
-        self.0 = self
-            .0
-            .wrapping_mul(6364136223846793005)
-            .wrapping_add(1442695040888963407);
+        let next = self.0.wrapping_mul(6364136223846793005);
+        self.0 = next.wrapping_add(1442695040888963407);
         (self.0 >> 33) as usize % end
     }
 }
@@ -95,28 +94,48 @@ fn by_items<R: Rewinds>(source: &mut R) -> (Vec<Skip>, u64) {
     }
 }
 
-/// Gives at most so many bytes a read.
+/// Gives at most so many bytes a read. It fails at the call that is behind so many.
 struct Short {
     text: Cursor<Vec<u8>>,
     most: usize,
+    left: Rc<Cell<usize>>,
+}
+
+impl Short {
+    fn called(&mut self) -> io::Result<&mut Cursor<Vec<u8>>> {
+        let left = self.left.get();
+        self.left.set(left.wrapping_sub(1));
+        let text = (left > 0).then_some(&mut self.text);
+        text.ok_or(io::ErrorKind::Other.into())
+    }
 }
 
 impl Read for Short {
     fn read(&mut self, buffer: &mut [u8]) -> io::Result<usize> {
         let most = self.most.min(buffer.len());
-        self.text.read(&mut buffer[..most])
+        self.called()?.read(&mut buffer[..most])
     }
 }
 
 impl Seek for Short {
     fn seek(&mut self, to: SeekFrom) -> io::Result<u64> {
-        self.text.seek(to)
+        self.called()?.seek(to)
     }
 }
 
 fn short(text: &[u8], most: usize) -> Inlet<Short> {
-    let text = Cursor::new(text.to_vec());
-    Inlet::new(Short { text, most })
+    failing(text, most, usize::MAX).0
+}
+
+/// Such a source, and how many calls are left before the one that fails.
+fn failing(text: &[u8], most: usize, calls: usize) -> (Inlet<Short>, Rc<Cell<usize>>) {
+    let (text, left) = (Cursor::new(text.to_vec()), Rc::new(Cell::new(calls)));
+    let short = Short {
+        text,
+        most,
+        left: left.clone(),
+    };
+    (Inlet::new(short), left)
 }
 
 fn are_skipped(text: &[u8]) -> usize {
@@ -152,63 +171,22 @@ fn a_bad_game_is_longer_than_a_read() {
     assert_eq!(skips[0].1, Some(bad.len() as u64));
 }
 
-/// Fails at one of its calls, counted from 0.
-struct Failing {
-    inlet: Inlet<Short>,
-    calls: usize,
-    fails_at: usize,
-}
-
-impl Failing {
-    fn new(text: &[u8], fails_at: usize) -> Failing {
-        let inlet = short(text, 5);
-        Failing {
-            inlet,
-            calls: 0,
-            fails_at,
-        }
-    }
-
-    fn fails(&mut self) -> bool {
-        self.calls += 1;
-        self.calls - 1 == self.fails_at
-    }
-}
-
-impl Source for Failing {
-    fn read_some(&mut self, buffer: &mut [u8]) -> Result<usize, ReadFailed> {
-        if self.fails() {
-            return Err(ReadFailed);
-        }
-        self.inlet.read_some(buffer)
-    }
-}
-
-impl Rewinds for Failing {
-    fn set_to(&mut self, place: u64) -> Result<(), ReadFailed> {
-        if self.fails() {
-            return Err(ReadFailed);
-        }
-        self.inlet.set_to(place)
-    }
-}
-
 #[test]
 fn a_failed_call_leaves_the_items_as_they_were() {
     let text = TEXTS[0].as_bytes();
     let mut failed = 0;
     for fails_at in 0.. {
-        let mut source = Failing::new(text, usize::MAX);
+        let (mut source, left) = failing(text, 5, usize::MAX);
         let mut archive = ArchiveItems::<64, 33>::new();
         let fault = loop {
             if let Err(fault) = archive.next(&mut source) {
                 break fault;
             }
         };
-        (source.calls, source.fails_at) = (0, fails_at);
+        left.set(fails_at);
         match archive.skip_bad_game(&mut source) {
             Ok(goes_on) => {
-                assert!(goes_on && source.calls <= fails_at);
+                assert!(goes_on && left.get() <= fails_at);
                 break;
             }
             Err(unread) => assert_eq!(unread.reason, Reason::ReadFault),
@@ -225,16 +203,15 @@ fn a_failed_call_leaves_the_items_as_they_were() {
 
 #[test]
 fn a_read_that_failed_is_no_game() {
-    let mut source = Failing::new(b"1. e4 e9", 0);
+    let (mut source, left) = failing(b"1. e4 e9", 5, 0);
     let mut archive = ArchiveItems::<64, 33>::new();
     let fault = archive.next(&mut source).unwrap_err();
     assert_eq!(fault.reason, Reason::ReadFault);
-    let calls = source.calls;
+    let calls = left.get();
     assert_eq!(archive.skip_bad_game(&mut source), Err(fault));
-    assert_eq!(source.calls, calls);
     let mut archive = ArchiveItems::<64, 33>::new();
     assert_eq!(archive.skip_bad_game(&mut source), Ok(false));
-    assert_eq!(source.calls, calls);
+    assert_eq!(left.get(), calls);
 }
 
 #[test]

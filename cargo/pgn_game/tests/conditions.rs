@@ -1,11 +1,12 @@
 //! A call that breaks a condition of its contract panics with a sentence. Written for Cargo.
 
-use chess_rules::{Position, Probes};
+use chess_rules::{is_step, try_pair, Move, Position, Probes};
 use pgn_game::{
     check, check_slice, convert, convert_checked, convert_slice, find_move, read_move,
     ArchiveItems, Converter, Games, Inlet, Items, Mode, Notation, Nowhere, Outlet, Sink,
 };
 use pgn_layout::{fits_tag_line, write_tag, CurrentLine, Layout};
+use pgn_sections::BadGame;
 use std::cell::RefCell;
 use std::panic::{catch_unwind, set_hook, UnwindSafe};
 
@@ -79,34 +80,22 @@ fn nothing_is_fed_after_the_end() {
     assert_eq!(converter.finish(&mut Nowhere), Err(fault));
 }
 
+/// The longest value begins with a text, and then has a byte so many times.
 #[test]
 fn a_tag_pair_fits_on_a_line() {
-    let sentence = "a tag pair fits on a line of 255 bytes";
-    for value in [
-        vec![b'a'; 249],
-        vec![b'"'; 125],
-        [vec![b'\\'; 1], vec![b'a'; 247]].concat(),
-    ] {
-        assert!(!fits_tag_line(b"A", &value));
-        let (one, other) = (value.clone(), value.clone());
-        refused! { sentence;
+    for (front, byte, times) in [("", "a", 248), ("", "\"", 124), ("\\", "a", 246)] {
+        let longest = [front, &byte.repeat(times)].concat().into_bytes();
+        let mut out = Outlet::new(Vec::new());
+        write_tag(b"A", &longest, &mut out).unwrap();
+        Layout::new().tag(b"A", &longest, &mut out).unwrap();
+        assert_eq!(out.into_inner().len(), 2 * 255);
+        let too_long = [front, &byte.repeat(times + 1)].concat().into_bytes();
+        assert!(!fits_tag_line(b"A", &too_long));
+        let (one, other) = (too_long.clone(), too_long);
+        refused! { "a tag pair fits on a line of 255 bytes";
             write_tag(b"A", &one, &mut Nowhere);
             Layout::new().tag(b"A", &other, &mut Nowhere);
         }
-    }
-}
-
-#[test]
-fn the_longest_tag_pairs_are_written() {
-    for value in [
-        vec![b'a'; 248],
-        vec![b'"'; 124],
-        [vec![b'\\'; 1], vec![b'a'; 246]].concat(),
-    ] {
-        let mut out = Outlet::new(Vec::new());
-        write_tag(b"A", &value, &mut out).unwrap();
-        Layout::new().tag(b"A", &value, &mut out).unwrap();
-        assert_eq!(out.into_inner().len(), 2 * 255);
     }
 }
 
@@ -135,6 +124,35 @@ fn a_sink_gets_a_byte() {
     }
 }
 
+#[test]
+fn a_piece_of_a_text_ends_below_2_to_64() {
+    let at = usize::MAX - 2;
+    let game = move || BadGame {
+        at,
+        ..BadGame::new(0, 0)
+    };
+    refused! { "the pieces of a text have less than 2^64 bytes";
+        game().next_section(b"e4 ", true);
+    }
+    let mut game = game();
+    assert_eq!(game.next_section(b"e4", true), None);
+    assert_eq!(game.at, usize::MAX);
+}
+
+#[test]
+fn there_is_no_rank_8() {
+    refused! { "a rank is from 0 to 7"; Position::initial().rank_numbers(8); }
+}
+
+#[test]
+fn a_step_is_not_legal() {
+    let position = Position::initial();
+    let [legal, illegal] = ["e2e4", "e2e5"].map(|it| it.parse::<Move>().unwrap());
+    refused! { "is_step takes a move that is not legal"; is_step(&position, &legal); }
+    assert!(try_pair(&position, illegal, &mut Probes::new()).is_none());
+    assert!(!is_step(&position, &illegal));
+}
+
 /// Used `Probes` are no error: the pairs are counted on top.
 #[test]
 fn a_move_is_counted_on_top() {
@@ -150,22 +168,15 @@ fn a_move_is_counted_on_top() {
 #[test]
 #[cfg(debug_assertions)]
 fn a_move_that_is_written_or_played_is_legal() {
-    use chess_rules::{position_after, Move, Square};
+    use chess_rules::position_after;
     use chess_text::write_san;
 
     let position = Position::initial();
-    let e2 = Square::new(4, 1).unwrap();
-    let mv = Move {
-        from: e2,
-        to: Square::new(4, 4).unwrap(),
-        promotion: None,
-    };
+    let mv: Move = "e2e5".parse().unwrap();
     refused! { "position_after takes a legal move"; position_after(&position, &mv); }
     let mut played = find_move(&position, b"e4", &mut Probes::new()).unwrap();
-    assert_eq!(
-        write_san(&position, &played, &mut Probes::new()).as_slice(),
-        b"e4"
-    );
+    let san = write_san(&position, &played, &mut Probes::new());
+    assert_eq!(san.as_slice(), b"e4");
     played.next = position;
     refused! { "write_san takes a legal move and the position after it";
         write_san(&position, &played, &mut Probes::new());
@@ -175,22 +186,15 @@ fn a_move_that_is_written_or_played_is_legal() {
 #[test]
 #[cfg(debug_assertions)]
 fn a_move_that_was_found_has_the_pairs_of_its_candidates() {
+    use chess_rules::Played;
     use chess_text::{read_fen, write_san_of};
 
     // Two knights go to d2.
     let position = read_fen(b"4k3/8/8/8/8/5N2/8/1N2K3 w - - 0 1").unwrap();
     let mut tried = Probes::new();
-    let played = find_move(&position, b"Nbd2", &mut tried).unwrap();
-    let san = write_san_of(&position, &played.mv, &played.next, true, &mut tried);
+    let Played { mv, next } = find_move(&position, b"Nbd2", &mut tried).unwrap();
+    let san = write_san_of(&position, &mv, &next, true, &mut tried);
     assert_eq!(san.as_slice(), b"Nbd2");
-    let counted_anew = move || {
-        write_san_of(
-            &position,
-            &played.mv,
-            &played.next,
-            true,
-            &mut Probes::new(),
-        )
-    };
+    let counted_anew = move || write_san_of(&position, &mv, &next, true, &mut Probes::new());
     assert!(catch_unwind(counted_anew).is_err());
 }

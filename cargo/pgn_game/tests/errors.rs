@@ -3,10 +3,11 @@
 use chess_rules::{Position, Probes};
 use chess_text::{read_fen, read_form, resolve, SanFault, UciFault};
 use pgn_game::{
-    convert_slice, Converter, Games, Inlet, Items, LexReason, Mode, Nowhere, Outlet, Reason,
+    convert_slice, Converter, Games, Inlet, Items, LexReason, Mode, Nowhere, Outlet, ReadFailed,
+    Reason, Sink, Source,
 };
-use pgn_game::{ReadFailed, Sink, Source};
 use std::error::Error;
+use std::fmt::Debug;
 use std::io::{self, Read, Write};
 
 /// A reader and a writer that fail.
@@ -84,32 +85,29 @@ fn a_fen_and_a_move_have_the_words_of_the_converter() {
     }
 }
 
+fn is_shown(value: impl Debug, begin: &str) {
+    let text = format!("{value:?}");
+    assert!(text.starts_with(begin), "{text}");
+    assert!(text == begin || begin.ends_with(", "), "{text}");
+}
+
 #[test]
+#[rustfmt::skip]
 fn what_a_user_prints_can_be_printed() {
     let mut converter = Converter::<64, 33>::new(Mode::Full);
     converter.feed(b"e4 *", &mut Nowhere).unwrap();
     converter.finish(&mut Nowhere).unwrap();
-    let shown = format!("{converter:?}");
-    assert_eq!(
-        shown,
-        "Converter { place: 4, games: 1, fault: None, is_finished: true, .. }"
-    );
+    is_shown(converter, "Converter { place: 4, games: 1, fault: None, is_finished: true, .. }");
     let mut games = Games::<64, 33>::new(Mode::Full);
-    games
-        .next(&mut Inlet::new(b"e4 *".as_slice()), &mut Nowhere)
-        .unwrap();
-    assert_eq!(format!("{games:?}"), "Games { games: 1, .. }");
+    games.next(&mut Inlet::new(b"e4 *".as_slice()), &mut Nowhere).unwrap();
+    is_shown(&games, "Games { games: 1, .. }");
     let mut items = Items::<64, 33>::default();
-    let shown = format!("{items:?}");
-    assert_eq!(shown, "Items { place: 0, games: 0, depth: 0, .. }");
+    is_shown(&items, "Items { place: 0, games: 0, depth: 0, .. }");
     let mut source = Inlet::new(b"* 1. e4 (d4) *".as_slice());
     while items.depth() == 0 {
         items.next(&mut source).unwrap();
     }
-    let shown = format!("{items:?}");
-    assert_eq!(shown, "Items { place: 9, games: 1, depth: 1, .. }");
-    let position = format!("{:?}", games.position().unwrap());
-    assert!(position.starts_with(
-        "Position { board: rnbqkbnr/pppppppp/......../......../....P.../......../PPPP.PPP/RNBQKBNR, "
-    ));
+    is_shown(items, "Items { place: 9, games: 1, depth: 1, .. }");
+    let board = "rnbqkbnr/pppppppp/......../......../....P.../......../PPPP.PPP/RNBQKBNR";
+    is_shown(games.position().unwrap(), &format!("Position {{ board: {board}, "));
 }

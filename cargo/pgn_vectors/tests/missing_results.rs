@@ -16,26 +16,18 @@ fn by_converter(text: &[u8]) -> Games {
     loop {
         let fed = converter.feed(&text[from..], &mut Nowhere);
         let is_last = fed == Ok(Fed::All);
-        let is_game = match fed {
-            Ok(Fed::Game(used)) => {
-                from += used;
-                Ok(true)
+        let end = fed.and_then(|fed| match fed {
+            Fed::Game(used) => Ok(Some(from + used)),
+            Fed::All => Ok(converter.finish(&mut Nowhere)?.then_some(text.len())),
+        });
+        let mut section = Outlet::new(Vec::new());
+        match end {
+            Ok(Some(end)) => {
+                converter.write_tags(&mut section).unwrap();
+                games.push((end as u64, section.into_inner()));
+                from = end;
             }
-            Ok(Fed::All) => {
-                from = text.len();
-                converter.finish(&mut Nowhere)
-            }
-            Err(fault) => Err(fault),
-        };
-        match is_game {
-            Ok(true) => {
-                let mut section = Vec::new();
-                converter
-                    .write_tags(&mut Outlet::new(&mut section))
-                    .unwrap();
-                games.push((from as u64, section));
-            }
-            Ok(false) => {}
+            Ok(None) => {}
             Err(fault) => return (games, Some(fault)),
         }
         if is_last {
@@ -67,9 +59,9 @@ fn by_items(text: &[u8], most: usize) -> Games {
         match items.next(&mut source) {
             Ok(Some(Item::Marker(marker))) => {
                 assert_eq!(items.tag(b"Result"), Some(marker.text()));
-                let mut section = Vec::new();
-                items.write_tags(&mut Outlet::new(&mut section)).unwrap();
-                games.push((items.place(), section));
+                let mut section = Outlet::new(Vec::new());
+                items.write_tags(&mut section).unwrap();
+                games.push((items.place(), section.into_inner()));
             }
             Ok(Some(_)) => {}
             Ok(None) => return (games, None),
