@@ -1,9 +1,8 @@
 """Reads the documents of the repository: their fenced blocks, and the prose between them."""
 import glob
-import os
 import re
 
-from programs import ROOT
+from programs import ROOT, text_of
 
 
 def documents():
@@ -11,8 +10,7 @@ def documents():
 
 
 def lines_of(document):
-    with open(os.path.join(ROOT, document), encoding="utf-8") as file:
-        return file.read().split("\n")
+    return text_of(document).split("\n")
 
 
 def blocks_of(lines):

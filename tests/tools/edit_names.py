@@ -11,10 +11,9 @@ Nothing else is read. So the prover may not be able to read an edit that has all
 """
 import functools
 import glob
-import os
 import re
 
-from programs import ROOT
+from programs import ROOT, text_of
 
 # what needs no import, and what std has that no source of some crate uses
 PRELUDE = set("Drop Err None Ok Option Result Self Some String Vec drop matches".split())
@@ -62,8 +61,7 @@ class Sources:
         self.texts, self.words, self.types = {}, {}, {}
         for crate in crates:
             for path in glob.glob("crates/%s/src/**/*.rt" % crate, root_dir=ROOT, recursive=True):
-                with open(os.path.join(ROOT, path), encoding="utf-8") as file:
-                    self.texts[path] = file.read()
+                self.texts[path] = text_of(path)
                 code = code_of(self.texts[path])
                 self.words[path] = set(re.findall(r"\w+", code))
                 self.read_types(code)

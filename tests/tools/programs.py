@@ -204,12 +204,23 @@ class Folder:
     def setUp(self):
         self.folder = new_folder(self)
 
+    @functools.cached_property
+    def program(self):
+        """The program; the test is left out without one."""
+        return need_program()
+
     def put(self, name, data):
         """Writes a file, perhaps in a new folder of that one, and gives its path."""
         path = os.path.join(os.fsencode(self.folder), os.fsencode(name))
         os.makedirs(os.path.dirname(path), exist_ok=True)
         write_file(path, data)
         return os.fsdecode(path)
+
+    def put_script(self, name, text):
+        """Writes a script of the shell that can be called, and gives its path."""
+        path = self.put(name, "#!/bin/sh\n" + text)
+        os.chmod(path, 0o755)
+        return path
 
     def put_all(self, files):
         """Writes files: their texts by their names."""
@@ -322,3 +333,13 @@ def run(words, **more):
     more.setdefault("timeout", 100)
     more.setdefault("env", dict(os.environ, PATH=PATH))
     return subprocess.run(words, check=False, **more)
+
+
+def output_of(ran, status=0, err=b""):
+    """What a program wrote on standard output, if it ended with this status.
+
+    It also said exactly `err` on standard error, or anything if that is None.
+    """
+    if (ran.returncode, ran.stderr if err is not None else None) != (status, err):
+        raise AssertionError((ran.args, ran.returncode, ran.stdout, ran.stderr))
+    return ran.stdout

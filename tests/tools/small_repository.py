@@ -100,18 +100,15 @@ class Repository:
             self.command(name, COMMANDS[name])
         self.make_older()
 
-    def write(self, path, text):
+    def write(self, path, text, mode="w"):
         path = os.path.join(self.root, path)
         os.makedirs(os.path.dirname(path), exist_ok=True)
-        with open(path, "w", encoding="ascii") as file:
+        with open(path, mode, encoding="ascii") as file:
             file.write(text)
 
     def change(self, path):
         """Adds an empty line to a file, which may be missing."""
-        path = os.path.join(self.root, path)
-        os.makedirs(os.path.dirname(path), exist_ok=True)
-        with open(path, "a", encoding="ascii") as file:
-            file.write("\n")
+        self.write(path, "\n", "a")
 
     def command(self, name, text):
         """Puts a command on the PATH."""

@@ -24,6 +24,14 @@ def _moves(before, name, spellings, behind=" *"):
     return [_move(before, old, new, name, behind) for old, new in spellings.items()]
 
 
+def _row(text, *edits):
+    """A row of several edits: the text has @ in the place of each."""
+    def filled(places):
+        return "".join(map("".join, zip(text.split("@"), (*places, ""))))
+
+    return filled([it[0] for it in edits]), [*edits], filled([it[1] for it in edits])
+
+
 def _tags(tags, old, new, name, behind="\n\n1. e4 *\n"):
     return tags.replace("OLD", old) + behind, [(old, new, name)], tags.replace("OLD", new) + behind
 
@@ -42,10 +50,8 @@ SAFE = [
     *_moves(SCANDINAVIAN, SIGN, {
         "e4:d5": "e4xd5", "e:d5": "exd5", "eXd5": "exd5", "e\u00d7d5": "exd5", "ed5:": "ed5"}),
     _move(SCANDINAVIAN, "e4-d5", "e4d5", LONG),
-    ("1. e2-e4 (1. d2-d4 d7-d5) e7-e5 {e2-e4} 2. Ng1-f3 *",
-     [("e2-e4", "e2e4", LONG), ("d2-d4", "d2d4", LONG), ("d7-d5", "d7d5", LONG),
-      ("e7-e5", "e7e5", LONG), ("Ng1-f3", "Ng1f3", LONG)],
-     "1. e2e4 (1. d2d4 d7d5) e7e5 {e2-e4} 2. Ng1f3 *"),
+    _row("1. @ (1. @ @) @ {e2-e4} 2. @ *", ("e2-e4", "e2e4", LONG), ("d2-d4", "d2d4", LONG),
+         ("d7-d5", "d7d5", LONG), ("e7-e5", "e7e5", LONG), ("Ng1-f3", "Ng1f3", LONG)),
     # castling
     *_moves(RUY + "4. ", CASTLING, {
         "o-o": "O-O", "OO": "O-O", "0-O": "O-O", "O - O": "O-O", "0 - 0": "O-O", "O\u2013O": "O-O",
@@ -73,8 +79,7 @@ SAFE = [
     _move(PAWN, "a8=\u2655", "a8=Q", FIGURINE),
     _move(TAKES, "axb8(Q)+", "axb8=Q+", PROMOTION),
     (PAWN + "a7-a8q *", [("a7-a8q", "a7a8=Q", "long notation, promotion")], PAWN + "a7a8=Q *"),
-    (TAKES + "a7:b8/q *", [("a7:b8/q", "a7xb8=Q", "capture sign, promotion")],
-     TAKES + "a7xb8=Q *"),
+    _move(TAKES, "a7:b8/q", "a7xb8=Q", "capture sign, promotion"),
     # en passant
     *_moves(PASSANT, PASSING, {
         "exd6ep": "exd6", "exd6e.p.": "exd6", "exd6 e.p.": "exd6", "exd6 ep": "exd6",
@@ -107,8 +112,7 @@ SAFE = [
     *_moves("1. e4 e5 2. ", LIKE, {"\u0412\u04414": "Bc4", "\u0392c4": "Bc4"}),
     *_moves(CASTLES, LIKE, {"\u041ad2": "Kd2", "\u039ad2": "Kd2"}),
     _move(PAWN, "a8=\u0412", "a8=B", LIKE),
-    ("1. \u04352-\u04354 *", [("\u04352-\u04354", "e2e4", "look-alike letter, long notation")],
-     "1. e2e4 *"),
+    _move("1. ", "\u04352-\u04354", "e2e4", "look-alike letter, long notation"),
     (RUY + "4. 0-\u041e *", [("0-\u041e", "O-O", "look-alike letter, castling")], RUY + "4. O-O *"),
     # two moves without a blank
     *(_move(before, first + second, first + " " + second, JOINED, behind)
@@ -119,8 +123,7 @@ SAFE = [
           ("1. e4 e5 2. Qh5 Nc6 3. ", "Qxf7+", "Kxf7", " *"),
           (TAKES[:-3] + "1.", "axb8=Q+", "Kg7", " *"),
           (CASTLES, "O-O", "O-O-O", " *"))),
-    ("1.e4e5 2.Nf3Nc6 *", [("e4e5", "e4 e5", JOINED), ("Nf3Nc6", "Nf3 Nc6", JOINED)],
-     "1.e4 e5 2.Nf3 Nc6 *"),
+    _row("1.@ 2.@ *", ("e4e5", "e4 e5", JOINED), ("Nf3Nc6", "Nf3 Nc6", JOINED)),
     # signs
     *_moves("1. e4 ", "sign", {
         "+/-": "$16", "\u00b1": "$16", "\u2213": "$17", "-/+": "$17", "+-": "$18", "-+": "$19",
@@ -142,21 +145,16 @@ SAFE = [
     *_moves(WON + "1. e4 ", RESULT, {"1\u20130": "1-0", "1 - 0": "1-0", "1:0": "1-0"}, "\n"),
     *_moves(LOST + "1. e4 ", RESULT, {"0:1": "0-1", "0 - 1": "0-1"}, "\n"),
     ("1. e4 1-0\n", [("", WON, TAG)], WON + "1. e4 1-0\n"),
-    ('[White "Ada"]\n\n1. e4 1-0\n', [("", '\n[Result "1-0"]', TAG)],
-     '[White "Ada"]\n[Result "1-0"]\n\n1. e4 1-0\n'),
-    ('[White "Ada"]\r\n\r\n1. e4 1-0\r\n', [("", '\r\n[Result "1-0"]', TAG)],
-     '[White "Ada"]\r\n[Result "1-0"]\r\n\r\n1. e4 1-0\r\n'),
-    ('[Result ""]\n\n1. e4 1-0\n', [("", "1-0", "Result tag from the marker")],
-     WON + "1. e4 1-0\n"),
-    ('[Result "?"]\n\n1. e4 1-0\n', [("?", "1-0", "Result tag from the marker")],
-     WON + "1. e4 1-0\n"),
+    _move('[White "Ada"]', "", '\n[Result "1-0"]', TAG, "\n\n1. e4 1-0\n"),
+    _move('[White "Ada"]', "", '\r\n[Result "1-0"]', TAG, "\r\n\r\n1. e4 1-0\r\n"),
+    _move('[Result "', "", "1-0", "Result tag from the marker", '"]\n\n1. e4 1-0\n'),
+    _move('[Result "', "?", "1-0", "Result tag from the marker", '"]\n\n1. e4 1-0\n'),
     ("1. e4 e5 1-0 1. d4 *\n", [("", WON, TAG)], WON + "1. e4 e5 1-0 1. d4 *\n"),
     ("e4 e5 1-0\n\nd4 *\n", [("", WON, TAG)], WON + "e4 e5 1-0\n\nd4 *\n"),
     ("e4 *\n\nd4 1-0\n", [("", WON, TAG)], "e4 *\n\n" + WON + "d4 1-0\n"),
     ("\n e4 1-0\n", [("", WON, TAG)], "\n " + WON + "e4 1-0\n"),
-    ('[Result "1/2"]\n\n1. e4 1/2-1/2\n',
-     [('[Result "1/2"', '[Result "1/2-1/2"', "spelling of the Result tag")],
-     DRAW + "1. e4 1/2-1/2\n"),
+    _move("", '[Result "1/2"', '[Result "1/2-1/2"', "spelling of the Result tag",
+          "]\n\n1. e4 1/2-1/2\n"),
     *(_move(WON + "1. e4 ", it, "1-0", RESULT, "\n") for it in ("l-0", "I-O", "1-O", "(1-0)")),
     *(_move(LOST + "1. e4 ", it, "0-1", RESULT, " {a}\n") for it in ("O-1", "0-l", "( 0-1 )")),
     _move(DRAW + "1. e4 ", "l/2-I/2", "1/2-1/2", RESULT, "\n"),
@@ -174,18 +172,15 @@ SAFE = [
     # tags
     _tags('[Event "OLD"]', 'The "Open"', r"The \"Open\"", "quotes in a value"),
     _tags('[Event "OLD"]', '"Rapid" Cup', r"\"Rapid\" Cup", "quotes in a value"),
-    ('[White "x"]\n[Site "a"]\n[Site "a"]\n\n*\n', [('[Site "a"]\n', "", "pair given twice")],
-     '[White "x"]\n[Site "a"]\n\n*\n'),
-    ('[White "x"]\r\n[Site "a"]\r\n[Round "1"]\r\n[Site "a"]\r\n[Site "a"]\r\n\r\n*\n',
-     [('[Site "a"]\r\n[Site "a"]\r\n', "", "pair given twice")],
-     '[White "x"]\r\n[Site "a"]\r\n[Round "1"]\r\n\r\n*\n'),
+    _move('[White "x"]\n[Site "a"]\n', '[Site "a"]\n', "", "pair given twice", "\n*\n"),
+    _move('[White "x"]\r\n[Site "a"]\r\n[Round "1"]\r\n', '[Site "a"]\r\n[Site "a"]\r\n', "",
+          "pair given twice", "\r\n*\n"),
     ('[Event "a\tb"]\n\n*\n', [("\t", " ", "white space")], '[Event "a b"]\n\n*\n'),
     *_moves("1. e4", "white space", {"\u00a0": " ", "&nbsp;": " "}, "e5 *"),
     _move("1. e4", "\u00ad", "", "soft hyphen", " e5 *"),
     _move("1. e4 ", "1\u2026", "1...", "dots of a number", " e5 *"),
     ("1. e4 *\n\x1a", [("\x1a", "", "end of a DOS file")], "1. e4 *\n"),
-    ("*\n\n\ufeff[White \"Ada\"]\n\n*\n", [("\ufeff", "", "byte order mark")],
-     '*\n\n[White "Ada"]\n\n*\n'),
+    _move("*\n\n", "\ufeff", "", "byte order mark", '[White "Ada"]\n\n*\n'),
     # positions
     _tags('[FEN "OLD"]', "4k3/8/8/8/8/8/8/4K2R w K - 0 1 ", "4k3/8/8/8/8/8/8/4K2R w K - 0 1",
           "spelling of a FEN", "\n\n1. O-O *\n"),
@@ -196,28 +191,21 @@ SAFE = [
     _tags('[FEN "OLD"]', "4k3/8/8/8/8/8/8/4K3 b - -", "4k3/8/8/8/8/8/8/4K3 b - - 0 30",
           "spelling of a FEN", "\n\n30... Kd7 *\n"),
     # comments
-    ("1. e4 {[%%cal %s]} *" % MARKS,
-     [("[%%cal %s]" % MARKS, "[%%cal %s] [%%cal %s]" % (MARKS[:71], MARKS[72:]),
-       "long drawing command")],
-     "1. e4 {[%%cal %s] [%%cal %s]} *" % (MARKS[:71], MARKS[72:])),
+    _move("1. e4 {", "[%%cal %s]" % MARKS, "[%%cal %s] [%%cal %s]" % (MARKS[:71], MARKS[72:]),
+          "long drawing command", "} *"),
 ]
 
 CUT, NULL, CLOSED = "marker cut short", "null move", "comment never closed"
 APART, OUT_OF_TURN = "letter apart", "joined number out of turn"
 BRACKET, BEHIND = "missing bracket", "sign after the marker"
 UNSAFE = [
-    ("1. e4 e5 (1... c5 2. -- Nf6) 2. Nf3 *", [("-- Nf6", "{-- Nf6}", NULL)],
-     "1. e4 e5 (1... c5 2. {-- Nf6}) 2. Nf3 *"),
-    ("1. e4 (1. Z0 d5 {a} (1... e5) 2. e4) e5 *",
-     [("Z0 d5 {a} (1... e5) 2. e4", "{Z0 d5 (a) (1... e5) 2. e4}", NULL)],
-     "1. e4 (1. {Z0 d5 (a) (1... e5) 2. e4}) e5 *"),
-    ("1. e4 -- 2. d4 d5 *", [("-- 2. d4 d5", "{-- 2. d4 d5}", NULL)],
-     "1. e4 {-- 2. d4 d5} *"),
+    _move("1. e4 e5 (1... c5 2. ", "-- Nf6", "{-- Nf6}", NULL, ") 2. Nf3 *"),
+    _move("1. e4 (1. ", "Z0 d5 {a} (1... e5) 2. e4", "{Z0 d5 (a) (1... e5) 2. e4}", NULL, ") e5 *"),
+    _move("1. e4 ", "-- 2. d4 d5", "{-- 2. d4 d5}", NULL),
     ("1. e4 @@@@ *", [("@@@@", "{@@@@}", NULL)], "1. e4 {@@@@} *"),
     ("1. e4 e5\n", [("", " *", "no marker")], "1. e4 e5 *\n"),
     ('[Result "1-0"]\n\n1. e4 e5\n', [("", " 1-0", "no marker")], WON + "1. e4 e5 1-0\n"),
-    ('[White "Ada"]\n\n1. e4\n\n[White "Bob"]\n\n1. d4 *\n', [("", " *", "no marker")],
-     '[White "Ada"]\n\n1. e4 *\n\n[White "Bob"]\n\n1. d4 *\n'),
+    _move('[White "Ada"]\n\n1. e4', "", " *", "no marker", '\n\n[White "Bob"]\n\n1. d4 *\n'),
     (WON + "1. e4 1-\n", [("1-", "1-0", CUT)], WON + "1. e4 1-0\n"),
     (DRAW + "1. e4 1/2-\n", [("1/2-", "1/2-1/2", CUT)], DRAW + "1. e4 1/2-1/2\n"),
     ("1. e4 0-0\n", [("0-0", "*", CUT)], "1. e4 *\n"),
@@ -227,59 +215,42 @@ UNSAFE = [
     ('[Result "0-1"]\n\n1. e4 1-0\n', [("0-1", "1-0", "other Result tag")], WON + "1. e4 1-0\n"),
     ('[Result "won"]\n\n1. e4 1-0\n', [("won", "1-0", "bad Result tag")], WON + "1. e4 1-0\n"),
     (WON + "1. e4 1-0 1-0\n", [("1-0", "", "second marker")], WON + "1. e4 1-0 \n"),
-    ('[White "x"]\n[Site "a"]\n[Site "b"]\n\n*\n',
-     [('[Site "b"]\n', "", "other pair of one name")], '[White "x"]\n[Site "a"]\n\n*\n'),
-    ("".join('[T%d ""]\n' % it for it in range(65)) + "\n*\n",
-     [('[T64 ""]\n', "", "pair too many")],
-     "".join('[T%d ""]\n' % it for it in range(64)) + "\n*\n"),
-    ("1. e4 {" + "-27,19;" * 12 + "} *",
-     [("-27,19;" * 12, "-27,19;" * 11 + " -27,19;", "long word")],
-     "1. e4 {" + "-27,19;" * 11 + " -27,19;} *"),
-    ("1. e4 {" + "a" * 100 + "} *", [("a" * 100, "a" * 79 + " " + "a" * 21, "long word")],
-     "1. e4 {" + "a" * 79 + " " + "a" * 21 + "} *"),
+    _move('[White "x"]\n[Site "a"]\n', '[Site "b"]\n', "", "other pair of one name", "\n*\n"),
+    _move("".join('[T%d ""]\n' % it for it in range(64)), '[T64 ""]\n', "", "pair too many",
+          "\n*\n"),
+    _move("1. e4 {", "-27,19;" * 12, "-27,19;" * 11 + " -27,19;", "long word", "} *"),
+    _move("1. e4 {", "a" * 100, "a" * 79 + " " + "a" * 21, "long word", "} *"),
     _tags('[FEN "OLD"]', "4k3/8/8/8/8/8/8/4K3 w - -", "4k3/8/8/8/8/8/8/4K3 w - - 0 1",
           "FEN without counters", "\n\nKd2 *\n"),
-    ('[SetUp "1"]\n[White "Ada"]\n\n1. e4 *\n', [('[SetUp "1"]\n', "", "SetUp without FEN")],
-     '[White "Ada"]\n\n1. e4 *\n'),
+    _move("", '[SetUp "1"]\n', "", "SetUp without FEN", '[White "Ada"]\n\n1. e4 *\n'),
     _tags('[OLD "2700"]', "White Elo", "WhiteElo", "blank in a tag's name"),
     _move("1. e4 ", "\x01", " ", "control byte", "e5 *"),
     _move("1. e4", "!!!", "!!", "long suffix"),
     _move("1. e4 ", "$256", "{$256}", "glyph above 255"),
-    ('[White "Ada"]\n{why}\n[Black "Bob"]\n\n1. e4 *\n',
-     [('[White "Ada"]\n{why}\n[Black "Bob"]', '[White "Ada"]\n\n[Black "Bob"]\n{why}',
-       "comment between tags")],
-     '[White "Ada"]\n\n[Black "Bob"]\n{why}\n\n1. e4 *\n'),
+    _move("", '[White "Ada"]\n{why}\n[Black "Bob"]', '[White "Ada"]\n\n[Black "Bob"]\n{why}',
+          "comment between tags", "\n\n1. e4 *\n"),
     _move("1. e4 e5 ", "White resigns", "{White resigns}", "trailing text"),
-    ("1. e4 e5 * agreed drawn\n", [("agreed drawn", "{agreed drawn}", "trailing text")],
-     "1. e4 e5 * {agreed drawn}\n"),
+    _move("1. e4 e5 * ", "agreed drawn", "{agreed drawn}", "trailing text", "\n"),
     _move("1. e4 ", ")", "", "parenthesis too many", " e5 *"),
     _move("1. e4 ", "D", "{D}", "diagram", " e5 *"),
-    ('[White "Ada"]\n\n1. e4 {Black resigns *\n\n[White "Bob"]\n\n1. d4 {\n*\n',
-     [("", "} ", CLOSED), ("", "} ", CLOSED)],
-     '[White "Ada"]\n\n1. e4 {Black resigns } *\n\n[White "Bob"]\n\n1. d4 {\n} *\n'),
-    ("1. e4 {Black resigns\n", [("", "} *", "comment never closed, no marker")],
-     "1. e4 {Black resigns} *\n"),
+    _row('[White "Ada"]\n\n1. e4 {Black resigns @*\n\n[White "Bob"]\n\n1. d4 {\n@*\n',
+         ("", "} ", CLOSED), ("", "} ", CLOSED)),
+    _move("1. e4 {Black resigns", "", "} *", "comment never closed, no marker", "\n"),
     _move("1. e4", "<br>", " ", "line break of a page", "e5 *"),
     _move("1. e4 ", "<BR />", " ", "line break of a page", "\ne5 *"),
-    ("[White Smith, J]\n\n1. e4 *\n",
-     [("[White Smith, J]", '[White "Smith, J"]', "value without quotes")],
-     '[White "Smith, J"]\n\n1. e4 *\n'),
-    ("[Date 2020.01.02] \n\n1. e4 *\n",
-     [("[Date 2020.01.02]", '[Date "2020.01.02"]', "value without quotes")],
-     '[Date "2020.01.02"] \n\n1. e4 *\n'),
-    ("1. e4 (0:03) e5 (12:34) 2. d4 (1:02:03) *",
-     [("(0:03)", "{[%emt 0:00:03]}", "time of a move"),
-      ("(12:34)", "{[%emt 0:12:34]}", "time of a move"),
-      ("(1:02:03)", "{[%emt 1:02:03]}", "time of a move")],
-     "1. e4 {[%emt 0:00:03]} e5 {[%emt 0:12:34]} 2. d4 {[%emt 1:02:03]} *"),
+    _move("", "[White Smith, J]", '[White "Smith, J"]', "value without quotes", "\n\n1. e4 *\n"),
+    _move("", "[Date 2020.01.02]", '[Date "2020.01.02"]', "value without quotes",
+          " \n\n1. e4 *\n"),
+    _row("1. e4 @ e5 @ 2. d4 @ *", *((old, new, "time of a move") for old, new in (
+        ("(0:03)", "{[%emt 0:00:03]}"), ("(12:34)", "{[%emt 0:12:34]}"),
+        ("(1:02:03)", "{[%emt 1:02:03]}")))),
     _move(RUY + "4. ", "Kg1", "O-O", "castling as a king's move"),
     _move(CASTLES, "Kc1", "O-O-O", "castling as a king's move"),
     # braces in a comment
     *(_move("1. e4 ", old, new, "nested braces", " e5 {f} *") for old, new in (
         ("{a {b} c}", "{a (b) c}"), ("{a {b}}", "{a (b)}"), ("{{b} }", "{(b) }"),
         ("{a {b {c} d} e}", "{a (b (c) d) e}"), ("{a {b} e5 {c} d}", "{a (b) e5 (c) d}"))),
-    ("1. e4 {a} ({b {c} d} 1. d4) *", [("{b {c} d}", "{b (c) d}", "nested braces")],
-     "1. e4 {a} ({b (c) d} 1. d4) *"),
+    _move("1. e4 {a} (", "{b {c} d}", "{b (c) d}", "nested braces", " 1. d4) *"),
     # two moves that may be one of a piece, and captures without a rank
     (KNIGHTS + "Bb5a6 4. O-O *", [("Bb5a6", "Bb5 a6", "joined moves like one")], RUY + "4. O-O *"),
     *(_move(SCANDINAVIAN, it, "exd5", "capture without a rank") for it in ("ed", "exd")),
@@ -295,10 +266,8 @@ UNSAFE = [
     # a quote too many, and a bracket too few
     _tags('[WhiteElo "OLD"]', '"2500', r"\"2500", "odd quotes in a value"),
     _tags('[Event "OLD"]', 'The "Open', r"The \"Open", "odd quotes in a value"),
-    ('[White "Smith, J"\n[Black "Jones, P"]\n\n1. e4 *\n', [("", "]", BRACKET)],
-     '[White "Smith, J"]\n[Black "Jones, P"]\n\n1. e4 *\n'),
-    ('[White "Smith, J" \r\n\r\n1. e4 *\r\n', [("", "]", BRACKET)],
-     '[White "Smith, J"] \r\n\r\n1. e4 *\r\n'),
+    _move('[White "Smith, J"', "", "]", BRACKET, '\n[Black "Jones, P"]\n\n1. e4 *\n'),
+    _move('[White "Smith, J"', "", "]", BRACKET, " \r\n\r\n1. e4 *\r\n"),
     # what is behind a marker and begins no game
     *((WON + "1. e4 1-0" + sign + behind, [(sign.strip(), "", BEHIND)],
        WON + "1. e4 1-0" + sign.replace(sign.strip(), "") + behind)

@@ -5,7 +5,7 @@ import os
 import subprocess
 import unittest
 
-from programs import Folder, load, need, need_proved_program, run
+from programs import Folder, load, need, need_proved_program, output_of, run
 
 # Without memory for its second block it forgets its line; without the first it says so.
 FORGETFUL = """
@@ -28,18 +28,15 @@ class AllocationsTest(Folder, unittest.TestCase):
 
     def test_program(self):
         need_proved_program()
-        ran = run(["bin/try_allocations"])
-        self.assertEqual((ran.returncode, ran.stderr), (0, b""), ran.stdout)
-        lines = ran.stdout.decode().splitlines()
+        lines = output_of(run(["bin/try_allocations"])).decode().splitlines()
         self.assertEqual(len(lines), 16)
         for line in lines:
             self.assertRegex(line, r"^.*: \d+ refusals, [1-9]\d* reported, 0 wrong$")
 
     def test_one_call(self):
         need_proved_program()
-        ran = run(["bin/try_allocations", "check"], input=b"* *")
-        self.assertEqual(ran.returncode, 0, ran.stdout)
-        self.assertRegex(ran.stdout, rb"^check: \d+ refusals, \d+ reported, 0 wrong\n$")
+        out = output_of(run(["bin/try_allocations", "check"], input=b"* *"), err=None)
+        self.assertRegex(out, rb"^check: \d+ refusals, \d+ reported, 0 wrong\n$")
 
     def test_wrong_answer_is_noticed(self):
         source, program = self.put("a.c", FORGETFUL), self.folder + "/a"

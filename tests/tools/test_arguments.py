@@ -79,8 +79,7 @@ def make_folder():
     os.mkdir(os.path.join(folder, FOLDER))
     names = [it for it in WORDS if it not in (b"", FOLDER.encode(), b"\xff")]
     for number, name in enumerate([*names, b"stdin"], 1):
-        with open(os.path.join(folder.encode(), name), "wb") as file:
-            file.write(games(number))
+        programs.write_file(os.path.join(folder.encode(), name), games(number))
     return folder
 
 

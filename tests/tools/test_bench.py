@@ -10,7 +10,7 @@ import unittest
 from unittest import mock
 
 import documents
-from programs import ROOT, Folder, load, need, new_folder, not_tried, run, text_of
+from programs import ROOT, Folder, load, need, new_folder, not_tried, output_of, run, text_of
 
 sys.dont_write_bytecode = True
 sys.path.insert(0, ROOT + "/bench")
@@ -214,9 +214,7 @@ class TheStart(unittest.TestCase):
 
 class Words(Folder, unittest.TestCase):
     def test_help(self):
-        ran = run([ROOT + "/bench/run", "--help"])
-        self.assertEqual((ran.returncode, ran.stderr), (0, b""))
-        self.assertIn(b"--record", ran.stdout)
+        self.assertIn(b"--record", output_of(run([ROOT + "/bench/run", "--help"])))
         self.assertFalse(os.path.exists(ROOT + "/bench/__pycache__"))
 
     def test_words_that_are_rejected(self):
@@ -232,8 +230,7 @@ class Words(Folder, unittest.TestCase):
         for build, prints in (("old", "cat -"), ("new", "cat -"), ("other", "echo other")):
             self.put(build + "/bench/workloads.txt", "# a\nfirst jobs a SEED <in.txt\nnext jobs b\n")
             self.put(build + "/bench/in.txt", "read\n")
-            job = self.put(build + "/crates/jobs/out/jobs", "#!/bin/sh\necho $*\n%s\n" % prints)
-            os.chmod(job, 0o755)
+            self.put_script(build + "/crates/jobs/out/jobs", "echo $*\n%s\n" % prints)
         call = lambda *words: run([ROOT + "/bench/run", *words], cwd=self.folder)
         ran = call("old", "new", "7")
         self.assertEqual((ran.returncode, ran.stderr.split()), (0, [b"a", b"7", b"read", b"b"]))
@@ -252,7 +249,7 @@ class Words(Folder, unittest.TestCase):
         folder = self.folder
         shutil.copytree(ROOT + "/bench", folder + "/bench", ignore=shutil.ignore_patterns("out"))
         for name in ("strace", "apt-get"):
-            os.chmod(self.put(name, "#!/bin/sh\ntouch %s/called\n" % folder), 0o755)
+            self.put_script(name, "touch %s/called\n" % folder)
         words = [sys.executable, "-c", MISSING, folder]
         ran = run(words, env=dict(os.environ, PATH=folder))
         self.assertEqual((ran.returncode, ran.stdout), (1, b""))

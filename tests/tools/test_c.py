@@ -1,5 +1,7 @@
 """Tests of the library for C as it is installed, by Cargo and by rt: one call for each game."""
 import ctypes
+import glob
+import itertools
 import os
 import re
 import unittest
@@ -8,7 +10,7 @@ from ctypes import c_char, c_size_t, c_uint8, c_uint32, c_uint64, c_void_p
 import test_library
 from documents import samples
 from programs import (ROOT, archive, bytes_of, need, need_library, need_program,
-                      need_proved_program, new_folder, run, text_of, vectors, write_file)
+                      need_proved_program, new_folder, output_of, run, text_of, vectors, write_file)
 
 OK, FAULT, FULL, NO_MODE, NO_GAME, MORE, BAD_PLACE = range(7)
 SAN, UCI, SAN_FEN, UCI_FEN, SAN_KEY, UCI_KEY = range(6)
@@ -20,6 +22,7 @@ MARKERS = {1: b"1-0", 2: b"0-1", 3: b"1/2-1/2", 4: b"*"}
 OPEN_GAME = b"rnbqkbnr/pppp1ppp/8/4p3/4P3/8/PPPP1PPP/RNBQKBNR w KQkq e6 0 2"
 INITIAL = b"rnbqkbnr/pppppppp/8/8/8/8/PPPPPPPP/RNBQKBNR w KQkq - 0 1"
 TEXT = b'[White "A \\"B\\""] [Result "1-0"] e4 (d4 d5) e5 {a word} 1-0\n% a line\n[A "b"] Nf3 *'
+EXAMPLES = sorted(glob.glob(ROOT + "/examples/*.pgn"))
 KINDS = {"uint32_t": c_uint32, "uint64_t": c_uint64, "size_t": c_size_t}
 
 
@@ -32,6 +35,18 @@ def field(text):
 
 STRUCTS = {name: type(name, (ctypes.Structure,), {"_fields_": [*map(field, fields)]})
            for name, fields in test_library.c_structs().items()}
+
+
+def in_turn(call):
+    """What a call gives from the place 0 on, and then in turn from the end of each game."""
+    at = 0
+    while True:
+        found = call(at)
+        yield found
+        if found[0].status != OK:
+            return
+        assert found[0].end > at
+        at = found[0].end
 
 
 class Library:
@@ -89,14 +104,7 @@ class Library:
 
     def games(self, data, mode=0, missing=0):
         """The results for the games of a text in turn, each with what was written."""
-        at = 0
-        while True:
-            found = self.next_game(data, at, mode, missing)
-            yield found
-            if found[0].status != OK:
-                return
-            assert found[0].end > at
-            at = found[0].end
+        return in_turn(lambda at: self.next_game(data, at, mode, missing))
 
     def games_in_chunks(self, data, size, mode, missing):
         """The same for a caller who has the text in chunks, and gives more where that is asked."""
@@ -227,17 +235,14 @@ class Installed:
         text = next(it for _, it, _ in samples("c") if "pgn_next_game" in it)
         source = self.written("loop.c", text.encode())
         program = self.folder + "/loop"
-        ran = run(["cc", "-std=c99", "-Wall", "-Wextra", "-Werror", "-O2", source, *words, "-o",
-                   program])
-        self.assertEqual((ran.returncode, ran.stderr), (0, b""))
+        output_of(run(["cc", "-std=c99", "-Wall", "-Wextra", "-Werror", "-O2", source, *words, "-o",
+                       program]))
         return lambda data: run([program], input=data, env=dict(os.environ, **env))
 
     def check_loop(self, loop):
         program = need_program()
         texts = [archive(30, style, 30) for style in ("plain", "annotated")]
-        for name in sorted(os.listdir(ROOT + "/examples")):
-            if name.endswith(".pgn"):
-                texts.append(bytes_of("examples/" + name))
+        texts += map(bytes_of, EXAMPLES)
         self.assertGreater(len(texts), 7)
         for text in [*texts, b"", b"\n\n; nothing\n"]:
             ours, theirs = loop(text), run([program, "export"], input=text)
@@ -249,9 +254,8 @@ class Installed:
         """What pkg-config says of the library that is installed."""
         need("pkg-config")
         env = dict(os.environ, PKG_CONFIG_PATH=self.prefix + "/lib/pkgconfig")
-        said = run(["pkg-config", "--cflags", "--libs", *words, "pgn_c"], env=env)
-        self.assertEqual((said.returncode, said.stderr), (0, b""))
-        return said.stdout.decode().split()
+        out = output_of(run(["pkg-config", "--cflags", "--libs", *words, "pgn_c"], env=env))
+        return out.decode().split()
 
     def test_a_program_with_the_shared_library(self):
         words = self.flags()
@@ -397,9 +401,8 @@ class Installed:
 
     def check_nothing(self, found, status):
         """The status, and nothing else."""
-        game, text = found
-        self.assertEqual(fields(game), (status, *fields(STRUCTS["pgn_game"]())[1:]))
-        self.assertEqual(text, b"")
+        result, text = found
+        self.assertEqual((fields(result), text), ((status, *fields(type(result)())[1:]), b""))
 
     def test_places(self):
         length = len(TEXT)
@@ -439,18 +442,22 @@ class Installed:
         self.assertLess(len(text), len(whole))
 
     def test_buffers_of_each_size(self):
-        for missing in (0, 1):
-            game, whole = self.library.next_game(TEXT, 0, 0, missing)
+        """For a game, and for its tag section alone."""
+        calls = self.library.next_game, self.library.read_game
+        for call, missing in itertools.product(calls, (0, 1)):
+            game, whole = call(TEXT, 0, 0, missing)
             self.assertEqual((game.status, game.written), (OK, len(whole)))
             for capacity in range(len(whole)):
-                short, text = self.library.next_game(TEXT, 0, 0, missing, capacity)
+                short, text = call(TEXT, 0, 0, missing, capacity)
                 self.assertEqual((short.status, short.fault), (FULL, 51))
                 self.assertEqual(text, whole[:capacity])
                 self.assertEqual((short.end, short.marker, short.plies, short.fen), (0, 0, 0, b""))
                 self.assertEqual(short.message, b"byte %d: output cannot be written" % short.place)
                 self.assertLessEqual(short.place, game.end)
+                if call == self.library.read_game:
+                    self.assertEqual(short.place, game.marker_at)
             for capacity in (len(whole), len(whole) + 1):
-                same, text = self.library.next_game(TEXT, 0, 0, missing, capacity)
+                same, text = call(TEXT, 0, 0, missing, capacity)
                 self.assertEqual((fields(same), text), (fields(game), whole))
 
     def test_tag_sections_alone(self):
@@ -467,18 +474,6 @@ class Installed:
         self.check_nothing(self.library.read_game(TEXT, len(TEXT) + 1), BAD_PLACE)
         self.check_nothing(self.library.read_game(TEXT, 0, 2), NO_MODE)
         self.check_nothing(self.library.read_game(TEXT, 0, 0, 2), NO_MODE)
-
-    def test_buffers_of_each_size_for_a_tag_section(self):
-        for missing in (0, 1):
-            game, whole = self.library.read_game(TEXT, 0, 0, missing)
-            for capacity in range(len(whole)):
-                short, text = self.library.read_game(TEXT, 0, 0, missing, capacity)
-                self.assertEqual((short.status, short.fault, short.place),
-                                 (FULL, 51, game.marker_at))
-                self.assertEqual(text, whole[:capacity])
-                self.assertEqual((short.end, short.marker, short.plies, short.fen), (0, 0, 0, b""))
-            same, text = self.library.read_game(TEXT, 0, 0, missing, len(whole))
-            self.assertEqual((fields(same), text), (fields(game), whole))
 
     def test_escape_lines(self):
         """`%` begins one in the first column of the text, whatever the place of the call."""
@@ -709,13 +704,7 @@ class Installed:
 
     def items_of_games(self, data, fields):
         """The results for the games of a text in turn, each with its lines."""
-        at = 0
-        while True:
-            found = self.library.items(data, at, 0, fields)
-            yield found
-            if found[0].status != OK:
-                return
-            at = found[0].end
+        return in_turn(lambda at: self.library.items(data, at, 0, fields))
 
     def texts_with_items(self):
         """Inputs of vectors and examples, archives, and games from positions."""
@@ -723,9 +712,8 @@ class Installed:
             yield vector["file"], vector["input"].encode()
         for style in ("plain", "annotated"):
             yield style, archive(20, style)
-        for name in sorted(os.listdir(ROOT + "/examples")):
-            if name.endswith(".pgn"):
-                yield name, bytes_of("examples/" + name)
+        for path in EXAMPLES:
+            yield os.path.basename(path), bytes_of(path)
         for name in ("puzzles", "queens"):
             rows = [it.split(b" ", 4) for it in bytes_of("bench/%s.txt" % name).splitlines()[:100]]
             yield name, b"\n".join(b'[FEN "%s 0 1"]\n%s *' % (b" ".join(it[:4]), it[4])
@@ -789,13 +777,7 @@ class Installed:
                 self.assertEqual(text, b"".join(replay.texts(export, sum_of_fields)))
             for sum_of_fields in (16, 17, 31, 1 << 16, (1 << 32) - 1):
                 for at in (0, len(data) + 1):
-                    self.check_no_items(self.library.items(data, at, 0, sum_of_fields), NO_MODE)
-
-    def check_no_items(self, found, status):
-        """The status, and nothing else."""
-        result, text = found
-        self.assertEqual((fields(result), text),
-                         ((status, *fields(STRUCTS["pgn_item_lines"]())[1:]), b""))
+                    self.check_nothing(self.library.items(data, at, 0, sum_of_fields), NO_MODE)
 
     def test_literal_items(self):
         """A game from a position, nested variations, a comment over two lines, an empty one."""
@@ -858,11 +840,10 @@ class Installed:
     def test_places_of_items(self):
         """As for pgn_next_game: all bytes before the place count as white space."""
         length = len(TEXT)
-        self.check_no_items(self.library.items(TEXT, length), NO_GAME)
-        self.check_no_items(self.library.items(b"", 0), NO_GAME)
-        self.check_no_items(self.library.items(b" {a} ; b\n", 0), NO_GAME)
+        for text, place in ((TEXT, length), (b"", 0), (b" {a} ; b\n", 0)):
+            self.check_nothing(self.library.items(text, place), NO_GAME)
         for place in (length + 1, 1 << 62, (1 << 62) + 1, (1 << 64) - 1):
-            self.check_no_items(self.library.items(TEXT, place), BAD_PLACE)
+            self.check_nothing(self.library.items(TEXT, place), BAD_PLACE)
         for place in range(length + 1):
             game, export = self.library.next_game(TEXT, place)
             lines, text = self.library.items(TEXT, place)

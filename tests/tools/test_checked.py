@@ -5,7 +5,7 @@ import time
 import unittest
 
 import programs
-from programs import Folder, need_program, not_tried, run, vectors
+from programs import Folder, not_tried, output_of, run, vectors
 
 HEAD = programs.HEAD.replace(b"*", b"%s")
 DIFFERS = b"byte %d: second reading differs\n"
@@ -16,10 +16,6 @@ def game(moves, result=b"*"):
 
 
 class CheckedTest(Folder, unittest.TestCase):
-    def setUp(self):
-        super().setUp()
-        self.program = need_program()
-
     def write(self, text):
         return self.put("games.pgn", text)
 
@@ -56,10 +52,9 @@ class CheckedTest(Folder, unittest.TestCase):
     def test_long_games(self):
         # each has more bytes than are read at once
         text = (b"1. e4 {" + b"word " * 3000 + b"} e5 1-0\n") * 5
-        ran = self.export(self.write(text))
-        self.assertEqual((ran.returncode, ran.stderr), (0, b""))
-        self.assertEqual(ran.stdout.count(b'[Result "1-0"]\n'), 5)
-        self.assertEqual(ran.stdout.count(b"word"), 15000)
+        out = output_of(self.export(self.write(text)))
+        self.assertEqual(out.count(b'[Result "1-0"]\n'), 5)
+        self.assertEqual(out.count(b"word"), 15000)
 
     def test_each_vector_without_a_fault(self):
         tried = 0

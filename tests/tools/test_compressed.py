@@ -3,7 +3,7 @@ import os
 import unittest
 
 import programs
-from programs import PACKERS, ROOT, Folder, library, need, run
+from programs import PACKERS, ROOT, Folder, library, need, run, zip_of
 
 # A bad game of 30 bytes between two sound ones of 27; what is mended of it, and its place.
 SOUND = b'[White "Ada"]\n\n1. e4 e5 *\n\n'
@@ -118,15 +118,11 @@ class Compressed(Folder, unittest.TestCase):
                     self.assertEqual((self.get("good"), self.get("bad")), (b"old", b"old"), out)
 
     def test_a_zip_without_games(self):
-        import io
-        import zipfile
-        held = io.BytesIO()
-        with zipfile.ZipFile(held, "w") as archive:
-            archive.writestr("readme.txt", "none")
+        held = zip_of(("readme.txt", "none"))
         for script, words in (("lint", ["--quiet", "-"]), ("lint", ["--quiet", "--fix"]),
                               ("where", ["-", "7"]), ("fmt", ["-"]),
                               ("sieve", ["-", "good", "bad"])):
-            self.assertEqual(self.call(script, *words, data=held.getvalue()), (
+            self.assertEqual(self.call(script, *words, data=held), (
                 3, b"", b"gillspoon: <stdin>: has no file *.pgn inside\n"))
 
     def test_a_few_bytes(self):

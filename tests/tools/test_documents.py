@@ -14,7 +14,7 @@ import unittest
 
 import programs
 from documents import blocks_of, code_of, documents, is_console, lines_of, prose_of, table
-from programs import ROOT, on_a_terminal, run, text_of
+from programs import ROOT, bytes_of, on_a_terminal, output_of, run, text_of
 
 MARK = re.compile(r"<!-- *not run\b:? *(.*?) *-->")
 LINK = re.compile(r"\[(?:[^\]`]|`[^`]*`)*\]\(([^)\s]+)\)")
@@ -223,8 +223,7 @@ class Names(unittest.TestCase):
             path = os.path.join(ROOT, name)
             if os.path.isfile(path) and not name.endswith(".md"):
                 found.update(re.findall(r"\w+", name))
-                with open(path, encoding="utf-8", errors="replace") as file:
-                    found.update(re.findall(r"\w+", file.read()))
+                found.update(re.findall(r"\w+", bytes_of(path).decode(errors="replace")))
         return found
 
     def test_names_are_of_the_repository(self):
@@ -270,8 +269,7 @@ class Names(unittest.TestCase):
         paths = glob.glob(ROOT + "/crates/*/specs/**/*.antt", recursive=True)
         self.assertGreater(len(paths), 50)
         for path in paths:
-            with open(path, encoding="utf-8") as file:
-                first = file.readline()
+            first = lines_of(path)[0]
             if os.path.basename(path) != "Lib.antt":
                 with self.subTest(os.path.relpath(path, ROOT)):
                     self.assertRegex(first, r"^-- \*\*(Definition|Bookkeeping)\*\*")
@@ -323,8 +321,7 @@ class Written(unittest.TestCase):
     def test_each(self):
         for script in ("bin/write_tables", "bin/write_vectors"):
             with self.subTest(script):
-                ran = run([script, "--check"])
-                self.assertEqual((ran.returncode, ran.stderr), (0, b""), ran.stdout.decode())
+                output_of(run([script, "--check"]))
 
 
 class Length(unittest.TestCase):

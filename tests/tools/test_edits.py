@@ -29,7 +29,9 @@ def loaded():
 
 
 def call(*words):
-    return subprocess.run([SCRIPT, *words], capture_output=True, text=True)
+    """The status, the output and the errors of a call."""
+    ran = subprocess.run([SCRIPT, *words], capture_output=True, text=True)
+    return ran.returncode, ran.stdout, ran.stderr
 
 
 class Edits(unittest.TestCase):
@@ -45,9 +47,9 @@ class Edits(unittest.TestCase):
             self.assertEqual(why, None, it.name)
 
     def test_each_is_listed(self):
-        ran = call("--list")
-        self.assertEqual((ran.returncode, ran.stderr), (0, ""))
-        self.assertEqual(ran.stdout.split("\n")[: len(self.edits)],
+        status, out, told = call("--list")
+        self.assertEqual((status, told), (0, ""))
+        self.assertEqual(out.split("\n")[: len(self.edits)],
                          ["%s/%s" % (it.crate, it.name) for it in self.edits])
         self.assertGreater(len(self.edits), 200)
 
@@ -70,8 +72,7 @@ class Edits(unittest.TestCase):
         return loaded().guards_by_row(rows, self.edits + self.notices)
 
     def test_each_function_that_a_row_names_has_an_edit(self):
-        ran = call("--guards", "--check")
-        self.assertEqual((ran.returncode, ran.stdout, ran.stderr), (0, "", ""))
+        self.assertEqual(call("--guards", "--check"), (0, "", ""))
 
     def test_each_row_is_guarded_but_those_that_the_proof_alone_holds(self):
         bare = [row for row, them in self.rows().items()
@@ -88,14 +89,14 @@ class Edits(unittest.TestCase):
             self.assertNotRegex(root, r"pub (use|mod) %s\b" % it.name.split("-")[0], it.name)
 
     def test_the_page_names_each(self):
-        ran = call("--guards")
-        self.assertEqual((ran.returncode, ran.stderr), (0, ""))
+        status, out, told = call("--guards")
+        self.assertEqual((status, told), (0, ""))
         names = {it.name for it in self.edits}
-        for said in (ran.stdout, text_of("edits", "README.md")):
+        for said in (out, text_of("edits", "README.md")):
             found = set(re.findall("`(%s)`" % loaded().NAME, said))
             self.assertEqual(sorted(found - names), [])
             self.assertTrue(found)
-        self.assertEqual([it for it in sorted(names) if "`%s`" % it not in ran.stdout], [])
+        self.assertEqual([it for it in sorted(names) if "`%s`" % it not in out], [])
 
     def test_each_test_and_file_of_rows_is_there(self):
         sources = "".join(text_of(it) for pattern in ("crates/*/src/**/*.rt", "tests/tools/*.py")
@@ -130,31 +131,29 @@ class Edits(unittest.TestCase):
 
     def test_counts(self):
         each = [it for it in self.edits if it.each_change]
-        last = call("--list").stdout.rstrip("\n").split("\n")[len(self.edits):]
+        last = call("--list")[1].rstrip("\n").split("\n")[len(self.edits):]
         self.assertEqual(last[0], "%d edits, %d of them tried on each change" % (
             len(self.edits), len(each)))
         rows = [set(re.findall("`(%s)`" % loaded().NAME, it))
-                for it in call("--guards").stdout.partition("## Private")[0].split("\n- ")]
+                for it in call("--guards")[1].partition("## Private")[0].split("\n- ")]
         names = {it.name for it in each}
         self.assertEqual(last[1], "%d rows of docs/PROVED.md have edits, %d of them one that is "
                          "tried on each change" % (sum(1 for it in rows if it),
                                                    sum(1 for it in rows if it & names)))
 
     def test_a_crate_without_edits_is_a_mistake(self):
-        ran = call("no_such_crate")
-        self.assertEqual(ran.returncode, 2)
-        self.assertEqual(ran.stderr, "bin/try_edits: there is no file edits/no_such_crate.edits\n")
+        self.assertEqual(call("no_such_crate")[::2], (
+            2, "bin/try_edits: there is no file edits/no_such_crate.edits\n"))
 
     def test_only_those_with_a_text_in_their_name(self):
-        listed = call("--list", "--only", "flush-counts").stdout.split("\n")
+        listed = call("--list", "--only", "flush-counts")[1].split("\n")
         self.assertEqual(listed[0], "pgn_layout/outlet-flush-counts-no-failure")
         self.assertRegex(listed[1], r"^\d+ edits, ")
-        ran = call("--list", "--only", "no such text")
-        self.assertEqual((ran.returncode, ran.stdout), (2, ""))
-        self.assertEqual(ran.stderr, "bin/try_edits: there is no such edit\n")
+        self.assertEqual(call("--list", "--only", "no such text"),
+                         (2, "", "bin/try_edits: there is no such edit\n"))
 
     def test_those_of_each_change(self):
-        listed = call("--list", "--each-change").stdout.split("\n")
+        listed = call("--list", "--each-change")[1].split("\n")
         each = ["%s/%s" % (it.crate, it.name) for it in self.edits if it.each_change]
         self.assertEqual(listed[: len(each)], each)
         self.assertRegex(listed[len(each)], r"^\d+ edits, ")
@@ -202,13 +201,10 @@ class Names(unittest.TestCase):
              ["no_such_word of Sink", "no_such_word"]),
         ):
             self.assertEqual(self.planted("pgn_game", *section, new), missing, new)
-        for old, new, missing in (
-            ("        self.levels.depth()\n", "        self.levels.around()\n",
-             ["around of Levels"]),
-            ("        self.levels.depth()\n", "        self.level.depth()\n", ["level of Reader"]),
-            ("        self.levels.depth()\n", "        Self::nothing(self.levels)\n",
-             ["nothing of Reader"]),
-        ):
+        old = "        self.levels.depth()\n"
+        for new, missing in (("        self.levels.around()\n", ["around of Levels"]),
+                             ("        self.level.depth()\n", ["level of Reader"]),
+                             ("        Self::nothing(self.levels)\n", ["nothing of Reader"])):
             self.assertEqual(self.planted("pgn_game", "reader.rt", old, new), missing, new)
         # a variant with its number
         for it, missing in ("Space", []), ("Nothing", ["Nothing of Set"]):
@@ -527,8 +523,7 @@ class Sharing(Folder, unittest.TestCase):
             self.assertEqual(loaded().function_at(SOURCE, place), found, text)
 
     def test_edits_of_bodies_alone_share_a_check(self):
-        for path in ("src/lib.rt", "specs/A.antt"):
-            self.put(path, SOURCE)
+        self.put_all(dict.fromkeys(("src/lib.rt", "specs/A.antt"), SOURCE))
         body, other = ("src/lib.rt", "self.is", "true"), ("src/lib.rt", "self.one()", "2")
         for changes, does in (
             ([body], True), ([other], False), ([body, other], False),
@@ -682,8 +677,7 @@ class Lanes(Folder, unittest.TestCase):
             "crates/low/out/incremental/a", "crates/top/src/lib.rt", "crates/top/out/incremental/b",
             "crates/top/out/rlib/top", "crates/other/src/lib.rt", "crates/other/out/rlib/other",
         )
-        for name in files:
-            self.put("a/" + name, "low:\nother:\ntop staticlib: low std\n")
+        self.put_all({"a/" + name: "low:\nother:\ntop staticlib: low std\n" for name in files})
         copy = self.folder + "/b"
         loaded().copy_repository("top", self.folder + "/a", copy)
         there = [os.path.relpath(os.path.join(at, it), copy)

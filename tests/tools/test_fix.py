@@ -1,18 +1,20 @@
 """Tests of the fixes: gillspoon lint --fix and --diff, gillspoon.fixes, the table of spellings."""
 import contextlib
 import glob
+import gzip
 import json
 import os
 import random
 import re
+import shutil
 import signal
 import stat
 import subprocess
 import sys
 import unittest
 
-from programs import (PACKAGE, ROOT, bytes_of, files_up_to, need, need_package, not_tried, run,
-                      signalled, text_of)
+from programs import (HEAD, PACKAGE, ROOT, bytes_of, files_up_to, need, need_package, not_tried,
+                      output_of, run, signalled, text_of)
 from spellings import DOUBTFUL, LEFT, SAFE, UNSAFE
 from test_lint import LINT, Lint
 
@@ -143,11 +145,10 @@ def spoilt(text, rng):
 
 def bench_games(count):
     """Games of bench/games.txt with a Result tag, each in one line of movetext."""
-    with open(ROOT + "/bench/games.txt", "rb") as file:
-        for number, line in zip(range(count), file):
-            result, _, moves = line.rstrip(b"\n").partition(b" ")
-            text = b'[Result "%s"]\n\n%s %s\n' % (result, moves, result)
-            yield next(gillspoon.games(text)).text.replace(b"\n", b" ").replace(b"]  ", b"]\n\n")
+    for line in bytes_of("bench/games.txt").splitlines()[:count]:
+        result, _, moves = line.partition(b" ")
+        text = b'[Result "%s"]\n\n%s %s\n' % (result, moves, result)
+        yield next(gillspoon.games(text)).text.replace(b"\n", b" ").replace(b"]  ", b"]\n\n")
 
 
 def has_doubtful_pawn(line):
@@ -188,11 +189,8 @@ class Spoilt(unittest.TestCase):
         self.assertGreater(self.compare(bench_games(2000), 77), 1900)
 
     def test_games_of_the_corpus(self):
-        texts = []
-        for path in sorted(glob.glob(ROOT + "/fuzz/corpus/*")):
-            with open(path, "rb") as file:
-                texts += [it.text for it in gillspoon.games(
-                    file, checked=True, on_fault=lambda fault: None) if it.plies]
+        texts = [it.text for path in sorted(glob.glob(ROOT + "/fuzz/corpus/*"))
+                 for it in gillspoon.games(bytes_of(path), checked=True, on_fault=str) if it.plies]
         self.assertGreater(len(texts), 30)
         self.assertGreater(self.compare(texts * 30, 78), 500)
 
@@ -258,44 +256,42 @@ class Kept(unittest.TestCase):
         around = Around(True, True, True)
         return Mending(text, fixes, GameReader(), False, around).run().changes.text
 
+    def change(self, *edit):
+        """A function of a fault that proposes this edit, wherever the fault is."""
+        from gillspoon._here import Change
+        return lambda here: Change(*edit)
+
     def test_a_fix_that_makes_another_game_is_refused(self):
         """Each would mend the fault, and changes a move or the first position before it."""
-        from gillspoon._here import Change
         text = b'[FEN "4k3/8/8/8/8/8/8/4K2R w K - 0 1"]\n\n1. Rh2 Kd7 2. Kd2 Kc6 3. 1/2 *\n'
         end = text.index(b" 3. 1/2")
         wrong = text[:end] + b" Rh8 *\n"
-
-        def planted(old, new):
-            at = wrong.index(old)
-            return lambda here: Change(at, at + len(old), new)
 
         for old, new in ((b"Rh2", b"Rh3"), (b"Kd7", b"Kd8"), (b"Kd2", b"Rh8"),
                          (b"4K2R w", b"4K1R1 w"), (b"Rh2 ", b"O-O "), (b"1. Rh2 Kd7 2. ", b"")):
             bad = wrong.replace(b"Rh8 *", b"Rb6+ *") if old == b"Kd2" else wrong.replace(
                 b" Rh8 *", b" 3. K9 *")
-            self.assertEqual(self.mended(bad, planted(old, new)), bad, (old, new))
+            at = wrong.index(old)
+            planted = self.change(at, at + len(old), new)
+            self.assertEqual(self.mended(bad, planted), bad, (old, new))
         # a tag before the moves is changed, and the game is another one
         tag = b'[Result "0-1"]\n\n1. e4 e5 1-0\n'
         other = b'[FEN "4k3/4p3/8/8/8/8/4P3/K7 w - - 0 1"]\n[Result "1-0"]'
-        self.assertEqual(self.mended(tag, lambda here: Change(0, 14, other)), tag)
-        self.assertEqual(self.mended(tag, lambda here: Change(9, 12, b"1-0")),
-                         tag.replace(b"0-1", b"1-0"))
+        self.assertEqual(self.mended(tag, self.change(0, 14, other)), tag)
+        self.assertEqual(self.mended(tag, self.change(9, 12, b"1-0")), tag.replace(b"0-1", b"1-0"))
 
     def test_a_fix_must_go_on(self):
-        from gillspoon._here import Change
         text = b"1. e4 K9 Ka1 *\n"
         for new in (b"K9", b"K8", b"Ke2", b"{a", b"["):
-            self.assertEqual(self.mended(text, lambda here: Change(6, 8, new)), text)
-        self.assertEqual(self.mended(text, lambda here: Change(6, 8, b"e5")),
-                         text.replace(b"K9", b"e5"))
+            self.assertEqual(self.mended(text, self.change(6, 8, new)), text)
+        self.assertEqual(self.mended(text, self.change(6, 8, b"e5")), text.replace(b"K9", b"e5"))
 
 
 SWALLOWED = b'[White "Ada"]\n\n1. e4 {Black resigns\n\n[White "Bob"]\n\n1. d4 {good} *\n'
 
 
 # as export writes it
-ROSTER = (b'[Event "?"]\n[Site "?"]\n[Date "????.??.??"]\n[Round "?"]\n[White "?"]\n[Black "?"]\n'
-          b'[Result "*"]\n')
+ROSTER = HEAD[:-1]
 FORFEIT = "Termination is not time forfeit, or another word of the standard (PGN 9.8.1)"
 
 
@@ -419,16 +415,14 @@ class Warnings(Lint):
 
     def test_what_export_drops_once_a_file(self):
         game = b"%%a\n[White {%%x} \"a\"]\n\n1. e4 {\n%%b} e5\n%%c\n*\n"
-        self.warned(b"%a\n1. e4 *\n", "1:1: warning: 1 line begins with %, and export drops it")
-        self.warned(b"1. e4 *\r\n%a\r\n", "2:1: warning: 1 line begins with %, and export drops it")
-        self.warned(b'[White {x} "a"]\n\n1. e4 *\n', "1:8: warning: 1 comment is inside a tag pair, "
-                    "and export drops it")
-        self.warned(b'[White {x} "a"] 1. e4 *\n', "1:8: warning: 1 comment is inside a tag pair, "
-                    "and export drops it")
-        self.warned(b'[White "a"]\n%a\n[Black "b"]\n\n1. e4 *\n',
-                    "2:1: warning: 1 line begins with %, and export drops it")
-        self.warned(ROSTER + b"\n1. e4\n%a\n{%b} e5 *\n",
-                    "10:1: warning: 1 line begins with %, and export drops it")
+        line = "warning: 1 line begins with %, and export drops it"
+        comment = "1:8: warning: 1 comment is inside a tag pair, and export drops it"
+        self.warned(b"%a\n1. e4 *\n", "1:1: " + line)
+        self.warned(b"1. e4 *\r\n%a\r\n", "2:1: " + line)
+        self.warned(b'[White {x} "a"]\n\n1. e4 *\n', comment)
+        self.warned(b'[White {x} "a"] 1. e4 *\n', comment)
+        self.warned(b'[White "a"]\n%a\n[Black "b"]\n\n1. e4 *\n', "2:1: " + line)
+        self.warned(ROSTER + b"\n1. e4\n%a\n{%b} e5 *\n", "10:1: " + line)
         self.warned(3 * (game % ()) + b"%d\n",
                     "1:1: warning: 7 lines begin with %, and export drops them",
                     "2:8: warning: 3 comments are inside tag pairs, and export drops them")
@@ -440,17 +434,16 @@ class Warnings(Lint):
 
     def test_results_of_a_forfeit(self):
         """They are no Result of PGN 8.1.1.7, and the message says which one there is."""
-        note = ("bad result value: of a forfeit PGN 8.1.1.7 has the result alone, * if there is no "
-                "winner; a Termination tag says why")
-        for value in ("+:-", "-:+", "+ / -", "+-", "-:-", "1-0F", "0-1f", "1F-0F", "1 - 0 F", "0-0",
-                      "0:0", "1-0 forfeit", "Forfeit", "won by default"):
-            self.put("a.pgn", b'[Result "%s"]\n\n1. e4 *\n' % value.encode())
-            self.assertEqual(self.lint("--quiet", "a.pgn"), (
-                1, "a.pgn:1:9: %s (game 1, ? \u2013 ?)\n" % note, ""), value)
-        for value in ("won", "1/2", "?", "", "1-0-0", "0-1-0"):
-            self.put("a.pgn", b'[Result "%s"]\n\n1. e4 *\n' % value.encode())
-            self.assertEqual(self.lint("--quiet", "a.pgn")[1],
-                             "a.pgn:1:9: bad result value (game 1, ? \u2013 ?)\n", value)
+        for note, values in (
+                (": of a forfeit PGN 8.1.1.7 has the result alone, * if there is no winner; a "
+                 "Termination tag says why",
+                 ("+:-", "-:+", "+ / -", "+-", "-:-", "1-0F", "0-1f", "1F-0F", "1 - 0 F", "0-0",
+                  "0:0", "1-0 forfeit", "Forfeit", "won by default")),
+                ("", ("won", "1/2", "?", "", "1-0-0", "0-1-0"))):
+            for value in values:
+                text = b'[Result "%s"]\n\n1. e4 *\n' % value.encode()
+                self.assertEqual(self.lint("--quiet", "a.pgn", of=text), (
+                    1, "a.pgn:1:9: bad result value%s (game 1, ? \u2013 ?)\n" % note, ""), value)
 
     def test_files(self):
         for text, line in ((b"", 1), (b"\n \n", 3), (b"%x\n", 1)):
@@ -633,8 +626,8 @@ class Command(Lint):
                 # a Dutch knight, also where P is a pawn's letter before the fault
                 ("nl", "1. e4 e5 2. Pf3 Pc6 3. Lb5 a6 *\n", "1. e4 e5 2. Nf3 Nc6 3. Bb5 a6 *\n"),
                 ("nl", "1. Pf3 d5 2. Pe5 *\n", "1. Nf3 d5 2. Ne5 *\n")):
-            status, out, _ = self.lint("--fix", "--language", code, input=text.encode())
-            self.assertEqual((status, out), (0, wanted))
+            self.assertEqual(self.lint("--fix", "--language", code, input=text.encode())[:2],
+                             (0, wanted))
             # English games stay, and so does a game without its language
             self.assertEqual(self.lint("--fix", "--language", code, input=wanted.encode())[1],
                              wanted)
@@ -683,9 +676,7 @@ class Command(Lint):
                                   "insertedContent": {"text": "e2e4"}}]}]}])
 
     def test_compressed_files_stay(self):
-        import gzip
-        status, _, told = self.lint("--fix", "a.pgn.gz", of=gzip.compress(BAD))
-        self.assertEqual((status, told), (
+        self.assertEqual(self.lint("--fix", "a.pgn.gz", of=gzip.compress(BAD))[::2], (
             3, "gillspoon: a.pgn.gz: is compressed: unpack it, or give it to --fix -\n"))
         need("diff")
         self.assertIn("+1. e2e4 e5 *", self.lint("--diff", "a.pgn.gz")[1])
@@ -695,16 +686,14 @@ class Command(Lint):
         os.chmod(self.folder + "/a.pgn", 0o640)
         os.symlink("a.pgn", self.folder + "/link.pgn")
         os.link(self.folder + "/a.pgn", self.folder + "/hard.txt")
-        status, _, told = self.lint("--fix", "link.pgn")
-        self.assertEqual((status, told), (0, "gillspoon: link.pgn: had 2 hard links: those of other "
-                                             "names keep the old text\n"))
+        self.assertEqual(self.lint("--fix", "link.pgn")[::2], (
+            0, "gillspoon: link.pgn: had 2 hard links: those of other names keep the old text\n"))
         self.assertTrue(os.path.islink(self.folder + "/link.pgn"))
         self.assertEqual(stat.S_IMODE(os.stat(self.folder + "/a.pgn").st_mode), 0o640)
         self.assertEqual((self.get("a.pgn"), self.get("hard.txt")), (MENDED, BAD))
         self.put("b.pgn", BAD)
         os.chmod(self.folder + "/b.pgn", 0o444)
-        status, out, told = self.lint("--fix", "b.pgn")
-        self.assertEqual((status, told), (
+        self.assertEqual(self.lint("--fix", "b.pgn")[::2], (
             3, "gillspoon: b.pgn: is read-only; it is left as it is\n"))
         self.assertEqual((self.get("b.pgn"), sorted(os.listdir(self.folder))),
                          (BAD, ["a.pgn", "b.pgn", "hard.txt", "link.pgn"]))
@@ -860,7 +849,6 @@ class Processes(Lint):
 
     def fill(self):
         """Puts the same files again: sound, mended, left, read-only, compressed, linked."""
-        import gzip
         for number in range(12):
             self.put("all/%02d.pgn" % number, b"\n".join(
                 [BAD, MENDED, BAD.replace(b"e5", b"Ke5"), b"1. e4 -- *\n"][:number % 5]))
@@ -873,17 +861,13 @@ class Processes(Lint):
     def texts(self):
         return {it: self.get("all/" + it) for it in sorted(os.listdir(self.folder + "/all"))}
 
-    def empty(self):
-        import shutil
-        shutil.rmtree(self.folder + "/all", ignore_errors=True)
-
     def test_they_change_nothing(self):
         need("diff")
         for words in (["--fix"], ["--diff"], ["--fix", "--json"], ["--fix", "--unsafe-fixes"],
                       ["--fix", "--max", "2"], ["--diff", "--quiet"], ["--fix", "--board"]):
             said = []
             for jobs in ("1", "3"):
-                self.empty()
+                shutil.rmtree(self.folder + "/all", ignore_errors=True)
                 self.fill()
                 said.append((self.lint(*words, "-j", jobs, "all", "missing", "all/01.pgn"),
                              self.texts()))
@@ -907,8 +891,7 @@ class Processes(Lint):
         """Each process removes the file that it writes. What was mended stays mended."""
         text = BAD * 20000
         for number in (signal.SIGTERM, signal.SIGHUP, signal.SIGINT):
-            for name in ("a.pgn", "b.pgn", "c.pgn"):
-                self.put(name, text)
+            self.put_all(dict.fromkeys(("a.pgn", "b.pgn", "c.pgn"), text))
             ran = signalled([*LINT, "--fix", "-j", "2", "a.pgn", "b.pgn", "c.pgn"], number,
                             self.folder, env=self.env)
             self.assertEqual(ran[::2], (-number, b""))
@@ -923,10 +906,9 @@ class Processes(Lint):
         for text, is_there in ((MENDED, False), (BAD, True)):
             self.put("a.pgn", text)
             for words in (["--fix"], ["--diff"], ["--json"]):
-                ran = subprocess.run([sys.executable, "-c", script % PACKAGE, "lint", *words, "a.pgn"],
-                                     cwd=self.folder, env=self.env, stdout=subprocess.PIPE,
-                                     check=True)
-                loaded = set(ran.stdout.decode().splitlines()[-1].split())
+                call = [sys.executable, "-c", script % PACKAGE, "lint", *words, "a.pgn"]
+                out = output_of(run(call, cwd=self.folder, env=self.env), err=None)
+                loaded = set(out.decode().splitlines()[-1].split())
                 found = loaded & {"gillspoon._fixes", "gillspoon._mend", "gillspoon._here"}
                 self.assertEqual(len(found), 3 * is_there, (words, found))
                 self.put("a.pgn", text)

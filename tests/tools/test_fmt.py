@@ -1,23 +1,26 @@
 """Tests of gillspoon fmt."""
 import doctest
+import gzip
 import importlib
 import os
 import re
 import signal
 import sys
 import unittest
-import zipfile
 
+import programs
 from programs import (PACKAGE, ROOT, Folder, closed_pipe, full_device, need, need_package,
-                      need_program, run, signalled, vectors)
+                      output_of, run, signalled, vectors, zip_of)
 
 setUpModule = need_package
 FMT = [ROOT + "/bin/gillspoon", "fmt"]
-HEAD = (b'[Event "?"]\n[Site "?"]\n[Date "????.??.??"]\n[Round "?"]\n[White "%s"]\n[Black "?"]\n'
-        b'[Result "*"]\n\n')
+HEAD = programs.HEAD.replace(b'White "?"', b'White "%s"')
 # Inputs, and the text that PGN 3.2 and 8 ask for.
 LOOSE, TIDY = b'[White "A"] e4 e5 *', HEAD % b"A" + b"1. e4 e5 *\n\n"
 BAD = b'[White "B"] e4 e9 *\n'
+NO_MOVE = b"gillspoon: %s: byte 15: not a move\n"
+# The export of a game without tags that White has won, by its marker.
+WON = (HEAD % b"?").replace(b"*", b"1-0") + b"1. e4 1-0\n\n"
 
 
 class FmtTest(Folder, unittest.TestCase):
@@ -36,7 +39,6 @@ class FmtTest(Folder, unittest.TestCase):
 
     def test_compressed(self):
         """It is read by its first bytes, and --write leaves it as it is."""
-        import gzip
         self.put("packed.pgn", gzip.compress(LOOSE))
         self.check(self.call("packed.pgn"), 0, TIDY)
         self.check(self.call("--checked", "packed.pgn"), 0, TIDY)
@@ -50,9 +52,8 @@ class FmtTest(Folder, unittest.TestCase):
 
     def test_files_of_a_zip(self):
         """Each is named, and --write leaves the zip as it is."""
-        with zipfile.ZipFile(self.folder + "/all.zip", "w") as archive:
-            for name in ("loose.pgn", "bad.pgn", "tidy.pgn"):
-                archive.write(os.path.join(self.folder, name), "sub/" + name)
+        self.put("all.zip", zip_of(*(("sub/" + it, self.get(it))
+                                     for it in ("loose.pgn", "bad.pgn", "tidy.pgn"))))
         told = b"gillspoon: all.zip:sub/bad.pgn: byte 15: not a move\n"
         self.check(self.call("all.zip"), 1, TIDY * 2, told)
         self.check(self.call("--check", "all.zip"), 1, b"all.zip:sub/loose.pgn\n", told)
@@ -62,9 +63,8 @@ class FmtTest(Folder, unittest.TestCase):
             b"gillspoon: all.zip: is compressed, and left as it is: unpack it first\n"))
         self.check(self.call("-o", "out", "all.zip"), 1, b"", told)
         need("diff")
-        ran = self.call("--diff", "all.zip")
-        self.assertEqual((ran.returncode, ran.stderr), (1, told))
-        self.assertTrue(ran.stdout.startswith(b"--- all.zip:sub/loose.pgn\n"), ran.stdout)
+        out = output_of(self.call("--diff", "all.zip"), 1, told)
+        self.assertTrue(out.startswith(b"--- all.zip:sub/loose.pgn\n"), out)
         self.put("none.zip", b"PK\3\4 is cut off")
         self.check(self.call("none.zip", "tidy.pgn"), 3, TIDY,
                    b"gillspoon: none.zip: File is not a zip file\n")
@@ -89,12 +89,12 @@ class FmtTest(Folder, unittest.TestCase):
         self.check(self.call("-o", "all.pgn", "tidy.pgn", "c.pgn"), 0, b"")
 
     def test_file_with_a_fault_adds_nothing(self):
-        told = b"gillspoon: bad.pgn: byte 15: not a move\n"
+        told = NO_MOVE % b"bad.pgn"
         self.check(self.call("loose.pgn", "bad.pgn", "tidy.pgn"), 1, TIDY * 2, told)
         self.put("all.pgn", b"old")
         self.check(self.call("-o", "all.pgn", "loose.pgn", "bad.pgn"), 1, b"", told)
         self.assertEqual(self.get("all.pgn"), b"old")
-        self.check(self.call(input=BAD), 1, b"", b"gillspoon: <stdin>: byte 15: not a move\n")
+        self.check(self.call(input=BAD), 1, b"", NO_MOVE % b"<stdin>")
         self.assertEqual(sorted(os.listdir(self.folder)),
                          ["all.pgn", "bad.pgn", "loose.pgn", "tidy.pgn"])
 
@@ -125,9 +125,8 @@ class FmtTest(Folder, unittest.TestCase):
 
     def test_write(self):
         before = os.stat(self.folder + "/tidy.pgn")
-        told = b"gillspoon: bad.pgn: byte 15: not a move\n"
         self.check(self.call("--write", "loose.pgn", "bad.pgn", "tidy.pgn"), 1, b"loose.pgn\n",
-                   told)
+                   NO_MOVE % b"bad.pgn")
         self.assertEqual([self.get(it) for it in ("loose.pgn", "bad.pgn", "tidy.pgn")],
                          [TIDY, BAD, TIDY])
         after = os.stat(self.folder + "/tidy.pgn")
@@ -161,24 +160,18 @@ class FmtTest(Folder, unittest.TestCase):
         need("diff")
         self.check(self.call("--diff", "tidy.pgn"), 0, b"")
         self.put("near.pgn", TIDY.replace(b"1. e4", b"1.e4"))
-        ran = self.call("-d", "tidy.pgn", "near.pgn")
-        self.assertEqual((ran.returncode, ran.stderr), (1, b""))
-        lines = ran.stdout.split(b"\n")
+        lines = output_of(self.call("-d", "tidy.pgn", "near.pgn"), 1).split(b"\n")
         self.assertEqual(lines[:2], [b"--- near.pgn", b"+++ near.pgn in export format"])
         self.assertIn(b"-1.e4 e5 *", lines)
         self.assertIn(b"+1. e4 e5 *", lines)
-        self.check(self.call("--diff", "bad.pgn"), 1, b"",
-                   b"gillspoon: bad.pgn: byte 15: not a move\n")
+        self.check(self.call("--diff", "bad.pgn"), 1, b"", NO_MOVE % b"bad.pgn")
 
     def test_checked_is_handed_on(self):
         self.put("won.pgn", b"1. e4 1-0")
         self.check(self.call("won.pgn"), 1, b"",
                    b"gillspoon: won.pgn: byte 6: result differs from the Result tag\n")
-        ran = self.call("--checked", "won.pgn")
-        self.assertEqual((ran.returncode, ran.stderr), (0, b""))
-        self.assertTrue(ran.stdout.endswith(b'[Result "1-0"]\n\n1. e4 1-0\n\n'), ran.stdout)
-        ran = self.call("--checked", input=b"1. e4 1-0")
-        self.assertTrue(ran.stdout.endswith(b'[Result "1-0"]\n\n1. e4 1-0\n\n'), ran.stdout)
+        self.check(self.call("--checked", "won.pgn"), 0, WON)
+        self.check(self.call("--checked", input=b"1. e4 1-0"), 0, WON)
 
     def test_errors(self):
         for words, status in ((["--check"], 2), (["--write"], 2), (["--diff"], 2),
@@ -214,16 +207,14 @@ class FmtTest(Folder, unittest.TestCase):
 
     def test_a_closed_output(self):
         ran = run(["sh", "-c", '"$@" --write loose.pgn >&-', "sh", *FMT], cwd=self.folder)
-        self.assertEqual((ran.returncode, ran.stderr),
-                         (3, b"gillspoon: standard output is closed\n"))
+        self.check(ran, 3, b"", b"gillspoon: standard output is closed\n")
         self.assertEqual(self.get("loose.pgn"), LOOSE)
 
     def test_a_closed_pipe_ends_it_silently(self):
         self.put("many.pgn", LOOSE * 3000)
         for words in (["many.pgn"], ["--check", "loose.pgn"]):
             with closed_pipe() as closed:
-                ran = self.call(*words, stdout=closed)
-            self.assertEqual((ran.returncode, ran.stderr), (3, b""))
+                output_of(self.call(*words, stdout=closed), 3)
 
     def test_standard_input_by_a_name(self):
         """It can be checked and compared, and read twice for --checked."""
@@ -233,15 +224,10 @@ class FmtTest(Folder, unittest.TestCase):
         self.check(self.call(*name, "--check", input=TIDY), 0, b"")
         self.check(self.call(*name, "--check", input=LOOSE), 1, b"a b.pgn\n")
         for words in ([], ["--check"], ["--diff"]):
-            self.check(self.call(*name, *words, input=BAD), 1, b"",
-                       b"gillspoon: a b.pgn: byte 15: not a move\n")
-        ran = self.call(*name, "--diff", input=LOOSE)
-        self.assertEqual((ran.returncode, ran.stderr), (1, b""))
-        self.assertEqual(ran.stdout.split(b"\n")[:2],
+            self.check(self.call(*name, *words, input=BAD), 1, b"", NO_MOVE % b"a b.pgn")
+        self.assertEqual(output_of(self.call(*name, "--diff", input=LOOSE), 1).split(b"\n")[:2],
                          [b"--- a b.pgn", b"+++ a b.pgn in export format"])
-        ran = self.call(*name, "--checked", input=b"1. e4 1-0")
-        self.assertEqual((ran.returncode, ran.stderr), (0, b""))
-        self.assertTrue(ran.stdout.endswith(b'[Result "1-0"]\n\n1. e4 1-0\n\n'), ran.stdout)
+        self.check(self.call(*name, "--checked", input=b"1. e4 1-0"), 0, WON)
         self.check(self.call(*name, "-o", "all.pgn", input=LOOSE), 0, b"")
         self.assertEqual(self.get("all.pgn"), TIDY)
 
@@ -251,8 +237,7 @@ class FmtTest(Folder, unittest.TestCase):
         self.check(self.call("--stdin-name", "a", "--check", "-", input=LOOSE), 1, b"a\n")
         self.check(self.call("-o", "all.pgn", "-", "loose.pgn", input=TIDY), 0, b"")
         self.assertEqual(self.get("all.pgn"), TIDY * 2)
-        ran = self.call("--checked", "-", input=b"1. e4 1-0")
-        self.assertTrue(ran.stdout.endswith(b'[Result "1-0"]\n\n1. e4 1-0\n\n'), ran.stdout)
+        self.check(self.call("--checked", "-", input=b"1. e4 1-0"), 0, WON)
         for words in (["-", "-"], ["--write", "-"], ["--stdin-name", "a", "-", "tidy.pgn"]):
             self.check_refused(self.call(*words, input=LOOSE), 2)
         ran = run(["sh", "-c", '"$@" - <&-', "sh", *FMT], cwd=self.folder)
@@ -260,7 +245,6 @@ class FmtTest(Folder, unittest.TestCase):
 
     def test_compressed_standard_input(self):
         """Also where it is cut off: then an output that is there stays as it is."""
-        import gzip
         packed = gzip.compress(LOOSE)
         for words in ([], ["-"], ["--stdin-name", "a"], ["--checked", "-"]):
             self.check(self.call(*words, input=packed), 0, TIDY)
@@ -325,7 +309,7 @@ class FmtTest(Folder, unittest.TestCase):
         """Its files are found as gillspoon lint finds them; names and paths can be left out."""
         for name in ("all/loose.pgn", "all/old/bad.pgn", "all/old/loose.PGN", "all/x.txt"):
             self.put(name, BAD if "bad" in name else LOOSE)
-        told = b"gillspoon: all/old/bad.pgn: byte 15: not a move\n"
+        told = NO_MOVE % b"all/old/bad.pgn"
         both = b"all/loose.pgn\nall/old/loose.PGN\n"
         self.check(self.call("all"), 1, TIDY * 2, told)
         self.check(self.call("--check", "all"), 1, both, told)
@@ -351,13 +335,12 @@ class FmtTest(Folder, unittest.TestCase):
                    for jobs in "14" if words != ["--write"]]
             if words == ["--write"]:
                 for jobs in "14":
-                    for name, text in before.items():
-                        self.put("all/" + name, text)
+                    self.put_all({"all/" + name: text for name, text in before.items()})
                     ran.append(self.call("-j", jobs, *words, "all", "all"))
             one, other = ((it.returncode, it.stdout, it.stderr) for it in ran)
             self.assertEqual(one, other, words)
             self.assertEqual(one[0], 1, words)
-            self.assertIn(b"gillspoon: all/3.pgn: byte 15: not a move\n", one[2])
+            self.assertIn(NO_MOVE % b"all/3.pgn", one[2])
         self.assertEqual(self.get("all/4.pgn"), (HEAD % b"4" + b"1. e4 e5 *\n\n") * 5)
 
     def test_colours(self):
@@ -372,7 +355,6 @@ class FmtTest(Folder, unittest.TestCase):
 
     def test_it_is_the_export_of_the_program(self):
         """Of the worked inputs it gives the bytes and the faults of pgn_tool, which reads each."""
-        program = need_program()
         inputs = [(it["mode"], it["input"].encode()) for it in vectors()]
         for mode, words in (("full", []), ("full", ["--checked"]), ("reduced", ["--reduced"])):
             texts, told, tried = b"", b"", [0, 0]
@@ -382,7 +364,7 @@ class FmtTest(Folder, unittest.TestCase):
                     self.put("%s/%04d.pgn" % (folder, at), data)
             for name in sorted(os.listdir(os.path.join(self.folder, folder))):
                 name = os.path.join(folder, name)
-                ran = run([program, "export", *words, name], cwd=self.folder)
+                ran = run([self.program, "export", *words, name], cwd=self.folder)
                 tried[ran.returncode] += 1
                 if ran.returncode:
                     told += b"gillspoon: %s: %s" % (name.encode(), ran.stderr)

@@ -7,8 +7,7 @@ from programs import ROOT, Folder, run
 
 # Notes its call and ends with 3 if it is the one that has to fail. As on a server of CI, rt has no
 # verdict for a part of the crates.
-COMMAND = """#!/bin/sh
-name=${0##*/}
+COMMAND = """name=${0##*/}
 echo "$name $*" >>"$LOG"
 for word; do
   [ "$last" = --ready ] && : >"$word"
@@ -25,10 +24,9 @@ class Gate(Folder, unittest.TestCase):
     def setUp(self):
         super().setUp()
         for name in ["path/rt"] + ["bin/" + it for it in SCRIPTS]:
-            os.chmod(self.put(name, COMMAND), 0o755)
+            self.put_script(name, COMMAND)
         shutil.copy(ROOT + "/bin/test", self.folder + "/bin")
-        for name in ("HANDLES", "crates.txt", "crates/low/src/lib.rt"):
-            self.put(name, "")
+        self.put_all(dict.fromkeys(("HANDLES", "crates.txt", "crates/low/src/lib.rt"), ""))
 
     def call(self, *words, fails=""):
         """The status, and the calls in the order of their names."""

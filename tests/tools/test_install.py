@@ -79,23 +79,19 @@ class Small(unittest.TestCase):
             ran = run([self.prefix + "/bin/pgn_tool", "x"])
             self.assertEqual(ran.stdout.split()[0], b"rt" if options else b"cargo")
 
-    def libraries(self):
-        """What the installed libraries say, and the lines of the file for pkg-config."""
-        lines = text_of(self.prefix + "/lib/pkgconfig/pgn_c.pc").splitlines()
-        return (text_of(self.prefix + "/lib/libpgn_c.a").strip(),
-                text_of(self.prefix + "/lib/libpgn_c.so").strip(), lines)
-
     def test_the_library_is_built_as_the_program(self):
         for options, static, shared, needs in (
                 ([], "cargo built static", "cargo built shared", "-lpthread"),
                 (["--proved"], "rt built static", "cc built shared", ""),
                 (["--cargo"], "cargo built static", "cargo built shared", "-lpthread")):
             told = self.said(*options, self.prefix)
-            built = self.libraries()
-            self.assertEqual(built[:2], (static, shared), options)
+            built = [text_of(self.prefix + "/lib/libpgn_c" + it).strip() for it in (".a", ".so")]
+            self.assertEqual(built, [static, shared], options)
             self.assertEqual(os.readlink(self.prefix + "/lib/libpgn_c.so"), "libpgn_c.so.1.2")
-            self.assertEqual(built[2][0], "prefix=" + self.prefix)
-            self.assertRegex(built[2][-1], r"^Libs.private:.*" + needs)
+            # the file for pkg-config
+            lines = text_of(self.prefix + "/lib/pkgconfig/pgn_c.pc").splitlines()
+            self.assertEqual(lines[0], "prefix=" + self.prefix)
+            self.assertRegex(lines[-1], r"^Libs.private:.*" + needs)
             self.assertNotIn("libpgn_c is", told)
 
     def test_each_build_is_said_where_they_differ(self):
@@ -169,8 +165,7 @@ class Small(unittest.TestCase):
     def test_uninstall_stays_below_the_prefix(self):
         self.here.write("other", "mine")
         self.call(self.prefix)
-        with open(self.prefix + "/" + LIST, "a", encoding="ascii") as lines:
-            lines.write("../other\n")
+        self.here.write(self.prefix + "/" + LIST, "../other\n", "a")
         status, _, told = self.call(self.prefix, script=UNINSTALL)
         self.assertEqual(status, 1)
         self.assertIn("names ../other, which bin/install does not write", told)
@@ -180,8 +175,7 @@ class Small(unittest.TestCase):
         self.call(self.prefix)
         for name in ("share/pgn_tool/old", "share/pgn_tool/mine"):
             self.here.write(os.path.join(self.prefix, name), "text")
-        with open(self.prefix + "/" + LIST, "a", encoding="ascii") as lines:
-            lines.write("share/pgn_tool/old\n")
+        self.here.write(self.prefix + "/" + LIST, "share/pgn_tool/old\n", "a")
         self.assertEqual(self.call(self.prefix)[0], 0)
         self.assertEqual(files(self.prefix), sorted(FILES + ["share/pgn_tool/mine"]))
 

@@ -3,7 +3,7 @@ import os
 import subprocess
 import unittest
 
-from programs import HEAD, Folder, need, need_program, run, write_file
+from programs import HEAD, Folder, need, run, write_file
 
 # Interrupts one call of read, of write, or of open for a file of games: CALL is its name, AT its
 # number from 1. The file MET is made when that happens. Standard error is left alone.
@@ -75,7 +75,6 @@ class InterruptedTest(Folder, unittest.TestCase):
     def setUp(self):
         need("cc")
         super().setUp()
-        self.program = need_program()
         source = self.put("interrupt.c", SOURCE)
         subprocess.run(["cc", "-shared", "-fPIC", "-o", self.folder + "/interrupt.so", source,
                         "-ldl"], check=True)

@@ -8,7 +8,7 @@ import tempfile
 import unittest
 
 from documents import printed_by
-from programs import ROOT, need, need_library, need_program, run, text_of, write_file
+from programs import ROOT, need, need_library, need_program, output_of, run, text_of, write_file
 from small_repository import Repository
 
 CRATE = ROOT + "/crates/pgn_c"
@@ -106,54 +106,45 @@ def c_parameters(rust):
     return types
 
 
+def sources():
+    """The text of all sources of the crate."""
+    return "".join(map(text_of, glob.glob(CRATE + "/src/*.rt")))
+
+
 def exported():
     """Name, result and parameter types, as C has them, of each export."""
-    found_in = {}
-    for file in glob.glob(CRATE + "/src/*.rt"):
-        rows = re.findall(
-            r'#\[unsafe\(no_mangle\)\]\s*pub (?:unsafe )?extern "C" fn (\w+)\((.*?)\) -> (\w+)',
-            text_of(file), re.S)
-        for name, parameters, result in rows:
-            found_in[name] = (STRUCTS.get(result) or C_TYPES[result], c_parameters(parameters))
-    return found_in
+    rows = re.findall(
+        r'#\[unsafe\(no_mangle\)\]\s*pub (?:unsafe )?extern "C" fn (\w+)\((.*?)\) -> (\w+)',
+        sources(), re.S)
+    return {name: (STRUCTS.get(result) or C_TYPES[result], c_parameters(parameters))
+            for name, parameters, result in rows}
 
 
 def declared():
     """The same of the header."""
-    found_in = {}
     rows = re.findall(r"^(\w+)\s+(\w+)\((.*?)\);", bare_header(), re.S | re.M)
-    for result, name, parameters in rows:
-        types = [re.sub(r"\w+$", "", it.strip()).strip() for it in parameters.split(",")
-                 if it != "void"]
-        found_in[name] = (result, types)
-    return found_in
+    return {name: (result, [re.sub(r"\w+$", "", it.strip()).strip()
+                            for it in parameters.split(",") if it != "void"])
+            for result, name, parameters in rows}
 
 
 def rust_structs():
     """The fields of each struct that crosses, in order, as C has them."""
+    rows = re.findall(r"#\[repr\(C\)\]\s*#\[derive\([^)]*\)\]\s*pub struct (\w+) \{(.*?)\n\}",
+                      sources(), re.S)
     structs = {}
-    for file in glob.glob(CRATE + "/src/*.rt"):
-        rows = re.findall(
-            r"#\[repr\(C\)\]\s*#\[derive\([^)]*\)\]\s*pub struct (\w+) \{(.*?)\n\}",
-            text_of(file), re.S)
-        for name, body in rows:
-            fields = []
-            for field, kind in re.findall(r"^    pub (\w+): ([^,]+),", body, re.M):
-                array = re.fullmatch(r"\[(\w+); (\d+)\]", kind)
-                if array:
-                    fields.append("%s %s[%s]" % (C_TYPES[array[1]], field, array[2]))
-                else:
-                    fields.append("%s %s" % (C_TYPES[kind], field))
-            structs[STRUCTS[name]] = fields
+    for name, body in rows:
+        fields = structs[STRUCTS[name]] = []
+        for field, kind in re.findall(r"^    pub (\w+): ([^,]+),", body, re.M):
+            kind, size = re.fullmatch(r"\[?(\w+)(?:; (\d+)\])?", kind).groups()
+            fields.append("%s %s%s" % (C_TYPES[kind], field, "[%s]" % size if size else ""))
     return structs
 
 
 def c_structs():
     rows = re.findall(r"typedef struct (\w+) \{(.*?)\} (\w+);", bare_header(), re.S)
-    return {
-        name: [" ".join(it.split()) for it in body.split(";") if it.strip()]
-        for tag, body, name in rows if tag == name
-    }
+    return {name: [" ".join(it.split()) for it in body.split(";") if it.strip()]
+            for tag, body, name in rows if tag == name}
 
 
 class HeaderTest(unittest.TestCase):
@@ -217,17 +208,15 @@ class HeaderTest(unittest.TestCase):
                 '        + pgn_check(other, 1).games + pgn_check("*", 1).games;\n'
                 "}\n")
         for words in (["cc", "-std=c99", "-x", "c"], ["c++", "-std=c++11", "-x", "c++"]):
-            ran = run([*words, "-pedantic", "-Wall", "-Wextra", "-Werror", "-fsyntax-only",
-                       "-I" + CRATE, "-"], input=text.encode())
-            self.assertEqual((ran.returncode, ran.stderr), (0, b""), words)
+            output_of(run([*words, "-pedantic", "-Wall", "-Wextra", "-Werror", "-fsyntax-only",
+                           "-I" + CRATE, "-"], input=text.encode()))
 
     def test_compiles_as_c_and_as_cpp(self):
         need("cc", "c++")
         for words in (["-std=c99", "-x", "c"], ["-std=c++11", "-x", "c++"]):
             compiler = "c++" if "c++" in words else "cc"
-            ran = run([compiler, "-pedantic", "-Wall", "-Wextra", "-Werror", "-fsyntax-only",
-                       *words, CRATE + "/pgn.h"])
-            self.assertEqual((ran.returncode, ran.stderr), (0, b""), words)
+            output_of(run([compiler, "-pedantic", "-Wall", "-Wextra", "-Werror", "-fsyntax-only",
+                           *words, CRATE + "/pgn.h"]))
 
 
 # ---- the example in C
@@ -255,8 +244,7 @@ class CExample:
         words = ["cc", "-O2", "-Wall", "-Werror", "-I" + CRATE, self.path("sample.c"),
                  need_library(self.build), "-o", self.path("sample")]
         # a few lines need not use all that they say
-        ran = run(words if "main(" in text else [*words, "-Wno-unused-variable"])
-        self.assertEqual((ran.returncode, ran.stderr), (0, b""))
+        output_of(run(words if "main(" in text else [*words, "-Wno-unused-variable"]))
         return run([self.path("sample")], stdin=subprocess.DEVNULL)
 
     def test_samples_of_the_documents(self):
@@ -265,9 +253,8 @@ class CExample:
         self.assertRegex(printed_by(self, "c", self.run_sample), moves)
 
     def test_fault(self):
-        ran = run([self.path("pgn_check"), NO_SUCH_MOVE])
-        self.assertEqual((ran.returncode, ran.stderr), (1, b""))
-        self.assertEqual(ran.stdout, b"fault 34 at byte 77: move is not legal\n")
+        out = output_of(run([self.path("pgn_check"), NO_SUCH_MOVE]), 1)
+        self.assertEqual(out, b"fault 34 at byte 77: move is not legal\n")
 
     def test_counts(self):
         ran = run([self.path("pgn_check"), "examples/annotated.pgn"])
@@ -283,15 +270,13 @@ class CExample:
 
     def test_small_stack(self):
         words = ["sh", "-c", "ulimit -s 256 && exec \"$@\"", "sh"]
-        ran = run([*words, self.path("pgn_check"), "--export", "examples/from-a-position.pgn"])
-        self.assertEqual((ran.returncode, ran.stderr), (0, b""))
+        output_of(run([*words, self.path("pgn_check"), "--export", "examples/from-a-position.pgn"]))
 
     def test_valgrind(self):
         need_library(self.build)
         need("valgrind")
-        ran = run(["valgrind", "--quiet", "--error-exitcode=9", "--leak-check=full",
-                   self.path("pgn_check"), "--export", "examples/annotated.pgn"])
-        self.assertEqual((ran.returncode, ran.stderr), (0, b""))
+        output_of(run(["valgrind", "--quiet", "--error-exitcode=9", "--leak-check=full",
+                       self.path("pgn_check"), "--export", "examples/annotated.pgn"]))
 
 
 class CExampleOfCargo(CExample, unittest.TestCase):

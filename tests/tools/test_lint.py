@@ -17,7 +17,7 @@ import unittest
 import programs
 from documents import blocks_of, lines_of
 from programs import (PACKAGE, PACKERS, ROOT, Folder, bytes_of, full_device, need, need_module,
-                      need_package, not_tried, run, text_of, vectors, zip_of)
+                      need_package, not_tried, output_of, run, text_of, vectors, zip_of)
 from test_python import REAL
 
 setUpModule = need_package
@@ -121,23 +121,23 @@ QUEENS = "1k6/8/8/8/4Q2Q/8/8/K6Q w - - 0 1"
 KINGS = "4k3/8/8/8/8/8/8/4K3 %s - - 0 %s"
 CASTLING = ("White may not castle by %s here: the right is lost, a square between is occupied, "
             "or the king is in check, or passes or reaches an attacked square.")
+KING, PAWN = "The %s king cannot go to %s.", "No white pawn can go to %s."
 # For each vector in which a move is rejected the position before it, and the sentence.
 VECTORS = {
-    "faults.34": (INITIAL, "The white king cannot go to e2."),
+    "faults.34": (INITIAL, KING % ("white", "e2")),
     "faults.34-a-number-joined-to-a-move": (
         INITIAL, "No white pawn can go to e4 as 1e4 says, but one may from e2."),
     "faults.34-no-letter": (
         INITIAL, "A move without a letter is a pawn's: for the knight on g1 write Nf3."),
-    "faults.34-illegal-king-move": (AFTER_E4_E5, "The white king cannot go to e3."),
+    "faults.34-illegal-king-move": (AFTER_E4_E5, KING % ("white", "e3")),
     "faults.34-castling": (AFTER_E4_E5, CASTLING % "O-O"),
     "faults.34-castling-after-the-king-moved": (
         "rnbq1bnr/ppppkppp/8/4p3/4P3/8/PPPPKPPP/RNBQ1BNR w - - 2 3", CASTLING % "O-O-O"),
     "faults.35": (
         "rnbqkbnr/pppp1ppp/8/8/3N4/N1P1p3/PP1PPPPP/R1BQKB1R w KQkq - 0 5",
         "2 white knights may go to c2, from a3 and d4: write Nac2 or Ndc2."),
-    "faults.34-in-a-second-game": (AFTER_E4_E5, "The white king cannot go to e3."),
-    "limits.a-line-that-is-full-before-the-fault": (
-        AFTER_E4_E5, "The white king cannot go to e3."),
+    "faults.34-in-a-second-game": (AFTER_E4_E5, KING % ("white", "e3")),
+    "limits.a-line-that-is-full-before-the-fault": (AFTER_E4_E5, KING % ("white", "e3")),
     "position_faults.35-three-queens": (
         QUEENS, "3 white queens may go to e1, from h1, e4 and h4: write Q1e1, Qee1 or Qh4e1."),
     "position_faults.35-three-queens-a-file": (
@@ -150,26 +150,21 @@ VECTORS = {
     "position_faults.34-castling-through-an-attack": (
         "4k3/8/8/8/8/5r2/8/4K2R w K - 0 1", CASTLING % "O-O"),
     "position_faults.34-castling-as-a-king-s-move": (
-        "r3k2r/8/8/8/8/8/8/R3K2R w KQkq - 0 1", "The white king cannot go to g1."),
+        "r3k2r/8/8/8/8/8/8/R3K2R w KQkq - 0 1", KING % ("white", "g1")),
     "position_faults.34-bare-promotion": (
         "8/P6k/8/8/8/8/8/K7 w - - 0 1", "A white pawn is promoted on a8: write a8=Q."),
     "position_faults.36-number-limit": (
         KINGS % ("b", "99999"), "No FEN has a move number above 99,999."),
     "position_faults.34-no-such-move-at-the-limit": (
-        KINGS % ("b", "99999"), "The black king cannot go to d6."),
-    "position_faults.34-the-side-not-to-move": (
-        KINGS % ("w", "1"), "The white king cannot go to d8."),
+        KINGS % ("b", "99999"), KING % ("black", "d6")),
+    "position_faults.34-the-side-not-to-move": (KINGS % ("w", "1"), KING % ("white", "d8")),
     "position_faults.34-a-king-beside-a-king": (
         "4k3/4p3/4K3/8/8/8/8/8 w - - 0 1",
         "The white king can go to e7, but would be in check there."),
-    "variations.a-move-from-the-position-after-the-variation": (
-        AFTER_E4_E5, "No white pawn can go to d5."),
-    "variations.a-move-from-the-position-after-the-variation-reduced": (
-        AFTER_E4_E5, "No white pawn can go to d5."),
-    "variations.a-move-of-the-side-not-to-move-in-a-variation": (
-        INITIAL, "No white pawn can go to e5."),
-    "variations.a-move-of-the-side-not-to-move-in-a-variation-reduced": (
-        INITIAL, "No white pawn can go to e5."),
+    "variations.a-move-from-the-position-after-the-variation": (AFTER_E4_E5, PAWN % "d5"),
+    "variations.a-move-from-the-position-after-the-variation-reduced": (AFTER_E4_E5, PAWN % "d5"),
+    "variations.a-move-of-the-side-not-to-move-in-a-variation": (INITIAL, PAWN % "e5"),
+    "variations.a-move-of-the-side-not-to-move-in-a-variation-reduced": (INITIAL, PAWN % "e5"),
 }
 FIELDS = ["kind", "file", "line", "column", "offset", "number", "reason", "note", "game", "white",
           "black", "begin", "end", "text", "before", "fen", "move", "legal", "exposing",
@@ -190,6 +185,9 @@ def array(items, **more):
 # What RFC 3986 lets a reference have: letters, digits, some signs, and bytes in hexadecimal.
 URI = {"type": "string", "pattern": r"^(?:[\w.~:/?#@!$&'()*+,;=-]|%[0-9A-F]{2})+$"}
 RULE = {"type": "string", "pattern": r"^PGN\d\d$"}
+LEVEL = {"enum": ["none", "note", "warning", "error"]}
+FROM_0, FROM_1 = ({"type": "integer", "minimum": it} for it in (0, 1))
+FILE = record(["uri"], uri=URI)
 # What SARIF 2.1.0 requires of a log, of those properties that are used here.
 SARIF = record(
     ["version", "runs"],
@@ -202,30 +200,22 @@ SARIF = record(
             rules=array(record(["id"], id=RULE, shortDescription=TEXT), uniqueItems=True))),
         invocations=array(record(
             ["executionSuccessful"], executionSuccessful={"type": "boolean"},
-            toolExecutionNotifications=array(record(
-                ["message"], message=TEXT,
-                level={"enum": ["none", "note", "warning", "error"]})))),
+            toolExecutionNotifications=array(record(["message"], message=TEXT, level=LEVEL)))),
         columnKind={"enum": ["utf16CodeUnits", "unicodeCodePoints"]},
         results=array(record(
-            ["message"], ruleId=RULE, message=TEXT,
-            level={"enum": ["none", "note", "warning", "error"]},
+            ["message"], ruleId=RULE, message=TEXT, level=LEVEL,
             fixes=array(minItems=1, items=record(
                 ["artifactChanges"], description=TEXT,
                 artifactChanges=array(minItems=1, items=record(
-                    ["artifactLocation", "replacements"],
-                    artifactLocation=record(["uri"], uri=URI),
+                    ["artifactLocation", "replacements"], artifactLocation=FILE,
                     replacements=array(minItems=1, items=record(
-                        ["deletedRegion"], insertedContent=TEXT,
-                        deletedRegion=record(
-                            ["byteOffset", "byteLength"],
-                            byteOffset={"type": "integer", "minimum": 0},
-                            byteLength={"type": "integer", "minimum": 0}))))))),
+                        ["deletedRegion"], insertedContent=TEXT, deletedRegion=record(
+                            ["byteOffset", "byteLength"], byteOffset=FROM_0,
+                            byteLength=FROM_0))))))),
             locations=array(record([], physicalLocation=record(
-                ["artifactLocation"],
-                artifactLocation=record(["uri"], uri=URI),
-                region=record(["startLine"], startLine={"type": "integer", "minimum": 1},
-                              startColumn={"type": "integer", "minimum": 1},
-                              byteOffset={"type": "integer", "minimum": 0})))))))))
+                ["artifactLocation"], artifactLocation=FILE,
+                region=record(["startLine"], startLine=FROM_1, startColumn=FROM_1,
+                              byteOffset=FROM_0)))))))))
 
 
 class Lint(Folder, unittest.TestCase):
@@ -269,8 +259,7 @@ class Lint(Folder, unittest.TestCase):
 
 class Faults(Lint):
     def test_each_way_to_be_bad(self):
-        for name, (text, _) in WAYS.items():
-            self.put(name + ".pgn", text)
+        self.put_all({name + ".pgn": text for name, (text, _) in WAYS.items()})
         for name, (_, lines) in WAYS.items():
             with self.subTest(name):
                 status, out, told = self.lint("--quiet", name + ".pgn")
@@ -278,8 +267,7 @@ class Faults(Lint):
                 self.assertEqual((status, out, told), (1, wanted, ""))
 
     def test_all_at_once(self):
-        for name, (text, _) in WAYS.items():
-            self.put("ways/" + name + ".pgn", text)
+        self.put_all({"ways/" + name + ".pgn": text for name, (text, _) in WAYS.items()})
         wanted = ["ways/%s.pgn:%s" % (name, it) for name in sorted(WAYS, key="{}.pgn".format)
                   for it in WAYS[name][1]]
         # 29 files have a game each, but one has a second game, and one has five
@@ -291,32 +279,23 @@ class Faults(Lint):
         from gillspoon._findings import explained
         castles = "r3k2r/8/8/8/8/8/8/R3K2R w KQkq - 0 1"
         mated = "r1bqkb1r/pppp1Qpp/2n2n2/4p3/2B1P3/8/PPPP1PPP/RNB1K1NR b KQkq - 0 4"
-        for fen, move, sentence in (
-                (castles, "e1g1", "A move without a letter is a pawn's: for the king on e1 write "
-                                  "O-O."),
-                (castles, "e1c1", "A move without a letter is a pawn's: for the king on e1 write "
-                                  "O-O-O."),
-                (castles, "a1a8", "A move without a letter is a pawn's: for the rook on a1 write "
-                                  "Rxa8+."),
-                (mated, "Ke7", "Black has no legal move: the game is over before this one."),
-                ("7k/5Q2/6K1/8/8/8/8/8 b - - 0 1", "Kg8",
-                 "Black has no legal move: the game is over before this one.")):
-            self.assertEqual(explained(34, fen, move)[2], sentence)
-
-    def test_promotions_that_are_none(self):
-        from gillspoon._findings import explained
         white = "1r2k3/P1P5/8/8/8/8/8/4K3 w - - 0 1"
+        lower = "A move without a letter is a pawn's: for the %s write %s."
+        over = "Black has no legal move: the game is over before this one."
+        takes = "2 white pawns may go to b8, from a7 and c7: write axb8=%s or cxb8=%s."
         for fen, move, sentence in (
+                (castles, "e1g1", lower % ("king on e1", "O-O")),
+                (castles, "e1c1", lower % ("king on e1", "O-O-O")),
+                (castles, "a1a8", lower % ("rook on a1", "Rxa8+")),
+                (mated, "Ke7", over), ("7k/5Q2/6K1/8/8/8/8/8 b - - 0 1", "Kg8", over),
+                # promotions that are none
                 (AFTER_E4_E5, "d4Q", "No pawn is promoted on d4: write d4."),
                 (AFTER_E4_E5, "Nf3=Q+", "No pawn is promoted on f3: write Nf3."),
-                (AFTER_E4_E5, "exd5N", "No white pawn can go to d5."),
-                (AFTER_E4_E5, "a8N", "No white pawn can go to a8."),
+                (AFTER_E4_E5, "exd5N", PAWN % "d5"), (AFTER_E4_E5, "a8N", PAWN % "a8"),
                 (white, "Pa8", "A white pawn is promoted on a8: write Pa8=Q."),
-                (white, "xb8R", "2 white pawns may go to b8, from a7 and c7: write axb8=R+ or "
-                                "cxb8=R+."),
-                (white, "xb8=N+", "2 white pawns may go to b8, from a7 and c7: write axb8=N or "
-                                  "cxb8=N.")):
-            self.assertEqual(explained(34, fen, move)[2], sentence)
+                (white, "xb8R", takes % ("R+", "R+")), (white, "xb8=N+", takes % ("N", "N"))):
+            with self.subTest(move):
+                self.assertEqual(explained(34, fen, move)[2], sentence)
 
     def test_names_further_down(self):
         for tags in ('[Event "a "b""]\n\n', '{a}\n[A-B "x"]\n', '[Event "\x01"]\n;x\n'):
@@ -428,8 +407,7 @@ class NoTraceback(Lint):
 
     def test_worked_inputs(self):
         inputs = vectors()
-        for it in inputs:
-            self.put("all/%s.pgn" % it["file"], it["input"].encode())
+        self.put_all({"all/%s.pgn" % it["file"]: it["input"].encode() for it in inputs})
         self.assertGreater(len(inputs), 250)
         self.try_modes("all")
 
@@ -492,8 +470,7 @@ class Files(Lint):
             kind = PACKED[number % len(PACKED)]
             texts[name + "." + kind] = texts[name]
             self.put(name + "." + kind, PACKERS[kind](texts[name]))
-        for name in [it for it in texts if it.endswith(".pgn")]:
-            self.put(name, texts[name])
+        self.put_all({name: texts[name] for name in [it for it in texts if it.endswith(".pgn")]})
         self.assertEqual(len(texts), 58)
         *found, summary = self.records("real")
         found = [it for it in found if it["kind"] == "fault"]
@@ -638,8 +615,7 @@ class OtherKinds(Lint):
     """Files that are no text of games are refused, and stay as they are."""
 
     def test_each_kind(self):
-        for name, (text, _) in OTHERS.items():
-            self.put("all/" + name, text)
+        self.put_all({"all/" + name: text for name, (text, _) in OTHERS.items()})
         for words in ([], ["--board"], ["--json"], ["--sarif"], ["--quiet"], ["--checked"],
                       ["--fix"], ["--fix", "--unsafe-fixes"], ["--diff", "--unsafe-fixes"]):
             reasons = {name: reason for name, (_, reason) in OTHERS.items()}
@@ -663,8 +639,7 @@ class OtherKinds(Lint):
 
     def test_the_other_files_are_read(self):
         self.put_all({"all/a.pgn": BAD, "all/z.pgn": BAD})
-        for name, (text, _) in OTHERS.items():
-            self.put("all/" + name, text)
+        self.put_all({"all/" + name: text for name, (text, _) in OTHERS.items()})
         told = "".join("gillspoon: all/%s: %s\n" % (it, OTHERS[it][1]) for it in sorted(OTHERS))
         for words in ([], ["-j", "2"]):
             self.assertEqual(self.lint("all", *words), (
@@ -814,8 +789,7 @@ class Options(Lint):
             1, "a.pgn:3:7: result differs from the Result tag (game 1, ? \u2013 ?)\n"))
 
     def test_max(self):
-        for name in "abc":
-            self.put(name + ".pgn", (BAD + b"\n") * 3)
+        self.put_all({name + ".pgn": (BAD + b"\n") * 3 for name in "abc"})
         for jobs in ("1", "2"):
             status, out, _ = self.lint("--max", "4", "-j", jobs, ".")
             self.assertEqual((status, out.splitlines()), (1, [
@@ -911,8 +885,7 @@ class Options(Lint):
 
     def test_sarif_of_each_way_to_be_bad(self):
         jsonschema = need_module("jsonschema", "python3-jsonschema")
-        for name, (text, _) in WAYS.items():
-            self.put("ways/" + name + ".pgn", text)
+        self.put_all({"ways/" + name + ".pgn": text for name, (text, _) in WAYS.items()})
         self.put("ways/a\n%\u00fc.pgn", BAD)
         log = json.loads(self.lint("--sarif", "ways")[1])
         jsonschema.validate(log, SARIF)
@@ -969,9 +942,8 @@ class Streams(Lint):
         self.put("a.pgn", BAD)
         for words in ([], ["--json"], ["--sarif"], ["-j", "2", "a.pgn"]):
             with full_device() as full:
-                status, _, told = self.lint("a.pgn", *words, stdout=full)
-            self.assertEqual((status, told), (
-                3, "gillspoon: output cannot be written: No space left on device\n"))
+                self.assertEqual(self.lint("a.pgn", *words, stdout=full)[::2], (
+                    3, "gillspoon: output cannot be written: No space left on device\n"))
 
     def interrupted(self, *words):
         """The status and the errors of a call that waits for a pipe, and gets SIGINT."""
@@ -1013,10 +985,9 @@ class Streams(Lint):
             # once this opens, a process reads the other end
             with open(self.folder + "/pipe.pgn", "wb", buffering=0) as pipe:
                 pipe.write(b"1. e4 ")
-                with open("/proc/%d/task/%d/children" % (child.pid, child.pid),
-                          encoding="ascii") as children:
-                    for process, number in zip(children.read().split(), signals):
-                        os.kill(int(process), number)
+                children = text_of("/proc/%d/task/%d/children" % (child.pid, child.pid)).split()
+                for process, number in zip(children, signals):
+                    os.kill(int(process), number)
                 _, told = child.communicate(timeout=20)
         self.assertEqual((child.returncode, told), (
             3, b"gillspoon: a process ended before its file was read; try again without -j\n"))
@@ -1110,9 +1081,8 @@ class Others(Lint):
         found = [it for it in ran.stdout.decode().splitlines() if ".pgn" in it or ".txt" in it]
         self.assertEqual(found, ["-c.pgn:" + BAD_LINE])
         run(["git", "rm", "-qf", "--", "-c.pgn"], cwd=self.folder, env=env)
-        ran = run(["pre-commit", "try-repo", ROOT, "gillspoon-lint", "--all-files"],
-                  cwd=self.folder, env=env)
-        self.assertEqual(ran.returncode, 0, ran.stdout + ran.stderr)
+        output_of(run(["pre-commit", "try-repo", ROOT, "gillspoon-lint", "--all-files"],
+                      cwd=self.folder, env=env), err=None)
         ran = run(["pre-commit", "try-repo", ROOT, "gillspoon-fmt", "--all-files", "--color",
                    "never"], cwd=self.folder, env=env)
         self.assertEqual(ran.returncode, 1, ran.stdout + ran.stderr)
@@ -1140,8 +1110,7 @@ class Others(Lint):
         ran = run(["sh", "-ec", lint], cwd=self.folder, env=self.env)
         self.assertEqual(ran.returncode, 1, ran.stderr)
         name = re.search(r"sarif_file: ([\w.]+)", text)[1]
-        with open(os.path.join(self.folder, name), encoding="utf-8") as log:
-            result, = json.load(log)["runs"][0]["results"]
+        result, = json.loads(self.get(name))["runs"][0]["results"]
         place = result["locations"][0]["physicalLocation"]
         self.assertEqual(place["artifactLocation"]["uri"], "games/a.pgn")
 

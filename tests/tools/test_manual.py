@@ -10,7 +10,7 @@ import unittest
 
 import programs
 import test_library
-from programs import ROOT, Folder, run, text_of, write_file
+from programs import ROOT, Folder, output_of, run, text_of, write_file
 
 PAGES = ROOT + "/share/man/man1/"
 PAGE = PAGES + "pgn_tool.1"
@@ -65,8 +65,7 @@ def options(*words):
 
 class Shell(Folder, unittest.TestCase):
     def shell(self, script, run=run, **more):
-        program = programs.need_program()
-        path = ":".join((os.path.dirname(program), ROOT + "/bin", programs.PATH))
+        path = ":".join((os.path.dirname(self.program), ROOT + "/bin", programs.PATH))
         env = dict(os.environ, PATH=path, NO_COLOR="1", LC_ALL="C.UTF-8")
         return run(["bash", "-c", script], cwd=more.pop("cwd", self.folder), env=env, **more)
 
@@ -121,15 +120,12 @@ class Page(Shell):
             programs.not_tried("groff has no mdoc macros")
         for path in (*(PAGES + it + ".1" for it in COMMANDS), LIBRARY_PAGE):
             for device in ("ascii", "utf8"):
-                ran = run(["groff", "-ww", "-mandoc", "-T" + device, path])
-                self.assertEqual((ran.returncode, ran.stderr), (0, b""), device)
+                output_of(run(["groff", "-ww", "-mandoc", "-T" + device, path]))
 
     def test_man_shows_each_page(self):
         programs.need("man")
         for name in COMMANDS:
-            ran = run(["man", "-l", PAGES + name + ".1"])
-            self.assertEqual((ran.returncode, ran.stderr), (0, b""), name)
-            self.assertIn(b"EXIT STATUS", ran.stdout)
+            self.assertIn(b"EXIT STATUS", output_of(run(["man", "-l", PAGES + name + ".1"])))
 
     def test_the_pages_name_one_another(self):
         for name in COMMANDS:
@@ -172,8 +168,7 @@ class Page(Shell):
         command = block.replace("\\e", "\\").replace("10M", "10k")
         ran = self.shell(command)
         self.assertEqual((ran.returncode, ran.stdout), (0, b""), ran.stderr)
-        one = self.shell("pgn_tool export games.pgn | cmp - export.pgn")
-        self.assertEqual((one.returncode, one.stderr), (0, b""))
+        output_of(self.shell("pgn_tool export games.pgn | cmp - export.pgn"))
         self.assertGreater(os.path.getsize(self.folder + "/export.pgn"), 100000)
 
 
@@ -206,20 +201,17 @@ class LibraryPage(Folder, unittest.TestCase):
         text, said = re.findall(r"^\.Bd -literal.*?\n(.*?)^\.Ed", self.section("EXAMPLES"),
                                 re.M | re.S)
         write_file(self.folder + "/example.c", text)
-        ran = run(["cc", "-std=c99", "-Wall", "-Wextra", "-Werror", "example.c", "-o", "example",
-                   "-I%s/crates/pgn_c" % ROOT, programs.need_library("--cargo")], cwd=self.folder)
-        self.assertEqual((ran.returncode, ran.stderr), (0, b""))
-        ran = run([self.folder + "/example"])
-        self.assertEqual((ran.returncode, ran.stdout.decode()), (0, said))
+        words = ["cc", "-std=c99", "-Wall", "-Wextra", "-Werror", "example.c", "-o", "example"]
+        output_of(run([*words, "-I%s/crates/pgn_c" % ROOT, programs.need_library("--cargo")],
+                      cwd=self.folder))
+        self.check(run([self.folder + "/example"]), 0, said.encode())
 
 
-class Command(unittest.TestCase):
+class Command(Folder, unittest.TestCase):
     """What the help of gillspoon says is in its page, and the other way round."""
 
     def help_of(self, *words):
-        ran = run(["bin/gillspoon", *words, "--help"])
-        self.assertEqual((ran.returncode, ran.stderr), (0, b""))
-        return ran.stdout.decode()
+        return output_of(run(["bin/gillspoon", *words, "--help"])).decode()
 
     def test_options(self):
         page = text_of(COMMAND_PAGE)
@@ -257,28 +249,22 @@ class Command(unittest.TestCase):
     def test_versions(self):
         wanted = run([programs.need_program(), "--version"]).stdout.split()[1]
         for words in ([], *([it] for it in SUBCOMMANDS)):
-            ran = run(["bin/gillspoon", *words, "--version"])
-            self.assertEqual((ran.returncode, ran.stdout, ran.stderr),
-                             (0, b"gillspoon %s\n" % wanted, b""))
+            self.check(run(["bin/gillspoon", *words, "--version"]), 0, b"gillspoon %s\n" % wanted)
 
-    def test_statuses(self):
-        page = section(text_of(COMMAND_PAGE), "EXIT STATUS")
-        for words in ([], *([it] for it in SUBCOMMANDS)):
-            helped = re.search(r"^status:\n((?:  .*\n)+)", self.help_of(*words), re.M)[1]
-            self.assertEqual(re.findall(r"^\.It (\d+)$", page, re.M),
-                             re.findall(r"^  (\d+)  ", helped, re.M), words)
-
-    def test_environment(self):
-        said = re.findall(r"^\.It Ev (\w+)$", text_of(COMMAND_PAGE), re.M)
-        for words in ([], *([it] for it in SUBCOMMANDS)):
-            helped = re.search(r"^environment:\n((?:  .*\n?)+)", self.help_of(*words), re.M)[1]
-            self.assertEqual(said, re.findall(r"^  (\w+)  ", helped, re.M))
+    def test_statuses_and_environment(self):
+        page = text_of(COMMAND_PAGE)
+        for name, row, text in (("status", r"^\.It (\d+)$", section(page, "EXIT STATUS")),
+                                ("environment", r"^\.It Ev (\w+)$", page)):
+            for words in ([], *([it] for it in SUBCOMMANDS)):
+                helped = re.search(r"^%s:\n((?:  .*\n?)+)" % name, self.help_of(*words), re.M)[1]
+                self.assertEqual(re.findall(row, text, re.M),
+                                 re.findall(r"^  (\w+)  ", helped, re.M), words)
 
     def test_words(self):
         for words in ([], ["lnt"], ["--none"], ["lint", "--none"], ["fmt", "--none"],
                       ["where", "--none"], ["sieve", "--none"], ["sieve", "a", "b"]):
             ran = run(["bin/gillspoon", *words])
-            self.assertEqual((ran.returncode, ran.stdout, ran.stderr.count(b"\n")), (2, b"", 1), words)
+            self.check_refused(ran, 2)
             self.assertTrue(ran.stderr.endswith(b"(--help shows the usage)\n"), ran.stderr)
 
 
@@ -291,13 +277,11 @@ class Statuses(Shell):
                                ("echo '*' | pgn_tool check", 0), ("echo 'e9' | pgn_tool check", 1),
                                ("pgn_tool check --reduced", 2)):
             self.assertEqual(self.status(script), status, script)
-        ran = self.shell("pgn_tool export $'\\xff'")
-        self.assertEqual((ran.returncode, ran.stderr), (2, b"arguments cannot be read\n"))
+        self.check(self.shell("pgn_tool export $'\\xff'"), 2, b"", b"arguments cannot be read\n")
         for words in ("export missing", "check .", "check - <games"):
             ran = self.shell("echo '*' >games; pgn_tool " + words)
-            self.assertEqual((ran.returncode, ran.stderr), (1, b"byte 0: input cannot be read\n"))
-        self.assertEqual(self.shell("cp games ./-; pgn_tool check -").stdout,
-                         b"games: 1, plies: 0\n")
+            self.check(ran, 1, b"", b"byte 0: input cannot be read\n")
+        self.check(self.shell("cp games ./-; pgn_tool check -"), 0, b"games: 1, plies: 0\n")
 
     def test_caveats_of_the_file_that_is_read(self):
         self.assertEqual(self.status("echo '1. e4 *' > F; pgn_tool export F > F"), 0)
@@ -316,16 +300,15 @@ class Statuses(Shell):
         # The first block of 64 KiB of output is that of some 700 games, 8 bytes of input each.
         place = int(re.fullmatch(rb"byte (\d+): output cannot be written\n", ran.stderr)[1])
         self.assertTrue(600 * 8 < place < 800 * 8, place)
-        ran = self.shell("echo '*' | pgn_tool export > /dev/full")
-        self.assertEqual((ran.returncode, ran.stderr), (1, b"output cannot be written\n"))
+        self.check(self.shell("echo '*' | pgn_tool export > /dev/full"), 1, b"",
+                   b"output cannot be written\n")
         ran = self.shell("set -o pipefail; (%s) | head -n 1" % game)
         self.assertEqual(ran.returncode, 1)
         self.assertIn(b"output cannot be written", ran.stderr)
 
     def test_the_stack(self):
         size = int(re.search(r"^\.It stack\n(\d+) KiB", text_of(PAGE), re.M)[1])
-        files = run(["bin/pgn_conform", "--files", self.folder])
-        self.assertEqual((files.returncode, files.stderr), (0, b""))
+        output_of(run(["bin/pgn_conform", "--files", self.folder]))
         self.assertEqual(len(glob.glob(self.folder + "/*.in")), len(programs.vectors()))
         script = "ulimit -s %d; failed=0; for file in *.in; do" \
             " for words in export 'export --checked' check list; do" \
@@ -366,17 +349,20 @@ class Completions(Shell):
 
     def test_fish(self):
         programs.need("fish")
-        open(self.folder + "/games.pgn", "wb").close()
+        self.put("games.pgn", "")
         self.assertEqual(self.fish_words("pgn_tool "), sorted(commands()))
         for command in commands():
             self.assertEqual(self.fish_words("pgn_tool %s --" % command),
                              sorted(["--help"] + options(command)))
-        self.assertEqual(self.fish_words("pgn_tool list ga"), ["games.pgn"])
+        self.assertEqual(self.fish_words("gillspoon "), sorted(SUBCOMMANDS))
+        for words in COMPLETED:
+            self.assertEqual(self.fish_words(" ".join(words) + " -"), self.script_options(*words))
+        for line in ("pgn_tool list ga", "gillspoon sieve --bad ga", "gillspoon fmt ga"):
+            self.assertEqual(self.fish_words(line), ["games.pgn"], line)
 
     def test_zsh(self):
         programs.need("zsh")
-        ran = run(["zsh", "-n", COMPLETIONS + "_pgn_tool"])
-        self.assertEqual((ran.returncode, ran.stderr), (0, b""))
+        output_of(run(["zsh", "-n", COMPLETIONS + "_pgn_tool"]))
         text = text_of(COMPLETIONS + "_pgn_tool")
         self.assertEqual(re.findall(r"^ +'([a-z]+):[a-z]", text, re.M), commands())
         for option in options() + options("export"):
@@ -417,15 +403,6 @@ class Completions(Shell):
         ran = run(["fish", "-c", script], cwd=self.folder, env=env)
         return sorted(it.split("\t")[0] for it in ran.stdout.decode().splitlines())
 
-    def test_fish_for_the_scripts(self):
-        programs.need("fish")
-        open(self.folder + "/games.pgn", "wb").close()
-        self.assertEqual(self.fish_words("gillspoon "), sorted(SUBCOMMANDS))
-        for words in COMPLETED:
-            self.assertEqual(self.fish_words(" ".join(words) + " -"), self.script_options(*words))
-        self.assertEqual(self.fish_words("gillspoon sieve --bad ga"), ["games.pgn"])
-        self.assertEqual(self.fish_words("gillspoon fmt ga"), ["games.pgn"])
-
     def zsh_words(self, line):
         """What zsh completes as the last word of a line: it runs on a terminal."""
         folder = programs.new_folder(self)
@@ -450,8 +427,7 @@ class Completions(Shell):
     def test_zsh_for_the_scripts(self):
         programs.need("zsh")
         for words in COMPLETED:
-            ran = run(["zsh", "-n", COMPLETIONS + "_" + words[0]])
-            self.assertEqual((ran.returncode, ran.stderr), (0, b""))
+            output_of(run(["zsh", "-n", COMPLETIONS + "_" + words[0]]))
             line = " ".join(words)
             found = self.zsh_words(line + " -")
             self.assertEqual([it for it in found if it != "-"], self.script_options(*words))

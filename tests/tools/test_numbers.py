@@ -1,10 +1,9 @@
 """Tests of the warning of move numbers, on many made games, beside a plain look at each number."""
 import random
 import re
-import unittest
 
 import test_lint
-from programs import ROOT, archive, need_package
+from programs import archive, need_package, text_of
 
 setUpModule = need_package
 GAMES, LONGEST = 4000, 30
@@ -85,10 +84,8 @@ class Maker:
 
 def games(rng):
     """The tag section and the movetext of made games."""
-    with open(ROOT + "/bench/games.txt", encoding="ascii") as file:
-        lines = [it.split()[1:] for it in file]
-    with open(ROOT + "/bench/puzzles.txt", encoding="ascii") as file:
-        puzzles = [it.split() for it in file]
+    lines = [it.split()[1:] for it in text_of("bench/games.txt").splitlines()]
+    puzzles = [it.split() for it in text_of("bench/puzzles.txt").splitlines()]
     for _ in range(GAMES):
         first, is_black, tags = 1, False, ""
         if rng.random() < 0.8:
@@ -128,7 +125,3 @@ class Numbers(test_lint.Lint):
             self.put("a.pgn", archive(100, style))
             self.assertEqual(self.lint("--strict", "a.pgn"),
                              (0, "1 file, 100 games, 0 faults\n", ""), style)
-
-
-if __name__ == "__main__":
-    unittest.main()

@@ -36,8 +36,7 @@ class Kept(Folder, unittest.TestCase):
         super().setUp()
         self.env = dict(os.environ, PATH=programs.PATH, GILLSPOON_LIBRARY=library(), LC_ALL="C.UTF-8")
         self.put_all(OTHERS)
-        for kind, pack in PACKERS.items():
-            self.put("cut.pgn." + kind, pack(SOUND * 99)[:-30])
+        self.put_all({"cut.pgn." + kind: pack(SOUND * 99)[:-30] for kind, pack in PACKERS.items()})
         self.put_all({"not.pgn.gz": SOUND, "empty.pgn": b"", "words.pgn": b"% none\n\n",
                       "bad.pgn": SOUND + BAD, "sound.pgn": SOUND})
         os.mkdir(self.folder + "/folder")
@@ -54,8 +53,7 @@ class Kept(Folder, unittest.TestCase):
 
     def stays(self, status, outputs, *words, **more):
         """A call ends with a status and one line, and each output stays; no file is added."""
-        for name in outputs:
-            self.put(name, OLD)
+        self.put_all(dict.fromkeys(outputs, OLD))
         before = sorted(os.listdir(self.folder))
         ran = self.call(*words, **more)
         with self.subTest(words):
@@ -130,9 +128,8 @@ class Format(Kept):
                        3, b"", b"gillspoon: <stdin>: %s\n" % said)
 
     def test_the_name_of_a_packed_file_is_said_once(self):
-        ran = self.call("fmt", "--check", "not.pgn.gz")
-        self.assertEqual((ran.returncode, ran.stderr), (
-            3, b"gillspoon: not.pgn.gz: Not a gzipped file (b'[W')\n"))
+        self.check(self.call("fmt", "--check", "not.pgn.gz"), 3, b"",
+                   b"gillspoon: not.pgn.gz: Not a gzipped file (b'[W')\n")
 
 
 class Sieve(Kept):

@@ -10,13 +10,12 @@ import unittest
 import zipfile
 
 import programs
-from programs import ROOT, Folder, bytes_of, run, text_of, write_file
+from programs import ROOT, Folder, bytes_of, output_of, run, text_of, write_file
 
 PACKAGES = ("libpgn-c-dev", "libpgn-c0", "pgn-tool", "python3-gillspoon")
 # A game, and what PGN 3.2 and 8 ask for.
 LOOSE = b'[White "A"] e4 e5 *'
-TIDY = (b'[Event "?"]\n[Site "?"]\n[Date "????.??.??"]\n[Round "?"]\n[White "A"]\n[Black "?"]\n'
-        b'[Result "*"]\n\n1. e4 e5 *\n\n')
+TIDY = programs.HEAD.replace(b'White "?"', b'White "A"') + b"1. e4 e5 *\n\n"
 SOURCE = r"""
 #include <stdio.h>
 #include <pgn.h>
@@ -61,9 +60,8 @@ class Debian(unittest.TestCase):
 
     def test_lintian_has_no_error(self):
         env = dict(os.environ, PATH=programs.PATH)
-        ran = run(["lintian", "--fail-on", "error,warning", "--allow-root",
-                   *glob.glob(self.folder + "/*.deb")], env=env, timeout=None)
-        self.assertEqual(ran.returncode, 0, ran.stdout)
+        output_of(run(["lintian", "--fail-on", "error,warning", "--allow-root",
+                       *glob.glob(self.folder + "/*.deb")], env=env, timeout=None), err=None)
 
     def test_a_program_depends_on_the_minor_version_of_the_library(self):
         """Which is in the name of the shared library; until 1.0 another may change a call."""
@@ -142,22 +140,19 @@ class Lacking(Folder, unittest.TestCase):
                   env=env)
         return ran.returncode, ran.stdout.decode(), ran.stderr.decode()
 
-    def command(self, name, script):
-        os.chmod(self.put("bin/" + name, "#!/bin/sh\n" + script), 0o755)
-
     def test_a_part_that_was_asked_for(self):
         for part, why in (("cargo", "cargo is missing"), ("debian", "of Debian's package dpkg-dev"),
                           ("proved", "rt is not on the PATH")):
             status, out, told = self.dist(part)
             self.assertEqual((status, out), (127, ""))
             self.assertRegex(told, r"\Abin/dist: .*%s\n\Z" % why)
-        self.command("dpkg-buildpackage", "exit 9\n")
-        self.command("dh", "exit 9\n")
+        self.put_script("bin/dpkg-buildpackage", "exit 9\n")
+        self.put_script("bin/dh", "exit 9\n")
         self.assertIn("of Debian's package dh-python\n", self.dist("debian")[2])
 
     def test_a_cargo_that_is_too_old(self):
         """As that of Debian 12 is."""
-        self.command("cargo", "echo '      --no-verify  Do not verify the contents'\n")
+        self.put_script("bin/cargo", "echo '      --no-verify  Do not verify the contents'\n")
         status, out, told = self.dist("cargo")
         self.assertEqual((status, out), (127, ""))
         self.assertIn("this cargo is too old to write packages", told)
@@ -181,8 +176,7 @@ class Others(Folder, unittest.TestCase):
             self.assertTrue(archive.extractfile(name + "/pgn_tool").read() == bytes_of(program))
             self.assertTrue(archive.getmember(name + "/pgn_tool").mode & 0o111)
         programs.need("sha256sum")
-        ran = run(["sha256sum", "-c", path + ".sha256"], cwd=self.folder)
-        self.assertEqual(ran.returncode, 0, ran.stderr)
+        output_of(run(["sha256sum", "-c", path + ".sha256"], cwd=self.folder), err=None)
         self.assertIn(hashlib.sha256(bytes_of(path)).hexdigest(),
                       self.get(os.path.basename(path) + ".sha256").decode())
 

@@ -31,6 +31,15 @@ MEGABYTE = 1000000
 TAB, ENTER, CONTROL, UP, DOWN = "\ue004", "\ue007", "\ue009", "\ue013", "\ue015"
 END, HOME, TO_LEFT, TO_RIGHT = "\ue010", "\ue011", "\ue012", "\ue014"
 INITIAL = "rnbqkbnr/pppppppp/8/8/8/8/PPPPPPPP/RNBQKBNR w KQkq - 0 1"
+# The words of a position in which only knights and pawns have moved.
+PIECES = ("White: king e1; queen d1; rooks a1, h1; bishops c1, f1; knights %s; pawns %s. Black: "
+          "king e8; queen d8; rooks a8, h8; bishops c8, f8; knights %s; pawns %s. %s to move.")
+# What is said of a file, and of a browser.
+TOO_LONG = ("%s does not fit into the memory that the browser gives to a page. Convert it in "
+            "parts, or with the program pgn_tool, which takes under 3 MiB for any size.")
+COMPRESSED = ("%s is compressed with %s. Unpack it, by %s -d, and choose the file that comes out. "
+              "The command gillspoon fmt reads it as it is.")
+UNABLE = "This browser cannot run the converter: %s. Use a newer browser, or the program pgn_tool."
 # Texts at the edges of rules, beside the rows of spellings.py.
 EDGES = [
     "1. e4 e5 Nf3 Nc6 3Bc4 *", "1. e4 e5 2. Nf3 Nf6 3. Be2 Be7 O - O\n",
@@ -126,9 +135,12 @@ SELECTED = """
     const field = document.getElementById('paste');
     return [field.selectionStart, field.value.slice(field.selectionStart, field.selectionEnd)];
 """
-# The button of a fault that writes missing results.
-MARKERS_TOO = ("[...document.querySelectorAll('#fault button')].find(it => it.innerText === "
-               "'Write missing results, and mend what is clear')")
+# A button of a fault, and the one that writes missing results.
+BUTTON = "[...document.querySelectorAll('#fault button')].find(it => it.innerText === '%s')"
+MARKERS_TOO = BUTTON % "Write missing results, and mend what is clear"
+# The state of the search for edits, and what is said above the rows of the list.
+MENDING = "return document.getElementById('mending').dataset.state === '%s'"
+SHOWN = "return document.getElementById('shown').innerText === arguments[0]"
 # Notes the longest time in which the page did nothing else, while it is called.
 BEAT = """
     window.longest = 0;
@@ -397,10 +409,8 @@ class States(Case):
         ]))
         words = self.browser.run(
             "return document.querySelector('#fault svg').getAttribute('aria-label')")
-        self.assertEqual(words, (
-            "White: king e1; queen d1; rooks a1, h1; bishops c1, f1; knights b1, g1; pawns a2, b2, "
-            "c2, d2, f2, g2, h2, e4. Black: king e8; queen d8; rooks a8, h8; bishops c8, f8; "
-            "knights b8, g8; pawns e5, a7, b7, c7, d7, f7, g7, h7. White to move."))
+        self.assertEqual(words, PIECES % ("b1, g1", "a2, b2, c2, d2, f2, g2, h2, e4", "b8, g8",
+                                          "e5, a7, b7, c7, d7, f7, g7, h7", "White"))
         self.assertText("counts", "1 game, 4 plies.")
         self.assertText("go-on", "Skip this game Skip every bad game")
         self.browser.run(CLICK, "go-on-once")
@@ -430,9 +440,8 @@ class States(Case):
             self.browser.get(need_page())
             self.browser.wait_for(IS_READY)
             self.browser.command("Page.removeScriptToEvaluateOnNewDocument", identifier=identifier)
-            self.assertText("unable", "This browser cannot run the converter: it has no %s. Use a "
-                            "newer browser, or the program pgn_tool."
-                            % lacking.replace("Worker", "workers"))
+            self.assertText("unable",
+                            UNABLE % ("it has no " + lacking.replace("Worker", "workers")))
             self.assertFalse(self.browser.run(IS_VISIBLE, "main"))
         self.picture("no-module")
 
@@ -442,9 +451,8 @@ class States(Case):
             "WebAssembly.instantiate = () => Promise.reject(new Error('no BigInt in calls'))"))
         self.browser.get(need_page())
         self.browser.wait_for(IS_READY)
-        self.assertText("unable", "This browser cannot run the converter: its WebAssembly does "
-                        "not take this module (no BigInt in calls). Use a newer browser, or the "
-                        "program pgn_tool.")
+        self.assertText(
+            "unable", UNABLE % "its WebAssembly does not take this module (no BigInt in calls)")
         self.assertFalse(self.browser.run(IS_VISIBLE, "main"))
 
     def test_phone(self):
@@ -467,8 +475,7 @@ class States(Case):
         self.convert((file, text.encode()), ("a%s.zip" % file, b"PK\3\4"))
         self.assertEqual(self.converted_by("#go-on-always"), "done")
         self.browser.run(CLICK, "mend")
-        self.browser.wait_for(
-            "return document.getElementById('mending').dataset.state === 'listed'")
+        self.browser.wait_for(MENDING % "listed")
         self.browser.run("document.querySelectorAll('details').forEach(it => it.open = true)")
         self.open_game("#list button")
         self.picture("phone-table")
@@ -563,8 +570,7 @@ class Large(Case):
         self.assertEqual(self.text("counts").replace(",", "").rstrip(".").split()[::2],
                          [counts[1].rstrip(","), counts[3]])
         self.browser.run(CLICK, "next")
-        self.browser.wait_for("return document.getElementById('shown').innerText === arguments[0]",
-                              "Rows 51 to 100 of {:,}".format(ARCHIVE_GAMES))
+        self.browser.wait_for(SHOWN, "Rows 51 to 100 of {:,}".format(ARCHIVE_GAMES))
         self.assertEqual(self.texts("#list button")[0], "51")
         exported = run([program, "export", self.archive]).stdout
         self.assertEqual(self.download("download")[1], exported)
@@ -599,9 +605,7 @@ class Large(Case):
         with open(self.archive, "wb") as file:
             file.truncate(5000 * MEGABYTE)
         self.assertEqual(self.converted_from(self.archive), "failed")
-        self.assertText("work-text", "sparse.pgn does not fit into the memory that the browser "
-                        "gives to a page. Convert it in parts, or with the program pgn_tool, "
-                        "which takes under 3 MiB for any size.")
+        self.assertText("work-text", TOO_LONG % "sparse.pgn")
 
 
 class Files(Case):
@@ -663,8 +667,7 @@ class Files(Case):
         self.assertEqual(self.converted_from(self.path), "refused")
         self.put(b"1. e2-e4 e5 *\n")
         self.browser.run(CLICK, "mend")
-        self.browser.wait_for(
-            "return document.getElementById('mending').dataset.state === 'failed'")
+        self.browser.wait_for(MENDING % "failed")
         self.assertText("mending-text", "The edits were not found. in.pgn has changed since you "
                         "chose it. Choose it again.")
 
@@ -688,14 +691,12 @@ class Files(Case):
     def test_other_kinds(self):
         """Each is known by its first bytes, and the page says what to do."""
         game = b"1. e4 *\n"
-        compressed = ("a is compressed with %s. Unpack it, by %s -d, and choose the file that comes "
-                      "out. The command gillspoon fmt reads it as it is.")
         unpack = "Unpack it and choose the PGN files in it"
         rows = [
-            (PACKERS["bz2"](game), compressed % ("bzip2", "bzip2")),
-            (PACKERS["xz"](game), compressed % ("xz", "xz")),
+            (PACKERS["bz2"](game), COMPRESSED % ("a", "bzip2", "bzip2")),
+            (PACKERS["xz"](game), COMPRESSED % ("a", "xz", "xz")),
             # RFC 8878, section 3.1.1: the magic number of a frame, in little-endian order
-            (0xFD2FB528.to_bytes(4, "little") + bytes(8), compressed % ("zstd", "zstd")),
+            (0xFD2FB528.to_bytes(4, "little") + bytes(8), COMPRESSED % ("a", "zstd", "zstd")),
             (PACKERS["zip"](game), "a is a zip archive or an office document. " + unpack +
              ", or paste the games as text."),
             (b"PK\5\6" + bytes(18), "a is an empty zip archive."),
@@ -763,15 +764,11 @@ class Files(Case):
             "window.DecompressionStream = function () { return new TransformStream({"
             "transform(_, it) { it.enqueue({length: 2 ** 33}); }}); }")
         self.assertEqual(self.convert(("a.gz", packed)), "failed")
-        self.assertText("left-out", "a.gz does not fit into the memory that the browser gives to "
-                        "a page. Convert it in parts, or with the program pgn_tool, which takes "
-                        "under 3 MiB for any size.")
+        self.assertText("left-out", TOO_LONG % "a.gz")
         # a browser that cannot unpack
         self.browser.run("delete window.DecompressionStream")
         self.assertEqual(self.convert(("a.gz", packed)), "failed")
-        self.assertText("left-out", "a.gz is compressed with gzip. Unpack it, by gzip -d, and "
-                        "choose the file that comes out. The command gillspoon fmt reads it as it "
-                        "is.")
+        self.assertText("left-out", COMPRESSED % ("a.gz", "gzip", "gzip"))
 
     def test_stop_of_unpacking(self):
         self.browser.run(
@@ -798,8 +795,7 @@ class Mending(Case):
         return self.listed()
 
     def listed(self):
-        self.browser.wait_for(
-            "return document.getElementById('mending').dataset.state === 'listed'")
+        self.browser.wait_for(MENDING % "listed")
         edits = self.browser.run("return [...document.querySelectorAll('#edits li')]"
                                  ".map(it => it.textContent)")
         return edits, self.text("mending-text")
@@ -1013,8 +1009,7 @@ class Keyboard(Case):
         self.press_at("#other-faults button", ENTER)
         self.assertEqual(self.focused(), "faults-title")
         self.press_at("#mend", ENTER)
-        self.browser.wait_for(
-            "return document.getElementById('mending').dataset.state === 'listed'")
+        self.browser.wait_for(MENDING % "listed")
         self.assertEqual(self.focused(), "mending-title")
         self.assertEqual(self.converted_by("#apply", ENTER), "done")
         self.assertEqual(self.focused(), "result-title")
@@ -1068,8 +1063,7 @@ class Keyboard(Case):
         for shown, focus in (("Rows 51 to 100 of 120", "next"),
                              ("Rows 101 to 120 of 120", "list-title")):
             self.press_at("#next", ENTER)
-            self.browser.wait_for("return document.getElementById('shown').innerText === "
-                                  "arguments[0]", shown)
+            self.browser.wait_for(SHOWN, shown)
             self.assertEqual(self.focused(), focus)
 
     def test_keys_in_lists(self):
@@ -1123,8 +1117,7 @@ class Keyboard(Case):
         """A button goes to it, and its line is within the field."""
         text = "1. e4 *\n" * 300 + "1. e5 *\n" + "1. d4 *\n" * 300
         self.assertEqual(self.paste(text), "refused")
-        self.browser.run("[...document.querySelectorAll('#fault button')].find(it => "
-                         "it.innerText === 'Show it in the text field').focus()")
+        self.browser.run(BUTTON % "Show it in the text field" + ".focus()")
         self.press(ENTER)
         self.assertEqual((self.focused(), self.selected()), ("paste", [300 * 8 + 3, "e5"]))
         seen = self.browser.run(
@@ -1178,16 +1171,12 @@ class PlayThrough(Case):
 
     def test_keys_and_buttons(self):
         self.open(self.GAME)
-        begin = ("The position before the first move (ply 0 of 4)", (
-            "White: king e1; queen d1; rooks a1, h1; bishops c1, f1; knights b1, g1; "
-            "pawns a2, b2, c2, d2, e2, f2, g2, h2. Black: king e8; queen d8; rooks a8, h8; "
-            "bishops c8, f8; knights b8, g8; pawns a7, b7, c7, d7, e7, f7, g7, h7. "
-            "White to move."))
-        end = ("After 2... Nc6 (ply 4 of 4). Result: 1/2-1/2", (
-            "White: king e1; queen d1; rooks a1, h1; bishops c1, f1; knights b1, f3; "
-            "pawns a2, b2, c2, d2, f2, g2, h2, e4. Black: king e8; queen d8; rooks a8, h8; "
-            "bishops c8, f8; knights c6, g8; pawns e5, a7, b7, c7, d7, f7, g7, h7. "
-            "White to move."))
+        begin = ("The position before the first move (ply 0 of 4)", PIECES % (
+            "b1, g1", "a2, b2, c2, d2, e2, f2, g2, h2", "b8, g8", "a7, b7, c7, d7, e7, f7, g7, h7",
+            "White"))
+        end = ("After 2... Nc6 (ply 4 of 4). Result: 1/2-1/2", PIECES % (
+            "b1, f3", "a2, b2, c2, d2, f2, g2, h2, e4", "c6, g8", "e5, a7, b7, c7, d7, f7, g7, h7",
+            "White"))
         self.assertEqual(self.board(), begin)
         for key, said in (
                 (TO_RIGHT, "After 1. e4 (ply 1 of 4)"), (TO_RIGHT, "After 1... e5 (ply 2 of 4)"),
@@ -1272,10 +1261,8 @@ class PlayThrough(Case):
         self.enter(1)
         self.assertEqual(self.board(), (
             "After 2. f4! (ply 1 of 1 of a variation, in place of 2. Nf3)",
-            "White: king e1; queen d1; rooks a1, h1; bishops c1, f1; knights b1, g1; "
-            "pawns a2, b2, c2, d2, g2, h2, e4, f4. Black: king e8; queen d8; rooks a8, h8; "
-            "bishops c8, f8; knights b8, g8; pawns c5, a7, b7, d7, e7, f7, g7, h7. "
-            "Black to move."))
+            PIECES % ("b1, g1", "a2, b2, c2, d2, g2, h2, e4, f4", "b8, g8",
+                      "c5, a7, b7, d7, e7, f7, g7, h7", "Black")))
         self.browser.run(CLICK, "leave")
         self.browser.run(CLICK, "leave")
         self.assertEqual(self.board(), before)
@@ -1800,11 +1787,8 @@ class Rest(Case):
         self.assertTrue(any("Content Security Policy" in it for it in said), said)
 
 
-class Builder(unittest.TestCase):
+class Builder(programs.Folder, unittest.TestCase):
     """bin/build_page, and what it puts together."""
-
-    def setUp(self):
-        self.folder = programs.new_folder(self)
 
     def build(self, *words, **env):
         ran = run([sys.executable, ROOT + "/bin/build_page", *words], env=env or None)
@@ -1822,9 +1806,8 @@ class Builder(unittest.TestCase):
 
     def test_another_module(self):
         """The page then says that nothing of it is proved."""
-        write_file(self.folder + "/module", b"\0asm\1\0\0\0")
         out = self.folder + "/page.html"
-        self.assertEqual(self.build("--module", self.folder + "/module", out)[0], 0)
+        self.assertEqual(self.build("--module", self.put("module", b"\0asm\1\0\0\0"), out)[0], 0)
         text = text_of(out)
         self.assertIn("Nothing of it is proved.", text)
         self.assertIn(as_text(b"\0asm\1\0\0\0"), text)
@@ -1848,24 +1831,19 @@ class Builder(unittest.TestCase):
                    "import os, sys\nos.makedirs(sys.argv[1], exist_ok=True)\n")
         words = [sys.executable, copy + "/bin/build_page", "--cargo", copy + "/page.html"]
         env = {"PATH": copy + "/commands:/usr/bin:/bin"}
-
-        def command(name, script):
-            write_file("%s/commands/%s" % (copy, name), "#!/bin/sh\n" + script)
-            os.chmod("%s/commands/%s" % (copy, name), 0o755)
-
-        command("rustc", "echo %s/none\n" % copy)
-        command("cargo", "exit 101\n")
+        self.put_script("copy/commands/rustc", "echo %s/none\n" % copy)
+        self.put_script("copy/commands/cargo", "exit 101\n")
         ran = run(words, env=env)
         self.assertEqual((ran.returncode, ran.stderr.decode()), (
             127, "bin/build_page: Rust has no target wasm32-unknown-unknown here. Where rustup "
             "installed Rust, `rustup target add wasm32-unknown-unknown` adds it. Debian 13 has it "
             "and its linker in the packages libstd-rust-dev-wasm32 and rust-llvm\n"))
-        command("rustc", "echo %s/libraries\n" % copy)
+        self.put_script("copy/commands/rustc", "echo %s/libraries\n" % copy)
         ran = run(words, env=env)
         self.assertEqual(ran.returncode, 1)
         self.assertIn("cargo build has failed in cargo/out", ran.stderr.decode())
         self.assertFalse(os.path.exists(copy + "/page.html"))
-        command("cargo", """
+        self.put_script("copy/commands/cargo", """
             [ "$*" = "build --release --package pgn_c --target wasm32-unknown-unknown --target-dir \
 target" ] && mkdir -p target/wasm32-unknown-unknown/release &&
             printf '\\0asm\\1\\0\\0\\0' >target/wasm32-unknown-unknown/release/pgn_c.wasm\n""")
@@ -1877,9 +1855,8 @@ target" ] && mkdir -p target/wasm32-unknown-unknown/release &&
 
     def test_order(self):
         """Each part of a script is behind those that it imports: constants are made of theirs."""
-        write_file(self.folder + "/module", b"\0asm\1\0\0\0")
         out = self.folder + "/page.html"
-        self.assertEqual(self.build("--module", self.folder + "/module", out)[0], 0)
+        self.assertEqual(self.build("--module", self.put("module", b"\0asm\1\0\0\0"), out)[0], 0)
         scripts = re.findall(r'<script(?: type="text/plain" id="worker")?>(.*?)</script>',
                              text_of(out), re.S)
         orders = [re.findall(r"(?m)^// ---- (\w+)$", it) for it in scripts]

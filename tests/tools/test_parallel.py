@@ -6,7 +6,7 @@ import subprocess
 import unittest
 
 import programs
-from programs import ROOT, Folder, run
+from programs import ROOT, Folder, output_of, run
 from test_recipes import sections
 
 SHORT, WHOLE, STREAM, REMOTE, COUNTS = range(5)
@@ -72,8 +72,7 @@ class Spread(Folder, unittest.TestCase):
         one = self.shell("pgn_tool export games.pgn")
         self.assertEqual(one.returncode, status, one.stderr)
         ran = self.shell(self.script(kind), **more)
-        self.assertEqual((ran.returncode, ran.stderr), (status, one.stderr))
-        self.assertEqual(ran.stdout, b"")
+        self.check(ran, status, b"", one.stderr)
         self.assertTrue(self.get("export.pgn") == one.stdout, "other bytes")
         return [line.split(b"\t") for line in self.get("blocks.log").splitlines()[1:]]
 
@@ -88,10 +87,8 @@ class OneMachine(Spread):
                 archive().replace("\n", "\r\n"),
                 blocks()[SHORT].replace(r"'\n\n'", r"'\r\n\r\n'"))):
             self.put("games.pgn", text)
-            ran = self.shell(block)
-            self.assertEqual((ran.returncode, ran.stderr), (0, b""))
-            one = self.shell("pgn_tool export games.pgn | cmp - export.pgn")
-            self.assertEqual((one.returncode, one.stderr), (0, b""))
+            output_of(self.shell(block))
+            output_of(self.shell("pgn_tool export games.pgn | cmp - export.pgn"))
 
     def test_a_plain_file(self):
         jobs = self.agrees(archive())
@@ -123,15 +120,12 @@ class OneMachine(Spread):
     def test_a_full_disk(self):
         self.put("games.pgn", archive(4000))
         os.symlink("/dev/full", self.folder + "/export.pgn")
-        ran = self.shell(self.script(WHOLE))
-        self.assertEqual((ran.returncode, ran.stderr), (1, b"output cannot be written\n"))
+        self.check(self.shell(self.script(WHOLE)), 1, b"", b"output cannot be written\n")
 
     def test_counts_and_lists(self):
         self.put("games.pgn", archive())
         self.shell("pgn_tool export games.pgn > export.pgn")
-        ran = self.shell(blocks()[COUNTS])
-        lines = ran.stdout.splitlines(True)
-        self.assertEqual((ran.returncode, ran.stderr), (0, b""))
+        lines = output_of(self.shell(blocks()[COUNTS])).splitlines(True)
         # Moves outside variations: 2, 2, 3 and 3 in turn.
         self.assertEqual(lines[:2], [b"games: 600, plies: 1500\n"] * 2)
         one = self.shell("pgn_tool list games.pgn")
@@ -233,7 +227,6 @@ class SeveralMachines(Spread):
 
     def test_a_machine_without_the_program(self):
         script = self.server.client + ' "$@"; case $* in *beta*) exit 127;; esac'
-        self.server.put("lacking", "#!/bin/sh\n" + script + "\n")
-        os.chmod(self.server.folder + "/lacking", 0o755)
-        jobs = self.agrees(archive(), REMOTE, PARALLEL_SSH=self.server.folder + "/lacking")
+        lacking = self.server.put_script("lacking", script + "\n")
+        jobs = self.agrees(archive(), REMOTE, PARALLEL_SSH=lacking)
         self.assertTrue(any(job[6] != b"0" for job in jobs))

@@ -1,4 +1,3 @@
-#!/usr/bin/env python3
 """Tests of the Python package (python/gillspoon): its calls, its wheel, and docs/PYTHON.md."""
 import ast
 import copy as copies
@@ -10,6 +9,7 @@ import io
 import itertools
 import json
 import mmap
+import operator
 import os
 import pathlib
 import pickle
@@ -26,11 +26,10 @@ import time
 import unittest
 from unittest import mock
 
-sys.path.insert(0, os.path.dirname(os.path.realpath(__file__)))
 import programs
 from documents import blocks_of, lines_of, samples, table
 from programs import (PACKAGE, PACKERS, ROOT, archive, bytes_of, library, need, need_program,
-                      not_tried, run, text_of, vectors, write_file, zip_of)
+                      not_tried, output_of, run, text_of, vectors, zip_of)
 from test_sieve import BAD, sound
 
 # Debian's, which has the modules of Debian's packages.
@@ -55,21 +54,41 @@ def environment(**more):
 def seen(source, **options):
     """The games and the faults of a source, in the order in which they come: 7 values and 13."""
     found = []
-
-    def on_fault(it):
-        found.append(it.args + (it.end, it.text, it.move, it.white, it.black))
-
-    for game in gillspoon.games(source, on_fault=on_fault, **options):
+    for game in gillspoon.games(source, **options, on_fault=lambda it: found.append(
+            it.args + (it.end, it.text, it.move, it.white, it.black))):
         found.append(tuple(getattr(game, it) for it in (
             "number", "offset", "end", "result", "plies", "fen", "text")))
     return found
 
 
-class Pieces(io.RawIOBase):
-    """A binary file that gives at most so many bytes at once."""
+def texts_of(games):
+    """The export text of each game."""
+    return [it.text for it in games]
 
-    def __init__(self, parts):
-        self.parts, self.rest = iter(parts), b""
+
+def first_game(data, **options):
+    """The first game of a source."""
+    return next(gillspoon.games(data, **options))
+
+
+def first_line(data):
+    """The moves of the first game of a source."""
+    return first_game(data).moves()
+
+
+def built(moves):
+    """A line of these moves."""
+    line = gillspoon.Line()
+    for move in moves.split():
+        line.append(move)
+    return line
+
+
+class Pieces(io.RawIOBase):
+    """A binary file that gives the bytes in these parts, as `cut` makes them of data and sizes."""
+
+    def __init__(self, parts, sizes=None):
+        self.parts, self.rest = cut(parts, sizes) if sizes else iter(parts), b""
 
     def read(self, size=-1):
         self.rest = self.rest or next(self.parts, b"")
@@ -101,7 +120,8 @@ def in_threads(call, values):
 
 
 def cut(data, sizes):
-    """The data in parts of these sizes, in turn."""
+    """The data in parts of one size, or of these sizes in turn."""
+    sizes = itertools.repeat(sizes) if isinstance(sizes, int) else sizes
     at = 0
     while at < len(data):
         size = next(sizes)
@@ -109,14 +129,18 @@ def cut(data, sizes):
         at += size
 
 
-def ever(value):
-    while True:
-        yield value
-
-
 def tree(line):
     """What is known of a line: its first position, and of each ply its text, position and notes."""
     return line.fen, notes_of(line), [(ply.number, ply.san, ply.fen, notes_of(ply)) for ply in line]
+
+
+def noted_in(line):
+    """What has notes: a line, its plies, and in turn each variation behind its ply."""
+    yield line
+    for ply in line:
+        yield ply
+        for variation in ply.variations:
+            yield from noted_in(variation)
 
 
 def notes_of(noted):
@@ -143,7 +167,7 @@ class Folder(programs.Folder, unittest.TestCase):
         path = self.put("source", data)
         yield from (path, pathlib.Path(path), type("P", (), {"__fspath__": lambda self: path})(),
                     data, bytearray(data), memoryview(data), io.BytesIO(data),
-                    Pieces(cut(data, ever(4000))), Pieces(cut(data, ever(400))))
+                    Pieces(data, 4000), Pieces(data, 400))
         with open(path, "rb") as file, open(path, "rb", buffering=0) as raw:
             yield from (file, raw)
             if data:  # of nothing there is no map
@@ -184,7 +208,7 @@ class Games(unittest.TestCase):
             self.assertRaises(IndexError, one.position_at, ply)
 
     def test_tree(self):
-        line = next(gillspoon.games(self.TEXT)).moves()
+        line = first_line(self.TEXT)
         self.assertEqual((line.notes, line.fen, len(line)), (["first", 3], INITIAL, 3))
         e4, e5, king = line
         self.assertEqual((e4.number, e4.notes, e5.nags, e5.comments, king.notes),
@@ -202,7 +226,7 @@ class Games(unittest.TestCase):
                          "rnbqkbnr/pp1ppppp/8/2p5/4P3/8/PPPP1PPP/RNBQKBNR w KQkq c6 0 2")
 
     def test_a_changed_game(self):
-        game = next(gillspoon.games(self.TEXT))
+        game = first_game(self.TEXT)
         line = game.moves()
         for ply in line:
             ply.notes = [it for it in ply.notes if not isinstance(it, gillspoon.Line)]
@@ -229,29 +253,19 @@ class Games(unittest.TestCase):
 
     def test_latin_1_and_odd_spaces(self):
         data = '[White "M\xfcller"] 1. e4 {a\xa0b\x85c d} e5 *'.encode("latin-1")
-        game = next(gillspoon.games(data))
+        game = first_game(data)
         self.assertEqual((game.encoding, game.tags["White"]), ("latin-1", "M\xfcller"))
-        self.assertEqual(game.moves().plies[0].comments, ["a\xa0b\x85c d"])
-        self.assertEqual(next(gillspoon.games(data.decode("latin-1").encode())).moves().plies[0]
-                         .comments, ["a\xa0b\x85c d"])
+        for text in (data, data.decode("latin-1").encode()):
+            self.assertEqual(first_line(text).plies[0].comments, ["a\xa0b\x85c d"])
 
     def test_tags_cannot_be_changed(self):
         """Each call that would change them says what to do; a copy is a dict like any other."""
-        game = next(gillspoon.games(self.TEXT))
+        game = first_game(self.TEXT)
         tags, wanted = game.tags, dict(game.tags)
-
-        def assign():
-            tags["A"] = "2"
-
-        def delete():
-            del tags["White"]
-
-        def add():
-            nonlocal tags
-            tags |= {"A": "2"}
-
-        for change in (assign, delete, add, tags.clear, tags.popitem, lambda: tags.pop("A"),
-                       lambda: tags.setdefault("B", "2"), lambda: tags.update(A="2")):
+        for change in (lambda: operator.setitem(tags, "A", "2"), tags.clear, tags.popitem,
+                       lambda: operator.delitem(tags, "White"), lambda: tags.pop("A"),
+                       lambda: operator.ior(tags, {"A": "2"}), lambda: tags.update(A="2"),
+                       lambda: tags.setdefault("B", "2")):
             with self.assertRaisesRegex(TypeError, r"write_game a changed copy, as {\*\*game.tags"):
                 change()
         self.assertEqual((game.tags, list(game.tags)), (wanted, list(wanted)))
@@ -266,7 +280,7 @@ class Games(unittest.TestCase):
     def test_options(self):
         data = b"1. e4 (1. d4) e5 1-0"
         self.assertEqual(fault_of(gillspoon.PgnFault, list, gillspoon.games(data)).number, 41)
-        game = next(gillspoon.games(data, checked=True, reduced=True))
+        game = first_game(data, checked=True, reduced=True)
         self.assertEqual((game.result, game.tags["Result"]), ("1-0", "1-0"))
         self.assertTrue(game.text.endswith(b"\n\n1. e4 e5 1-0\n\n"))
         self.assertEqual(gillspoon.convert(data, checked=True, reduced=True), game.text)
@@ -276,7 +290,7 @@ class Games(unittest.TestCase):
         self.assertEqual(fault.number, 31)
 
     def test_pickle(self):
-        game = next(gillspoon.games(self.TEXT))
+        game = first_game(self.TEXT)
         copy = pickled(game)
         self.assertEqual((copy.text, copy.fen, copy.tags), (game.text, game.fen, game.tags))
 
@@ -284,8 +298,8 @@ class Games(unittest.TestCase):
         """It is longer than a chunk, and its export than the first buffer."""
         comment = " ".join(["word"] * 700000)
         data = b"1. e4 {%s} *\n1. d4 *" % comment.encode()
-        for parts in ([data], cut(data, ever(65536))):
-            one, other = gillspoon.games(Pieces(parts))
+        for parts in (Pieces([data]), Pieces(data, 65536)):
+            one, other = gillspoon.games(parts)
             self.assertEqual(one.moves().plies[0].comments, [comment])
             self.assertEqual((other.number, other.offset), (2, data.rindex(b"1. d4")))
 
@@ -312,10 +326,6 @@ class LateTexts(Folder):
         "a text of more than twice its bytes": b"Nf3!Nf6!Ng1!Ng8!" * 500 + b"* e4 *",
     }
 
-    def setUp(self):
-        super().setUp()
-        self.library = importlib.import_module("gillspoon._library")
-
     def texts(self, data, **options):
         """The export texts of the games, by calls of pgn_next_game on the whole source."""
         return [text for text, _ in self.answers(data, **options)]
@@ -323,13 +333,14 @@ class LateTexts(Folder):
     def answers(self, data, reduced=False, checked=False):
         """The text of each game, and what the library says of it."""
         buffer, answers, at = bytearray(1 << 20), [], 0
-        room = (self.library.ctypes.c_char * len(buffer)).from_buffer(buffer)
+        library = gillspoon._library
+        room = (library.ctypes.c_char * len(buffer)).from_buffer(buffer)
         while True:
-            found = self.library.next_game(data, len(data), at, int(reduced), int(checked), room,
-                                           len(buffer))
-            if found.status == self.library.NO_GAME:
+            found = library.next_game(data, len(data), at, int(reduced), int(checked), room,
+                                      len(buffer))
+            if found.status == library.NO_GAME:
                 return answers
-            self.assertEqual(found.status, self.library.OK, (data, found.message))
+            self.assertEqual(found.status, library.OK, (data, found.message))
             answers.append((bytes(buffer[:found.written]), found))
             at = found.end
 
@@ -337,7 +348,7 @@ class LateTexts(Folder):
         """The data as sources of several kinds."""
         yield from self.sources_of(data)
         yield self.put("a.pgn.gz", gzip.compress(data))
-        yield from (Pieces(cut(data, ever(size))) for size in (1, 3, 50))
+        yield from (Pieces(data, size) for size in (1, 3, 50))
 
     def test_archives(self):
         for name, data in self.ARCHIVES.items():
@@ -352,7 +363,7 @@ class LateTexts(Folder):
                     held = list(gillspoon.games(source, **options))
                     self.assertEqual([list(it.tags.items()) for it in held], [
                         re.findall(r'(?m)^\[(\w+) "(.*)"\]$', it.decode()) for it in wanted], name)
-                    self.assertEqual([it.text for it in reversed(held)], wanted[::-1], name)
+                    self.assertEqual(texts_of(reversed(held)), wanted[::-1], name)
                     self.assertEqual(
                         [(it.end, it.plies, it.fen, it.result) for it in held],
                         [(it.end, it.plies, it.fen.decode(), text.split()[-1].decode())
@@ -360,15 +371,13 @@ class LateTexts(Folder):
 
     def test_small_buffers(self):
         """Sections and texts that do not fit are written to a larger buffer."""
-        module = importlib.import_module("gillspoon._games")
         for name, data in self.ARCHIVES.items():
             wanted = self.texts(data, checked=True)
             for size in (1, 100, 400):
-                with mock.patch.object(module, "_CAPACITY", size):
+                with mock.patch.object(gillspoon._games, "_CAPACITY", size):
                     held = list(gillspoon.games(data, checked=True))
-                    self.assertEqual([it.text for it in held], wanted, name)
-                    self.assertEqual([it.text for it in gillspoon.games(data, checked=True)],
-                                     wanted, name)
+                    self.assertEqual(texts_of(held), wanted, name)
+                    self.assertEqual(texts_of(gillspoon.games(data, checked=True)), wanted, name)
 
     def test_literal_texts(self):
         star = self.ONE % (b"?", b"*", b"*")
@@ -378,7 +387,7 @@ class LateTexts(Folder):
                     star.replace(b"e4", b"e4 { c } ( 1. d4 )")]),
                 (b'[White "a\\"b"] e4 *\n%\n\re4 *', [self.ONE % (b'a\\"b', b"*", b"*"), star])):
             for source in self.sources(data):
-                self.assertEqual([it.text for it in list(gillspoon.games(source))], wanted)
+                self.assertEqual(texts_of(list(gillspoon.games(source))), wanted)
         # a missing result from the marker, and one that is there
         data = b'e4 1-0 [White "a"] e4 0-1\n[Result "1/2-1/2"] e4 1/2-1/2 e4 *'
         wanted = [self.ONE % it for it in (
@@ -387,7 +396,7 @@ class LateTexts(Folder):
         for source in self.sources(data):
             held = list(gillspoon.games(source, checked=True))
             self.assertEqual([it.tags["Result"] for it in held], ["1-0", "0-1", "1/2-1/2", "*"])
-            self.assertEqual([it.text for it in held], wanted)
+            self.assertEqual(texts_of(held), wanted)
 
     def test_faults_between_games(self):
         """The sound games have the texts that they have by themselves."""
@@ -397,10 +406,9 @@ class LateTexts(Folder):
                 bad = text.replace(b"\n", end)
                 data = b"\xef\xbb\xbf" + sound(b"a") + bad + sound(b"b") + bad + sound(b"c") + good
                 wanted = [gillspoon.convert(sound(it)) for it in (b"a", b"b", b"c")]
-                for source in (data, Pieces(cut(data, ever(50)))):
+                for source in (data, Pieces(data, 50)):
                     faults = []
-                    held = list(gillspoon.games(source, on_fault=faults.append))
-                    texts = [it.text for it in held]
+                    texts = texts_of(list(gillspoon.games(source, on_fault=faults.append)))
                     self.assertTrue(faults, name)
                     self.assertEqual([it for it in texts if it in wanted], wanted, name)
                     self.assertEqual(b"".join(texts[-3:]), gillspoon.convert(good), name)
@@ -413,14 +421,14 @@ class LateTexts(Folder):
             self.assertEqual(b"".join(wanted), gillspoon.convert(data))
             for seed in range(4):
                 source, held = random.Random(seed), []
-                for game in gillspoon.games(Pieces(cut(data, ever(700)))):
+                for game in gillspoon.games(Pieces(data, 700)):
                     held.append(game)
                     for chosen in source.sample(held, source.choice((0, 0, 1))):
                         self.assertEqual(chosen.text, wanted[chosen.number - 1])
                     if source.random() < 0.5:
                         self.assertEqual(game.text, wanted[game.number - 1])
                 tags = [dict(it.tags) for it in held]
-                self.assertEqual([it.text for it in held], wanted)
+                self.assertEqual(texts_of(held), wanted)
                 self.assertEqual([list(it.items()) for it in tags], [
                     re.findall(r'(?m)^\[(\w+) "(.*)"\]$', it.decode()) for it in wanted])
                 self.assertEqual([gillspoon.write_game(it.tags, it.moves()) for it in held], wanted)
@@ -431,13 +439,13 @@ class LateTexts(Folder):
         with open(path, "rb") as file:
             held = list(gillspoon.games(file))
         os.remove(path)
-        self.assertTrue(b"".join(it.text for it in held) == gillspoon.convert(data))
+        self.assertTrue(b"".join(texts_of(held)) == gillspoon.convert(data))
         changed = bytearray(data)
         games = gillspoon.games(changed)
         held = [next(games), next(games)]
         games.close()
         changed[:] = b"x" * len(data)
-        self.assertEqual([it.text for it in held], self.texts(data)[:2])
+        self.assertEqual(texts_of(held), self.texts(data)[:2])
 
     def test_pickled_before_and_after(self):
         data = b'e4 (d4) e5 1-0 [FEN "4k3/8/8/8/8/8/4P3/4K3 w - - 5 9"] {a} e4 {b} Kd7 1/2-1/2'
@@ -481,16 +489,16 @@ class LateTexts(Folder):
     def test_calls(self):
         """An index makes no text, and who asks for every text has each made as its game is read."""
         data, count = archive(20, "annotated"), 20
-        calls = {}
+        library, calls = gillspoon._library, {}
 
         def counted(name):
-            real, calls[name] = getattr(self.library, name), 0
+            real, calls[name] = getattr(library, name), 0
 
             def call(*words):
                 calls[name] += 1
                 return real(*words)
 
-            return mock.patch.object(self.library, name, call)
+            return mock.patch.object(library, name, call)
 
         with counted("read_game"), counted("next_game"):
             for game in gillspoon.games(data):
@@ -498,7 +506,7 @@ class LateTexts(Folder):
             self.assertEqual(gillspoon.check(data).games, count)
             read, calls["read_game"] = calls["read_game"], 0
             self.assertEqual(calls["next_game"], 0)
-            self.assertEqual(len([it.text for it in gillspoon.games(data)]), count)
+            self.assertEqual(len(texts_of(gillspoon.games(data))), count)
             # one for each game, and those that found that more had to be read
             self.assertLess(calls["read_game"], 4)
             self.assertLess(calls["next_game"], count + 4)
@@ -540,19 +548,18 @@ class Positions(unittest.TestCase):
                                  ("b", "Kd7 e4 Kd6 e5+ Kd5", ["Kd7", "e4", "Kd6", "e5+", "Kd5"]),
                                  ("b", "", []), ("b", "Kd7 $1 (Kf7 e3)", ["Kd7"])):
             fen = "4k3/8/8/8/8/8/4P3/4K3 %s - - 5 99" % side
-            game = next(gillspoon.games(('[FEN "%s"] %s *' % (fen, text)).encode()))
+            game = first_game(('[FEN "%s"] %s *' % (fen, text)).encode())
             line = game.moves()
             self.assertEqual((line.fen, [it.san for it in line]), (fen, sans))
             self.check(line)
             self.assertEqual(line.plies[-1].fen if sans else fen, game.fen)
 
     def test_castling_and_promotion(self):
-        game = next(gillspoon.games(b'[FEN "r3k3/6P1/8/8/8/8/8/4K2R w Kq - 0 1"] O-O O-O-O g8=N *'))
+        game = first_game(b'[FEN "r3k3/6P1/8/8/8/8/8/4K2R w Kq - 0 1"] O-O O-O-O g8=N *')
         self.assertEqual([it.uci for it in game.mainline()], ["e1g1", "e8c8", "g7g8n"])
 
     def test_a_call_for_each_line(self):
-        calls = gillspoon._calls
-        game = next(gillspoon.games(b"e4 e5 (c5 Nf3 (c3) Nc6) Nf3 *"))
+        calls, game = gillspoon._calls, first_game(b"e4 e5 (c5 Nf3 (c3) Nc6) Nf3 *")
         with mock.patch.object(calls, "_line", wraps=calls._line) as line:
             plies = list(game.mainline())
             self.assertEqual([it.san for it in plies], ["e4", "e5", "Nf3"])
@@ -705,23 +712,23 @@ class Positions(unittest.TestCase):
 
     def test_long_lines(self):
         """A line may be longer than the buffer that is kept."""
-        game = next(gillspoon.games(b"Nf3 Nf6 Ng1 Ng8 " * 1000 + b"*"))
+        data = b"Nf3 Nf6 Ng1 Ng8 " * 1000 + b"*"
+        game = first_game(data)
         plies = list(game.mainline())
         self.assertEqual((len(plies), plies[-1].fen), (4000, game.fen))
         self.assertEqual({it.uci for it in plies}, {"g1f3", "g8f6", "f3g1", "f6g8"})
-        again = list(next(gillspoon.games(b"Nf3 Nf6 Ng1 Ng8 " * 1000 + b"*")).mainline())
+        again = first_game(data).mainline()
         self.assertEqual([it.fen for it in again], [it.fen for it in plies])
 
     def test_notes_are_of_one_ply(self):
-        one, other = next(gillspoon.games(b"e4 e5 *")).moves()
+        one, other = first_line(b"e4 e5 *")
         one.notes.append("best")
         self.assertEqual((one.comments, other.comments), (["best"], []))
-        with self.assertRaises(AttributeError):
-            one.note = "good"
+        self.assertRaises(AttributeError, setattr, one, "note", "good")
 
     def test_a_changed_san(self):
         """Positions are those of the game as it was read."""
-        game = next(gillspoon.games(b"e4 e5 Nf3 *"))
+        game = first_game(b"e4 e5 Nf3 *")
         line = game.moves()
         line.plies[1].san = "c5"
         for plies in (line.plies, copies.deepcopy(line).plies, copies.deepcopy(line.plies)):
@@ -731,15 +738,14 @@ class Positions(unittest.TestCase):
 
     def test_threads(self):
         """Several threads ask for positions at once."""
-        data, wanted = archive(30, "plain"), {}
-        for game in gillspoon.games(data):
-            wanted[game.number] = [it.fen for it in game.mainline()]
+        data = archive(30, "plain")
 
         def read(found):
             for game in gillspoon.games(data):
                 found[game.number] = [it.fen for it in game.mainline()]
 
-        found = [{} for _ in range(4)]
+        wanted, *found = [{} for _ in range(5)]
+        read(wanted)
         in_threads(read, found)
         self.assertEqual(found, [wanted] * 4)
 
@@ -754,10 +760,7 @@ class Keys(unittest.TestCase):
         """A line for each order of the moves."""
         for first in itertools.permutations(white):
             for second in itertools.permutations(black):
-                line = gillspoon.Line()
-                for move in itertools.chain.from_iterable(zip(first, second)):
-                    line.append(move)
-                yield line
+                yield built(" ".join(itertools.chain.from_iterable(zip(first, second))))
 
     def test_each_order(self):
         """The last move of some orders is a double step, so that FENs have a target."""
@@ -782,10 +785,7 @@ class Keys(unittest.TestCase):
     def test_rights_and_targets(self):
         """A king that went and came back, and a pawn that may be taken, make another position."""
         def last(moves):
-            line = gillspoon.Line()
-            for move in moves.split():
-                line.append(move)
-            return line.plies[-1].key
+            return built(moves).plies[-1].key
 
         still = "e4 e5 Nf3 Nf6 Ng1 Ng8"
         self.assertEqual(last("e4 e5"), last(still))
@@ -800,40 +800,38 @@ class Keys(unittest.TestCase):
         for ply in (*plies, *replies):
             self.assertEqual(ply.key, gillspoon.position_key(ply.fen))
         self.assertEqual(replies[0].key, "rnbqkbnr/pp1ppppp/8/2p5/4P3/8/PPPP1PPP/RNBQKBNR w KQkq -")
-        with self.assertRaises(AttributeError):
-            plies[0].key = ""
+        self.assertRaises(AttributeError, setattr, plies[0], "key", "")
         self.assertEqual(fault_of(gillspoon.FenFault, gillspoon.position_key, "x").field, 1)
 
 
 def tree_plies(line):
     """The plies of a line and of its variations."""
-    return [it for ply in line for it in (ply, *(
-        it for variation in ply.variations for it in tree_plies(variation)))]
+    return [it for it in noted_in(line) if isinstance(it, gillspoon.Ply)]
 
 
 class Views(unittest.TestCase):
     """What is a view of what was read cannot be set, and the error says what to do instead."""
 
-    def test_a_game(self):
-        for game in gillspoon.games(b"e4 e5 1-0 d4 d5 1-0", checked=True):
-            before = [getattr(game, it) for it in self.GAME]
-            for name in self.GAME:
-                with self.assertRaisesRegex(AttributeError, name + " cannot be set: give write_"):
-                    setattr(game, name, getattr(game, name))
-            self.assertEqual([getattr(game, it) for it in self.GAME], before)
-
     GAME = ("number", "offset", "end", "result", "plies", "fen", "text", "encoding", "tags")
     LISTS = ("nags", "comments", "variations", "arrows", "squares")
     PLY = ("number", "side", "move_number", "fen", "uci", "clock", "emt", "eval", *LISTS)
 
+    def check(self, it, names, advice):
+        """None of the names can be set, also not to its value, and all values stay."""
+        before = [getattr(it, name) for name in names]
+        for name in names:
+            with self.assertRaisesRegex(AttributeError, name + " cannot be set: " + advice):
+                setattr(it, name, getattr(it, name))
+        self.assertEqual([getattr(it, name) for name in names], before)
+
+    def test_a_game(self):
+        for game in gillspoon.games(b"e4 e5 1-0 d4 d5 1-0", checked=True):
+            self.check(game, self.GAME, "give write_")
+
     def test_a_ply(self):
-        line = next(gillspoon.games(b"e4 {[%clk 0:00:01]} (d4) $1 e5 *")).moves()
+        line = first_line(b"e4 {[%clk 0:00:01]} (d4) $1 e5 *")
         for ply in (*line, line.plies[0].variations[0].plies[0], gillspoon.Line().append("c4")):
-            before = [getattr(ply, it) for it in self.PLY]
-            for name in self.PLY:
-                with self.assertRaisesRegex(AttributeError, name + " cannot be set: change the no"):
-                    setattr(ply, name, getattr(ply, name))
-            self.assertEqual([getattr(ply, it) for it in self.PLY], before)
+            self.check(ply, self.PLY, "change the no")
 
     def test_a_ply_with_its_position(self):
         """Where positions were asked for, the plies of the next game are made with theirs."""
@@ -850,25 +848,14 @@ class Views(unittest.TestCase):
 
     def test_the_lists_of_a_ply(self):
         """Each change of one is refused, and a copy is a list like any other."""
-        ply = next(gillspoon.games(b"e4 {[%csl Ga1][%cal Ge2e4]} (d4) $1 {b} *")).moves().plies[0]
-
-        def assign(them):
-            them[0] = them[0]
-
-        def delete(them):
-            del them[0]
-
-        def add(them):
-            them += them
-
-        def multiply(them):
-            them *= 2
-
+        ply = first_line(b"e4 {[%csl Ga1][%cal Ge2e4]} (d4) $1 {b} *").plies[0]
         for name in self.LISTS:
-            for change in (assign, delete, add, multiply, lambda it: it.append(it[0]),
-                           lambda it: it.extend(it), lambda it: it.insert(0, it[0]),
-                           lambda it: it.pop(), lambda it: it.remove(it[0]), lambda it: it.clear(),
-                           lambda it: it.reverse(), lambda it: it.sort()):
+            for change in (
+                    lambda it: operator.setitem(it, 0, it[0]), lambda it: operator.delitem(it, 0),
+                    lambda it: operator.iadd(it, it), lambda it: operator.imul(it, 2),
+                    lambda it: it.append(it[0]), lambda it: it.extend(it), lambda it: it.pop(),
+                    lambda it: it.insert(0, it[0]), lambda it: it.remove(it[0]),
+                    lambda it: it.clear(), lambda it: it.reverse(), lambda it: it.sort()):
                 with self.assertRaisesRegex(TypeError, r"ply\.notes\.append"):
                     change(getattr(ply, name))
         comments = ["[%csl Ga1][%cal Ge2e4]", "b"]
@@ -889,8 +876,7 @@ class Turns(unittest.TestCase):
         return [(it.san, it.side, it.move_number) for it in line]
 
     def test_a_game(self):
-        text = b"1. e4 e5 (1... c5 2. Nf3 (2. c3 d5)) 2. Ke2 (2. d4) *"
-        line = next(gillspoon.games(text)).moves()
+        line = first_line(b"1. e4 e5 (1... c5 2. Nf3 (2. c3 d5)) 2. Ke2 (2. d4) *")
         self.assertEqual(self.turns(line),
                          [("e4", "white", 1), ("e5", "black", 1), ("Ke2", "white", 2)])
         sicilian, = line.plies[1].variations
@@ -903,8 +889,7 @@ class Turns(unittest.TestCase):
                          (4, "white"))
 
     def test_from_a_position(self):
-        text = b'[FEN "4k3/8/8/8/8/8/4P3/4K3 b - - 5 99"] Kd7 (Kf7 e3) e4 *'
-        line = next(gillspoon.games(text)).moves()
+        line = first_line(b'[FEN "4k3/8/8/8/8/8/4P3/4K3 b - - 5 99"] Kd7 (Kf7 e3) e4 *')
         self.assertEqual(self.turns(line), [("Kd7", "black", 99), ("e4", "white", 100)])
         self.assertEqual(self.turns(line.plies[0].variations[0]),
                          [("Kf7", "black", 99), ("e3", "white", 100)])
@@ -1047,7 +1032,7 @@ class Commands(unittest.TestCase):
     def ply(self, *comments):
         """A ply with these comments behind it."""
         text = "1. e4 %s *" % " ".join("{%s}" % it for it in comments)
-        return next(gillspoon.games(text.encode())).moves().plies[0]
+        return first_line(text.encode()).plies[0]
 
     def test_times(self):
         for text, seconds in (
@@ -1096,9 +1081,8 @@ class Commands(unittest.TestCase):
 
     def test_where_they_are(self):
         """They are behind the move that they are about, also in a variation."""
-        game = next(gillspoon.games(b"{[%clk 0:00:09]} e4 (d4 {[%clk 0:00:03]}) {[%clk 0:00:02]} "
-                                    b"{[%csl Ga1]} e5 $1 *"))
-        e4, e5 = game.mainline()
+        e4, e5 = first_game(b"{[%clk 0:00:09]} e4 (d4 {[%clk 0:00:03]}) {[%clk 0:00:02]} "
+                            b"{[%csl Ga1]} e5 $1 *").mainline()
         self.assertEqual((e4.clock, e4.squares), (2.0, [("green", "a1")]))
         self.assertEqual(e4.variations[0].plies[0].clock, 3.0)
         self.assertEqual((e5.clock, e5.emt, e5.eval, e5.arrows, e5.squares),
@@ -1110,24 +1094,13 @@ class Pickled(unittest.TestCase):
 
     def same(self, one, other):
         """Whether two lines have the same moves, positions and notes."""
-        self.assertEqual((one.fen, len(one)), (other.fen, len(other)))
-        self.same_notes(one.notes, other.notes)
-        for ply, its in zip(one, other):
-            self.assertEqual((ply.number, ply.san, ply.fen), (its.number, its.san, its.fen))
-            self.same_notes(ply.notes, its.notes)
-
-    def same_notes(self, notes, others):
-        self.assertEqual(len(notes), len(others))
-        for note, other in zip(notes, others):
-            self.assertEqual(type(note), type(other))
-            if isinstance(note, gillspoon.Line):
-                self.same(note, other)
-            else:
-                self.assertEqual(note, other)
+        self.assertEqual(tree(one), tree(other))
+        self.assertEqual(*([type(note) for noted in noted_in(line) for note in noted.notes]
+                           for line in (one, other)))
 
     def test_a_long_game(self):
         """It has more plies than Python's stack has frames."""
-        game = next(gillspoon.games(b"Nf3 Nf6 Ng1 Ng8 " * 400 + b"{end} (Ng4 h3) *"))
+        game = first_game(b"Nf3 Nf6 Ng1 Ng8 " * 400 + b"{end} (Ng4 h3) *")
         last = game.moves().plies[-1]
         self.assertEqual((game.plies, last.number), (1600, 1600))
         self.assertGreater(1600, sys.getrecursionlimit())
@@ -1141,7 +1114,7 @@ class Pickled(unittest.TestCase):
             self.assertIs(copy.plies[-1].variations[0].start, copy.plies[-2])
 
     def test_positions_that_were_not_asked_for(self):
-        game = next(gillspoon.games(b"e4 e5 (c5 Nf3 (c3)) Nf3 *"))
+        game = first_game(b"e4 e5 (c5 Nf3 (c3)) Nf3 *")
         copy = pickled(game.moves())
         self.same(copy, game.moves())
         inner, = copy.plies[1].variations[0].plies[1].variations
@@ -1149,7 +1122,7 @@ class Pickled(unittest.TestCase):
 
     def test_a_variation(self):
         """By itself it has the position before it."""
-        game = next(gillspoon.games(b"e4 e5 (c5 {good} Nf3 (c3)) Nf3 *"))
+        game = first_game(b"e4 e5 (c5 {good} Nf3 (c3)) Nf3 *")
         line = game.moves().plies[1].variations[0]
         copy = pickled(line)
         self.same(copy, line)
@@ -1158,7 +1131,7 @@ class Pickled(unittest.TestCase):
 
     def test_a_changed_line(self):
         """A ply whose predecessor is in no list of plies keeps its position."""
-        line = next(gillspoon.games(b"e4 e5 Nf3 (Nc3) Nc6 *")).moves()
+        line = first_line(b"e4 e5 Nf3 (Nc3) Nc6 *")
         wanted = [it.fen for it in line][2:]
         del line.plies[:2]
         copy = pickled(line)
@@ -1227,7 +1200,7 @@ class Faults(Folder):
                             ("1. e5 * " + white, ("?", "?"))):
             for end in ("\n", "\r\n", "\r"):
                 data = text.replace("\n", end).encode()
-                for source in (data, Pieces(cut(data, ever(1)))):
+                for source in (data, Pieces(data, 1)):
                     fault = fault_of(gillspoon.PgnFault, gillspoon.check, source)
                     self.assertEqual((fault.white, fault.black), names, data)
                     said = " - ".join(names).replace("\x9b", "\ufffd")
@@ -1378,11 +1351,10 @@ class EachBuild(Folder):
         for style in ("plain", "annotated"):
             path = self.put(style, archive(200, style))
             for words in ([], ["--reduced"]):
-                ran = run([PYTHON, "-c", self.TEXT, path, *words], env=env)
-                self.assertEqual(ran.returncode, 0, ran.stderr)
+                out = output_of(run([PYTHON, "-c", self.TEXT, path, *words], env=env), err=None)
                 wanted = run([need_program(), "export", *words, path]).stdout
                 self.assertTrue(wanted)
-                self.assertTrue(ran.stdout == wanted, (style, words))
+                self.assertTrue(out == wanted, (style, words))
 
     def test_by_cargo(self):
         self.check("--cargo")
@@ -1559,7 +1531,7 @@ class Sources(Folder):
     def test_a_few_bytes(self):
         """They are too few for a mark, or the beginning of one."""
         for data in (b"", b"*", b"B", b"BZ", b"\x1f", b"PK\x03", b"(\xb5", b"\xfd7zXZ", b"Be2 *"):
-            for source in (data, io.BytesIO(data), Pieces(cut(data, ever(1)))):
+            for source in (data, io.BytesIO(data), Pieces(data, 1)):
                 found = [len(it) for it in seen(source)]
                 self.assertEqual(found, [] if not data else [7] if data == b"*" else [13], data)
 
@@ -1601,19 +1573,14 @@ class InPieces(unittest.TestCase):
     """However a text is cut, the games, the faults and their places are the same."""
 
     def check(self, data, count=3, **options):
-        window = importlib.import_module("gillspoon._sources")
         whole = seen(data, **options)
-        chunk = window.CHUNK
-        try:
-            for seed in range(count):
-                source = random.Random(seed)
-                # with tiny chunks the window lets go what it has read
-                window.CHUNK = source.choice((1, 7, 64, 4096))
+        for seed in range(count):
+            source = random.Random(seed)
+            # with tiny chunks the window lets go what it has read
+            with mock.patch.object(gillspoon._sources, "CHUNK", source.choice((1, 7, 64, 4096))):
                 most = source.choice((1, 2, 9, 100))
-                sizes = iter(lambda: source.randint(1, most), 0)
-                self.assertEqual(seen(Pieces(cut(data, sizes)), **options), whole, (data, seed))
-        finally:
-            window.CHUNK = chunk
+                pieces = Pieces(data, iter(lambda: source.randint(1, most), 0))
+                self.assertEqual(seen(pieces, **options), whole, (data, seed))
         return whole
 
     def test_vectors(self):
@@ -1662,19 +1629,17 @@ class InPieces(unittest.TestCase):
 
     def most_held(self, call):
         """The most bytes of a source that are in memory during a call."""
-        most = 0
-        window = importlib.import_module("gillspoon._sources").Window
+        window, sizes = gillspoon._sources.Window, [0]
         more = window.more
 
         def watched(self, keep):
-            nonlocal most
             got = more(self, keep)
-            most = max(most, len(self.data))
+            sizes.append(len(self.data))
             return got
 
         with mock.patch.object(window, "more", watched):
             call()
-        return most
+        return max(sizes)
 
     def test_memory(self):
         """It stays within some MiB, also for a large input, and for one with bad games."""
@@ -1698,26 +1663,20 @@ class InPieces(unittest.TestCase):
 class Converted(Folder):
     """`convert` gives the text of all games, or their first fault, however it reads the source."""
 
-    def setUp(self):
-        super().setUp()
-        self.module = importlib.import_module("gillspoon._games")
-
-    def converted(self, source, **options):
-        """The export, or what its fault says."""
+    def either(self, call, *words, **options):
+        """What a call gives, or what its fault says."""
         try:
-            return gillspoon.convert(source, **options)
+            return call(*words, **options)
         except gillspoon.PgnFault as fault:
             return fault.args
 
     def check(self, data, sizes=(1, 50, 400, 5000), **options):
         """Compares with what `games` gives, for pieces of several sizes."""
-        try:
-            wanted = b"".join(it.text for it in gillspoon.games(data, **options))
-        except gillspoon.PgnFault as fault:
-            wanted = fault.args
+        wanted = self.either(lambda: b"".join(texts_of(gillspoon.games(data, **options))))
         for size in sizes:
-            with mock.patch.object(self.module, "PIECE", size):
-                self.assertEqual(self.converted(data, **options), wanted, (data, size))
+            with mock.patch.object(gillspoon._games, "PIECE", size):
+                found = self.either(gillspoon.convert, data, **options)
+                self.assertEqual(found, wanted, (data, size))
         return wanted
 
     def test_vectors(self):
@@ -1746,14 +1705,15 @@ class Converted(Folder):
 
     def test_sound_games_are_not_read_one_by_one(self):
         texts = (archive(30, "annotated"), archive(30, "plain"), b"1. e4 *\n" * 999, b"*" * 999, b"")
-        wanted = [b"".join(it.text for it in gillspoon.games(it)) for it in texts]
-        with mock.patch.object(self.module, "PIECE", 2000), \
-                mock.patch.object(self.module, "games", side_effect=AssertionError):
+        wanted = [b"".join(texts_of(gillspoon.games(it))) for it in texts]
+        with mock.patch.object(gillspoon._games, "PIECE", 2000), \
+                mock.patch.object(gillspoon._games, "games", side_effect=AssertionError):
             self.assertEqual([gillspoon.convert(it) for it in texts], wanted)
 
     def test_threads_convert_at_the_same_time(self):
         """Each of the first two calls of the library waits for the other."""
-        real, both, threads = self.module._library.convert, threading.Barrier(2), []
+        module, threads = gillspoon._games, []
+        real, both = module._library.convert, threading.Barrier(2)
 
         def convert(*words):
             threads.append(threading.get_ident())
@@ -1763,9 +1723,9 @@ class Converted(Folder):
 
         data = archive(30, "plain")
         wanted = gillspoon.convert(data)
-        with mock.patch.object(self.module, "PIECE", len(data) // 5), \
-                mock.patch.object(self.module.os, "cpu_count", return_value=2), \
-                mock.patch.object(self.module._library, "convert", convert):
+        with mock.patch.object(module, "PIECE", len(data) // 5), \
+                mock.patch.object(module.os, "cpu_count", return_value=2), \
+                mock.patch.object(module._library, "convert", convert):
             self.assertEqual(gillspoon.convert(data), wanted)
         self.assertGreater(len(threads), 4)
         self.assertEqual(len(set(threads)), 2)
@@ -1778,7 +1738,7 @@ class Converted(Folder):
             self.assertEqual(isinstance(wanted, tuple), more != b"")
             packed = self.put("a.pgn.gz", gzip.compress(data))
             for source in itertools.chain(self.sources_of(data), [packed]):
-                self.assertEqual(self.converted(source), wanted, type(source))
+                self.assertEqual(self.either(gillspoon.convert, source), wanted, type(source))
 
 
 # ---- behind a bad game
@@ -1985,7 +1945,7 @@ class Written(unittest.TestCase):
             self.assertEqual((fault.number, fault.white), (number, "Ada"))
 
     def test_one_game_alone(self):
-        line = next(gillspoon.games(b"e4 e5 *")).moves()
+        line = first_line(b"e4 e5 *")
         line.plies[1].san = "e5 * d4"
         for moves in ("e4 * d4", "e4 * *", "e4 1-0 {end}", "* [White \"Bob\"]", line):
             with self.assertRaisesRegex(ValueError, "more after the result|not a move|input"):
@@ -1993,8 +1953,7 @@ class Written(unittest.TestCase):
 
     def test_what_is_no_text(self):
         """The TypeError says what to pass."""
-        line = next(gillspoon.games(b"e4 e5 *")).moves()
-        noted = next(gillspoon.games(b"e4 e5 *")).moves()
+        line, noted = (first_line(b"e4 e5 *") for _ in range(2))
         noted.plies[0].notes.append(3.5)
         line.plies[1].san = b"e5"
         for tags, moves, said in (
@@ -2043,14 +2002,14 @@ class WrittenFromPositions(unittest.TestCase):
 
     def test_a_move_that_is_legal_from_both(self):
         """The knight's move is legal from the initial position too."""
-        game = next(gillspoon.games(b"1. e4 e5 (1... Nf6) 2. Nf3 (2. Nc3 Nc6) *"))
-        text = gillspoon.write_game({}, game.moves().plies[2].variations[0]).decode()
+        line = first_line(b"1. e4 e5 (1... Nf6) 2. Nf3 (2. Nc3 Nc6) *")
+        text = gillspoon.write_game({}, line.plies[2].variations[0]).decode()
         self.assertTrue(text.endswith(
             '[FEN "rnbqkbnr/pppp1ppp/8/4p3/4P3/8/PPPP1PPP/RNBQKBNR w KQkq e6 0 2"]\n'
             '[SetUp "1"]\n\n2. Nc3 Nc6 *\n\n'), text)
 
     def test_tags(self):
-        line = gillspoon.Line(self.FEN)
+        line, initial = gillspoon.Line(self.FEN), built("e4")
         line.append("e4")
         wanted = gillspoon.write_game({"FEN": self.FEN}, "e4")
         self.assertIn(b'[FEN "%s"]\n[SetUp "1"]\n\n9. e4 *' % self.FEN.encode(), wanted)
@@ -2069,29 +2028,27 @@ class WrittenFromPositions(unittest.TestCase):
                 ({"FEN": 7}, line, TypeError, "the tag FEN is a str"),
                 ({"SetUp": "1"}, gillspoon.Line(), gillspoon.PgnFault, "without a FEN")):
             self.assertRaisesRegex(error, said, gillspoon.write_game, tags, moves)
-        initial = gillspoon.Line()
-        initial.append("e4")
         self.assertNotIn(b"FEN", gillspoon.write_game({"SetUp": "0"}, initial))
         self.assertIn(b'[SetUp "1"]', gillspoon.write_game({"FEN": INITIAL}, initial))
 
     def test_plies_in_another_place(self):
         """A ply or a variation that was played in another position is refused, not replayed."""
         def line():
-            return next(gillspoon.games(b"Nf3 (Nc3) Nf6 Ng1 (Nc3) Ng8 Nf3 *")).moves()
+            return first_line(b"Nf3 (Nc3) Nf6 Ng1 (Nc3) Ng8 Nf3 *")
 
         for count, said in ((1, "Nf6"), (2, "Ng1"), (4, "Nf3")):
             shorter = line()
             del shorter.plies[:count]
-            with self.assertRaisesRegex(ValueError, said + " was played in another position"):
-                gillspoon.write_game({}, shorter)
+            self.assertRaisesRegex(ValueError, said + " was played in another position",
+                                   gillspoon.write_game, {}, shorter)
         joined = line()
         del joined.plies[1:4]
-        with self.assertRaisesRegex(ValueError, "Nf3 was played in another position"):
-            gillspoon.write_game({}, joined)
+        self.assertRaisesRegex(ValueError, "Nf3 was played in another position",
+                               gillspoon.write_game, {}, joined)
         moved = line()
         moved.plies[4].notes.append(moved.plies[0].variations[0])
-        with self.assertRaisesRegex(ValueError, "a variation of Nf3 begins in another position"):
-            gillspoon.write_game({}, moved)
+        self.assertRaisesRegex(ValueError, "a variation of Nf3 begins in another position",
+                               gillspoon.write_game, {}, moved)
         # a variation in place of the line's own moves, also after pickle
         for make in (lambda it: it, copies.deepcopy, pickled):
             longer = make(line())
@@ -2229,9 +2186,8 @@ class Wheel(Folder):
         python, pip = programs_of + "/python", programs_of + "/pip"
         before = run(["git", "status", "--short"]).stdout
         for words in (["--no-build-isolation"], ["--no-index", "--force-reinstall"]):
-            ran = run([pip, "install", *words, "./python"],
-                      env=dict(os.environ, PIP_NO_INDEX="1", PATH=programs.PATH))
-            self.assertEqual(ran.returncode, 0, ran.stderr)
+            output_of(run([pip, "install", *words, "./python"],
+                          env=dict(os.environ, PIP_NO_INDEX="1", PATH=programs.PATH)), err=None)
         self.assertEqual(run(["git", "status", "--short"]).stdout, before)
         env = {"PATH": "/usr/bin:/bin", "HOME": self.folder}
         text = "import gillspoon; print(gillspoon.__file__, gillspoon._library.path())"
@@ -2260,9 +2216,8 @@ class Wheel(Folder):
         """Builds the source distribution of a folder, and gives its path."""
         out = tempfile.mkdtemp(dir=self.folder)
         text = "import build_wheel, sys; print(build_wheel.build_sdist(sys.argv[1]))"
-        ran = run([PYTHON, "-B", "-c", text, out], cwd=package)
-        self.assertEqual(ran.returncode, 0, ran.stderr)
-        self.assertEqual(os.listdir(out), [ran.stdout.decode().strip()])
+        shown = output_of(run([PYTHON, "-B", "-c", text, out], cwd=package), err=None)
+        self.assertEqual(os.listdir(out), [shown.decode().strip()])
         return os.path.join(out, os.listdir(out)[0])
 
     def test_source_distribution(self):
@@ -2274,8 +2229,7 @@ class Wheel(Folder):
         with tarfile.open(path) as archive:
             archive.extractall(self.folder)
         unpacked = os.path.join(self.folder, os.path.basename(path)[:-7])
-        with open(path, "rb") as one, open(self.sdist(unpacked), "rb") as other:
-            self.assertTrue(one.read() == other.read())
+        self.assertTrue(bytes_of(path) == bytes_of(self.sdist(unpacked)))
         env = dict(os.environ, PATH=programs.PATH, PIP_NO_INDEX="1", HOME=os.path.expanduser("~"))
         del env["GILLSPOON_LIBRARY"]
         ran = run([pip, "install", path], env=dict(env, PATH="/nowhere"), cwd=self.folder)
@@ -2297,20 +2251,18 @@ class Wheel(Folder):
             self.assertEqual(set(names.split()) - {"__pycache__"}, ours | {"VERSION", "libpgn_c.so"})
 
     def test_tag(self):
-        ran = run([PYTHON, "-m", "pip", "wheel", "--no-index", "--no-deps", "-w", self.folder,
-                   "./python"])
-        self.assertEqual(ran.returncode, 0, ran.stderr)
+        output_of(run([PYTHON, "-m", "pip", "wheel", "--no-index", "--no-deps", "-w", self.folder,
+                       "./python"]), err=None)
         name, = os.listdir(self.folder)
         machine = os.uname().machine
         self.assertRegex(name, r"^gillspoon-[0-9.]+-py3-none-linux_%s\.whl$" % machine)
 
 
-class Typed(unittest.TestCase):
+class Typed(Folder):
     def test_mypy(self):
         need("mypy")
-        with tempfile.TemporaryDirectory() as cache:
-            ran = run(["mypy", "--strict", "--cache-dir", cache, "gillspoon"], cwd=PACKAGE)
-        self.assertEqual((ran.returncode, ran.stderr), (0, b""), ran.stdout)
+        words = ["mypy", "--strict", "--cache-dir", self.folder, "gillspoon"]
+        output_of(run(words, cwd=PACKAGE))
 
     def test_mypy_of_a_caller(self):
         """It checks the kinds of sources, and that what is no source and a change are refused."""
@@ -2338,10 +2290,9 @@ class Typed(unittest.TestCase):
         changes = ("next(gillspoon.games(path)).tags['A'] = 'b'",
                    "next(gillspoon.games(path)).result = '1-0'", "line.plies[0].nags = [1]")
         lines += [*changes, *("read(%s, bad.append)" % it for it in bad)]
-        with tempfile.TemporaryDirectory() as folder:
-            write_file(folder + "/caller.py", "\n".join(lines) + "\n")
-            ran = run(["mypy", "--strict", "--cache-dir", folder + "/cache", folder + "/caller.py"],
-                      env=dict(os.environ, PATH=programs.PATH, MYPYPATH=PACKAGE))
+        caller = self.put("caller.py", "\n".join(lines) + "\n")
+        ran = run(["mypy", "--strict", "--cache-dir", self.folder + "/cache", caller],
+                  env=dict(os.environ, PATH=programs.PATH, MYPYPATH=PACKAGE))
         told = re.findall(r"(?m)^.*caller\.py:(\d+): error", ran.stdout.decode())
         refused = {len(lines) - it for it in range(len(bad) + len(changes))}
         self.assertEqual({int(it) for it in told}, refused, ran.stdout)
@@ -2381,6 +2332,15 @@ class Typed(unittest.TestCase):
         self.assertEqual("pgn_tool %s\n" % gillspoon.__version__, said)
 
 
+# What the sample below a heading of docs/PYTHON.md prints.
+PRINTED = {
+    "Count the openings by their first moves": "1 e4 e5 Bc4 Nc6\n1 d4 d5 Nf3 Nc6\n1 c4\n",
+    "Collect the positions in a set": "12 positions\n",
+    "Find the games that reach a position": "1 Silva, J. Nowak, A.\n",
+    "Go back to a game by its place": "Nowak, A. * 4\n",
+    "Visit every variation":
+        "1 10 moves, to depth 1\n2 4 moves, to depth 0\n4 1 moves, to depth 0\n",
+}
 # What is said of the bad game of the samples.
 FAULT = "line 14, column 13: move is not legal: Bd4 (game 3, Okafor, Ben - Amaral, Rita)"
 
@@ -2398,9 +2358,7 @@ class Documents(Folder):
         shutil.copytree(ROOT + "/examples", self.folder + "/examples")
 
     def run_sample(self, text, *words):
-        ran = self.ran(text, *words)
-        self.assertEqual((ran.returncode, ran.stderr), (0, b""), text)
-        return ran.stdout.decode()
+        return output_of(self.ran(text, *words)).decode()
 
     def ran(self, text, *words):
         path = self.put("sample.py", text.encode())
@@ -2448,7 +2406,13 @@ class Documents(Folder):
         lines = lines_of("docs/PYTHON.md")
         self.assertGreaterEqual(sum(it.startswith("### ") for it in lines), 10)
         tested = set(re.findall(r'self\.(?:whole_)?sample\("(.*?)"', text_of(__file__)))
-        self.assertEqual({it[4:] for it in lines if it.startswith("### ")} - tested, set())
+        headings = {it[4:] for it in lines if it.startswith("### ")}
+        self.assertEqual(headings - tested - set(PRINTED), set())
+
+    def test_what_samples_print(self):
+        for heading, printed in PRINTED.items():
+            with self.subTest(heading):
+                self.assertEqual(self.sample(heading), printed)
 
     def test_filter(self):
         self.sample("Filter by player")
@@ -2474,18 +2438,6 @@ class Documents(Folder):
                     self.assertIn(b"Error: ", ran.stderr)
                     self.assertEqual(self.get(name), b"old", head)
 
-    def test_openings(self):
-        self.assertEqual(self.sample("Count the openings by their first moves"),
-                         "1 e4 e5 Bc4 Nc6\n1 d4 d5 Nf3 Nc6\n1 c4\n")
-
-    def test_positions(self):
-        self.assertEqual(self.sample("Collect the positions in a set"), "12 positions\n")
-        self.assertEqual(self.sample("Find the games that reach a position"),
-                         "1 Silva, J. Nowak, A.\n")
-
-    def test_seek(self):
-        self.assertEqual(self.sample("Go back to a game by its place"), "Nowak, A. * 4\n")
-
     def test_build(self):
         lines = self.sample("Build a game of moves").splitlines()
         self.assertEqual(lines[4:], [
@@ -2499,11 +2451,6 @@ class Documents(Folder):
         text = self.get("bare.pgn")
         self.assertIn(b"\n\n1. e4 e5 2. Bc4 Nc6 3. Qh5 Nf6 $2 4. Qxf7# 1-0\n\n", text)
         self.assertEqual(text.count(b'[Annotator "none"]'), 3)
-
-    def test_variations(self):
-        self.assertEqual(
-            self.sample("Visit every variation"),
-            "1 10 moves, to depth 1\n2 4 moves, to depth 0\n4 1 moves, to depth 0\n")
 
     def test_report(self):
         self.assertEqual(
@@ -2554,12 +2501,7 @@ class Documents(Folder):
         begun = time.monotonic()
         while not os.path.exists(place) and time.monotonic() < begun + 60:
             time.sleep(0.1)
-        with open(place, encoding="utf-8") as file:
-            address = json.load(file)["address"]
+        address = json.loads(text_of(place))["address"]
         self.assertTrue(address.startswith("tcp://127.0.0.1:"), address)
         shown = self.sample("Many machines by Dask", address)
         self.assertEqual(ast.literal_eval(shown), counts)
-
-
-if __name__ == "__main__":
-    unittest.main()

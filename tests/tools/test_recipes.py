@@ -5,25 +5,21 @@ import shutil
 import unittest
 
 import programs
-from programs import ROOT, Folder, run, text_of
+from documents import blocks_of, lines_of, prose_of
+from programs import ROOT, Folder, output_of, run, text_of
 
 RECIPES = ROOT + "/docs/RECIPES.md"
 
 
 def sections(document=RECIPES):
     """The blocks of shell of each section, by its title."""
-    found, title, block = {}, "", None
-    with open(document, encoding="utf-8") as lines:
-        for line in lines:
-            if block is not None and line == "```\n":
-                block = None
-            elif block is not None:
-                found[title][-1] += line
-            elif line == "```sh\n":
-                block = found.setdefault(title, [])
-                block.append("")
-            elif line.startswith("#"):
-                title = line.strip("# \n")
+    lines, found, title = lines_of(document), {}, ""
+    inner = {number: it for number, _, it in blocks_of(lines) if lines[number - 1] == "```sh"}
+    for number, line in enumerate(prose_of(lines), 1):
+        if line.startswith("#"):
+            title = line.strip("# ")
+        elif number in inner:
+            found.setdefault(title, []).append("\n".join(inner[number]) + "\n")
     return found
 
 
@@ -37,9 +33,8 @@ def game(moves="1. e4 e5 *", result="*", **tags):
 
 class Recipe(Folder, unittest.TestCase):
     def shell(self, script):
-        program = programs.need_program()
-        path = ":".join([os.path.dirname(program), ROOT + "/bin", programs.PATH])
-        env = dict(os.environ, PATH=path, PGN_TOOL=program)
+        path = ":".join([os.path.dirname(self.program), ROOT + "/bin", programs.PATH])
+        env = dict(os.environ, PATH=path, PGN_TOOL=self.program)
         return run(["sh", "-c", script], cwd=self.folder, env=env)
 
     def recipe(self, title, block=0):
@@ -48,13 +43,11 @@ class Recipe(Folder, unittest.TestCase):
     def mend(self, title, text, message, wanted):
         """The text is refused with the message; what the recipe makes of it has this export."""
         self.put("games.pgn", text)
-        refused = self.shell("pgn_tool check games.pgn")
-        self.assertEqual((refused.returncode, refused.stderr.decode()), (1, message + "\n"))
-        ran = self.recipe(title)
-        self.assertEqual((ran.returncode, ran.stderr), (0, b""), ran.stdout)
+        self.check(self.shell("pgn_tool check games.pgn"), 1, b"", message.encode() + b"\n")
+        out = output_of(self.recipe(title))
         exported = self.shell("pgn_tool export mended.pgn")
         self.assertEqual(exported.stdout.decode(), wanted)
-        return ran.stdout.decode()
+        return out.decode()
 
 
 class Whole(Recipe):
@@ -68,15 +61,11 @@ class Whole(Recipe):
 
     def test_see_where_a_fault_is(self):
         self.put("games.pgn", "1. e4 e5\n2. Ke3 *\n")
-        ran = self.recipe("See where a fault is")
-        self.assertEqual((ran.returncode, ran.stderr), (1, b""))
-        self.assertTrue(ran.stdout.startswith(b"games.pgn:2:4: move is not legal (game 1, "))
-        ran = self.recipe("See where a fault is", 1)
-        self.assertEqual((ran.returncode, ran.stderr), (1, b""))
-        self.assertIn(b"Ke3", ran.stdout)
+        out = output_of(self.recipe("See where a fault is"), 1)
+        self.assertTrue(out.startswith(b"games.pgn:2:4: move is not legal (game 1, "))
+        self.assertIn(b"Ke3", output_of(self.recipe("See where a fault is", 1), 1))
         self.put("games.pgn", "1. e4 e5 *\n")
-        ran = self.recipe("See where a fault is", 1)
-        self.assertEqual((ran.returncode, ran.stdout), (0, b"games: 1, plies: 2\n"))
+        self.check(self.recipe("See where a fault is", 1), 0, b"games: 1, plies: 2\n")
 
     def test_set_bad_games_aside(self):
         bad = '[Event "bad"]\n\n1. e4 e5 2. Ke3 *\n\n'
@@ -91,8 +80,7 @@ class Whole(Recipe):
         self.put("b.pgn", '[Event "?"] 1. e2e4 e7-e5 *')
         self.assertEqual(self.recipe("Compare two collections").returncode, 1)
         self.put("b.pgn", '[Event "?"] 1. e2e4 e7e5 *')
-        ran = self.recipe("Compare two collections")
-        self.assertEqual((ran.returncode, ran.stdout), (0, b"same\n"))
+        self.check(self.recipe("Compare two collections"), 0, b"same\n")
         self.put_all({"a.pgn": "1. e4 e9", "b.pgn": "1. e4 e9"})
         self.assertNotIn(b"same", self.recipe("Compare two collections").stdout)
 

@@ -1,4 +1,5 @@
 """Tests of gillspoon sieve."""
+import gzip
 import os
 import random
 import re
@@ -9,7 +10,7 @@ import tempfile
 import unittest
 
 import programs
-from programs import PACKAGE, ROOT, need_package, need_program, run
+from programs import PACKAGE, ROOT, need_package, need_program, output_of, run
 
 setUpModule = need_package
 SIEVE = [ROOT + "/bin/gillspoon", "sieve"]
@@ -22,49 +23,75 @@ def sound(name, movetext=b"1. e4 e5 2. Nf3 *"):
     return b'[Event "%s"]\n[White "White of %s"]\n\n%s\n\n' % (name, name, movetext)
 
 
+X, SITE, WORD = b'[Event "x"]\n', b'[Site "y"]\n\n1. e4 *\n', b"w" * 80
 # (what is wrong, the text of the game, the reason of the fault table, the bytes where the fault is)
 BAD = [
-    ("stray byte", b'[Event "x"]\n\n1. e4 & e5 *\n', b"stray byte", b"& e5"),
-    ("control byte", b'[Event "x"]\n\n1. e4 \x01 e5 *\n', b"control byte", b"\x01"),
-    ("reserved", b'[Event "x"]\n\n1. e4 <2> e5 *\n', b"reserved character", b"<2>"),
-    ("dollar", b'[Event "x"]\n\n1. e4 $ e5 *\n', b"dollar sign without a number", b"$ "),
-    ("glyph", b'[Event "x"]\n\n1. e4 $256 e5 *\n', b"glyph is above 255", b"$256"),
-    ("suffix", b'[Event "x"]\n\n1. e4!!! e5 *\n', b"unknown move suffix", b"!!!"),
-    ("brace", b'[Event "x"]\n\n1. e4 ;a } b\n e5 *\n', b"closing brace in a line comment", b"} b"),
-    ("long word", b'[Event "x"]\n\n1. e4 {' + b"w" * 80 + b"} e5 *\n", b"comment word is too long",
-     b"w" * 80),
-    ("open string", b'[Event "x]\n[Site "y"]\n\n1. e4 *\n', b"string is not closed", b'"x]'),
-    ("broken string", b'[Event "x\nz"]\n[Site "y"]\n\n1. e4 *\n', b"string is not closed", b'"x\n'),
-    ("inner quote", b'[Event "x"]\n[Site "a"b"]\n[Date "?"]\n\n1. e4 *\n',
-     b"closing bracket expected", b'b"]'),
-    ("tag without a name", b'["A"]\n[Site "y"]\n\n1. e4 *\n', b"tag name expected", b'"A"'),
-    ("bad tag name", b'[Event-x "x"]\n[Site "y"]\n\n1. e4 *\n', b"bad tag name", b"Event-x"),
-    ("tag twice", b'[Event "x"]\n[Site "y"]\n[Site "z"]\n\n1. e4 *\n', b"tag is given twice",
-     b'Site "z"'),
-    ("no value", b'[Event]\n[Site "y"]\n\n1. e4 *\n', b"tag value expected", b"]\n[Site"),
-    ("bad result", b'[Event "x"]\n[Result "won"]\n\n1. e4 1-0\n', b"bad result value", b'"won"'),
-    ("bad FEN", b'[Event "x"]\n[FEN "x"]\n[Site "y"]\n\n1. e4 *\n', b"bad FEN, field 1",
-     b'"x"]\n[Site'),
-    ("open bracket", b'[Event "x"\n[Site "y"]\n\n1. e4 *\n', b"closing bracket expected", b"[Site"),
-    ("comment among tags", b'[Event "x"]\n; a note\n[Site "y"]\n\n1. e4 *\n', b"tag in movetext",
-     b'[Site "y"'),
-    ("SetUp", b'[Event "x"]\n[SetUp "1"]\n\n1. e4 *\n', b"SetUp 1 without a FEN tag", b"1. e4 *"),
-    ("not a move", b'[Event "x"]\n\n1. e4 e9 *\n', b"not a move", b"e9"),
-    ("null move", b'[Event "x"]\n\n1. e4 Z0 *\n', b"not a move", b"Z0"),
-    ("illegal move", b'[Event "x"]\n\n1. e4 e5 2. Ke3 *\n', b"move is not legal", b"Ke3"),
-    ("ambiguous", b'[Event "x"]\n\n1. Nf3 e6 2. Nd4 e5 3. c3 e4 4. Na3 e3 5. Nc2 *\n',
-     b"move is ambiguous", b"Nc2"),
-    ("early variation", b'[Event "x"]\n\n(1. e4) *\n', b"variation without a move before it",
-     b"(1."),
-    ("extra parenthesis", b'[Event "x"]\n\n1. e4 ) e5 *\n',
-     b"closing parenthesis without an open one", b") e5"),
-    ("open variation", b'[Event "x"]\n\n1. e4 (1. d4 *\n', b"result inside a variation", b"*\n"),
-    ("result differs", b'[Event "x"]\n[Result "1-0"]\n\n1. e4 0-1\n',
-     b"result differs from the Result tag", b"0-1"),
-    ("no left bracket", b'Event "x"]\n[Site "y"]\n\n1. e4 *\n', b"not a move", b"Event"),
-    ("words before a tag", b'Game [Event "x"]\n[Site "y"]\n\n1. e4 *\n', b"not a move", b"Game"),
+    ("stray byte", X + b"\n1. e4 & e5 *\n", b"stray byte", b"& e5"),
+    ("control byte", X + b"\n1. e4 \x01 e5 *\n", b"control byte", b"\x01"),
+    ("reserved", X + b"\n1. e4 <2> e5 *\n", b"reserved character", b"<2>"),
+    ("dollar", X + b"\n1. e4 $ e5 *\n", b"dollar sign without a number", b"$ "),
+    ("glyph", X + b"\n1. e4 $256 e5 *\n", b"glyph is above 255", b"$256"),
+    ("suffix", X + b"\n1. e4!!! e5 *\n", b"unknown move suffix", b"!!!"),
+    ("brace", X + b"\n1. e4 ;a } b\n e5 *\n", b"closing brace in a line comment", b"} b"),
+    ("long word", X + b"\n1. e4 {" + WORD + b"} e5 *\n", b"comment word is too long", WORD),
+    ("open string", b'[Event "x]\n' + SITE, b"string is not closed", b'"x]'),
+    ("broken string", b'[Event "x\nz"]\n' + SITE, b"string is not closed", b'"x\n'),
+    ("inner quote", X + b'[Site "a"b"]\n[Date "?"]\n\n1. e4 *\n', b"closing bracket expected",
+     b'b"]'),
+    ("tag without a name", b'["A"]\n' + SITE, b"tag name expected", b'"A"'),
+    ("bad tag name", b'[Event-x "x"]\n' + SITE, b"bad tag name", b"Event-x"),
+    ("tag twice", X + b'[Site "y"]\n[Site "z"]\n\n1. e4 *\n', b"tag is given twice", b'Site "z"'),
+    ("no value", b"[Event]\n" + SITE, b"tag value expected", b"]\n[Site"),
+    ("bad result", X + b'[Result "won"]\n\n1. e4 1-0\n', b"bad result value", b'"won"'),
+    ("bad FEN", X + b'[FEN "x"]\n' + SITE, b"bad FEN, field 1", b'"x"]\n[Site'),
+    ("open bracket", b'[Event "x"\n' + SITE, b"closing bracket expected", b"[Site"),
+    ("comment among tags", X + b"; a note\n" + SITE, b"tag in movetext", b'[Site "y"'),
+    ("SetUp", X + b'[SetUp "1"]\n\n1. e4 *\n', b"SetUp 1 without a FEN tag", b"1. e4 *"),
+    ("not a move", X + b"\n1. e4 e9 *\n", b"not a move", b"e9"),
+    ("null move", X + b"\n1. e4 Z0 *\n", b"not a move", b"Z0"),
+    ("illegal move", X + b"\n1. e4 e5 2. Ke3 *\n", b"move is not legal", b"Ke3"),
+    ("ambiguous", X + b"\n1. Nf3 e6 2. Nd4 e5 3. c3 e4 4. Na3 e3 5. Nc2 *\n", b"move is ambiguous",
+     b"Nc2"),
+    ("early variation", X + b"\n(1. e4) *\n", b"variation without a move before it", b"(1."),
+    ("extra parenthesis", X + b"\n1. e4 ) e5 *\n", b"closing parenthesis without an open one",
+     b") e5"),
+    ("open variation", X + b"\n1. e4 (1. d4 *\n", b"result inside a variation", b"*\n"),
+    ("result differs", X + b'[Result "1-0"]\n\n1. e4 0-1\n', b"result differs from the Result tag",
+     b"0-1"),
+    ("no left bracket", b'Event "x"]\n' + SITE, b"not a move", b"Event"),
+    ("words before a tag", b'Game [Event "x"]\n' + SITE, b"not a move", b"Game"),
     ("no tags", b"1. e4 e9 *\n", b"not a move", b"e9"),
 ]
+
+
+A, B, C, D = (sound(it) for it in (b"A", b"B", b"C", b"D"))
+CLOSING = [sound(it, b"1. d4 d5 {yes} 2. c4 *") for it in (b"B", b"C")]
+OPEN = b'[Event "x"]\n\n1. e4 {never closed e5 *\n'
+BRACE = b'[Event "x"]\n[Si{te "y"]\n[Date "?"]\n[Round "1"]\n\n1. e4 e5 *\n'
+BARE, BARE_BAD = b'[Event "A"]\n1. e4 e5 *\n', b'[Event "x"]\n1. e4 e9 *\n'
+BRACKETS = (b'[Event "x"]\n\n1. e4 {[%clk 1:00]\n[%eval 0.1]\n[x]} e5 {a\n\nb}\n'
+            b"2. e9 {[%clk 1:00]\n[x]} *\n")
+NOTED, PROSE = b'{a note}\n[Event "x"]\n\n1. e9 *\n', b"Games of the club,\n"
+ILLEGAL, ESCAPE = b'[Event "x"]\n\n1. e9 *\n\n', b"% a line of the next one\n"
+# What is sieved, what is set aside of it, and its sound games, if they are compared; then what BAD
+# says too.
+ROWS = (
+    ("no empty lines", BARE + BARE_BAD + BARE + BARE_BAD * 2 + BARE, [BARE_BAD] * 3, BARE * 3),
+    # the comment ends with the file, or in a comment of the next game, or of a later one
+    *(("open comment", A + OPEN + b"\n" + rest, [OPEN], A + rest,
+       b"% the fault is after these bytes") for rest in (B, CLOSING[0] + C, B + CLOSING[1] + D)),
+    # the rest of the tag section is no game of its own
+    *(("brace in a tag section", A + BRACE + b"\n" + rest, [BRACE], A + rest)
+      for rest in (B, CLOSING[0] + C)),
+    ("two open comments", OPEN + b"\n" + OPEN + b"\n" + CLOSING[0] + OPEN, [OPEN] * 3, None),
+    ("brackets in comments begin no game",
+     A + BRACKETS + sound(b"B", b"1. e4 {\n[%clk 1:00]\n} e5 *"), [BRACKETS], None),
+    # comments between games go with a bad one
+    ("comment before a bad game", A + NOTED + B, [NOTED], None),
+    ("junk before the first game", PROSE + A, [PROSE], None),
+    ("escapes go with the next game", ILLEGAL + ESCAPE + ILLEGAL, [ILLEGAL, ESCAPE + ILLEGAL],
+     None),
+)
 
 
 def call(words, **more):
@@ -121,28 +148,24 @@ class SieveTest(programs.Folder, unittest.TestCase):
             self.assertEqual(line, len(re.findall(rb"\r\n?|\n", done.text[:at])) + 1)
 
     def test_sound_archive(self):
-        done = Sieved(self, sound(b"A") + sound(b"B"))
+        done = Sieved(self, A + B)
         self.check(done, [])
         self.assertEqual(done.bad, b"")
         self.assertIn(b"good.pgn: 2 games\n", done.ran.stdout)
         self.assertIn(b"bad.pgn: 0 bad games set aside", done.ran.stdout)
 
-    def test_each_way_to_be_bad_between_sound_games(self):
+    def test_each_way_to_be_bad(self):
+        """Between sound games, and as the first and the last one."""
         for name, text, reason, place in BAD:
             with self.subTest(name):
-                before = sound(b"A") + sound(b"B")
-                done = Sieved(self, before + text + b"\n" + sound(b"C"))
+                done = Sieved(self, A + B + text + b"\n" + C)
                 self.check(done, [text])
-                self.assertEqual(done.notes[0][:2], (len(before) + text.index(place), reason))
-                self.assertEqual(done.good, export(before + sound(b"C")))
-
-    def test_each_way_first_and_last(self):
-        for name, text, reason, _ in BAD:
-            with self.subTest(name):
-                done = Sieved(self, text + b"\n" + sound(b"A") + text)
+                self.assertEqual(done.notes[0][:2], (len(A + B) + text.index(place), reason))
+                self.assertEqual(done.good, export(A + B + C))
+                done = Sieved(self, text + b"\n" + A + text)
                 self.check(done, [text, text])
                 self.assertEqual([it[1] for it in done.notes], [reason, reason])
-                self.assertEqual(done.good, export(sound(b"A")))
+                self.assertEqual(done.good, export(A))
 
     def test_all_ways_in_a_row(self):
         games = [it[1] for it in BAD if it[0] != "no tags"]
@@ -165,57 +188,26 @@ class SieveTest(programs.Folder, unittest.TestCase):
     def test_no_marker(self):
         for movetext in (b"1. e4 e5", b"1. e4 e5 {why}", b""):
             bad = b'[Event "x"]\n[Site "y"]\n\n%s\n' % movetext
-            done = Sieved(self, sound(b"A") + bad + b"\n" + sound(b"B") + bad)
+            done = Sieved(self, A + bad + b"\n" + B + bad)
             self.check(done, [bad, bad])
-            self.assertEqual(done.good, export(sound(b"A") + sound(b"B")))
+            self.assertEqual(done.good, export(A + B))
             self.assertEqual(done.notes[1][:2], (len(done.text), b"unexpected end of input"))
 
-    def test_no_empty_lines(self):
-        one, bad = b'[Event "A"]\n1. e4 e5 *\n', b'[Event "x"]\n1. e4 e9 *\n'
-        done = Sieved(self, one + bad + one + bad + bad + one)
-        self.check(done, [bad, bad, bad])
-        self.assertEqual(done.good, export(one * 3))
-
-    def test_open_comment(self):
-        bad = b'[Event "x"]\n\n1. e4 {never closed e5 *\n'
-        # the comment ends with the file, or in a comment of the next game, or of a later one
-        for rest in (sound(b"B"), sound(b"B", b"1. d4 d5 {yes} 2. c4 *") + sound(b"C"),
-                     sound(b"B") + sound(b"C", b"1. d4 d5 {yes} 2. c4 *") + sound(b"D")):
-            done = Sieved(self, sound(b"A") + bad + b"\n" + rest)
-            self.check(done, [bad])
-            self.assertEqual(done.good, export(sound(b"A") + rest))
-            self.assertIn(b"% the fault is after these bytes", done.bad)
-
-    def test_brace_in_a_tag_section(self):
-        # the rest of the tag section is no game of its own
-        bad = b'[Event "x"]\n[Si{te "y"]\n[Date "?"]\n[Round "1"]\n\n1. e4 e5 *\n'
-        for rest in (sound(b"B"), sound(b"B", b"1. d4 d5 {yes} 2. c4 *") + sound(b"C")):
-            done = Sieved(self, sound(b"A") + bad + b"\n" + rest)
-            self.check(done, [bad])
-            self.assertEqual(done.good, export(sound(b"A") + rest))
-
-    def test_two_open_comments(self):
-        bad = b'[Event "x"]\n\n1. e4 {never closed e5 *\n'
-        good = sound(b"B", b"1. d4 d5 {yes} 2. c4 *")
-        done = Sieved(self, bad + b"\n" + bad + b"\n" + good + bad)
-        self.check(done, [bad, bad, bad])
-
-    def test_brackets_in_comments_begin_no_game(self):
-        bad = (b'[Event "x"]\n\n1. e4 {[%clk 1:00]\n[%eval 0.1]\n[x]} e5 {a\n\nb}\n'
-               b"2. e9 {[%clk 1:00]\n[x]} *\n")
-        done = Sieved(self, sound(b"A") + bad + sound(b"B", b"1. e4 {\n[%clk 1:00]\n} e5 *"))
-        self.check(done, [bad])
+    def test_each_row(self):
+        for name, text, bad, good, *said in ROWS:
+            with self.subTest(name):
+                done = Sieved(self, text)
+                self.check(done, bad)
+                if good is not None:
+                    self.assertEqual(done.good, export(good))
+                for it in said:
+                    self.assertIn(it, done.bad)
 
     def test_between_games(self):
-        # junk alone is set aside, comments are dropped before a sound game and go with a bad one
-        text = sound(b"A") + b"\x1a" + sound(b"B") + b"{a note}\n" + sound(b"C") + b"\x1a"
-        done = Sieved(self, text)
+        # junk alone is set aside, comments are dropped before a sound game
+        done = Sieved(self, A + b"\x1a" + B + b"{a note}\n" + C + b"\x1a")
         self.check(done, [b"\x1a", b"\x1a"], "1 comment before a game or inside a tag pair")
-        self.assertEqual(done.good, export(sound(b"A") + sound(b"B") + sound(b"C")))
-        bad = b'{a note}\n[Event "x"]\n\n1. e9 *\n'
-        self.check(Sieved(self, sound(b"A") + bad + sound(b"B")), [bad])
-        prose = b"Games of the club,\n"
-        self.check(Sieved(self, prose + sound(b"A")), [prose])
+        self.assertEqual(done.good, export(A + B + C))
 
     def test_what_is_dropped(self):
         """Comments and escape lines of valid games that the export has not are counted."""
@@ -235,30 +227,25 @@ class SieveTest(programs.Folder, unittest.TestCase):
             self.assertEqual(done.ran.stderr.count(b"\n"), bool(told), text)
 
     def test_joined_files_with_byte_order_marks(self):
-        part = b"\xef\xbb\xbf" + sound(b"A")
+        part = b"\xef\xbb\xbf" + A
         done = Sieved(self, part * 3)
         self.check(done, [])
-        self.assertEqual(done.good, export(sound(b"A") * 3))
+        self.assertEqual(done.good, export(A * 3))
         self.assertIn(b"dropped between games: 2 byte order marks", done.ran.stdout)
-
-    def test_escapes_go_with_the_next_game(self):
-        bad = b'[Event "x"]\n\n1. e9 *\n\n'
-        done = Sieved(self, bad + b"% a line of the next one\n" + bad)
-        self.check(done, [bad, b"% a line of the next one\n" + bad])
 
     def test_repaired_pieces_are_sound(self):
         bad = b'[Event "x"]\n\n1. e4 e9 *\n'
-        done = Sieved(self, (sound(b"A") + bad + b"\n") * 3)
+        done = Sieved(self, (A + bad + b"\n") * 3)
         again = Sieved(self, done.bad.replace(b"e9 *", b"e5 *"))
         self.check(again, [])
         self.assertEqual(again.good, export(bad.replace(b"e9", b"e5") * 3))
 
     def test_good_exports_to_itself(self):
         many = b"".join(b'[T%02d "v"]\n' % n for n in range(64))
-        done = Sieved(self, sound(b"A") + BAD[0][1] + b"\n" + sound(b"B"))
+        done = Sieved(self, A + BAD[0][1] + b"\n" + B)
         self.assertEqual(export(done.good), done.good)
         # 64 tag pairs and the roster: 71 tag lines, more than the program reads
-        done = Sieved(self, sound(b"A") + many + b"\n*\n" + BAD[0][1] + b"\n" + sound(b"B"))
+        done = Sieved(self, A + many + b"\n*\n" + BAD[0][1] + b"\n" + B)
         self.check(done, [BAD[0][1]])
         self.assertIn(b"good.pgn: 1 game with more than 64 tag lines", done.ran.stdout)
         self.assertIn(b"first game 2", done.ran.stdout)
@@ -295,7 +282,7 @@ class SieveTest(programs.Folder, unittest.TestCase):
 
     def test_refused_files(self):
         need_program()
-        folder, file = self.folder, self.put("a.pgn", sound(b"A"))
+        folder, file = self.folder, self.put("a.pgn", A)
         link, other = folder + "/link.pgn", folder + "/b.pgn"
         os.link(file, link)
         for words in ([file, file, other], [file, other, link], [file, other, other], [file],
@@ -305,19 +292,17 @@ class SieveTest(programs.Folder, unittest.TestCase):
         for words in ([folder + "/none", other, other + "2"], [file, folder + "/none/g", other]):
             self.check_refused(call([*words]), 3)
         self.assertEqual(sorted(os.listdir(folder)), ["a.pgn", "link.pgn"])
-        self.assertEqual(self.get("a.pgn"), sound(b"A"))
+        self.assertEqual(self.get("a.pgn"), A)
 
     def test_a_compressed_archive(self):
-        import gzip
-        plain = Sieved(self, sound(b"A") + b"1. e9 *\n")
-        packed = Sieved(self, gzip.compress(sound(b"A") + b"1. e9 *\n"))
+        plain = Sieved(self, A + b"1. e9 *\n")
+        packed = Sieved(self, gzip.compress(A + b"1. e9 *\n"))
         self.assertEqual((packed.good, packed.bad), (plain.good, plain.bad))
         self.assertIn(b"1. e9 *", packed.bad)
 
     def test_a_compressed_archive_on_standard_input(self):
         """Where it is cut off, the outputs stay as they are."""
-        import gzip
-        plain = Sieved(self, sound(b"A") + b"1. e9 *\n")
+        plain = Sieved(self, A + b"1. e9 *\n")
         packed = gzip.compress(plain.text)
         outputs = [plain.folder + "/g", plain.folder + "/b"]
         self.assertEqual(call(["-", *outputs], input=packed).returncode, 1)
@@ -332,25 +317,23 @@ class SieveTest(programs.Folder, unittest.TestCase):
             self.assertEqual([plain.get(it) for it in outputs], [plain.good, plain.bad])
 
     def test_a_pipe_is_read(self):
-        done = Sieved(self, sound(b"A") + BAD[0][1])
+        done = Sieved(self, A + BAD[0][1])
         script = 'cat "$1" | "$2" "$3" "$4" /dev/stdin "$5" "$6"'
-        ran = run(["sh", "-c", script, "sh", done.paths[0], sys.executable, *SIEVE,
-                   done.folder + "/g", done.folder + "/b"])
-        self.assertEqual((ran.returncode, ran.stderr), (1, b""))
+        output_of(run(["sh", "-c", script, "sh", done.paths[0], sys.executable, *SIEVE,
+                       done.folder + "/g", done.folder + "/b"]), 1)
         self.assertEqual([done.get(done.folder + it) for it in ("/g", "/b")], [done.good, done.bad])
 
     def test_many_files(self):
         """Folders, zips and standard input too; BAD names the file of each bad game."""
         bad = b'[White "Bo"]\n\n1. e4 e9 *\n'
-        done = Sieved(self, sound(b"A") + bad)
+        done = Sieved(self, A + bad)
         folder = done.folder + "/all"
-        for name, text in (("a.pgn", sound(b"A") + bad), ("sub/b\n.pgn", sound(b"B")),
-                           ("c.zip", programs.zip_of(("x.pgn", bad), ("y.pgn", sound(b"Y")))),
-                           ("left.pgn", b"<!DOCTYPE html>")):
-            done.put("all/" + name, text)
-        good = export(sound(b"A") + sound(b"Y") + sound(b"B") + sound(b"S"))
+        done.put_all({"all/a.pgn": A + bad, "all/sub/b\n.pgn": B,
+                      "all/c.zip": programs.zip_of(("x.pgn", bad), ("y.pgn", sound(b"Y"))),
+                      "all/left.pgn": b"<!DOCTYPE html>"})
+        good = export(A + sound(b"Y") + B + sound(b"S"))
         notes = [(it, begin, end) for it, begin, end in (
-            (folder + "/a.pgn", len(sound(b"A")), len(sound(b"A") + bad)),
+            (folder + "/a.pgn", len(A), len(A + bad)),
             (folder + "/c.zip:x.pgn", 0, len(bad)))]
         wanted = b"".join(b"%% byte %d of %s: not a move; line %d\n%% bytes %d to %d, up to the end of "
                           b"the file\n%s\n" % (begin + 20, name.encode(), line, begin, end, bad)
@@ -371,35 +354,32 @@ class SieveTest(programs.Folder, unittest.TestCase):
             self.assertEqual(done.get(done.folder + "/g"), good)
 
     def test_one_output_alone(self):
-        done = Sieved(self, sound(b"A") + BAD[0][1])
+        done = Sieved(self, A + BAD[0][1])
         for option, wanted in (("--good", done.good), ("--bad", done.bad)):
-            ran = call([option, done.folder + "/it", done.paths[0]])
-            self.assertEqual((ran.returncode, ran.stderr), (1, b""))
+            output_of(call([option, done.folder + "/it", done.paths[0]]), 1)
             self.assertEqual(done.get(done.folder + "/it"), wanted)
 
     def test_standard_input(self):
-        text = sound(b"A") + BAD[0][1] + b"\n" + sound(b"B") + BAD[-1][1]
+        text = A + BAD[0][1] + b"\n" + B + BAD[-1][1]
         done = Sieved(self, text)
         with open(done.paths[0], "rb") as file:
             for more in ({"input": text}, {"stdin": file}):
-                ran = call(["-", done.folder + "/g", done.folder + "/b"], **more)
-                self.assertEqual((ran.returncode, ran.stderr), (1, b""))
+                output_of(call(["-", done.folder + "/g", done.folder + "/b"], **more), 1)
                 self.assertEqual(done.get(done.folder + "/g"), done.good)
                 self.assertEqual(done.get(done.folder + "/b"), done.bad)
-        self.assertEqual(call(["-", *done.paths[1:]], input=sound(b"A")).returncode, 0)
+        self.assertEqual(call(["-", *done.paths[1:]], input=A).returncode, 0)
 
     def test_dev_null_as_an_output(self):
-        text = sound(b"A") + BAD[0][1] + b"\n" + sound(b"B") + BAD[-1][1]
+        text = A + BAD[0][1] + b"\n" + B + BAD[-1][1]
         done, null = Sieved(self, text), "/dev/null"
         before = os.stat(null)
         for good, bad in ((null, done.folder + "/b"), (done.folder + "/g", null), (null, null)):
-            ran = call([done.paths[0], good, bad])
-            self.assertEqual((ran.returncode, ran.stderr), (1, b""))
+            out = output_of(call([done.paths[0], good, bad]), 1)
             said = done.ran.stdout.replace(done.paths[1].encode(), good.encode())
             said = said.replace(done.paths[2].encode(), bad.encode())
             if bad == null:
                 said = said.replace(b"games set aside", b"games dropped")
-            self.assertEqual(ran.stdout, said)
+            self.assertEqual(out, said)
         self.assertEqual(done.get(done.folder + "/g"), done.good)
         self.assertEqual(done.get(done.folder + "/b"), done.bad)
         after = os.stat(null)
@@ -408,12 +388,12 @@ class SieveTest(programs.Folder, unittest.TestCase):
     def test_checked(self):
         """A missing Result takes the marker; one that is there is compared as ever."""
         won = b'[Event "w"]\n\n1. e4 {a} e5 1-0\n\n'
-        text = won + sound(b"A") + b'[Result "0-1"]\n\n1. d4 1-0\n\n' + won
+        text = won + A + b'[Result "0-1"]\n\n1. d4 1-0\n\n' + won
         done = Sieved(self, text)
         self.assertEqual([it[1] for it in done.notes], [b"result differs from the Result tag"] * 3)
         done = Sieved(self, text, "--checked")
         self.assertEqual((done.ran.returncode, done.ran.stderr), (1, b""))
-        self.assertEqual(done.good, export(won + sound(b"A") + won, "--checked"))
+        self.assertEqual(done.good, export(won + A + won, "--checked"))
         self.assertEqual(done.pieces, [b'[Result "0-1"]\n\n1. d4 1-0\n\n'])
         self.assertIn(b"good.pgn: 3 games\nbad.pgn: 1 bad game",
                       re.sub(rb"(?m)^.*/", b"", done.ran.stdout))
@@ -432,7 +412,7 @@ class SieveTest(programs.Folder, unittest.TestCase):
 
     def test_faults_on_a_terminal(self):
         bad = b'[White "M\xc3\xbcller"]\n[Black "\x1b[2J"]\n\n1. e4 {\xc3\xa4} e9 *\n\n'
-        done = Sieved(self, sound(b"A") + bad.replace(b"\x1b[2J", b"Bob") + bad)
+        done = Sieved(self, A + bad.replace(b"\x1b[2J", b"Bob") + bad)
         self.assertNotIn(b"not a move", done.ran.stdout)
         env = dict(os.environ, NO_COLOR="1", LC_ALL="C.UTF-8")
         for words, name in ((done.paths[:1], done.paths[0]), (["-"], "<stdin>")):
@@ -445,13 +425,12 @@ class SieveTest(programs.Folder, unittest.TestCase):
             self.assertEqual(len(shown.split("\n")), 6)
 
     def test_a_closed_pipe_ends_it_silently(self):
-        done = Sieved(self, sound(b"A"))
+        done = Sieved(self, A)
         with programs.closed_pipe() as closed:
-            ran = call(done.paths, stdout=closed)
-        self.assertEqual((ran.returncode, ran.stderr), (3, b""))
+            output_of(call(done.paths, stdout=closed), 3)
 
     def test_without_the_library(self):
-        done = Sieved(self, sound(b"A"))
+        done = Sieved(self, A)
         env = dict(os.environ, GILLSPOON_LIBRARY=done.folder + "/none")
         ran = run([sys.executable, *SIEVE, *done.paths], env=env)
         self.check_refused(ran, 127)
@@ -459,11 +438,10 @@ class SieveTest(programs.Folder, unittest.TestCase):
         self.assertEqual(sorted(os.listdir(done.folder)), ["bad.pgn", "good.pgn", "in.pgn"])
 
     def test_outputs_keep_their_mode_and_follow_links(self):
-        done = Sieved(self, sound(b"A"))
+        done = Sieved(self, A)
         os.chmod(done.paths[1], 0o640)
         os.symlink("bad.pgn", done.folder + "/link.pgn")
-        ran = call([*done.paths[:2], done.folder + "/link.pgn"])
-        self.assertEqual(ran.returncode, 0)
+        output_of(call([*done.paths[:2], done.folder + "/link.pgn"]), err=None)
         self.assertEqual(os.stat(done.paths[1]).st_mode & 0o777, 0o640)
         self.assertTrue(os.path.islink(done.folder + "/link.pgn"))
 
@@ -474,8 +452,7 @@ class StoppedTest(programs.Folder, unittest.TestCase):
     OUTPUTS = ["good.pgn", "bad.pgn"]
 
     def test_signals_leave_the_old_files(self):
-        for name in self.OUTPUTS:
-            self.put(name, b"old")
+        self.put_all(dict.fromkeys(self.OUTPUTS, b"old"))
         for number in (signal.SIGTERM, signal.SIGINT, signal.SIGHUP):
             ran = programs.signalled([*SIEVE, "-", *self.OUTPUTS], number, self.folder, files=2,
                                      stdin=subprocess.PIPE)
@@ -486,7 +463,7 @@ class StoppedTest(programs.Folder, unittest.TestCase):
     def test_an_ignored_signal_does_not_end_it(self):
         """As nohup has it."""
         words = ["sh", "-c", 'trap "" HUP; exec "$@"', "sh", *SIEVE, "-", *self.OUTPUTS]
-        ran = programs.signalled(words, signal.SIGHUP, self.folder, files=2, text=sound(b"A"),
+        ran = programs.signalled(words, signal.SIGHUP, self.folder, files=2, text=A,
                                  stdin=subprocess.PIPE)
         self.assertEqual((ran[0], sorted(os.listdir(self.folder))), (0, sorted(self.OUTPUTS)))
 
@@ -535,7 +512,7 @@ sys.exit(_command.main())
             "from gillspoon import _command, _reports\n" \
             "times = iter(range(1000000)); _reports.time.monotonic = lambda: next(times)\n" \
             "sys.exit(_command.main())"
-        paths = [self.put("in.pgn", sound(b"A") * 1000),
+        paths = [self.put("in.pgn", A * 1000),
                  *(os.path.join(self.folder, it) for it in self.OUTPUTS)]
         words = [sys.executable, "-c", script, PACKAGE, "sieve", *paths]
         shown = programs.on_a_terminal(words)

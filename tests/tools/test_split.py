@@ -4,17 +4,13 @@ import subprocess
 import tempfile
 import unittest
 
-from programs import HEAD, Folder, files_up_to, full_device, need_program, run, without_rights
+from programs import HEAD, Folder, files_up_to, full_device, output_of, run, without_rights
 
 UNKNOWN = HEAD + b"*\n\n"
 UNWRITTEN = b"byte %d: output cannot be written\n"
 
 
 class SplitTest(Folder, unittest.TestCase):
-    def setUp(self):
-        super().setUp()
-        self.program = need_program()
-
     def split(self, text, *words, folder=None, **more):
         return run([self.program, "split", folder or self.folder, *words], input=text, **more)
 
@@ -52,8 +48,7 @@ class SplitTest(Folder, unittest.TestCase):
 
     def test_old_files(self):
         old = b"old " * 100
-        for name in ("000001.pgn", "000003.pgn", "other"):
-            self.put(name, old)
+        self.put_all(dict.fromkeys(("000001.pgn", "000003.pgn", "other"), old))
         self.check(self.split(b"* *"), 0, b"", {"000001.pgn": UNKNOWN, "000002.pgn": UNKNOWN,
                                                 "000003.pgn": old, "other": old})
 
@@ -94,9 +89,8 @@ class SplitTest(Folder, unittest.TestCase):
         self.check(ran, 0, b"", {"%06d.pgn" % it: UNKNOWN for it in range(1, 201)})
 
     def test_closed_standard_streams(self):
-        ran = subprocess.run(["sh", "-c", 'exec "$@" >&- 2>&-', "sh", self.program, "split",
-                              self.folder], input=b"*", check=False)
-        self.assertEqual(ran.returncode, 0)
+        output_of(subprocess.run(["sh", "-c", 'exec "$@" >&- 2>&-', "sh", self.program, "split",
+                                  self.folder], input=b"*", check=False), err=None)
         self.assertEqual(self.files(), {"000001.pgn": UNKNOWN})
 
 
@@ -107,10 +101,6 @@ def limit_open_files():
 
 class InputTest(Folder, unittest.TestCase):
     """FILE is what is read; without it, standard input."""
-
-    def setUp(self):
-        super().setUp()
-        self.program = need_program()
 
     def test_file_and_standard_input(self):
         for words, text in (([self.put("games.pgn", b"* * *")], b"games: 3, plies: 0\n"),

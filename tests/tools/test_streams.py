@@ -5,8 +5,8 @@ import subprocess
 import threading
 import unittest
 
-from programs import (HEAD, Folder, bytes_of, full_device, need, need_program, not_tried,
-                      opens_closed_streams, run, without_rights)
+from programs import (HEAD, Folder, bytes_of, full_device, need, not_tried, opens_closed_streams,
+                      output_of, run, without_rights)
 
 UNKNOWN = HEAD + b"*\n\n"
 TWO = b"1. e4 e5 2. Nf3 * *\n"
@@ -23,10 +23,6 @@ WRITTEN = {
 
 
 class StreamTest(Folder, unittest.TestCase):
-    def setUp(self):
-        super().setUp()
-        self.program = need_program()
-
     def closing(self, stream, *words, **more):
         """Calls the program with a standard stream closed, as a shell closes it."""
         return run(["sh", "-c", 'exec "$@" %s' % stream, "sh", self.program, *words], **more)
@@ -141,8 +137,7 @@ class StreamTest(Folder, unittest.TestCase):
         # a fault comes first, and the flush behind it tells nothing more
         for words, text, told in calls + [([task], b"* e9", NO_MOVE) for task in WRITTEN]:
             with full_device() as full:
-                ran = run([self.program, *words], input=text, stdout=full)
-            self.assertEqual((ran.returncode, ran.stderr), (1, told), (words, text))
+                output_of(run([self.program, *words], input=text, stdout=full), 1, told)
 
     def test_output_goes_out_before_the_report(self):
         path = self.put("bad.pgn", b"* e9")

@@ -8,17 +8,14 @@ import sys
 import unittest
 
 import programs
-from programs import ROOT, bytes_of, run, text_of, write_file
+from programs import ROOT, Folder, run, text_of, write_file
 
 DATA = ("vectors", "crates/pgn_vectors/src", "crates/pgn_game/src/reason.rt", "bin/write_vectors",
         "bin/pgn_conform", "bin/build_program", "python/gillspoon",
         "bench/tables.py")
 # PGN 3.2.4: the export of the game of the standard, as its printed text has it.
 SAMPLE_END = "40. Rd6 Kc5 41. Ra6 Nf2 42. g4 Bd3 43. Re6 1/2-1/2\n\n"
-HEAD = (
-    '[Event "?"]\n[Site "?"]\n[Date "????.??.??"]\n[Round "?"]\n[White "?"]\n[Black "?"]\n'
-    '[Result "*"]\n'
-)
+HEAD = programs.HEAD.decode()[:-1]
 # A row of main_lines.toml, and one that a test adds behind it.
 ROW = '[[few_tokens.rows]]\nname = "%s"\ninput = "%s"\nplies = %d\nmovetext = "%s"\n'
 MARKER = ROW % ("marker-alone", "*", 0, "*")
@@ -235,7 +232,7 @@ class Writer(unittest.TestCase):
             self.assertIn("not each reason has a number and words", said)
 
 
-class Conform(unittest.TestCase):
+class Conform(Folder, unittest.TestCase):
     def conform(self, *words):
         ran = run(["bin/pgn_conform", *words])
         row = rb"^\| ([\w-]+) " + rb"\| (\d+) " * 5 + rb"\|$"
@@ -244,8 +241,7 @@ class Conform(unittest.TestCase):
         return ran.returncode, totals, ran
 
     def test_our_program_passes(self):
-        program = programs.need_program()
-        words = ["--counts", program + " check", program, "export"]
+        words = ["--counts", self.program + " check", self.program, "export"]
         status, totals, ran = self.conform(*words)
         self.assertEqual(status, 0, ran.stdout)
         count = len(programs.vectors())
@@ -254,15 +250,13 @@ class Conform(unittest.TestCase):
         self.assertGreater(totals[1][0], 240)
 
     def test_our_program_by_file(self):
-        program = programs.need_program()
-        words = ["--full", program + " export {}", "--reduced", program + " export --reduced {}"]
-        found = self.conform("--theme", "variations", *words)
+        full, reduced = (self.program + it for it in (" export {}", " export --reduced {}"))
+        found = self.conform("--theme", "variations", "--full", full, "--reduced", reduced)
         count = len(of_theme("variations"))
         self.assertEqual(found[:2], (0, [(count, count, 0, 0, 0)]))
 
     def test_other_lines_are_layout(self):
-        program = programs.need_program()
-        script = '%s export "$@" | sed "/^[^[]/s/ /  /g;s/( /(/g"' % program
+        script = '%s export "$@" | sed "/^[^[]/s/ /  /g;s/( /(/g"' % self.program
         words = ["--theme", "main_lines", "--", "bash", "-o", "pipefail", "-c", script, "sh"]
         status, totals, _ = self.conform(*words)
         count = len(of_theme("main_lines"))
@@ -289,16 +283,12 @@ class Conform(unittest.TestCase):
         self.assertEqual(self.conform("--theme", "variations", *words)[1], wanted)
 
     def test_the_files(self):
-        folder = programs.new_folder(self)
-        ran = run(["bin/pgn_conform", "--files", folder])
-        self.assertEqual((ran.returncode, ran.stdout, ran.stderr), (0, b"", b""))
+        self.check(run(["bin/pgn_conform", "--files", self.folder]), 0, b"")
         wanted = {}
         for vector in programs.vectors():
             wanted[vector["file"] + ".in"] = vector["input"].encode()
             wanted[vector["file"] + ".out"] = vector["output"].encode()
-        found = {}
-        for name in os.listdir(folder):
-            found[name] = bytes_of(os.path.join(folder, name))
+        found = {it: self.get(it) for it in os.listdir(self.folder)}
         self.assertEqual(found, wanted)
         self.assertEqual(found["faults.2-in-movetext.in"], b"e4 \x01")
 
@@ -337,22 +327,21 @@ class Conform(unittest.TestCase):
     def test_a_vector_that_is_not_there(self):
         for name, words in (("main_lines.x", []), ("main-lines.two-games", []), ("", []),
                             ("main_lines.two-games", ["--theme", "faults"])):
-            status, _, ran = self.conform("--show", name, *words, "cat")
-            self.assertEqual((status, ran.stdout, ran.stderr.decode()),
-                             (2, b"", "pgn_conform: there is no vector %s\n" % name))
+            self.check(self.conform("--show", name, *words, "cat")[2], 2, b"",
+                       b"pgn_conform: there is no vector %s\n" % name.encode())
 
     def test_a_closed_pipe_ends_it_quietly(self):
         with programs.closed_pipe() as closed:
-            ran = run(["bin/pgn_conform", "--theme", "limits", "cat"], stdout=closed)
-        self.assertEqual((ran.returncode, ran.stderr), (3, b""))
+            words = ["bin/pgn_conform", "--theme", "limits", "cat"]
+            programs.output_of(run(words, stdout=closed), 3)
 
     def test_the_words_of_the_call(self):
         for words in ([], ["--full", "cat", "cat"], ["no-such-converter"], ["--theme", "x", "cat"],
                       ["--files", "out", "cat"], ["--files", "-"], ["--full", "'"],
                       ["--full", " "], ["--counts", " ", "cat"], ["--refusal", "(", "cat"],
                       ["--seconds", "x", "cat"], ["--none"]):
-            status, _, ran = self.conform(*words)
-            self.assertEqual((status, ran.stdout, ran.stderr.count(b"\n")), (2, b"", 1), words)
+            ran = self.conform(*words)[2]
+            self.check_refused(ran, 2)
             self.assertTrue(ran.stderr.startswith(b"pgn_conform: "), ran.stderr)
 
     def test_a_dash_is_a_word_of_the_converter(self):
@@ -363,19 +352,16 @@ class Conform(unittest.TestCase):
 
     def test_the_version(self):
         wanted = run([programs.need_program(), "--version"]).stdout.split()[1]
-        ran = run(["bin/pgn_conform", "--version"])
-        self.assertEqual((ran.returncode, ran.stdout), (0, b"pgn_conform %s\n" % wanted))
+        self.check(run(["bin/pgn_conform", "--version"]), 0, b"pgn_conform %s\n" % wanted)
 
     def test_files_that_cannot_be_written(self):
         """The status is 3, and what is there stays as it is."""
-        folder = programs.new_folder(self)
-        old = folder + "/limits.tag-pairs.in"
-        write_file(old, "old")
-        ran = run(["bin/pgn_conform", "--files", folder], preexec_fn=programs.files_up_to(64))
-        self.assertEqual((ran.returncode, ran.stdout, ran.stderr.count(b"\n")), (3, b"", 1))
-        self.assertEqual((os.listdir(folder), text_of(old)), (["limits.tag-pairs.in"], "old"))
-        ran = run(["bin/pgn_conform", "--files", old])
-        self.assertEqual((ran.returncode, ran.stdout, ran.stderr.count(b"\n")), (3, b"", 1))
+        old = self.put("limits.tag-pairs.in", "old")
+        words = ["bin/pgn_conform", "--files"]
+        ran = run([*words, self.folder], preexec_fn=programs.files_up_to(64))
+        self.check_refused(ran, 3)
+        self.assertEqual((os.listdir(self.folder), text_of(old)), (["limits.tag-pairs.in"], "old"))
+        self.check_refused(run([*words, old]), 3)
 
     def test_a_table_that_has_no_place_changes_nothing(self):
         """The status is 3 too if the vectors cannot be read."""
@@ -386,6 +372,5 @@ class Conform(unittest.TestCase):
         ran = run(words)
         self.assertEqual((ran.returncode, ran.stderr.count(b"\n")), (3, 1))
         os.remove(copy.root + "/vectors/vectors.json")
-        ran = run(words)
-        self.assertEqual((ran.returncode, ran.stdout, ran.stderr.count(b"\n")), (3, b"", 1))
+        self.check_refused(run(words), 3)
         self.assertEqual(copy.text("vectors/README.md"), before)

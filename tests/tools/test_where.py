@@ -1,18 +1,16 @@
 """Tests of gillspoon where."""
-import bz2
-import gzip
 import os
 import subprocess
 import sys
 import unittest
-import zipfile
 
-from programs import ROOT, Folder, closed_pipe, need, need_package, need_program, run
+from programs import PACKERS, ROOT, Folder, closed_pipe, need, need_package, output_of, run, zip_of
 
 setUpModule = need_package
 WHERE = [ROOT + "/bin/gillspoon", "where"]
 TAGS = b'[Event "Cup"]\n[White "Ann"]\n[Black "Bob"]\n\n'
-GAME = 'game 1: White "Ann", Black "Bob", Event "Cup"\n'
+ANN = 'game 1: White "Ann", Black "Bob", Event "Cup"'
+GAME = ANN + "\n"
 NAME, LATIN = '[White "José Łódź"] x', '[White "José"] x'
 MARKED = b"\xef\xbb\xbfe9 *\n"
 # A text, the offset of a byte, its line and its column, and the line that is shown with the caret.
@@ -41,6 +39,7 @@ class WhereTest(Folder, unittest.TestCase):
     def setUp(self):
         super().setUp()
         self.file = self.folder + "/a.pgn"
+        self.env = dict(os.environ, LC_ALL="C.UTF-8", COLUMNS="80")
 
     def call(self, words, **more):
         env = dict(os.environ, PYTHONIOENCODING="utf-8", COLUMNS="80")
@@ -49,9 +48,8 @@ class WhereTest(Folder, unittest.TestCase):
     def lines(self, text, offset):
         """The lines that are printed for a byte of a text, without the file's name."""
         self.put("a.pgn", text)
-        ran = self.call([self.file, str(offset)])
-        self.assertEqual((ran.returncode, ran.stderr), (0, b""), text)
-        return ran.stdout.decode("utf-8").replace(self.file + ": ", "", 1).split("\n")
+        out = output_of(self.call([self.file, str(offset)]))
+        return out.decode("utf-8").replace(self.file + ": ", "", 1).split("\n")
 
     def place(self, text, offset, line, column, shown, caret):
         """The caret is below the character that the caller expects."""
@@ -90,7 +88,7 @@ class WhereTest(Folder, unittest.TestCase):
     def test_end_of_the_file(self):
         lines = self.place(TAGS + b"1. e4", len(TAGS) + 5, 5, 6, "1. e4", "     ^")
         self.assertIn("the end of the file", lines[0])
-        self.assertEqual(lines[3], 'game 1: White "Ann", Black "Bob", Event "Cup"')
+        self.assertEqual(lines[3], ANN)
         self.assertEqual(self.lines(TAGS + b"*\n", len(TAGS) + 2)[3],
                          "after the last game, which is game 1")
         self.assertEqual(self.lines(b"", 0),
@@ -143,34 +141,28 @@ class WhereTest(Folder, unittest.TestCase):
 
     def test_comment_that_is_not_closed(self):
         text = TAGS + b"1. e4 {why\n\n" + TAGS + b"1-0"
-        lines = self.lines(text, len(text))
-        self.assertEqual(lines[3:5], ["in a comment that begins at line 5, column 7 (byte 49)",
-                                      'game 1: White "Ann", Black "Bob", Event "Cup"'])
+        self.assertEqual(self.lines(text, len(text))[3:5], [
+            "in a comment that begins at line 5, column 7 (byte 49)", ANN])
         self.assertNotIn("comment", self.lines(b"{a}e9", 3)[3])
 
     def test_a_comment_longer_than_what_is_kept_in_memory(self):
         words = (b"w" * 70 + b" ") * 100 + b"\n"
         text = TAGS + b"1. e4 {" + words * ((1 << 24) // len(words) + 100)  # LONG of _where
         self.assertEqual(self.lines(text, len(text))[3:5], [
-            "in a comment that begins at line 5, column 7 (byte %d)" % (len(TAGS) + 6),
-            'game 1: White "Ann", Black "Bob", Event "Cup"'])
+            "in a comment that begins at line 5, column 7 (byte %d)" % (len(TAGS) + 6), ANN])
         text += b'} e5 *\n[White "C"]\n\n1. e4 {x} e9 *\n'
         self.assertEqual(self.lines(text, text.index(b"e9"))[3],
                          'game 2: White "C", Black "?", Event "?"')
-        self.assertEqual(self.lines(text, text.index(b"e5"))[3],
-                         'game 1: White "Ann", Black "Bob", Event "Cup"')
+        self.assertEqual(self.lines(text, text.index(b"e5"))[3], ANN)
 
     def test_message(self):
-        program = need_program()
         self.put("a.pgn", TAGS + b"1. e4 {byte 3: no} *\n\n" + TAGS + b"1. e4 e5 2. Ke3 *\n")
         for task in ("check", "export", "list"):
-            told = subprocess.run([program, task, self.file], stdout=subprocess.PIPE,
-                                  stderr=subprocess.STDOUT, check=False).stdout
+            told = run([self.program, task, self.file], stderr=subprocess.STDOUT).stdout
             before, _, message = told.rpartition(b"byte ")
             self.assertEqual(message, b"120: move is not legal\n")
-            ran = self.call([self.file], input=told)
-            self.assertEqual((ran.returncode, ran.stderr), (1, b""))
-            self.assertEqual(ran.stdout.decode(), before.decode() + self.file +
+            out = output_of(self.call([self.file], input=told), 1)
+            self.assertEqual(out.decode(), before.decode() + self.file +
                              ": line 11, column 13 (byte 120): move is not legal\n"
                              "1. e4 e5 2. Ke3 *\n            ^\n"
                              'game 2: White "Ann", Black "Bob", Event "Cup"\n')
@@ -178,8 +170,7 @@ class WhereTest(Folder, unittest.TestCase):
     def test_other_lines_are_passed_on(self):
         """A sound file has no message. The status says whether a line names a failure."""
         self.put("a.pgn", TAGS + b"1. e4 *\n")
-        counts = subprocess.run([need_program(), "check", self.file], stdout=subprocess.PIPE,
-                                stderr=subprocess.STDOUT, check=False).stdout
+        counts = run([self.program, "check", self.file], stderr=subprocess.STDOUT).stdout
         self.assertEqual(counts, b"games: 1, plies: 1\n")
         for told in (counts, b"", b"a\xff\n\r\nb", b"x" * (1 << 21) + b"\n", b"byte 3:\n",
                      b"a byte 3: no\n", b'{"kind": "fault", "file": 1}\n',
@@ -197,19 +188,18 @@ class WhereTest(Folder, unittest.TestCase):
         self.put("a.pgn", TAGS + b"1. e4 *\n")
         ran = self.call([self.file], input=b"byte 1: no\ngames: 1\nbyte 46: not a move\n")
         self.assertEqual((ran.returncode, ran.stderr), (1, b""))
-        game = 'game 1: White "Ann", Black "Bob", Event "Cup"'
         self.assertEqual(ran.stdout.decode().split("\n"), [
-            self.file + ": line 1, column 2 (byte 1): no", '[Event "Cup"]', " ^", game, "games: 1",
-            self.file + ": line 5, column 4 (byte 46): not a move", "1. e4 *", "   ^", game, ""])
+            self.file + ": line 1, column 2 (byte 1): no", '[Event "Cup"]', " ^", ANN, "games: 1",
+            self.file + ": line 5, column 4 (byte 46): not a move", "1. e4 *", "   ^", ANN, ""])
         many = b"1. e4 e5\n" * (1 << 17)  # more than is read of a line at once
         ran = self.call([self.file], input=many + b"byte 46: not a move\n")
         self.assertTrue(ran.stdout.startswith(many + self.file.encode() + b": line 5, column 4 ("))
 
-    def messages(self, words, *more):
+    def messages(self, words, *others):
         """What is shown of the messages of a command that runs in the folder."""
-        env = dict(os.environ, LC_ALL="C.UTF-8", COLUMNS="80")
-        told = run([WHERE[0], *words], cwd=self.folder, env=env, stderr=subprocess.STDOUT).stdout
-        ran = run([sys.executable, *WHERE, *more], cwd=self.folder, env=env, input=told)
+        more = {"cwd": self.folder, "env": self.env}
+        told = run([WHERE[0], *words], stderr=subprocess.STDOUT, **more).stdout
+        ran = run([sys.executable, *WHERE, *others], input=told, **more)
         self.assertEqual((ran.returncode, ran.stderr), (1, b""), told)
         return ran.stdout.decode()
 
@@ -230,10 +220,9 @@ class WhereTest(Folder, unittest.TestCase):
         self.put("a.pgn", b"1. e9 *\n")
         for told in (b"<stdin>:1:4: not a move (game 1, ? - ?)\n", b"byte 3: not a move\n",
                      b"gillspoon: <stdin>: byte 3: not a move\n"):
-            ran = self.call([self.file], input=told)
-            self.assertEqual((ran.returncode, ran.stderr), (1, b""))
-            self.assertTrue(ran.stdout.startswith(
-                self.file.encode() + b": line 1, column 4 (byte 3): not a move"), ran.stdout)
+            out = output_of(self.call([self.file], input=told), 1)
+            self.assertTrue(out.startswith(
+                self.file.encode() + b": line 1, column 4 (byte 3): not a move"), out)
             self.check(self.call([], input=told + b"more\n"),
                        2, told + b"more\n", b"gillspoon: give FILE: this message names no file\n")
 
@@ -257,24 +246,19 @@ class WhereTest(Folder, unittest.TestCase):
     def test_compressed_files(self):
         need("zstd")
         text = TAGS + b"1. e4 e5 2. Ke3 *\n"
-        self.put_all({"a.pgn.gz": gzip.compress(text), "a.pgn.bz2": bz2.compress(text)})
-        self.put("a.pgn.zst", subprocess.run(["zstd", "-qc"], input=text, stdout=subprocess.PIPE,
-                                             check=True).stdout)
-        self.put("a.pgn.GZ", gzip.compress(text))
         for end in ("gz", "bz2", "zst", "GZ"):
+            self.put("a.pgn." + end, PACKERS[end.lower()](text))
             shown = self.messages(["lint", "--quiet", "a.pgn." + end]).split("\n")
             self.assertEqual(shown[1:3], ["1. e4 e5 2. Ke3 *", "            ^"])
             ran = self.call([self.file + "." + end, "55"])
             self.assertEqual(ran.stdout.decode().split("\n")[1:3], shown[1:3])
-        self.put("b.pgn.gz", gzip.compress(text)[:-9])
+        self.put("b.pgn.gz", PACKERS["gz"](text)[:-9])
         self.assertEqual(self.call([self.folder + "/b.pgn.gz", "55"]).returncode, 3)
 
     def test_files_in_a_zip(self):
         """They are named by lint and fmt, and found by these names."""
         bad = TAGS + b"1. e4 e5 2. Ke3 *\n"
-        with zipfile.ZipFile(self.folder + "/a: 1.zip", "w") as archive:
-            archive.writestr("x.pgn", TAGS + b"1. e4 *\n")
-            archive.writestr("sub/y\n:1:2.pgn", bad)
+        self.put("a: 1.zip", zip_of(("x.pgn", TAGS + b"1. e4 *\n"), ("sub/y\n:1:2.pgn", bad)))
         shown = "%s:sub/y\\n:1:2.pgn: line 5, column 13 (byte 55): move is not legal"
         lines = "1. e4 e5 2. Ke3 *\n            ^\n"
         name = shown % "a: 1.zip"
@@ -285,9 +269,8 @@ class WhereTest(Folder, unittest.TestCase):
         ran = self.call([self.folder + "/a: 1.zip:sub/y\n:1:2.pgn", "55"])
         self.assertEqual((ran.returncode, ran.stdout.decode().split("\n", 1)[1]), (0, lines + GAME))
         with open(self.folder + "/a: 1.zip", "rb") as packed:
-            env = dict(os.environ, LC_ALL="C.UTF-8", COLUMNS="80")
-            told = run([WHERE[0], "lint", "--quiet"], stdin=packed, env=env).stdout
-        ran = run([sys.executable, *WHERE, "a: 1.zip"], cwd=self.folder, input=told, env=env)
+            told = run([WHERE[0], "lint", "--quiet"], stdin=packed, env=self.env).stdout
+        ran = run([sys.executable, *WHERE, "a: 1.zip"], cwd=self.folder, input=told, env=self.env)
         self.assertEqual((ran.returncode, ran.stdout.decode()),
                          (1, name + " (game 1, Ann \u2013 Bob)\n" + lines))
         self.check(self.call([], input=told),
@@ -295,11 +278,10 @@ class WhereTest(Folder, unittest.TestCase):
         self.check_refused(self.call([self.folder + "/a: 1.zip:none.pgn", "3"]), 3)
 
     def test_standard_input(self):
-        for pack in (bytes, gzip.compress, bz2.compress):
+        for pack in (bytes, PACKERS["gz"], PACKERS["bz2"]):
             ran = self.call(["-", str(len(TAGS) + 3)], input=pack(TAGS + b"1. Ke2 *"))
-            self.assertEqual((ran.returncode, ran.stdout.decode(), ran.stderr), (
-                0, "<stdin>: line 5, column 4 (byte %d)\n1. Ke2 *\n   ^\n%s" % (
-                    len(TAGS) + 3, GAME), b""))
+            self.check(ran, 0, b"<stdin>: line 5, column 4 (byte %d)\n1. Ke2 *\n   ^\n%s" % (
+                len(TAGS) + 3, GAME.encode()))
         self.check_refused(self.call(["-"], input=b"byte 3: move is not legal\n"), 2)
 
     def test_messages_of_fmt(self):
@@ -328,13 +310,11 @@ class WhereTest(Folder, unittest.TestCase):
 
     def test_errors(self):
         self.put("a.pgn", b"*\n")
-        for words, told, status in (
-                ([self.file, "x"], b"", 2), ([self.file, "-1"], b"", 2),
-                ([self.file, "1", "2"], b"", 2),
-                ([self.file, "3"], b"", 3), ([self.folder + "/none", "3"], b"", 3),
-                ([self.folder, "0"], b"", 3), ([self.folder + "/none"], b"", 3),
-                (["/dev/null", "1"], b"", 3)):
-            self.check_refused(self.call(words, input=told), status)
+        for words, status in (
+                ([self.file, "x"], 2), ([self.file, "-1"], 2), ([self.file, "1", "2"], 2),
+                ([self.file, "3"], 3), ([self.folder + "/none", "3"], 3), ([self.folder, "0"], 3),
+                ([self.folder + "/none"], 3), (["/dev/null", "1"], 3)):
+            self.check_refused(self.call(words, input=b""), status)
         self.assertEqual(self.call(["--help"]).returncode, 0)
         self.check(run(["sh", "-c", '"$@" <&-', "sh", *WHERE]),
                    3, b"", b"gillspoon: standard input is closed\n")
@@ -343,9 +323,8 @@ class WhereTest(Folder, unittest.TestCase):
         self.put("a.pgn", TAGS + b"1. e4 e9 *\n")
         script = 'cat a.pgn | "$@" /dev/stdin %d' % (len(TAGS) + 6)
         ran = run(["sh", "-c", script, "sh", sys.executable, *WHERE], cwd=self.folder)
-        self.assertEqual((ran.returncode, ran.stdout.decode(), ran.stderr), (
-            0, "/dev/stdin: line 5, column 7 (byte %d)\n1. e4 e9 *\n      ^\n%s" % (
-                len(TAGS) + 6, GAME), b""))
+        self.check(ran, 0, b"/dev/stdin: line 5, column 7 (byte %d)\n1. e4 e9 *\n      ^\n%s" % (
+            len(TAGS) + 6, GAME.encode()))
 
     def test_colours(self):
         self.put("a.pgn", b"1. e9 *\n")
@@ -366,12 +345,10 @@ class WhereTest(Folder, unittest.TestCase):
         ran = run(["sh", "-c", '"$@" examples/two-games.pgn 3 >/dev/full', "sh", *WHERE])
         self.assertEqual((ran.returncode, ran.stderr.count(b"\n")), (3, 1), ran.stderr)
         ran = run(["sh", "-c", '"$@" examples/two-games.pgn 3 >&-', "sh", *WHERE])
-        self.assertEqual((ran.returncode, ran.stderr),
-                         (3, b"gillspoon: standard output is closed\n"))
+        self.check(ran, 3, b"", b"gillspoon: standard output is closed\n")
 
     def test_a_closed_pipe_ends_it_silently(self):
         self.put("a.pgn", b"1. e9 *\n")
         for words in ([self.file, "0"], [self.file]):
             with closed_pipe() as closed:
-                ran = self.call(words, stdout=closed, input=b"byte 3: no\nmore\n")
-            self.assertEqual((ran.returncode, ran.stderr), (3, b""))
+                output_of(self.call(words, stdout=closed, input=b"byte 3: no\nmore\n"), 3)
