@@ -1,5 +1,6 @@
--- **Bookkeeping**: what the converter stores, and what its parts do with it. Public contracts see
--- `sink_of` and `KeepsSilence` of it.
+-- **Bookkeeping**: what the converter stores, and what its parts do with it. Public definitions use
+-- some of it: `ReaderState` with `Agrees`, `IsKnown`, `silenced` and `plies_of_finished_games`,
+-- `HoldsItems`, `is_outside_the_table`, `sink_of` and `KeepsSilence`.
 pub mod TokenInMovetext
 pub mod PutResult
 pub mod StoredPairs

@@ -13,7 +13,7 @@ ghost use Rattle.pgn_game.specs.steps.ConverterSteps.{IsBeforePiece, IsGoing};
 ghost use Rattle.pgn_game.specs.steps.ConverterSteps.{GoesToEndOfPiece};
 ghost use Rattle.pgn_game.specs.steps.ConverterSteps.{taking_announced_marker, announcing};
 ghost use Rattle.pgn_game.specs.steps.Flow.{settled, taken_at};
-ghost use Rattle.pgn_game.specs.steps.Flow.{FeedsPiece, FinishesGame, FinishesLeft, GoesAtEnd, HasTaken, ReadsIn, ReadsOn, StepsIn};
+ghost use Rattle.pgn_game.specs.steps.Flow.{FeedsPiece, FinishesGame, FinishesLeft, GoesAtEnd, HasTakenToken, ReadsIn, ReadsOn, StepsIn};
 ghost use Rattle.pgn_game.specs.public.ConverterCalls.{Stands, Feeds, KeepsGames, FeedsAll, Ends};
 ghost use Rattle.pgn_game.specs.public.ConverterCalls.{Again, KeepsFault, CountsFault, Advances, profile_of};
 ghost use Rattle.pgn_game.specs.public.ConverterCalls.{used_of, finished_game_value};
@@ -816,7 +816,7 @@ impl<const T: usize, const L: usize> Converter<T, L> {
 
     // Counts a game that a token finished, and keeps a fault.
     fn settle(&mut self, at: u64, taken: Result<bool, Reason>) -> Result<bool, Fault>
-        requires { HasTaken self.old taken }
+        requires { HasTakenToken self.old taken }
         ensures outcome { result ≡ taken_at at taken }
         ensures settled { self.new ≡ settled at taken self.old }
     {

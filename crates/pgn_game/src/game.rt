@@ -181,8 +181,7 @@ impl<const T: usize, const L: usize> Game<T, L> {
         self.writer.write_nothing();
     }
 
-    /// Announces the marker that the next game has to end with. A missing Result that takes it is
-    /// written so, where it would be written as nothing.
+    /// Announces the marker that the next game has to end with: `Writer::announce_marker`.
     pub fn announce_marker(&mut self, marker: PlacedMarker)
         ensures { self.new ≡ with_announced marker self.old }
     {
@@ -411,7 +410,7 @@ impl<const T: usize, const L: usize> Game<T, L> {
         }
     }
 
-    /// Ends the game with its marker, which `accept_unless_marker` has returned (PGN 8.2.6).
+    /// Ends the game with its marker, which was judged (PGN 8.2.6).
     #[inline(always)]
     fn end_game<W: Sink>(&mut self, marker: Marker, out: &mut W) -> Result<(), Reason>
         requires { IsTrue (may_have_movetext self.old.stage) }

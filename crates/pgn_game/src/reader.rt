@@ -400,8 +400,8 @@ impl<const T: usize, const L: usize> Reader<T, L> {
     }
 
     /// Judges a token of movetext, or the first one, and moves the levels. Returns what it means. A
-    /// marker is only returned, and `end_game` takes it. The caller has taken the `[` of another
-    /// pair.
+    /// marker is only returned, and `end_game` takes it. A `[` after the tags does not come here:
+    /// it begins another pair (`accept_outside`).
     ///
     /// # Errors
     ///
@@ -516,7 +516,7 @@ impl<const T: usize, const L: usize> Reader<T, L> {
         named
     }
 
-    /// Keeps the highest number of probes.
+    /// Keeps the higher of two numbers of probes: those of this move, and the most so far.
     #[inline(always)]
     pub fn count_probes(&mut self, probes: &Probes)
         requires few { probes.now ≤ 1040 }

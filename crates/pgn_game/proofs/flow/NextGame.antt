@@ -4,7 +4,7 @@ use Rattle.pgn_game.proofs.Words.{◌≡◌, ℕ, ◌+◌, ◌-◌, ◌^◌, ◌
 use Rattle.pgn_game.specs.public.GamesCalls as games_calls
 use Rattle.pgn_game.specs.steps.Flow.{At, Closes, EndsGames, FeedsPiece, FinishesLeft, PassesLimit, ReadsOn, Start, StopsAt, ended, so_far}
 use Rattle.std.specs.Io.KnownBytes.{Keeps}
-use Rattle.pgn_game.specs.steps.SourceFlow.{AfterSource, HasGiven, HasGivenSince, ReadsSource, SourceStops}
+use Rattle.pgn_game.specs.steps.SourceFlow.{AfterSource, HasReadSince, ReadsSince, ReadsSource, SourceStops}
 use Rattle.pgn_game.specs.steps.SourceFlow as source_flow
 use Rattle.pgn_game.proofs.stepping.WholeInput.{keeps_consumed}
 use Rattle.pgn_game.proofs.stepping.BytesWithinLimit.{all_within, front_within, unused_now}
@@ -82,7 +82,7 @@ decided_still : (used xs more : List ℕ) (n : ℕ) (given : List Token) → IsD
 decided_still used xs more n given (inl e) = inl e
 decided_still used xs more n given (inr (b, e, k)) = inr (b, next_still xs more b n e, k)
 
-module _ (p : Profile) (u : List ℕ) (given : List Token) (old : Games) (a : Option (List ℕ)) (on : games_calls.ReadsOn p u old given) where
+module _ (p : Profile) (u : List ℕ) (given : List Token) (old : Games) (a : Option (List ℕ)) (on : games_calls.HasReadWithin p u old given) where
   abbrev pub start : Start
   start = record { profile = p; count = length on.used; given = given; before = a; expected = None }
 
@@ -232,7 +232,7 @@ module _ (p : Profile) (u : List ℕ) (given : List Token) (old : Games) (a : Op
             rw size (next_fault _ (games_calls.unread more consumed few (rw (all_within s few) at reads)))
 
 -- ---- the source has ended
-module _ (p : Profile) (u : List ℕ) (given : List Token) (old : Games) (a : Option (List ℕ)) (on : games_calls.ReadsOn p u old given) (more : List ℕ)
+module _ (p : Profile) (u : List ℕ) (given : List Token) (old : Games) (a : Option (List ℕ)) (on : games_calls.HasReadWithin p u old given) (more : List ℕ)
     (left_old left : Option (List ℕ)) (consumed : Consumes left_old left more) (at_source_end : IsAtEnd left)
     (mid : Converter) (tokens : List Token) (b : Option (List ℕ)) (there : At (start p u given old a on) (so_far (within_limit (u ++ more))) mid tokens b)
     (no_more : drop mid.lexer.count (u ++ more) ≡ []) (going : mid.is_finished ≡ false) (as_many : mid.games ≡ old.converter.games)
@@ -353,14 +353,14 @@ module _ (p : Profile) (u : List ℕ) (given : List Token) (old : Games) (a : Op
 -- ---- a call of `convert_game`
 
 still_within : {p : Profile} {left : Option (List ℕ)} {u : List ℕ} {old : Games} {given : List Token} → HaveRead p left u old given → old.converter.is_finished ≡ false
-    → games_calls.ReadsOn p u old given
+    → games_calls.HasReadWithin p u old given
 still_within (games_calls.HaveRead.within on) going = on
 still_within (games_calls.HaveRead.at_end all) going = absurd (false≢true (sym going ∙ all.finished))
 
 -- the source was read, of which the games had read these tokens
 module _ (p : Profile) (u : List ℕ) (given : List Token) (old new : Games) (l m : Option (List ℕ)) (a c : Option (List ℕ)) (v w x y : ℕ)
     (have : HaveRead p l u old given) (going : old.converter.is_finished ≡ false) where
-  abbrev on : games_calls.ReadsOn p u old given
+  abbrev on : games_calls.HasReadWithin p u old given
   on = still_within have going
 
   to : (result : Result Bool Fault) → ReadsSource old new result (between l m v w) (between a c x y)
@@ -396,10 +396,10 @@ module _ (p : Profile) (u : List ℕ) (given : List Token) (old new : Games) (l 
       → ((f : Fault) → result ≡ Err f → IsStopShown last.reading.writing.is_silent c f.reason) → AfterNext p u given l m (games_of last unused) result a d
   source_ends last unused d k result reads left shown stop_shown shown_there = by_result result refl left
     where
-      there : HasGiven (start p u given old a (still_within have going)) u new (between l m v w) c × (new.unused ≡ []) × IsAtEnd m
+      there : HasReadSince (start p u given old a (still_within have going)) u new (between l m v w) c × (new.unused ≡ []) × IsAtEnd m
       there = to (Ok false) reads
 
-      so : HasGiven (start p u given old a (still_within have going)) u new (between l m v w) c
+      so : HasReadSince (start p u given old a (still_within have going)) u new (between l m v w) c
       so = there.0
 
       none : drop new.converter.lexer.count (u ++ so.more) ≡ []
@@ -421,12 +421,12 @@ module _ (p : Profile) (u : List ℕ) (given : List Token) (old new : Games) (l 
 -- ---- a turn of `read_source`
 
 -- nothing was given yet
-pub given_none : (old : Games) (left o : Option (List ℕ)) (x y : ℕ) → HasGivenSince old old (between left left x x) (between o o y y)
+pub given_none : (old : Games) (left o : Option (List ℕ)) (x y : ℕ) → ReadsSince old old (between left left x x) (between o o y y)
 given_none old left o x y start u tokens ahead here =
     record { more = []; consumed = Consumes-nil left; unused = rw (append-nil u) ahead; tokens = tokens; here = rw (append-nil u) here }
 
 module _ (old now : Games) (new : Converter) (l m : Option (List ℕ)) (a b c : Option (List ℕ)) (v w x y z : ℕ)
-    (given_so_far : HasGivenSince old now (between l m v w) (between a b x y)) where
+    (given_so_far : ReadsSince old now (between l m v w) (between a b x y)) where
   pub fed_game : (used : ℕ) → FeedsPiece now.converter now.unused new (Ok (GameEnd used)) (between b c y z)
       → (start : Start) (u : List ℕ) (tokens : List Token) → drop old.converter.lexer.count u ≡ old.unused → At start (so_far (within_limit u)) old.converter tokens a
       → AfterSource start u (games_of new (drop used now.unused)) (Ok true) (between l m v w) c
@@ -460,7 +460,7 @@ module _ (old now : Games) (new : Converter) (l m : Option (List ℕ)) (a b c : 
 
     -- and the source gives more
     pub given_more : (piece : List ℕ) (n : Option (List ℕ)) (k : ℕ) → Consumes m n piece
-        → HasGivenSince old (games_of new piece) (between l n v k) (between a c x z)
+        → ReadsSince old (games_of new piece) (between l n v k) (between a c x z)
     given_more piece n k consumed start u tokens ahead here =
         let so = given_so_far start u tokens ahead here in
         let to = feeds.reads start (u ++ so.more) so.tokens so.unused so.here in

@@ -1,7 +1,7 @@
 -- What a step in a piece does: a call of the lexer, or what it passes and the token behind that.
 use Rattle.pgn_lexer.specs.Scanned.{token}
 use Rattle.pgn_game.proofs.Words.{subst, seen, IsBeforePiece, IsBeforeToken, LexFault, Lexical, Fault, Bool, IsTrue, true, false, ◌≡◌, ℕ, ◌+◌, ◌-◌, ◌<◌, ◌≤◌, ◌^◌, List, [], length, drop, length-drop, append-nil, le_refl, Option, None, Some, Result, Ok, Err, refl, arith, Token, InMovetext, Reason, ReaderState, Converter, Device, IsSound, Standing, fault, more, Scans, ReadsBehind}
-use Rattle.pgn_game.specs.steps.Flow.{HasTaken, ReadsIn, StepsIn, settled, taken_at}
+use Rattle.pgn_game.specs.steps.Flow.{HasTakenToken, ReadsIn, StepsIn, settled, taken_at}
 use Rattle.pgn_game.specs.steps.PutResult.{TakesPlaced}
 use Rattle.pgn_game.proofs.flow.MarkerTaken.{placed_between, placed_counts, placed_keeps}
 use Rattle.pgn_game.proofs.flow.InPiece.{reads_fault, reads_game, reads_more, reads_stop, reads_token}
@@ -125,7 +125,7 @@ module _ (lexer : Standing) (reading : ReaderState) (games : ℕ) (piece : List 
       sound_taken = sound_in_piece lexer l reading new games used (length piece) scans.advances scans.count within short (sound.few refl) (sound.fewer_plies refl refl)
           (placed_keeps reading t.kind t.at new taken sink takes)
 
-      pub has_taken : HasTaken (now_at l new games false) taken
+      pub has_taken : HasTakenToken (now_at l new games false) taken
       has_taken =
           record {
             before = record { no_fault = refl; not_finished = refl; none_just_finished = refl };
@@ -163,7 +163,7 @@ module _ (lexer : Standing) (reading : ReaderState) (games : ℕ) (piece : List 
   pub sound_behind : IsSound l new games false false None
   sound_behind = sound_taken behind.mid reading games rest more_left inside behind.reads new sink there room taken takes
 
-  pub has_taken_behind : HasTaken (now_at l new games false) taken
+  pub has_taken_behind : HasTakenToken (now_at l new games false) taken
   has_taken_behind = has_taken behind.mid reading games rest more_left inside behind.reads new sink there room taken takes
 
 -- of the same converter

@@ -1,7 +1,7 @@
 -- From a token of the bytes that were read to what is read of the source.
 use Rattle.pgn_game.proofs.Words.{ahead_of, ◌≡◌, ℕ, ◌+◌, ◌-◌, ◌^◌, ◌<◌, ◌≤◌, ◌==◌, true, false, List, [], ◌++◌, length, take, drop, Option, None, Some, Ok, Err, refl, sym, ap, subst, ◌∙◌, arith, inl, append-nil, Consumes-nil, append_assoc, length-append, length-take, take-append-drop, take-take, drop-take, eqb-true, Token, Fault, InputTooLong, Profile, StandsAfter, Standing, first, within_limit, AreNext, HasRead}
 use Rattle.pgn_game.specs.declared.item.Item.{Item as CodeItem}
-use Rattle.pgn_game.specs.public.GamesCalls.{ReadsOn}
+use Rattle.pgn_game.specs.public.GamesCalls.{HasReadWithin}
 use Rattle.pgn_game.specs.public.ItemsCalls.{Current, Items, games_of_items}
 use Rattle.pgn_game.specs.steps.ItemsSteps.{AfterBuffered, AfterToken, AreGoing, FillsItems, GoesOn, LastIs, ReadsToken, TakesBuffered, at_token, reads_as, too_long}
 use Rattle.pgn_game.specs.steps.ReaderState.{Writing}
@@ -38,7 +38,7 @@ module _ (old : Items) (going : AreGoing old) (count : old.lexer.count ≤ 2 ^ 6
   abbrev piece : List ℕ
   piece = take room old.unused
 
-  module _ (p : Profile) (u : List ℕ) (given : List Token) (reads : ReadsOn p u (games_of_items old) given) where
+  module _ (p : Profile) (u : List ℕ) (given : List Token) (reads : HasReadWithin p u (games_of_items old) given) where
     place : length reads.used + room ≡ 2 ^ 62
     place = omega (arith, count, reads.stands.lexer.count)
 
@@ -86,7 +86,7 @@ module _ (old : Items) (going : AreGoing old) (count : old.lexer.count ≤ 2 ^ 6
     goes_on (Some i) p given tokens after = after.0.has_read
 
     module _ (some : 0 < length piece) where
-      stands_before : (p : Profile) (u : List ℕ) (given : List Token) (reads : ReadsOn p u (games_of_items old) given)
+      stands_before : (p : Profile) (u : List ℕ) (given : List Token) (reads : HasReadWithin p u (games_of_items old) given)
           → StandsAfter old.lexer reads.used (first piece) given
       stands_before p u given reads =
           subst (λ (n : ℕ). StandsAfter old.lexer reads.used (first (take (2 ^ 62 - n) old.unused)) given) (sym reads.stands.lexer.count) reads.stands.lexer
@@ -103,7 +103,7 @@ module _ (old : Items) (going : AreGoing old) (count : old.lexer.count ≤ 2 ^ 6
             let sum : room ≡ used + (room - used) = omega (arith, within) in
             ap (λ (k : ℕ). drop used (take k old.unused)) sum ∙ drop-take used (room - used) old.unused
 
-        left_is : (p : Profile) (u : List ℕ) (given : List Token) (reads : ReadsOn p u (games_of_items old) given)
+        left_is : (p : Profile) (u : List ℕ) (given : List Token) (reads : HasReadWithin p u (games_of_items old) given)
             → drop used piece ≡ ahead_of (reads.used ++ take used old.unused) (drop used old.unused)
         left_is p u given reads =
             let size : room - used ≡ 2 ^ 62 - length (reads.used ++ take used old.unused) = omega (
@@ -116,7 +116,7 @@ module _ (old : Items) (going : AreGoing old) (count : old.lexer.count ≤ 2 ^ 6
             ) in
             rest ∙ ap (λ (n : ℕ). take n (drop used old.unused)) size
 
-        reads_to : (p : Profile) (u : List ℕ) (given : List Token) → ReadsOn p u (games_of_items old) given → AfterBuffered p u given (new None) (Ok item)
+        reads_to : (p : Profile) (u : List ℕ) (given : List Token) → HasReadWithin p u (games_of_items old) given → AfterBuffered p u given (new None) (Ok item)
         reads_to p u given reads =
             let after = reads_token.after p reads.used given (stands_before p u given reads) (has_read p u given reads) in
             let tokens = after.0 in

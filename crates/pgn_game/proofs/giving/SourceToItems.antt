@@ -6,7 +6,7 @@ use Rattle.pgn_game.specs.declared.item.Item.TheVariants as items
 use Rattle.pgn_game.specs.declared.reason.Reason.TheVariants.{ReadFault}
 use Rattle.pgn_game.specs.games.Progress.{position_at_fault}
 use Rattle.pgn_game.specs.public.ConverterCalls.{reported_position}
-use Rattle.pgn_game.specs.public.GamesCalls.{ReadsOn}
+use Rattle.pgn_game.specs.public.GamesCalls.{HasReadWithin}
 use Rattle.pgn_game.specs.public.Given.{Given, Shown, given_of, shown, shown_with, tags}
 use Rattle.pgn_game.specs.public.ItemsCalls.{AfterItem, Current, EndsWithMarker, GivesFault, GivesItem, GivesNoItem, HasRest, HaveGiven, IsBehindTags, IsHeld, IsShown, Items, ItemsRead, ItemsStop, MarkersEndAt, ReadsNoSooner, at_end, at_token, behind, converter_of, games_of_items, given_as, given_if, given_next, depth_behind, has_read_marker, is_marker_item, position_at_items_stop, position_without, refused_items_position, shown_depth, too_long, unread, within}
 use Rattle.pgn_game.specs.steps.Movetext.{stored_level}
@@ -120,7 +120,7 @@ none_shown : (i : Items) → AreGoing i → IsTrue (is_some i.current.last) → 
 none_shown i going some = false≢true (subst (λ (o : Option CodeItem). is_some o ≡ true) going.last some)
 
 pub reads_within : (p : Profile) (left : Option (List ℕ)) (u : List ℕ) (i : Items) (tokens : List Token) → i.has_read_all ≡ false → i.is_finished ≡ false
-    → ItemsRead p left u i tokens → ReadsOn p u (games_of_items i) tokens
+    → ItemsRead p left u i tokens → HasReadWithin p u (games_of_items i) tokens
 reads_within p left u i tokens more going (within is on) = on
 reads_within p left u i tokens more going (behind is rest) = absurd (false≢true (sym more ∙ is))
 reads_within p left u i tokens more going (at_end is place all) = absurd (false≢true (sym going ∙ is))
@@ -130,7 +130,7 @@ so_far_none old left going more p u given have = record {
   more = [];
   consumed = Consumes-nil left;
   tokens = have.tokens;
-  reads = subst (λ (v : List ℕ). ReadsOn p v (games_of_items old) have.tokens) (sym (append-nil u))
+  reads = subst (λ (v : List ℕ). HasReadWithin p v (games_of_items old) have.tokens) (sym (append-nil u))
       (reads_within p left u old have.tokens more going.not_finished have.reads);
   whole = have.whole ∙ nothing_next old given going;
   no_sooner = inl refl;

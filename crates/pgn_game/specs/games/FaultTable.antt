@@ -86,7 +86,7 @@ is_at stage part = stage_number stage == stage_number part.stage
 abbrev pub is_before_movetext : Part → Bool
 is_before_movetext part = is_at Between part || is_at AfterTags part
 
--- the stages at which movetext can begin or go on
+-- the stages outside tag pairs: movetext can begin or go on
 abbrev pub is_outside_tag_pairs : Part → Bool
 is_outside_tag_pairs part = is_before_movetext part || is_at InMovetext part
 

@@ -39,7 +39,7 @@ ahead_of used unused = take (2 ^ 62 - length used) unused
 
 -- The converter stands after the bytes `used`, and the other bytes that the source gave are not
 -- used yet. Those before place 2^62 decide the tokens read. The end of the text was not read.
-pub record ReadsOn (p : Profile) (u : List ℕ) (games : Games) (given : List Token) : Type 0 where
+pub record HasReadWithin (p : Profile) (u : List ℕ) (games : Games) (given : List Token) : Type 0 where
   pub used : List ℕ
   pub bytes : u ≡ used ++ games.unused
   pub stands : Stands p games.converter used (first (ahead_of used games.unused)) given
@@ -59,7 +59,7 @@ pub record HasReadAll (p : Profile) (left : Option (List ℕ)) (u : List ℕ) (g
 -- The source has given the bytes u, and of these the tokens `given` were read: none is rejected,
 -- and the converter is what they lead to.
 pub data HaveRead (p : Profile) (left : Option (List ℕ)) (u : List ℕ) (games : Games) (given : List Token) : Type 0 where
-  within : ReadsOn p u games given → HaveRead p left u games given
+  within : HasReadWithin p u games given → HaveRead p left u games given
   at_end : HasReadAll p left u games given → HaveRead p left u games given
 
 -- What all calls so far have read and written together: what is due for the tokens read.

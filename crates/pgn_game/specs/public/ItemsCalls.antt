@@ -1,8 +1,8 @@
 -- **Definition**: what a contract sees of `Items`, and what each call does to them.
 -- Letters: p is the profile, u are the bytes that the source has given before a call, and `more`
--- those that it gives during it. `given` is what was given before a call, and g what is given by
--- it. `left` are the bytes that the source has left, if it reports them; `left_old` and `left_new`
--- are these before a call and after it. f is a fault.
+-- those that it gives during it. `given` is what was given before a call. `left` are the bytes that
+-- the source has left, if it reports them; `left_old` and `left_new` are these before a call and
+-- after it. i are items, c is a current game, f is a fault.
 use Rattle.std.specs.Prelude.{◌≡◌, ℕ, ◌+◌, ◌-◌, ◌*◌, ◌^◌, ◌<◌, ◌≤◌, ◌⊎◌, Bool, true, false, ◌||◌, IsTrue, is_some, List, [], ◌∷◌, ◌++◌, length, Option, None, Some, IsSomeAnd, slice_get, unwrap_or, option_map, Result, Ok, Err}
 use Rattle.std.specs.Io.KnownBytes.{Consumes, IsAtEnd}
 use Rattle.chess_rules.specs.declared.position.Move.{Move}
@@ -29,7 +29,7 @@ use Rattle.pgn_game.specs.games.Pairs.{Pair, value_of}
 use Rattle.pgn_game.specs.games.Profile.{Missing, Profile, known_result, takes_the_marker, with_missing}
 use Rattle.pgn_game.specs.games.Progress.{position_at_fault, read}
 use Rattle.pgn_game.specs.public.ConverterCalls.{AreNext, Converter, HasRead, reported_position, within_limit}
-use Rattle.pgn_game.specs.public.GamesCalls.{Games, HasReadAll, ReadsOn}
+use Rattle.pgn_game.specs.public.GamesCalls.{Games, HasReadAll, HasReadWithin}
 use Rattle.pgn_game.specs.public.Given.{Given, Shown, given_of, item, marker, shown, tags}
 use Rattle.pgn_game.specs.steps.Movetext.{HoldsItems}
 use Rattle.pgn_game.specs.steps.ReaderState.{ReaderState}
@@ -129,7 +129,7 @@ pub record HasRest (p : Profile) (left : Option (List ℕ)) (u : List ℕ) (i : 
 -- - `at_end`: all bytes of the text are used, all its tokens were read, and no game is begun after
 --   them.
 pub data ItemsRead (p : Profile) (left : Option (List ℕ)) (u : List ℕ) (i : Items) (tokens : List Token) : Type 0 where
-  within : i.has_read_all ≡ false → ReadsOn p u (games_of_items i) tokens → ItemsRead p left u i tokens
+  within : i.has_read_all ≡ false → HasReadWithin p u (games_of_items i) tokens → ItemsRead p left u i tokens
   behind : i.has_read_all ≡ true → HasRest p left u i tokens → ItemsRead p left u i tokens
   at_end : i.is_finished ≡ true → i.lexer.count ≡ length u → HasReadAll p left u (games_of_items i) tokens → ItemsRead p left u i tokens
 

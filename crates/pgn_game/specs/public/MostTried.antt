@@ -59,7 +59,7 @@ abbrev pub added : Part → Next → List Item
 added part (going to) = drop (length part.items) to.items
 added part (whole g) = []
 
--- the same for the items that a token adds, at this depth and in this position
+-- what writing the items costs that a token adds, at this depth and in this position
 abbrev pub CostsToAdd : Option Mode → ℕ → Parts → List Item → ℕ → ℕ → Type 0
 CostsToAdd mode deep here [] n m = m ≡ n
 CostsToAdd mode deep here (i ∷ more) n m = CostsToWrite (is_written mode deep i) here i n m

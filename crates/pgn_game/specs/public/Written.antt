@@ -1,5 +1,5 @@
 -- **Definition**: by which mode a game is written, if it is written, and the sink as contracts see
--- it. Of a reader that is silent they see a sink that reports no bytes. Its count of failures stays
+-- it. Of a game that is silent they see a sink that reports no bytes. Its count of failures stays
 -- 0, so no call returns `WriteFault`, which would raise it.
 use Rattle.std.specs.Prelude.{ℕ, Bool, true, false, List, Option, None, Some}
 use Rattle.pgn_layout.specs.Device.{Device}
@@ -8,7 +8,7 @@ use Rattle.pgn_game.specs.declared.mode.Mode.TheVariants as modes
 use Rattle.pgn_game.specs.declared.mode.Written.{Written}
 use Rattle.pgn_game.specs.declared.mode.Written.TheVariants.{Full, Reduced, Nothing}
 
--- the mode by which a reader writes; a silent one has none
+-- the mode by which a game is written; a silent one has none
 abbrev pub mode_unless : (silent : Bool) → Mode → Option Mode
 mode_unless true mode = None
 mode_unless false mode = Some mode

@@ -1,9 +1,8 @@
 -- **Bookkeeping**: what is asked of a converter, and what was read of a piece with any number of
 -- games.
--- Letters: p is the profile, u the bytes used so far, b the byte known to be next, if one is.
--- `given` are the tokens given before a call, `tokens` those read when it ends. t is the token that
--- comes then, m a placed marker, f a fault, g a game. `sink` is the sink before the call and
--- after it, `before` and `after` are the bytes that it has taken, if it reports them.
+-- Letters: p is the profile, u the bytes used so far, c a converter, f a fault, g a game. `given`
+-- are the tokens given before a call, `tokens` those read when it ends. `sink` is the sink before
+-- the call and after it, `before` and `after` are the bytes that it has taken, if it reports them.
 use Rattle.std.specs.Prelude.{◌≡◌, ℕ, ◌+◌, ◌<◌, ◌≤◌, ◌^◌, false, List, [], ◌∷◌, ◌++◌, length, take, drop, Option, None, Some, Result, Ok, Err, OnOk}
 use Rattle.std.specs.Io.KnownBytes.{Appends}
 use Rattle.pgn_layout.specs.Device.{Device}

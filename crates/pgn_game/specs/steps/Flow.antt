@@ -100,7 +100,8 @@ pub record Since (start : Start) (c : Converter) (tokens : List Token) (after : 
 abbrev pub EndsText : List Token → Type 0
 EndsText tokens = (front : List Token) × (end : Token) × (tokens ≡ front ++ end ∷ []) × (is_end end.kind ≡ true)
 
--- The same, and the lexer has given these tokens of the text. Behind the end no game is begun.
+-- What was read since the start, and the lexer has given these tokens of the text. After the end no
+-- game is begun.
 pub record At (start : Start) (text : Known) (c : Converter) (tokens : List Token) (after : Option (List ℕ)) : Type 0 where
   pub since : Since start c tokens after
   pub lexer : HasGivenOf text c.lexer c.is_finished tokens
@@ -184,7 +185,7 @@ settled at (Ok false) c = c
 settled at (Err reason) c = record c { fault = Some (record { at = at; reason = reason }) }
 
 -- The reader has taken the token. If it finished a game, counts have room for that.
-pub record HasTaken (c : Converter) (taken : Result Bool Reason) : Type 0 where
+pub record HasTakenToken (c : Converter) (taken : Result Bool Reason) : Type 0 where
   pub before : IsBeforeToken c
   pub few : c.games + 1 + waiting c.lexer ≤ 2 * c.lexer.count + 2
   pub between : taken ≡ Ok true → c.reading.stage ≡ Between

@@ -1,6 +1,5 @@
--- **Bookkeeping**: the parts of a call of `Games::next`: what is stored on the way.
--- Letters: as in `GamesCalls` and `ConverterSteps`. `left_now` are the bytes that the source has
--- left, and `now` is the state, at some time during a call.
+-- **Bookkeeping**: the parts of a call of `Games::next`: what a read gives, and what is counted.
+-- Letters: as in `GamesCalls` and `ConverterSteps`.
 use Rattle.std.specs.Prelude.{◌≡◌, ℕ, ◌<◌, ◌≤◌, Bool, true, false, List, [], length, Option, None, Some, Result, Ok, Err}
 use Rattle.std.specs.Io.KnownBytes.{Consumes, IsAtEnd, Keeps}
 use Rattle.pgn_layout.specs.Device.{Device, IsStill}

@@ -1,4 +1,4 @@
--- **Bookkeeping**: what putting an item of movetext does to the levels, the line and the sink.
+-- **Bookkeeping**: what an item of movetext does to the levels, the line and the sink.
 use Rattle.std.specs.Prelude.{◌≡◌, ℕ, ◌+◌, ◌<◌, ◌≤◌, Bool, true, false, List, [], ◌∷◌, ◌++◌, ◌==◌, ◌&&◌, ◌||◌, not, map, length, drop, Option, None, Some, IsSomeAnd, Result, MatchResult, OnOk, All, IsTrue}
 use Rattle.std.specs.Io.KnownBytes.{Appends}
 use Rattle.chess_rules.specs.declared.position.Move.{Move}

@@ -27,7 +27,7 @@ use Rattle.pgn_game.specs.games.Progress.{due, next, position_at_fault, read}
 use Rattle.pgn_game.specs.export.Text.{text_of}
 use Rattle.pgn_game.specs.public.ConverterCalls.{AreNext, Converter, HasRead, IsSound, reported_position, within_limit}
 use Rattle.pgn_game.specs.public.Given.{Given, given_of, given_of_next, given_of_part, given_with, marker, shown}
-use Rattle.pgn_game.specs.public.GamesCalls.{ReadsOn}
+use Rattle.pgn_game.specs.public.GamesCalls.{HasReadWithin}
 use Rattle.pgn_game.specs.public.ItemsCalls.{Current, EndsWithMarker, GivesFault, GivesItem, GivesNoItem, HasRest, HaveGiven, IsBehindTags, IsHeld, Items, LowersAhead, ReadsItem, ReadsNoSooner, games_of_items, given_as, given_next, has_read_marker}
 use Rattle.pgn_game.specs.steps.Judged.{IsPlayed}
 use Rattle.pgn_game.specs.steps.Movetext.{HoldsItems}
@@ -240,13 +240,13 @@ pub data StopsInBuffer (p : Profile) (u : List ℕ) (given : List Token) (new : 
 
 abbrev pub AfterBuffered : Profile → List ℕ → List Token → Items → Result (Option CodeItem) Fault → Type 0
 AfterBuffered p u given new (Ok item) =
-    (tokens : List Token) × ReadsOn p u (games_of_items new) tokens × AfterToken p given tokens new.lexer new.current item
+    (tokens : List Token) × HasReadWithin p u (games_of_items new) tokens × AfterToken p given tokens new.lexer new.current item
     × EndsIfMarker tokens new.lexer new.current
 AfterBuffered p u given new (Err f) = StopsInBuffer p u given new.current f
 
 -- What taking a token of the bytes that were read does.
 pub record TakesBuffered (old new : Items) (result : Result (Option CodeItem) Fault) : Type 0 where
-  pub after : (p : Profile) (u : List ℕ) (given : List Token) → ReadsOn p u (games_of_items old) given
+  pub after : (p : Profile) (u : List ℕ) (given : List Token) → HasReadWithin p u (games_of_items old) given
       → AfterBuffered p u given new result
   pub goes : GoesOn new result
   pub read_all : IfOk result (λ item. new.has_read_all ≡ old.has_read_all)
@@ -276,7 +276,7 @@ pub record ItemsSoFar (p : Profile) (u : List ℕ) (given : List Given) (left_ol
   pub more : List ℕ
   pub consumed : Consumes left_old left_now more
   pub tokens : List Token
-  pub reads : ReadsOn p (u ++ more) (games_of_items now) tokens
+  pub reads : HasReadWithin p (u ++ more) (games_of_items now) tokens
   pub whole : given_of (read p tokens).progress ≡ given
   pub no_sooner : ReadsNoSooner p u more given
 

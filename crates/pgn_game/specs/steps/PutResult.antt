@@ -1,4 +1,4 @@
--- **Bookkeeping**: what the reader returns for a token of one stage, and what putting one does.
+-- **Bookkeeping**: what a game returns for a token of one stage, and what taking one does.
 -- Letters: k is the kind of a token, s the text of a symbol, r the result of a call, d the sink
 -- before the call and after it. `old` and `new` are the reader before a call and after it.
 use Rattle.std.specs.Prelude.{◌≡◌, ℕ, ◌+◌, ◌≤◌, ◌<◌, ◌⊎◌, max, Bool, true, false, IsTrue, List, [], length, drop, Option, None, Some, Result, Ok, Err, IfOk, OnOk}

@@ -28,7 +28,7 @@ use Rattle.pgn_game.specs.games.Progress.{Next, going, whole, next}
 use Rattle.pgn_game.specs.export.Due.{gain}
 use Rattle.pgn_game.specs.public.MostTried.{Raises, Tries, TriesUnwritten}
 
--- How a reader writes. `announced` is the marker that was announced, with its place, if one was:
+-- How a game is written. `announced` is the marker that was announced, with its place, if one was:
 -- the next game has to end with it. If `is_silent`, nothing is written.
 pub record Writing : Type 0 where
   pub announced : Option PlacedMarker
@@ -79,7 +79,7 @@ restarted reading = record reading {
   most_probes = 0;
 }
 
--- the mode by which the reader writes; a silent one has none
+-- the same of this game
 abbrev pub mode_written : ReaderState → Option Mode
 mode_written reading = mode_unless reading.writing.is_silent reading.profile.mode
 

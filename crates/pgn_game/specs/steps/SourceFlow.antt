@@ -14,7 +14,7 @@ use Rattle.pgn_game.specs.steps.GamesSteps.{CountsReading}
 
 -- A call has read so far from a start: the source has given `more`, and of all its bytes those
 -- before place 2^62 are read but for the unused ones.
-pub record HasGiven (start : Start) (u : List ℕ) (now : Games) (source : Device) (after : Option (List ℕ)) : Type 0 where
+pub record HasReadSince (start : Start) (u : List ℕ) (now : Games) (source : Device) (after : Option (List ℕ)) : Type 0 where
   pub more : List ℕ
   pub consumed : Consumes source.before source.after more
   pub unused : drop now.converter.lexer.count (u ++ more) ≡ now.unused
@@ -22,10 +22,10 @@ pub record HasGiven (start : Start) (u : List ℕ) (now : Games) (source : Devic
   pub here : At start (so_far (within_limit (u ++ more))) now.converter tokens after
 
 -- the same from wherever the games stood since any start
-abbrev pub HasGivenSince : Games → Games → Device → Device → Type 0
-HasGivenSince old now source sink =
+abbrev pub ReadsSince : Games → Games → Device → Device → Type 0
+ReadsSince old now source sink =
     (start : Start) (u : List ℕ) (tokens : List Token) → drop old.converter.lexer.count u ≡ old.unused
-    → At start (so_far (within_limit u)) old.converter tokens sink.before → HasGiven start u now source sink.after
+    → At start (so_far (within_limit u)) old.converter tokens sink.before → HasReadSince start u now source sink.after
 
 -- How reading stops in a source.
 -- - `at_token`: a token was not taken.
@@ -45,8 +45,8 @@ pub data SourceStops (start : Start) (u : List ℕ) (new : Converter) (source : 
 -- reading stopped.
 abbrev pub AfterSource : Start → List ℕ → Games → Result Bool Fault → Device → Option (List ℕ) → Type 0
 AfterSource start u new (Ok true) source after =
-    (h : HasGiven start u new source after) × Closes start (so_far (within_limit (u ++ h.more))) new.converter h.tokens
-AfterSource start u new (Ok false) source after = HasGiven start u new source after × (new.unused ≡ []) × IsAtEnd source.after
+    (h : HasReadSince start u new source after) × Closes start (so_far (within_limit (u ++ h.more))) new.converter h.tokens
+AfterSource start u new (Ok false) source after = HasReadSince start u new source after × (new.unused ≡ []) × IsAtEnd source.after
 AfterSource start u new (Err f) source after = SourceStops start u new.converter source after f
 
 -- What `read_source` does from wherever the games stood since any start, and what it counts.

@@ -26,7 +26,7 @@ with_items part more =
 abbrev pub game_of : Part → List ℕ → Game
 game_of part marker = record { pairs = part.pairs; items = part.items; marker = marker }
 
--- the stages at which movetext can begin or go on
+-- the stages of a begun game at which movetext can begin or go on
 abbrev pub may_have_movetext : Stage → Bool
 may_have_movetext AfterTags = true
 may_have_movetext InMovetext = true

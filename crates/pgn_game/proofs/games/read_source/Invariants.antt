@@ -1,5 +1,5 @@
 use Rattle.pgn_game.proofs.Words.{◌≡◌, ◌+◌, ◌-◌, ◌^◌, ◌≤◌, length, device, sink_of, IsGoing, IsStill, KeepsSilence, games_of}
-use Rattle.pgn_game.specs.steps.SourceFlow.{HasGivenSince}
+use Rattle.pgn_game.specs.steps.SourceFlow.{ReadsSince}
 use Rattle.pgn_game.proofs.games.read_source.Given as goal
 
 abbrev pub invariant-loop-used : goal.invariant-loop-used
@@ -12,7 +12,7 @@ invariant-loop-used g l =
       source : g.R.Source.failures l.source ≡ g.R.Source.failures l.fn.source;
       sink : IsStill (sink_of l.fn.converter.reading g.W.Sink.taken g.W.Sink.failures l.fn.out l.out);
       silent : KeepsSilence l.fn.converter.reading l.converter.reading l.fn.out l.out;
-      given : HasGivenSince (games_of l.fn.converter l.fn.buffer) (games_of l.converter l.buffer)
+      given : ReadsSince (games_of l.fn.converter l.fn.buffer) (games_of l.converter l.buffer)
           (device g.R.Source.left g.R.Source.failures l.fn.source l.source)
           (sink_of l.fn.converter.reading g.W.Sink.taken g.W.Sink.failures l.fn.out l.out);
     }

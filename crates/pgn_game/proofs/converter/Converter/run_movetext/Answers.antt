@@ -1,5 +1,5 @@
 use Rattle.pgn_game.proofs.Words.{Bool, Converter, IsSound, KeepsSilence, Err, Reason, ReaderState, Result, false, true, sink_of, kind_of, ◌≡◌, ◌∙◌, arith, ap, subst, Ok, take_rest, device, drop, refl}
-use Rattle.pgn_game.specs.steps.Flow.{HasTaken, ReadsIn, StepsIn, settled, taken_at}
+use Rattle.pgn_game.specs.steps.Flow.{HasTakenToken, ReadsIn, StepsIn, settled, taken_at}
 use Rattle.pgn_game.specs.steps.PutResult.{TakesPlaced}
 use Rattle.pgn_game.proofs.ReaderFitsInMemory.{fits_alike, fits_game}
 use Rattle.pgn_game.proofs.flow.InTurn.{goes_none, reads_in_then, steps_then}
@@ -80,7 +80,7 @@ module _ (g : _) (c : After-take_entry g) where
         (rw (take_rest, c.in-Some.is) at c.whole_token-count.ensures.reads) (rw take_rest at c.whole_token-count.ensures.used)
         c.take_entry.new.self taken _ takes)
 
-    has_taken : HasTaken here taken
+    has_taken : HasTakenToken here taken
     has_taken =
         let at = c.loop-used.invariant in
         has_taken_behind _ _ _ _ old.sound (rw (← c.self.view_is) at (room_behind c.requires.piece.short at.reads)) (λ _. rw (← c.self.view_is) at at.stage)
@@ -88,7 +88,7 @@ module _ (g : _) (c : After-take_entry g) where
         c.take_entry.new.self taken _ takes
 
     -- the same of its fields
-    room_for : HasTaken (view_of c.whole_token-count.new.self c.take_entry.new.self c.self.inside.games c.self.inside.has_finished_game c.self.inside.is_finished c.self.inside.fault) taken
+    room_for : HasTakenToken (view_of c.whole_token-count.new.self c.take_entry.new.self c.self.inside.games c.self.inside.has_finished_game c.self.inside.is_finished c.self.inside.fault) taken
     room_for = rw (old.flag, old.not_over, old.none) has_taken
 
 pub invariant_of-self-in-Err : goal.invariant_of-self-in-Err

@@ -1,5 +1,5 @@
 use Rattle.pgn_game.proofs.Words.{Bool, Err, Reason, Result, kind_of, true, ◌≡◌, ◌∙◌, ap, sink_of, IsSound, List, Option, ℕ, refl, None, false, ◌<◌, take_rest, IsTrue, Ok, false≢true, length, arith}
-use Rattle.pgn_game.specs.steps.Flow.{HasTaken, ReadsIn, StepsIn, settled, taken_at}
+use Rattle.pgn_game.specs.steps.Flow.{HasTakenToken, ReadsIn, StepsIn, settled, taken_at}
 use Rattle.pgn_game.specs.steps.PutResult.{TakesPlaced}
 use Rattle.pgn_game.proofs.ReaderFitsInMemory.{fits_alike, fits_game}
 use Rattle.pgn_game.proofs.flow.InTurn.{steps_at_once, steps_then}
@@ -117,7 +117,7 @@ module _ (g : _) (c : After-take_token g) (taken : Result Bool Reason) (is : c.t
       (sound_behind _ _ _ _ old.sound (short_before c.self.view_is c.requires) not_in_movetext (rw c.in-Some.is at c.whole_token-used.ensures.reads)
       c.whole_token-used.ensures.used c.take_token.new.self taken _ takes)
 
-  has_taken : HasTaken (now_at c.whole_token-used.new.self c.take_token.new.self c.self.inside.games false) taken
+  has_taken : HasTakenToken (now_at c.whole_token-used.new.self c.take_token.new.self c.self.inside.games false) taken
   has_taken =
       let old = fields_before c.self.view_is c.self.invariant c.requires.before in
       has_taken_behind _ _ _ _ old.sound (short_before c.self.view_is c.requires) not_in_movetext (rw c.in-Some.is at c.whole_token-used.ensures.reads)
