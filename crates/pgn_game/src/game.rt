@@ -386,7 +386,7 @@ impl<const T: usize, const L: usize> Game<T, L> {
     }
 
     // Ends the game with its marker at this place, unless another one was announced.
-    #[inline(never)]
+    #[inline(always)]
     fn end_game_at<W: Sink>(&mut self, marker: Marker, at: u64, out: &mut W) -> Result<(), Reason>
         requires { IsTrue (may_have_movetext self.old.stage) }
         ensures { ReaderCall W.taken W.failures self.old self.new out.old out.new
