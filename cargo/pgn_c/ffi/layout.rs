@@ -23,7 +23,8 @@ macro_rules! layout {
         let begin = &value as *const $type as usize;
         // A field that the list lacks is an error here.
         let $type { $($field),* } = &value;
-        let mut lines = format!("STRUCT({}, {}, {})\n", $name, size_of::<$type>(), align_of::<$type>());
+        let (size, align) = (size_of::<$type>(), align_of::<$type>());
+        let mut lines = format!("STRUCT({}, {size}, {align})\n", $name);
         $(
             let at = $field as *const _ as usize - begin;
             let (size, align) = (size_of_val($field), align_of_val($field));
