@@ -3,9 +3,9 @@ use Rattle.pgn_c.proofs.Words.{◌≡◌, ℕ, ◌<◌, ◌≤◌, List, [], ◌
 use Rattle.pgn_lexer.specs.Decided.{decided}
 use Rattle.pgn_lexer.specs.Laws.{DecidedIsPrefix}
 use Rattle.pgn_game.specs.declared.conversion.Totals.{Totals}
-use Rattle.pgn_game.specs.public.ConverterCalls.{AreShown, NoWriteFails, StopsWriting}
+use Rattle.pgn_game.specs.public.ConverterCalls.{AreShown, NoWriteFails, StopsWriting, CountsFault, CountsReason}
 use Rattle.pgn_game.specs.laws.Laws.{DueGrows, IsPrefix}
-use Rattle.pgn_game.specs.public.Conversion.{AfterSlice, FailsOn, refused, unwritten, too_long, CountsSink, CountsWriting}
+use Rattle.pgn_game.specs.public.Conversion.{AfterSlice, FailsOn, refused, unwritten, too_long}
 
 -- ---- what is written is a front of the export text
 
@@ -80,12 +80,12 @@ filled before after n within long behind =
 
 -- ---- a full buffer
 
-write_fault : (reason : Reason) (sink : Device) → CountsWriting reason sink
+write_fault : (reason : Reason) (sink : Device) → CountsReason reason sink.failures sink.failures_after
     → sink.failures ≡ 0 → status_of reason ≡ 2 → 0 < sink.failures_after
 write_fault WriteFault sink counted none is = omega (arith, counted, none)
 write_fault _ sink counted none is = absurd (omega (arith, is))
 
-pub is_full : (outcome : Result Totals Fault) (n : ℕ) (sink : Device) → CountsSink outcome sink → sink.failures ≡ 0
+pub is_full : (outcome : Result Totals Fault) (n : ℕ) (sink : Device) → CountsFault outcome sink → sink.failures ≡ 0
     → (result_of outcome n).status ≡ 2 → 0 < sink.failures_after
 is_full (Ok t) n sink counted none is = absurd (omega (arith, is))
 is_full (Err f) n sink counted none is = write_fault f.reason sink counted none is

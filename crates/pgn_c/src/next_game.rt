@@ -1,7 +1,7 @@
 //! The next game of a text.
 ghost use Rattle.std.specs.Prelude.{◌≡◌, ◌≢◌, ◌≤◌, ◌^◌, None, false, length, drop};
 ghost use Rattle.pgn_layout.specs.Device.{FailsOnce, one_more};
-ghost use Rattle.pgn_game.specs.steps.ReaderState.{sink_of};
+ghost use Rattle.pgn_game.specs.steps.GameState.{sink_of};
 ghost use Rattle.pgn_game.specs.declared.marker.Marker.TheVariants.{Unknown};
 ghost use Rattle.pgn_c.specs.NextGame.{ChecksNext, ConvertsNext, NextGameIn, NextOf, ReadsNext};
 ghost use Rattle.pgn_c.specs.NextGame.{profile_counting, profile_taking, text_from};

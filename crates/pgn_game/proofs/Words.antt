@@ -49,8 +49,8 @@ pub use Rattle.pgn_game.specs.games.Markers.{marker_text, missing_of}
 pub use Rattle.pgn_game.specs.public.Written.{bytes_seen, failures_seen, is_nothing, mode_of_written, mode_unless, seen}
 pub use Rattle.pgn_game.specs.steps.Movetext.{HoldsLineOf, ClosesLevel, FitsLevelStore, HoldsItems, Movetext, StoredLevel, StoredLevels, before_last, code_levels, ends_in_move, inside, level_at, level_of, movetext_after_fen, movetext_from, nearest_first, places_of, stored_level, stored_levels}
 pub use Rattle.pgn_game.specs.games.Progress.{Next, Progress, Read, at_stage, going, in_text, items_of, move_item, next, next_in, no_progress, output, progress_after, progress_with, read, read_from, refused, totals, verdict, whole, due, verdict_of, written as written_so_far, position_at_fault}
-pub use Rattle.pgn_game.specs.steps.PutResult.{BeginsText, Goes, Keeps, PutResult, TakesOutside, TakesToken, at_game_start, gain_to, section_due, section_due_of, CountsMove, EntersMovetext, EntersPart, Finds, FinishesNone, GoesTo, Takes, TakesEntry, TakesUnwritten, counting_probes, unused, MeetsEntry, MeetsMarker, TakesMarker, TakesOther, TakesUnlessMarker, continued}
-pub use Rattle.pgn_game.specs.steps.ReaderState.{KeepsSilence, Writing, mode_written, silenced, sink_of, with_announced, Accepted, More, Finished, Agrees, AreSound, CountsWrites, FinishesAtMarker, HoldsPairs, HoldsText, IsBehind, ReaderState, as_written, is_outside_the_table, known_of, known_text, plies_of_finished_games, Answers, IsKnown, IsStopped, Leads, plies_added, ReaderCall}
+pub use Rattle.pgn_game.specs.steps.TokenTaken.{BeginsText, Goes, Keeps, PutResult, TakesOutside, TakesToken, at_game_start, gain_to, section_due, section_due_of, CountsMove, EntersMovetext, EntersPart, Finds, FinishesNone, GoesTo, Takes, TakesEntry, TakesUnwritten, counting_probes, unused, TakesEntryPlaced, TakesMarker, continued}
+pub use Rattle.pgn_game.specs.steps.GameState.{KeepsSilence, Writing, mode_written, silenced, sink_of, with_announced, Accepted, More, Finished, Agrees, AreSound, CountsWrites, FinishesAtMarker, HoldsPairs, HoldsText, IsBehind, GameState, as_written, is_outside_the_table, known_of, known_text, plies_of_finished_games, Answers, IsKnown, IsStopped, Leads, plies_added, GameCall}
 pub use Rattle.pgn_game.specs.steps.SectionLines.{other_line, roster_line, text_by}
 pub use Rattle.pgn_game.specs.games.Spells.{AreDistinct, AreDropped, BeginsBare, IsPair, IsResult, IsSetUp, KeepsTags, Names, Spells, SpellsGame, SpellsGames, SpellsPair, SpellsPairs, SpellsText, StandsFor, by_name, comment_close, comment_open, glyph, level_after_move, move, new_level, next_game, next_pair, no_game, no_more, no_pair, number, pair, period, token, variation, word}
 pub use Rattle.pgn_game.specs.steps.StoredPairs.{AllAfter, AllBelow, AreInOrder, FitsPairStore, HasBegun, InOrder, TagPairs, index_of, pair_at, pairs_seen, placed}
@@ -85,12 +85,12 @@ pub use Rattle.pgn_game.specs.steps.Readings.{AfterGameEnd, AllRead, BeginsAt, B
 pub use Rattle.pgn_game.specs.public.MostTried.{CostsIf, CostsToAdd, CostsToFind, CostsToWrite, MostFrom, MostTried, Raises, Tries, CostsUnlessRefused, is_sought, TriesUnwritten, added, is_written, none}
 pub use Rattle.pgn_game.specs.public.GamesCalls.{ahead_of, AfterNext, Games, HasReadAll, HaveRead, NextFault, NextGame, NextStops, NoGame, ReadSoFar, ReadsNext, ReadsNoGame, games_of, most_left, within}
 pub use Rattle.pgn_game.specs.export.Due.{Gains, gain, text_next}
-pub use Rattle.pgn_game.specs.steps.ConverterSteps.{AllSoFar, FaultAtEnd, FeedsAllSoFar, GainsAs, IsBeforePiece, IsBeforeToken, IsGoing, OneGame, SameGames, announcing, due_as, part_after, taking_announced_marker}
+pub use Rattle.pgn_game.specs.steps.ConverterSteps.{AllSoFar, FaultAtEnd, FeedsAllSoFar, GainsAs, IsBeforePiece, IsBeforeToken, IsGoing, OneGame, SameGames, announcing, due_as, part_after, letting_missing_result_take_marker}
 pub use Rattle.pgn_game.specs.public.Checked.{Comparison, PlacedMarker, checked_profile, compared, compared_from, earlier_fault, is_changed, is_other, marker_at, markers, markers_after, markers_from, torn_before, with_marker, written_by}
 pub use Rattle.pgn_lexer.specs.Decided.{decided}
-pub use Rattle.pgn_game.specs.public.Conversion.{AfterConversion, AfterEnd, AfterSlice, CountsDevices, Fails, FailsOn, IsConverted, IsTotalled, MostProbes, CountsResult, CountsSink, CountsWriting, Decides, IsTokenPrefix, ReadsNoMore, verdict_in}
+pub use Rattle.pgn_game.specs.public.Conversion.{AfterConversion, AfterEnd, AfterSlice, CountsDevices, Fails, FailsOn, IsConverted, IsTotalled, MostProbes, CountsResult, Decides, IsTokenPrefix, ReadsNoMore, verdict_in}
 pub use Rattle.pgn_game.specs.steps.Flow.{StandsInText}
-pub use Rattle.pgn_game.specs.steps.GamesSteps.{CountsReading, FillResult, MoreResult}
+pub use Rattle.pgn_game.specs.steps.GamesSteps.{FillResult, MoreResult}
 pub use Rattle.pgn_game.specs.laws.GamesRestart.{FinishesGame, GamesRestart, counting_also, games_read}
 pub use Rattle.pgn_game.specs.declared.conversion.Totals.{Totals}
 pub use Rattle.pgn_lexer.specs.declared.token.LexFault.{LexFault}

@@ -1,7 +1,6 @@
 -- Reading on: from where a call stands to where it leaves.
 pub mod GamesGoOn
 pub mod KnownResults
-pub mod MarkerTaken
 pub mod Takes
 pub mod InPiece
 pub mod InTurn

@@ -11,5 +11,6 @@ pub mod PairStepToReader
 pub mod PlayedMovesAreLegal
 pub mod ReadTokensFitOnLines
 pub mod SilentReader
+pub mod TokenAtPlace
 pub mod TokenToEvent
 pub mod WritesInTurn

@@ -9,7 +9,7 @@ ghost use Rattle.pgn_game.specs.public.ArchiveCalls as spec;
 ghost use Rattle.pgn_game.specs.public.ArchiveCalls.{begin_after, given_games};
 ghost use Rattle.pgn_game.specs.public.ItemsCalls.{ItemsAgain, ItemsAtEnd, LeavesSource};
 ghost use Rattle.pgn_game.specs.public.ItemsCalls.{HaveGiven, LowersAhead, ReadsItem, items_by_marker};
-ghost use Rattle.pgn_game.specs.steps.ReaderState.{is_outside_the_table};
+ghost use Rattle.pgn_game.specs.steps.GameState.{is_outside_the_table};
 
 use crate::item::Item;
 use crate::items::Items;

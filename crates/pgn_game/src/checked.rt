@@ -1,4 +1,5 @@
 //! Converts an input that is read twice, so that a missing Result takes the marker.
+ghost use Rattle.pgn_game.specs.public.Conversion.{CountsResult};
 ghost use Rattle.std.specs.Prelude.{◌≡◌, ◌-◌, ◌≤◌, true, false, max, [], ℕ, List};
 ghost use Rattle.std.specs.Prelude.{Option, OnOk};
 ghost use Rattle.pgn_layout.specs.Device.{device};
@@ -6,10 +7,9 @@ ghost use Rattle.pgn_game.specs.declared.reason.Reason.TheVariants.{Changed};
 ghost use Rattle.pgn_game.specs.public.Checked.{checked_profile};
 ghost use Rattle.pgn_game.specs.public.CheckedConversion.{TwoReadingsConvert, TwoReadingsCount};
 ghost use Rattle.pgn_game.specs.steps.ConverterSteps.{IsGoing};
-ghost use Rattle.pgn_game.specs.steps.GamesSteps.{CountsReading};
 ghost use Rattle.pgn_game.specs.steps.Readings.{GoesOnAfterGame, HasGiven, ReadsGame, StillGivenNone};
 ghost use Rattle.pgn_game.specs.steps.Readings.{ReadsToGameEnd, WritesGame, as_changed, no_sink, reading_of};
-ghost use Rattle.pgn_game.specs.steps.ReaderState.{KeepsSilence, sink_of, plies_of_finished_games};
+ghost use Rattle.pgn_game.specs.steps.GameState.{KeepsSilence, sink_of, plies_of_finished_games};
 ghost use Rattle.pgn_game.specs.public.Size.{HoldsTwice};
 
 use crate::conversion::Totals;
@@ -118,7 +118,7 @@ impl<const T: usize, const L: usize> Reading<T, L> {
         ensures writes { result.converter.reading.writing.is_silent ≡ false }
     {
         let mut converter = Converter::new(mode);
-        converter.take_announced_marker();
+        converter.let_missing_result_take_marker();
         Reading {
             converter,
             buffer: ReadBuffer::new(),
@@ -171,10 +171,10 @@ impl<const T: usize, const L: usize> Reading<T, L> {
         ensures going { GoesOnAfterGame self.old self.new result }
         ensures silent { self.new.converter.reading.writing.is_silent
             ≡ self.old.converter.reading.writing.is_silent }
-        ensures counted { CountsReading result (device R.left R.failures source.old source.new)
+        ensures counted { CountsResult result (device R.left R.failures source.old source.new)
             no_sink }
     {
-        let finished = next_game(
+        let finished = read_to_game_end(
             &mut self.converter,
             &mut self.buffer,
             &mut self.has_ended,
@@ -201,14 +201,14 @@ impl<const T: usize, const L: usize> Reading<T, L> {
             → WritesGame (R.left source.old) (R.left source.new) self.old expected
             self.new result (W.taken out.old) (W.taken out.new) }
         ensures going { OnOk result (IsGoing self.new.converter) }
-        ensures counted { CountsReading result (device R.left R.failures source.old source.new)
+        ensures counted { CountsResult result (device R.left R.failures source.old source.new)
             (sink_of self.old.converter.reading W.taken W.failures out.old out.new) }
         ensures silent { KeepsSilence self.old.converter.reading self.new.converter.reading out.old
             out.new }
     {
         tokens_rise();
         self.converter.announce_marker(expected);
-        let read = next_game(
+        let read = read_to_game_end(
             &mut self.converter,
             &mut self.buffer,
             &mut self.has_ended,
@@ -228,7 +228,7 @@ impl<const T: usize, const L: usize> Reading<T, L> {
 
 // Converts up to the end of the next game, and returns whether there was one. Without one the input
 // has ended.
-fn next_game<const T: usize, const L: usize, R: Source, W: Sink>(
+fn read_to_game_end<const T: usize, const L: usize, R: Source, W: Sink>(
     converter: &mut Converter<T, L>,
     buffer: &mut ReadBuffer,
     has_ended: &mut bool,
@@ -243,13 +243,13 @@ fn next_game<const T: usize, const L: usize, R: Source, W: Sink>(
     ensures silent { KeepsSilence converter.old.reading converter.new.reading out.old out.new }
 {
     if *has_ended {
-        return converter.finish_game(out);
+        return converter.finish_left(true, out);
     }
     if read_source(converter, buffer, source, out)? {
         return Ok(true);
     }
     *has_ended = true;
-    converter.finish_game(out)
+    converter.finish_left(true, out)
 }
 
 // The fault of a token at which the readings differ.

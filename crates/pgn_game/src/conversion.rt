@@ -5,11 +5,11 @@ ghost use Rattle.pgn_game.specs.public.ConverterCalls.{CountsFault, Stands, prof
 ghost use Rattle.pgn_game.specs.steps.ConverterSteps.{IsGoing};
 ghost use Rattle.pgn_game.specs.games.Profile.{Profile};
 ghost use Rattle.pgn_game.specs.public.Written.{bytes_seen};
-ghost use Rattle.pgn_game.specs.steps.ReaderState.{sink_of, plies_of_finished_games};
+ghost use Rattle.pgn_game.specs.steps.GameState.{sink_of, plies_of_finished_games};
 ghost use Rattle.pgn_game.specs.public.Size.{Holds};
 ghost use Rattle.pgn_game.specs.public.Conversion.{AfterConversion, AfterSlice, Concludes};
 ghost use Rattle.pgn_game.specs.public.Conversion.{Checks, ChecksSlice, Converts, ConvertsSlice};
-ghost use Rattle.pgn_game.specs.public.Conversion.{CountsResult, CountsSink};
+ghost use Rattle.pgn_game.specs.public.Conversion.{CountsResult};
 
 use crate::converter::Converter;
 use crate::games::next_game;
@@ -155,7 +155,7 @@ pub fn convert_slice<const T: usize, const L: usize, W: Sink>(
     ensures converts { ConvertsSlice (profile_of T (L - 1) mode) text.now result
         (device W.taken W.failures writer.old writer.new) }
     ensures short { OnOk result (length text.now ≤ 2 ^ 62) }
-    ensures counted { CountsSink result (device W.taken W.failures writer.old writer.new) }
+    ensures counted { CountsFault result (device W.taken W.failures writer.old writer.new) }
 {
     let mut converter = Converter::<T, L>::new(mode);
     convert_text(&mut converter, text, writer)
@@ -200,7 +200,7 @@ fn convert_text<const T: usize, const L: usize, W: Sink>(
         → AfterSlice converter.old.reading.writing.is_silent p text.now result
         (bytes_seen converter.old.reading.writing.is_silent (W.taken writer.old))
         (bytes_seen converter.old.reading.writing.is_silent (W.taken writer.new)) }
-    ensures counted { CountsSink result
+    ensures counted { CountsFault result
         (sink_of converter.old.reading W.taken W.failures writer.old writer.new) }
 {
     converter.feed_all(text, writer)?;

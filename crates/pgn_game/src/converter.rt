@@ -11,16 +11,16 @@ ghost use Rattle.pgn_game.specs.declared.reason.Reason.TheVariants.{InputTooLong
 ghost use Rattle.pgn_game.specs.declared.stage.Stage.TheVariants.{InMovetext};
 ghost use Rattle.pgn_game.specs.steps.ConverterSteps.{IsBeforePiece, IsGoing};
 ghost use Rattle.pgn_game.specs.steps.ConverterSteps.{GoesToEndOfPiece};
-ghost use Rattle.pgn_game.specs.steps.ConverterSteps.{taking_announced_marker, announcing};
+ghost use Rattle.pgn_game.specs.steps.ConverterSteps.{letting_missing_result_take_marker, announcing};
 ghost use Rattle.pgn_game.specs.steps.Flow.{settled, taken_at};
-ghost use Rattle.pgn_game.specs.steps.Flow.{FeedsPiece, FinishesGame, FinishesLeft, GoesAtEnd, HasTakenToken, ReadsIn, ReadsOn, StepsIn};
+ghost use Rattle.pgn_game.specs.steps.Flow.{FeedsPiece, FinishesLeft, GoesAtEnd, HasTakenToken, ReadsIn, ReadsOn, StepsIn};
 ghost use Rattle.pgn_game.specs.public.ConverterCalls.{Stands, Feeds, KeepsGames, FeedsAll, Ends};
 ghost use Rattle.pgn_game.specs.public.ConverterCalls.{Again, KeepsFault, CountsFault, Advances, profile_of};
 ghost use Rattle.pgn_game.specs.public.ConverterCalls.{used_of, finished_game_value};
 ghost use Rattle.pgn_game.specs.public.ConverterCalls.{finished_game_plies, finished_game_position};
 ghost use Rattle.pgn_game.specs.public.ConverterCalls.{refused_position};
 ghost use Rattle.pgn_game.specs.public.ConverterCalls.{CountsMissingAs, counting_missing_as};
-ghost use Rattle.pgn_game.specs.steps.ReaderState.{KeepsSilence, sink_of, plies_of_finished_games};
+ghost use Rattle.pgn_game.specs.steps.GameState.{KeepsSilence, sink_of, plies_of_finished_games};
 ghost use Rattle.pgn_game.specs.public.ConverterCalls.{NoWriteFails, StillStands, writing_nothing};
 ghost use Rattle.pgn_game.specs.public.ConverterCalls.{ReadsByMarker, reading_by_marker};
 
@@ -230,14 +230,14 @@ impl<const T: usize, const L: usize> Converter<T, L> {
         ensures only_switch { self.new ≡ reading_by_marker self.old }
         ensures stands { ReadsByMarker self.old self.new }
     {
-        self.take_announced_marker();
+        self.let_missing_result_take_marker();
         self.write_nothing();
     }
 
     /// From now on a missing Result takes the marker that ends its game. A converter that writes
     /// needs that marker before the game (`announce_marker`).
-    pub(crate) fn take_announced_marker(&mut self)
-        ensures { self.new ≡ taking_announced_marker self.old }
+    pub(crate) fn let_missing_result_take_marker(&mut self)
+        ensures { self.new ≡ letting_missing_result_take_marker self.old }
     {
         self.game
             .count_missing_result_as(MissingResult::TakesTheMarker);
@@ -342,7 +342,7 @@ impl<const T: usize, const L: usize> Converter<T, L> {
         if let Some(fault) = self.fault {
             return Err(fault);
         }
-        self.finish_left(out)
+        self.finish_left(false, out)
     }
 
     /// Ends the time in which a game counts as just finished.
@@ -523,37 +523,24 @@ impl<const T: usize, const L: usize> Converter<T, L> {
         self.is_finished
     }
 
-    /// Does what `finish` does, of a converter that has met no fault.
-    pub(crate) fn finish_left<W: Sink>(&mut self, out: &mut W) -> Result<bool, Fault>
+    /// Converts what is left at the end of the input: all of it, as `finish` does, or, if `to_game`,
+    /// up to the end of the next game. Returns whether a game was finished. The converter has met
+    /// no fault.
+    pub(crate) fn finish_left<W: Sink>(&mut self, to_game: bool, out: &mut W) -> Result<bool, Fault>
         requires { IsGoing self.old }
-        ensures finishes { FinishesLeft self.old self.new result
-            (sink_of self.old.reading W.taken W.failures out.old out.new) }
-        ensures silent { KeepsSilence self.old.reading self.new.reading out.old out.new }
-    {
-        self.has_finished_game = false;
-        let games = self.games;
-        while !self.is_finished {
-            self.step_at_end(out)?;
-        }
-        Ok(games < self.games)
-    }
-
-    /// Converts what is left at the end of the input, up to the end of the next game, and returns
-    /// whether there was one. Without one the input has ended.
-    pub(crate) fn finish_game<W: Sink>(&mut self, out: &mut W) -> Result<bool, Fault>
-        requires { IsGoing self.old }
-        ensures finishes { FinishesGame self.old self.new result
+        ensures finishes { FinishesLeft to_game self.old self.new result
             (sink_of self.old.reading W.taken W.failures out.old out.new) }
         ensures few { self.old.games < 2 ^ 64 }
         ensures silent { KeepsSilence self.old.reading self.new.reading out.old out.new }
     {
         self.has_finished_game = false;
+        let games = self.games;
         while !self.is_finished {
-            if self.step_at_end(out)? {
+            if self.step_at_end(out)? && to_game {
                 return Ok(true);
             }
         }
-        Ok(false)
+        Ok(games < self.games)
     }
 
     /// Does what `feed` does, of a converter that has met no fault.
@@ -737,7 +724,7 @@ impl<const T: usize, const L: usize> Converter<T, L> {
         }
     }
 
-    /// Takes the next token of the piece as `step_token` does, but reads it byte by byte.
+    /// Takes the next token of the piece as `step_token` does, but lets the lexer copy it.
     #[inline(always)]
     fn step_on<W: Sink>(&mut self, piece: &[u8], out: &mut W) -> Step
         requires { IsBeforePiece self.old piece.now }

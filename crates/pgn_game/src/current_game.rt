@@ -15,8 +15,8 @@ ghost use Rattle.pgn_game.specs.games.Markers.{missing_of};
 ghost use Rattle.pgn_game.specs.games.Profile.{known_result};
 ghost use Rattle.pgn_game.specs.declared.mode.Mode.TheVariants.{Full};
 ghost use Rattle.pgn_game.specs.declared.stage.Stage.TheVariants.{InMovetext};
-ghost use Rattle.pgn_game.specs.steps.Accepted.{unwritten};
-ghost use Rattle.pgn_game.specs.steps.ReaderState.{unread};
+ghost use Rattle.pgn_game.specs.steps.Accepted.{without_writer};
+ghost use Rattle.pgn_game.specs.steps.GameState.{unread};
 ghost use Rattle.pgn_game.specs.steps.TokenInMovetext.{has_whole_pairs};
 ghost use Rattle.pgn_game.specs.steps.ItemsSteps.{IsPlayedItem, TakesItem, given_first};
 ghost use Rattle.pgn_game.specs.steps.ItemsSteps.{given_second, giving_next, item_meant};
@@ -52,13 +52,13 @@ pub struct CurrentGame<const T: usize, const L: usize> {
 
 impl<const T: usize, const L: usize> Model for CurrentGame<T, L> {
     ghost use Rattle.pgn_game.specs.public.ItemsCalls.{Current};
-    ghost use Rattle.pgn_game.specs.steps.Accepted.{unwritten};
+    ghost use Rattle.pgn_game.specs.steps.Accepted.{without_writer};
     ghost use Rattle.pgn_game.specs.steps.ItemsSteps.{IsSoundGame};
 
     ghost Value = { Current };
 
     ghost view = { λ c. record {
-      reading = unwritten c.reader;
+      reading = without_writer c.reader;
       games = c.games;
       word = c.word.items;
       last = c.last;
@@ -66,7 +66,7 @@ impl<const T: usize, const L: usize> Model for CurrentGame<T, L> {
     } };
 
     ghost invariant = { λ c. IsSoundGame (record {
-      reading = unwritten c.reader;
+      reading = without_writer c.reader;
       games = c.games;
       word = c.word.items;
       last = c.last;
@@ -79,7 +79,7 @@ impl<const T: usize, const L: usize> CurrentGame<T, L> {
     pub fn new() -> Self
         requires { 1 ≤ L }
         ensures { result ≡ record {
-          reading = unwritten (unread T L Full);
+          reading = without_writer (unread T L Full);
           games = 0;
           word = [];
           last = None;
@@ -121,7 +121,13 @@ impl<const T: usize, const L: usize> CurrentGame<T, L> {
     {
         self.last?;
         let reader = &self.reader;
-        exported_pair(reader.mode(), self.shown_result(), &reader.pairs(), index)
+        exported_pair(
+            reader.mode(),
+            self.shown_result(),
+            &reader.pairs(),
+            reader.has_fen(),
+            index,
+        )
     }
 
     // Returns what a missing Result is after the item given last.
@@ -153,7 +159,13 @@ impl<const T: usize, const L: usize> CurrentGame<T, L> {
             return Ok(());
         }
         let reader = &self.reader;
-        write_section(reader.mode(), self.shown_result(), &reader.pairs(), out)
+        write_section(
+            reader.mode(),
+            self.shown_result(),
+            &reader.pairs(),
+            reader.has_fen(),
+            out,
+        )
     }
 
     /// Returns the position after the items given.

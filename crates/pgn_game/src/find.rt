@@ -5,7 +5,7 @@ ghost use Rattle.pgn_game.specs.games.Chess.{move_of};
 ghost use Rattle.pgn_game.specs.games.FaultTable as spec;
 ghost use Rattle.pgn_game.specs.public.FoundMove.{found_in};
 ghost use Rattle.pgn_game.specs.public.Tried.{AddsPairs, Costs};
-ghost use Rattle.pgn_game.specs.steps.PutResult.{NamesMove};
+ghost use Rattle.pgn_game.specs.steps.TokenTaken.{NamesMove};
 
 use crate::reason::Reason;
 use chess_rules::{Colour, Move, Position, Probes, position_after};

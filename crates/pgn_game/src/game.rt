@@ -17,8 +17,8 @@ ghost use Rattle.pgn_game.specs.steps.ItemResult.{ItemCall};
 ghost use Rattle.pgn_layout.specs.Lines.{IsToken};
 ghost use Rattle.pgn_game.specs.declared.event.Event.TheVariants as events;
 ghost use Rattle.pgn_game.specs.steps.Judged.{IsAnnotation, IsFound, IsPlayed, TakesMeant, WritesMove, after_move_at, game_by, section_unless};
-ghost use Rattle.pgn_game.specs.steps.PutResult.{BeginsText, EndsAtPlace, MeetsEntry, TakesMarker, TakesPlaced, TakesUnlessMarker};
-ghost use Rattle.pgn_game.specs.steps.ReaderState.{ReaderCall, expected_of, is_unexpected, known_of, plies_of_finished_games, silenced, unread, with_announced};
+ghost use Rattle.pgn_game.specs.steps.TokenTaken.{BeginsText, EndsAtPlace, TakesEntryPlaced, TakesMarker, TakesPlaced};
+ghost use Rattle.pgn_game.specs.steps.GameState.{GameCall, expected_of, is_unexpected, known_of, plies_of_finished_games, silenced, unread, with_announced};
 ghost use Rattle.pgn_game.specs.steps.TokenInMovetext.{MayTakeMove, has_whole_pairs, may_have_movetext};
 
 use crate::event::Event;
@@ -52,9 +52,9 @@ impl<const T: usize, const L: usize> Model for Game<T, L> {
     ghost use Rattle.std.specs.Prelude.{◌≡◌};
     ghost use Rattle.pgn_game.specs.public.Written.{is_nothing, mode_of_written, mode_unless};
     ghost use Rattle.pgn_game.specs.steps.Judged.{game_by};
-    ghost use Rattle.pgn_game.specs.steps.ReaderState.{ReaderState};
+    ghost use Rattle.pgn_game.specs.steps.GameState.{GameState};
 
-    ghost Value = { ReaderState };
+    ghost Value = { GameState };
 
     ghost view = { λ g. game_by g.writer g.reader };
 
@@ -97,7 +97,13 @@ impl<const T: usize, const L: usize> Game<T, L> {
             (result_for self.now.profile.missing_result self.now.marker) self.now.tags.held) }
     {
         let reader = &self.reader;
-        write_section(reader.mode(), reader.shown_result(), &reader.pairs(), out)
+        write_section(
+            reader.mode(),
+            reader.shown_result(),
+            &reader.pairs(),
+            reader.has_fen(),
+            out,
+        )
     }
 
     /// Returns the marker of the game just read.
@@ -188,54 +194,8 @@ impl<const T: usize, const L: usize> Game<T, L> {
         self.writer.announce_marker(marker);
     }
 
-    /// Takes one token, and writes what it adds to the text of its game. A marker that may end the
-    /// game is only returned, and `end_game` takes it.
-    ///
-    /// # Errors
-    ///
-    /// The row of the fault table that rejects the token, or `Reason::WriteFault` if a write
-    /// failed. Do not call this again after an error.
-    #[inline(always)]
-    pub fn accept_unless_marker<W: Sink, const CALLER: u8>(
-        &mut self,
-        kind: TokenKind<'_>,
-        out: &mut W,
-    ) -> Result<Option<Marker>, Reason>
-        requires few { self.old.earlier_plies + self.old.text.plies < 2 ^ 64 - 1 }
-        requires token { HasLength (kind_of kind) }
-        ensures { ReaderCall W.taken W.failures self.old self.new out.old out.new
-            (TakesUnlessMarker self.old (kind_of kind.entry) self.new result) }
-    {
-        match self.reader.accept_outside(kind) {
-            Some(result) => {
-                result?;
-                Ok(None)
-            }
-            None => self.take::<W, CALLER>(false, kind, out),
-        }
-    }
-
-    /// Takes a token in movetext, unless it is a marker.
-    ///
-    /// # Errors
-    ///
-    /// Those of `accept_unless_marker`.
-    #[inline(always)]
-    pub fn accept_entry<W: Sink>(
-        &mut self,
-        kind: TokenKind<'_>,
-        out: &mut W,
-    ) -> Result<Option<Marker>, Reason>
-        requires stage { self.old.stage ≡ InMovetext }
-        requires few { self.old.text.plies < 2 ^ 64 - 1 }
-        requires token { HasLength (kind_of kind) }
-        ensures { ReaderCall W.taken W.failures self.old self.new out.old out.new
-            (MeetsEntry self.old (kind_of kind.entry) self.new result) }
-    {
-        self.take::<W, MOVETEXT>(true, kind, out)
-    }
-
-    /// Takes the token at this place, and returns whether it finished the game.
+    /// Takes the token at this place: judges it, and writes what it adds to the text of its game.
+    /// Returns whether it finished the game.
     ///
     /// # Errors
     ///
@@ -251,16 +211,15 @@ impl<const T: usize, const L: usize> Game<T, L> {
     ) -> Result<bool, Reason>
         requires few { self.old.earlier_plies + self.old.text.plies < 2 ^ 64 - 1 }
         requires token { HasLength (kind_of kind) }
-        ensures { ReaderCall W.taken W.failures self.old self.new out.old out.new
+        ensures { GameCall W.taken W.failures self.old self.new out.old out.new
             (TakesPlaced self.old (kind_of kind.entry) at self.new result) }
     {
-        match self.accept_unless_marker::<W, CALLER>(kind, out) {
-            Err(reason) => Err(reason),
-            Ok(None) => Ok(false),
-            Ok(Some(marker)) => {
-                self.end_game_at(marker, at, out)?;
-                Ok(true)
+        match self.reader.accept_outside(kind) {
+            Some(result) => {
+                result?;
+                Ok(false)
             }
+            None => self.take::<W, CALLER>(false, kind, at, out),
         }
     }
 
@@ -279,17 +238,10 @@ impl<const T: usize, const L: usize> Game<T, L> {
         requires few { self.old.earlier_plies + self.old.text.plies < 2 ^ 64 - 1 }
         requires stage { self.old.stage ≡ InMovetext }
         requires token { HasLength (kind_of kind) }
-        ensures { ReaderCall W.taken W.failures self.old self.new out.old out.new
+        ensures { GameCall W.taken W.failures self.old self.new out.old out.new
             (TakesPlaced self.old (kind_of kind.entry) at self.new result) }
     {
-        match self.accept_entry(kind, out) {
-            Err(reason) => Err(reason),
-            Ok(None) => Ok(false),
-            Ok(Some(marker)) => {
-                self.end_game_at(marker, at, out)?;
-                Ok(true)
-            }
-        }
+        self.take::<W, MOVETEXT>(true, kind, at, out)
     }
 
     /// Takes a token as `take_token` does, and is not inlined. Few tokens come here: those that lie
@@ -307,30 +259,31 @@ impl<const T: usize, const L: usize> Game<T, L> {
     ) -> Result<bool, Reason>
         requires few { self.old.earlier_plies + self.old.text.plies < 2 ^ 64 - 1 }
         requires token { HasLength (kind_of kind) }
-        ensures { ReaderCall W.taken W.failures self.old self.new out.old out.new
+        ensures { GameCall W.taken W.failures self.old self.new out.old out.new
             (TakesPlaced self.old (kind_of kind.entry) at self.new result) }
     {
         self.take_token::<W, COPIED>(kind, at, out)
     }
 
-    // Takes a token of movetext, or the first one, unless it is a marker. Each event is written
-    // where it is met: so no event is made in memory.
+    // Takes a token of movetext, or the first one. Each event is written where it is met: so no
+    // event is made in memory.
     #[inline(always)]
     fn take<W: Sink, const CALLER: u8>(
         &mut self,
         begun: bool,
         kind: TokenKind<'_>,
+        at: u64,
         out: &mut W,
-    ) -> Result<Option<Marker>, Reason>
+    ) -> Result<bool, Reason>
         requires may { MayTakeMove self.old }
         requires begun { IsTrue begun → self.old.stage ≡ InMovetext }
         requires token { HasLength (kind_of kind) }
-        ensures { ReaderCall W.taken W.failures self.old self.new out.old out.new
-            (MeetsEntry self.old (kind_of kind.entry) self.new result) }
+        ensures { GameCall W.taken W.failures self.old self.new out.old out.new
+            (TakesEntryPlaced self.old (kind_of kind.entry) at self.new result) }
     {
         match self.reader.accept_entry(kind) {
             Err(reason) => Err(reason),
-            Ok(Event::Marker(marker)) => Ok(Some(marker)),
+            Ok(Event::Marker(marker)) => self.end_game_at(marker, at, out),
             Ok(Event::Number) => take_number(begun, &mut self.reader, &mut self.writer, out),
             Ok(Event::Move(mv, probes)) => take_move(
                 begun,
@@ -385,11 +338,12 @@ impl<const T: usize, const L: usize> Game<T, L> {
         }
     }
 
-    // Ends the game with its marker at this place, unless another one was announced.
+    // Ends the game with its marker at this place, and returns `true`, unless another one was
+    // announced.
     #[inline(always)]
-    fn end_game_at<W: Sink>(&mut self, marker: Marker, at: u64, out: &mut W) -> Result<(), Reason>
+    fn end_game_at<W: Sink>(&mut self, marker: Marker, at: u64, out: &mut W) -> Result<bool, Reason>
         requires { IsTrue (may_have_movetext self.old.stage) }
-        ensures { ReaderCall W.taken W.failures self.old self.new out.old out.new
+        ensures { GameCall W.taken W.failures self.old self.new out.old out.new
             (EndsAtPlace self.old marker at self.new result) }
     {
         if self.is_unexpected(marker, at) {
@@ -397,7 +351,7 @@ impl<const T: usize, const L: usize> Game<T, L> {
         }
         self.end_game(marker, out)?;
         self.reader.place_marker(at);
-        Ok(())
+        Ok(true)
     }
 
     // Whether the game has to end with another marker, or with this one at another place.
@@ -414,7 +368,7 @@ impl<const T: usize, const L: usize> Game<T, L> {
     #[inline(always)]
     fn end_game<W: Sink>(&mut self, marker: Marker, out: &mut W) -> Result<(), Reason>
         requires { IsTrue (may_have_movetext self.old.stage) }
-        ensures { ReaderCall W.taken W.failures self.old self.new out.old out.new
+        ensures { GameCall W.taken W.failures self.old self.new out.old out.new
             (TakesMarker self.old marker self.new result) }
     {
         let begun = self.reader.is_in_movetext();
@@ -425,21 +379,22 @@ impl<const T: usize, const L: usize> Game<T, L> {
     }
 }
 
-// Takes a move number or a period, which add nothing but the tag section (PGN 8.2.2.1).
+// Takes a move number or a period, which add nothing but the tag section (PGN 8.2.2.1). This and
+// the next three return that the game goes on.
 #[inline(always)]
 fn take_number<const T: usize, const L: usize, W: Sink>(
     begun: bool,
     reader: &mut Reader<T, L>,
     writer: &mut Writer,
     out: &mut W,
-) -> Result<Option<Marker>, Reason>
+) -> Result<bool, Reason>
     requires stage { IsTrue (may_have_movetext reader.old.stage) }
     requires begun { IsTrue begun → reader.old.stage ≡ InMovetext }
     ensures { TakesMeant W.taken W.failures reader.old reader.new writer.old writer.new out.old
         out.new result (λ e. e ≡ events.Number) }
 {
-    begin_movetext(begun, reader, writer, out)?;
-    Ok(None)
+    ensure_section(begun, reader, writer, out)?;
+    Ok(false)
 }
 
 // Takes a move that was judged.
@@ -451,7 +406,7 @@ fn take_move<const T: usize, const L: usize, W: Sink>(
     reader: &mut Reader<T, L>,
     writer: &mut Writer,
     out: &mut W,
-) -> Result<Option<Marker>, Reason>
+) -> Result<bool, Reason>
     requires stage { IsTrue (may_have_movetext reader.old.stage) }
     requires begun { IsTrue begun → reader.old.stage ≡ InMovetext }
     requires played { IsPlayed reader.old mv }
@@ -460,9 +415,9 @@ fn take_move<const T: usize, const L: usize, W: Sink>(
     ensures { TakesMeant W.taken W.failures reader.old reader.new writer.old writer.new out.old
         out.new result (λ e. e ≡ events.Move mv probes) }
 {
-    begin_movetext(begun, reader, writer, out)?;
-    put_move(&mv, probes, reader, writer, out)?;
-    Ok(None)
+    ensure_section(begun, reader, writer, out)?;
+    write_move(&mv, probes, reader, writer, out)?;
+    Ok(false)
 }
 
 // Takes a NAG that was judged.
@@ -473,15 +428,15 @@ fn take_glyph<const T: usize, const L: usize, W: Sink>(
     reader: &mut Reader<T, L>,
     writer: &mut Writer,
     out: &mut W,
-) -> Result<Option<Marker>, Reason>
+) -> Result<bool, Reason>
     requires stage { IsTrue (may_have_movetext reader.old.stage) }
     requires begun { IsTrue begun → reader.old.stage ≡ InMovetext }
     ensures { TakesMeant W.taken W.failures reader.old reader.new writer.old writer.new out.old
         out.new result (IsAnnotation (codes "$" ++ decimal glyph)) }
 {
-    begin_movetext(begun, reader, writer, out)?;
+    ensure_section(begun, reader, writer, out)?;
     writer.put_glyph(glyph, out)?;
-    Ok(None)
+    Ok(false)
 }
 
 // Takes another annotation that was judged, which is written as this token.
@@ -492,21 +447,21 @@ fn take_annotation<const T: usize, const L: usize, W: Sink>(
     reader: &mut Reader<T, L>,
     writer: &mut Writer,
     out: &mut W,
-) -> Result<Option<Marker>, Reason>
+) -> Result<bool, Reason>
     requires stage { IsTrue (may_have_movetext reader.old.stage) }
     requires begun { IsTrue begun → reader.old.stage ≡ InMovetext }
     requires token { IsToken token.now }
     ensures { TakesMeant W.taken W.failures reader.old reader.new writer.old writer.new out.old
         out.new result (IsAnnotation token.now) }
 {
-    begin_movetext(begun, reader, writer, out)?;
+    ensure_section(begun, reader, writer, out)?;
     writer.put_token(token, out)?;
-    Ok(None)
+    Ok(false)
 }
 
 // Writes the tag section, unless movetext has begun. A silent writer writes none.
 #[inline(always)]
-fn begin_movetext<const T: usize, const L: usize, W: Sink>(
+fn ensure_section<const T: usize, const L: usize, W: Sink>(
     begun: bool,
     reader: &mut Reader<T, L>,
     writer: &mut Writer,
@@ -514,7 +469,7 @@ fn begin_movetext<const T: usize, const L: usize, W: Sink>(
 ) -> Result<(), WriteFault>
     requires stage { IsTrue (may_have_movetext reader.old.stage) }
     requires begun { IsTrue begun → reader.old.stage ≡ InMovetext }
-    ensures section { ReaderCall W.taken W.failures (game_by writer.old reader.old)
+    ensures section { GameCall W.taken W.failures (game_by writer.old reader.old)
         (game_by writer.new reader.new) out.old out.new
         (BeginsText (game_by writer.old reader.old) (game_by writer.new reader.new) result) }
     ensures reader { reader.new ≡ record reader.old { stage = InMovetext } }
@@ -525,7 +480,7 @@ fn begin_movetext<const T: usize, const L: usize, W: Sink>(
     if begun || reader.is_in_movetext() {
         return Ok(());
     }
-    let written = put_section(reader, writer, out);
+    let written = write_tag_section(reader, writer, out);
     reader.begin_movetext();
     written
 }
@@ -548,12 +503,12 @@ fn complete_section<const T: usize, const L: usize, W: Sink>(
     if begun {
         return Ok(());
     }
-    put_section(reader, writer, out)
+    write_tag_section(reader, writer, out)
 }
 
 // Writes the tag section. It is not inlined: a game has one.
 #[inline(never)]
-fn put_section<const T: usize, const L: usize, W: Sink>(
+fn write_tag_section<const T: usize, const L: usize, W: Sink>(
     reader: &Reader<T, L>,
     writer: &mut Writer,
     out: &mut W,
@@ -564,12 +519,18 @@ fn put_section<const T: usize, const L: usize, W: Sink>(
         (known_of (game_by writer.old reader.now)) reader.now.tags.held)) }
     ensures writer { writer.new ≡ record writer.old { is_after_move = false } }
 {
-    writer.put_section(reader.mode(), reader.missing_result(), &reader.pairs(), out)
+    writer.put_section(
+        reader.mode(),
+        reader.missing_result(),
+        &reader.pairs(),
+        reader.has_fen(),
+        out,
+    )
 }
 
 // Writes the move just played, unless it is left out, and counts the pairs that were tried for it.
 #[inline(always)]
-fn put_move<const T: usize, const L: usize, W: Sink>(
+fn write_move<const T: usize, const L: usize, W: Sink>(
     mv: &Move,
     probes: Probes,
     reader: &mut Reader<T, L>,

@@ -1,4 +1,5 @@
 //! Games one at a time, from a source.
+ghost use Rattle.pgn_game.specs.public.Conversion.{CountsResult};
 ghost use Rattle.std.specs.Prelude.{◌≡◌, ◌-◌, ◌<◌, ◌≤◌, ℕ, List, [], Option, None, Ok};
 ghost use Rattle.std.specs.Prelude.{true, false, IsTrue, length};
 ghost use Rattle.std.specs.Option.{option_copied};
@@ -6,12 +7,12 @@ ghost use Rattle.pgn_layout.specs.Device.{Counts, device};
 ghost use Rattle.pgn_game.specs.public.ConverterCalls.{KeepsFault, profile_of};
 ghost use Rattle.pgn_game.specs.public.ConverterCalls.{finished_game_value, finished_game_plies, finished_game_position};
 ghost use Rattle.pgn_game.specs.public.ConverterCalls.{NoWriteFails, writing_nothing};
-ghost use Rattle.pgn_game.specs.public.GamesCalls.{HaveRead, ReadsNext, NextAgain, NextAtEnd, CountsNext};
+ghost use Rattle.pgn_game.specs.public.GamesCalls.{HaveRead, ReadsNext, NextAgain, NextAtEnd};
 ghost use Rattle.pgn_game.specs.public.GamesCalls.{StillReadNone, games_of, most_left};
 ghost use Rattle.pgn_game.specs.steps.GamesSteps.{GoesToNextGame, MoreResult};
 ghost use Rattle.pgn_game.specs.steps.ConverterSteps.{IsGoing};
 ghost use Rattle.pgn_game.specs.steps.SourceFlow.{ReadsSource};
-ghost use Rattle.pgn_game.specs.steps.ReaderState.{KeepsSilence, sink_of};
+ghost use Rattle.pgn_game.specs.steps.GameState.{KeepsSilence, sink_of};
 
 use crate::converter::{Converter, Fed};
 use crate::mode::Mode;
@@ -108,7 +109,7 @@ impl<const T: usize, const L: usize> Games<T, L> {
         ensures at_end { NextAtEnd self.old self.new result source.old source.new out.old out.new }
         ensures again { NextAgain self.old self.new result source.old source.new out.old out.new }
         ensures counted { self.old.converter.fault ≡ None
-            → CountsNext result (device R.left R.failures source.old source.new)
+            → CountsResult result (device R.left R.failures source.old source.new)
             (sink_of self.old.converter.reading W.taken W.failures out.old out.new) }
         ensures silent { KeepsSilence self.old.converter.reading self.new.converter.reading
             out.old out.new }
@@ -212,7 +213,7 @@ fn convert_game<const T: usize, const L: usize, R: Source, W: Sink>(
     if read_source(converter, buffer, source, out)? {
         return Ok(true);
     }
-    converter.finish_left(out)
+    converter.finish_left(false, out)
 }
 
 /// Converts up to the end of the next game of a source, or to the end of the source. Returns

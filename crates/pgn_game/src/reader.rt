@@ -4,7 +4,7 @@ ghost use Rattle.std.specs.Prelude.{None, Some, IsSome, IsTrue, option_map, ◌�
 ghost use Rattle.std.specs.Option.{option_copied};
 ghost use Rattle.pgn_lexer.specs.Tokens.{HasLength, left_paren, right_paren, symbol};
 ghost use Rattle.pgn_lexer.specs.Scanned.{kind_of};
-ghost use Rattle.pgn_game.specs.games.Pairs.{value_of};
+ghost use Rattle.pgn_game.specs.games.Pairs.{has_pair, value_of};
 ghost use Rattle.pgn_game.specs.export.TagSection.{exported};
 ghost use Rattle.pgn_game.specs.declared.stage.Stage.TheVariants.{Between, AfterLeftBracket, AfterName};
 ghost use Rattle.pgn_game.specs.declared.stage.Stage.TheVariants.{AfterValue, AfterTags, InMovetext};
@@ -14,10 +14,10 @@ ghost use Rattle.pgn_game.specs.declared.writer.Writer.{Writer};
 ghost use Rattle.pgn_game.specs.steps.Accepted.{Accepts, AcceptsEntry};
 ghost use Rattle.pgn_game.specs.steps.Judged.{game_at, Judges, JudgesBefore, JudgesInPair, JudgesMarker, JudgesOutside};
 ghost use Rattle.pgn_game.specs.steps.Movetext.{IsDepth};
-ghost use Rattle.pgn_game.specs.steps.ReaderState.{plies_of_finished_games, restarted, unread};
+ghost use Rattle.pgn_game.specs.steps.GameState.{plies_of_finished_games, restarted, unread};
 ghost use Rattle.pgn_game.specs.steps.TokenInMovetext.{MayTakeMove, has_whole_pairs, may_have_movetext};
 ghost use Rattle.pgn_game.specs.steps.TokenInMovetext.{fen_position as position_in_fen};
-ghost use Rattle.pgn_game.specs.steps.PutResult.{CountsMove, Finds, at_game_start, continued};
+ghost use Rattle.pgn_game.specs.steps.TokenTaken.{CountsMove, Finds, at_game_start, continued};
 ghost use Rattle.pgn_game.specs.games.FaultTable as spec;
 ghost use Rattle.pgn_game.specs.games.FaultTable.{is_reduced, result_for};
 
@@ -61,9 +61,9 @@ pub struct Reader<const T: usize, const L: usize> {
 impl<const T: usize, const L: usize> Model for Reader<T, L> {
     ghost use Rattle.std.specs.Prelude.{◌-◌, ◌≤◌, [], None, false};
     ghost use Rattle.pgn_game.specs.games.Markers.{marker_text, missing_of};
-    ghost use Rattle.pgn_game.specs.steps.ReaderState.{ReaderState, AreSound};
+    ghost use Rattle.pgn_game.specs.steps.GameState.{GameState, AreSound};
 
-    ghost Value = { ReaderState };
+    ghost Value = { GameState };
 
     ghost view = { λ r. record {
       profile = record {
@@ -113,7 +113,13 @@ impl<const T: usize, const L: usize> Reader<T, L> {
             (result_for self.now.profile.missing_result self.now.marker) self.now.tags.held)
             name.now }
     {
-        exported_value(self.mode, self.shown_result(), &self.tags.pairs(), name)
+        exported_value(
+            self.mode,
+            self.shown_result(),
+            &self.tags.pairs(),
+            self.has_fen(),
+            name,
+        )
     }
 
     /// Returns the value of a name in the tag section of the current game, defaults included, if a
@@ -124,7 +130,13 @@ impl<const T: usize, const L: usize> Reader<T, L> {
             ≡ value_of (exported self.now.profile.mode
             (known_result (missing_of missing_result)) self.now.tags.held) name.now }
     {
-        exported_value(self.mode, missing_result, &self.tags.pairs(), name)
+        exported_value(
+            self.mode,
+            missing_result,
+            &self.tags.pairs(),
+            self.has_fen(),
+            name,
+        )
     }
 
     /// Returns the tag pairs of the current game, or of the game just read, in the order of their
@@ -134,6 +146,13 @@ impl<const T: usize, const L: usize> Reader<T, L> {
         ensures { result ≡ self.now.tags.held }
     {
         self.tags.pairs()
+    }
+
+    /// Whether a FEN is among them.
+    pub fn has_fen(&self) -> bool
+        ensures { result ≡ has_pair self.now.tags.held (codes "FEN") }
+    {
+        self.tags.has_fen()
     }
 
     /// Returns which parts of a game are written.
@@ -325,7 +344,7 @@ impl<const T: usize, const L: usize> Reader<T, L> {
         if !fits_tag_line(name, value) {
             return Err(Reason::TagLineTooLong);
         }
-        self.tags.complete(value);
+        self.tags.complete(value, start.is_some());
         self.levels.begin_at(start);
         self.stage = Stage::AfterValue;
         Ok(())
@@ -379,8 +398,7 @@ impl<const T: usize, const L: usize> Reader<T, L> {
         requires { IsTrue (may_have_movetext self.now.stage) }
         ensures { result ≡ spec.lacks_fen self.now.tags.held }
     {
-        self.tags.value(b"SetUp").unwrap_or(b"") == b"1".as_slice()
-            && self.tags.value(b"FEN").is_none()
+        self.tags.value(b"SetUp").unwrap_or(b"") == b"1".as_slice() && !self.has_fen()
     }
 
     // Counts the pairs that find the move of a token which SetUp rejects.

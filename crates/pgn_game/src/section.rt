@@ -28,7 +28,8 @@ const FROM_FEN: &[u8] = b"1";
 /// Writes the tag section: the roster, in full mode the other pairs, and an empty line (PGN 8.1).
 ///
 /// A roster pair that the game lacks has its default, which for Result is what is known of a
-/// missing one. Beside a FEN, SetUp is 1 (PGN 9.7.1).
+/// missing one. Beside a FEN, SetUp is 1 (PGN 9.7.1). `has_fen` says whether one is among the
+/// pairs, here and below.
 ///
 /// # Errors
 ///
@@ -38,8 +39,10 @@ pub fn write_section<W: Sink>(
     mode: Mode,
     missing_result: MissingResult,
     pairs: &OrderedPairs<'_>,
+    has_fen: bool,
     out: &mut W,
 ) -> Result<(), WriteFault>
+    requires { has_fen ≡ has_pair pairs.now (codes "FEN") }
     ensures { WritesText (device W.taken W.failures out.old out.new) result
         (tag_section mode (known_result (missing_of missing_result)) pairs.now) }
 {
@@ -47,7 +50,7 @@ pub fn write_section<W: Sink>(
     match mode {
         Mode::Reduced => end_tags(out),
         Mode::Full => {
-            write_others(pairs, out)?;
+            write_others(pairs, has_fen, out)?;
             end_tags(out)
         }
     }
@@ -58,8 +61,10 @@ pub fn exported_value<'a>(
     mode: Mode,
     missing_result: MissingResult,
     pairs: &OrderedPairs<'a>,
+    has_fen: bool,
     name: &[u8],
 ) -> Option<&'a [u8]>
+    requires { has_fen ≡ has_pair pairs.now (codes "FEN") }
     ensures { option_copied result
         ≡ value_of (exported mode (known_result (missing_of missing_result)) pairs.now) name.now }
 {
@@ -67,7 +72,7 @@ pub fn exported_value<'a>(
     if unknown.is_none() && mode == Mode::Reduced {
         return None;
     }
-    match value_with_set_up(pairs, name) {
+    match value_with_set_up(pairs, has_fen, name) {
         Some(value) => Some(value),
         None => unknown,
     }
@@ -79,8 +84,10 @@ pub fn exported_pair<'a>(
     mode: Mode,
     missing_result: MissingResult,
     pairs: &OrderedPairs<'a>,
+    has_fen: bool,
     index: usize,
 ) -> Option<(&'a [u8], &'a [u8])>
+    requires { has_fen ≡ has_pair pairs.now (codes "FEN") }
     ensures { option_map pair_of result
         ≡ slice_get (exported mode (known_result (missing_of missing_result)) pairs.now) index }
 {
@@ -90,17 +97,22 @@ pub fn exported_pair<'a>(
     }
     match mode {
         Mode::Reduced => None,
-        Mode::Full => other_pair(pairs, index - 7),
+        Mode::Full => other_pair(pairs, has_fen, index - 7),
     }
 }
 
 // Returns the pair outside the roster that has so many such pairs before it, SetUp 1 among them if
 // there is a FEN.
-fn other_pair<'a>(pairs: &OrderedPairs<'a>, index: usize) -> Option<(&'a [u8], &'a [u8])>
+fn other_pair<'a>(
+    pairs: &OrderedPairs<'a>,
+    has_fen: bool,
+    index: usize,
+) -> Option<(&'a [u8], &'a [u8])>
+    requires { has_fen ≡ has_pair pairs.now (codes "FEN") }
     ensures { option_map pair_of result
         ≡ slice_get (other_pairs (with_set_up pairs.now)) index }
 {
-    if !has_fen(pairs) {
+    if !has_fen {
         return nth_pair(pairs, false, index).ok();
     }
     let (before, after) = pairs.split_at(index_of(pairs, SET_UP));
@@ -156,10 +168,11 @@ fn is_other(pair: &TagPair, has_fen: bool) -> bool
 }
 
 // The value of a name, with SetUp 1 if there is a FEN (PGN 9.7.1).
-fn value_with_set_up<'a>(pairs: &OrderedPairs<'a>, name: &[u8]) -> Option<&'a [u8]>
+fn value_with_set_up<'a>(pairs: &OrderedPairs<'a>, has_fen: bool, name: &[u8]) -> Option<&'a [u8]>
+    requires { has_fen ≡ has_pair pairs.now (codes "FEN") }
     ensures value { option_copied result ≡ value_of (with_set_up pairs.now) name.now }
 {
-    if name == SET_UP && has_fen(pairs) {
+    if name == SET_UP && has_fen {
         return Some(FROM_FEN);
     }
     value_in(pairs, name)
@@ -196,24 +209,22 @@ fn write_roster<W: Sink>(
 }
 
 // Writes the pairs outside the roster, SetUp 1 among them if there is a FEN (PGN 9.7.1).
-fn write_others<W: Sink>(pairs: &OrderedPairs<'_>, out: &mut W) -> Result<(), WriteFault>
+fn write_others<W: Sink>(
+    pairs: &OrderedPairs<'_>,
+    has_fen: bool,
+    out: &mut W,
+) -> Result<(), WriteFault>
+    requires { has_fen ≡ has_pair pairs.now (codes "FEN") }
     ensures { WritesText (device W.taken W.failures out.old out.new) result
         (tag_lines (other_pairs (with_set_up pairs.now))) }
 {
-    if !has_fen(pairs) {
+    if !has_fen {
         return write_pairs(pairs, false, out);
     }
     let (before, after) = pairs.split_at(index_of(pairs, SET_UP));
     write_pairs(&before, true, out)?;
     write_tag(SET_UP, FROM_FEN, out)?;
     write_pairs(&after, true, out)
-}
-
-// Whether there is a FEN.
-fn has_fen(pairs: &OrderedPairs<'_>) -> bool
-    ensures { result ≡ has_pair pairs.now (codes "FEN") }
-{
-    value_in(pairs, b"FEN").is_some()
 }
 
 // Writes those of the pairs that are outside the roster, and no second SetUp beside a FEN.

@@ -1,7 +1,7 @@
 //! The tag pairs of one game, and the order of their names.
-ghost use Rattle.std.specs.Prelude.{◌≡◌, ◌+◌, ◌≤◌, ◌↔◌, [], IsTrue, IfSome, IsSome, IsSomeAnd, Some, None, length};
+ghost use Rattle.std.specs.Prelude.{◌≡◌, ◌+◌, ◌≤◌, ◌↔◌, [], IsTrue, IfSome, IsSome, IsSomeAnd, Some, None, bytes_eq, codes, length};
 ghost use Rattle.pgn_layout.specs.TagLine.{escaped};
-ghost use Rattle.pgn_game.specs.games.Pairs.{insert_pair};
+ghost use Rattle.pgn_game.specs.games.Pairs.{has_pair, insert_pair};
 ghost use Rattle.pgn_game.specs.steps.StoredPairs.{FindResult, MayBegin, ValueResult};
 
 use crate::ordered::{OrderedPairs, find, value_in};
@@ -21,6 +21,7 @@ pub struct TagPairs<const T: usize> {
     // How many pairs come before the name that has no value yet, which is stored after them.
     place: usize,
     has_pending_name: bool,
+    has_fen: bool,
 }
 
 impl<const T: usize> Model for TagPairs<T> {
@@ -34,7 +35,7 @@ impl<const T: usize> Model for TagPairs<T> {
         (pair_at t.stored.items (length t.order.items)) t.has_pending_name };
 
     ghost invariant = { λ t. FitsPairStore T t.stored.items t.order.items t.place
-        t.has_pending_name };
+        t.has_pending_name t.has_fen };
 }
 
 impl<const T: usize> TagPairs<T> {
@@ -47,6 +48,7 @@ impl<const T: usize> TagPairs<T> {
             order: ArrayVec::new(),
             place: 0,
             has_pending_name: false,
+            has_fen: false,
         }
     }
 
@@ -57,6 +59,13 @@ impl<const T: usize> TagPairs<T> {
         ensures room { length self.now.held ≤ T }
     {
         self.order.len() == T
+    }
+
+    /// Whether there is a FEN.
+    pub fn has_fen(&self) -> bool
+        ensures { result ≡ has_pair self.now.held (codes "FEN") }
+    {
+        self.has_fen
     }
 
     /// Returns the value of a name, if it has one.
@@ -107,10 +116,11 @@ impl<const T: usize> TagPairs<T> {
         self.stored.as_slice()[self.order.len()].name()
     }
 
-    /// Adds the value of the name that has none yet.
-    pub fn complete(&mut self, value: &[u8])
-        requires { IsSomeAnd self.old.pending_name
+    /// Adds the value of the name that has none yet. `is_fen` says whether that name is FEN.
+    pub fn complete(&mut self, value: &[u8], is_fen: bool)
+        requires fits { IsSomeAnd self.old.pending_name
             (λ name. length name + length (escaped value.now) ≤ 249) }
+        requires fen { IfSome self.old.pending_name (λ name. is_fen ≡ bytes_eq name (codes "FEN")) }
         ensures { IfSome self.old.pending_name (λ name. self.new
             ≡ record {
               held = insert_pair (record { name = name; value = value.now }) self.old.held;
@@ -122,6 +132,7 @@ impl<const T: usize> TagPairs<T> {
         stored[count].set_value(value);
         self.order.insert(self.place, count);
         self.has_pending_name = false;
+        self.has_fen |= is_fen;
     }
 
     /// Leaves no pairs. Their room is kept, and later pairs use it again.
@@ -130,5 +141,6 @@ impl<const T: usize> TagPairs<T> {
     {
         self.order.clear();
         self.has_pending_name = false;
+        self.has_fen = false;
     }
 }

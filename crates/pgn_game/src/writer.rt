@@ -12,9 +12,10 @@ ghost use Rattle.pgn_game.specs.export.Text.{number_before, tokens_at};
 ghost use Rattle.pgn_game.specs.games.Chess.{is_black_to_move};
 ghost use Rattle.pgn_game.specs.games.Game as games;
 ghost use Rattle.pgn_game.specs.games.Markers.{marker_text, missing_of};
+ghost use Rattle.pgn_game.specs.games.Pairs.{has_pair};
 ghost use Rattle.pgn_game.specs.games.Profile.{known_result};
 ghost use Rattle.pgn_game.specs.steps.ItemResult.{ItemCall, PutsAnnotation, PutsMarker, PutsTokens};
-ghost use Rattle.pgn_game.specs.steps.ReaderState.{expected_by, known_text};
+ghost use Rattle.pgn_game.specs.steps.GameState.{expected_by, known_text};
 
 use crate::marker::{Marker, MissingResult, PlacedMarker};
 use crate::mode::{Mode, Written};
@@ -69,7 +70,8 @@ impl Writer {
         self.announced = Some(marker);
     }
 
-    /// Writes the tag section, with which a game begins.
+    /// Writes the tag section, with which a game begins. `has_fen` says whether a FEN is among the
+    /// pairs.
     ///
     /// # Errors
     ///
@@ -79,8 +81,10 @@ impl Writer {
         mode: Mode,
         missing_result: MissingResult,
         pairs: &OrderedPairs<'_>,
+        has_fen: bool,
         out: &mut W,
     ) -> Result<(), WriteFault>
+        requires { has_fen ≡ has_pair pairs.now (codes "FEN") }
         ensures section { ItemCall self.old.written W.taken W.failures out.old out.new
             (λ by d. WritesText d result (tag_section mode (known_text (missing_of missing_result)
             self.old.announced) pairs.now)) }
@@ -90,7 +94,7 @@ impl Writer {
         if let Written::Nothing = self.written {
             return Ok(());
         }
-        write_section(mode, self.known(missing_result), pairs, out)
+        write_section(mode, self.known(missing_result), pairs, has_fen, out)
     }
 
     // What is known of a missing Result before the marker.

@@ -11,13 +11,13 @@ pub use Rattle.std.specs.Io.KnownBytes.{Appends, Consumes, IsAtEnd, Keeps, Write
 pub use Rattle.std.specs.Prelude.{Err, IfOk, Ok, OnOk, String, codes, if◌then◌else◌, is_ok, option_map, string_bytes}
 pub use Rattle.pgn_arguments.specs.declared.arguments.Task.TheVariants.{Export, Split}
 pub use Rattle.pgn_game.specs.public.CheckedConversion.{AreConverted, CountsThree, FirstStops, HasTaken, OneFails, SecondStops, TwoReadingsConvert, TwoReadingsFail, WriteStops, first_too_long, first_unread, second_too_long, second_unread, unwritten}
-pub use Rattle.pgn_game.specs.public.Conversion.{AfterConversion, CountsDevices, Decides, Fails, IsConverted, IsTokenPrefix}
+pub use Rattle.pgn_game.specs.public.Conversion.{AfterConversion, CountsDevices, CountsResult, Decides, Fails, IsConverted, IsTokenPrefix}
 pub use Rattle.pgn_game.specs.public.ConverterCalls.{AreNext, FinishedGame, HasRead, Stops, StopsWriting, games_before, profile_of, AreShown, IsRefused, so_far, within_limit}
 pub use Rattle.pgn_game.specs.laws.EqualReadings.{EqualReadings, InterruptedReadings}
 pub use Rattle.pgn_game.specs.games.FaultTable.{Row, first_holding, result_for, rows}
 unfoldable pub use Rattle.pgn_game.specs.games.FaultTable.{refusal}
 pub use Rattle.pgn_game.specs.games.Game.{Game, Part}
-pub use Rattle.pgn_game.specs.public.GamesCalls.{Games, HaveRead, NextGame, NextStops, NoGame, ReadsNoGame, at_end, most_left, within, CountsNext, ReadsNext}
+pub use Rattle.pgn_game.specs.public.GamesCalls.{Games, HaveRead, NextGame, NextStops, NoGame, ReadsNoGame, at_end, most_left, within, ReadsNext}
 pub use Rattle.pgn_game.specs.games.Levels.{start_of}
 pub use Rattle.pgn_game.specs.games.Profile.{Profile, takes_the_marker}
 pub use Rattle.pgn_game.specs.games.Progress.{Progress, Read, Verdict, due, no_progress, output, progress_after, read, read_from, refused, totals, verdict, verdict_of, Counted}
@@ -55,5 +55,5 @@ pub use Rattle.pgn_tool.specs.declared.split.Unsplit.TheVariants.{NoMemory}
 pub use Rattle.std.proofs.lemmas.Option.{IfSome_then, none-some}
 pub use Rattle.pgn_tool.specs.declared.files.CreateFault.{CreateFault}
 pub use Rattle.pgn_game.specs.public.Written.{seen}
-pub use Rattle.pgn_game.specs.steps.ReaderState.{ReaderState}
+pub use Rattle.pgn_game.specs.steps.GameState.{GameState}
 pub use Rattle.std.proofs.lemmas.Grind.{common_steps}

@@ -8,7 +8,8 @@ use Rattle.pgn_game.specs.declared.reason.Reason.{Reason}
 use Rattle.pgn_game.specs.declared.reason.Reason.TheVariants.{ReadFault, WriteFault}
 use Rattle.pgn_game.specs.declared.reason.Fault.{Fault}
 use Rattle.pgn_game.specs.games.Reason.{line_of}
-use Rattle.pgn_game.specs.public.GamesCalls.{Games, CountsNext, ReadsNext}
+use Rattle.pgn_game.specs.public.Conversion.{CountsResult}
+use Rattle.pgn_game.specs.public.GamesCalls.{Games, ReadsNext}
 use Rattle.pgn_tool.specs.declared.files.CreateFault.TheVariants as create_faults
 use Rattle.pgn_tool.specs.declared.game_sink.GameFile.{GameFile}
 use Rattle.pgn_tool.specs.declared.game_sink.GameFile.TheVariants as game_files
@@ -41,7 +42,7 @@ pub record GameSplit {A : Type 0} (taken : A → Option (List ℕ)) (failures : 
   pub logged : log_after ≡ added log (file_steps taken failures (one_more old.converter.games) file)
   pub begun : IsBegun taken failures log file
   pub reads : ReadsNext old new answer source (file_sink taken failures log file)
-  pub counted : CountsNext answer source (file_sink taken failures log file)
+  pub counted : CountsResult answer source (file_sink taken failures log file)
 
 -- ---- how a split ends
 

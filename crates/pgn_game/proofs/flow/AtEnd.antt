@@ -1,8 +1,8 @@
 -- A token that is left behind the last piece, and what `finish` promises.
 use Rattle.pgn_lexer.specs.Scanned.{token}
 use Rattle.pgn_lexer.specs.Stands.{Finishes as FinishesLexer}
-use Rattle.pgn_game.proofs.Words.{cases_order, coming, false≢true, inl, inr, lt-ltb, ltb-true, nat_lt, read, arith, ◌≤◌, ◌*◌, ◌^◌, waiting, Keeps, IsSound, common_steps, IsLastGame as IsLast, game_in_reader_if, ◌&&◌, Between, part_after, fault, ◌≡◌, ℕ, ◌+◌, ◌<◌, ◌↔◌, Bool, true, false, IsTrue, List, [], ◌∷◌, ◌++◌, length, Option, None, Some, Result, Ok, Err, refl, sym, ap, subst, ◌∙◌, Token, Game, Profile, Fault, LexFault, Lexical, Reason, Device, Converter, ReaderState, Standing, Stands, tokens_of, is_end, More, TakesToken, AfterFinish, Finishes, FinishesToFault, FinishedGame, game_in_reader, SameGames}
-use Rattle.pgn_game.specs.steps.PutResult.{EndsPlaced, TakesPlaced}
+use Rattle.pgn_game.proofs.Words.{cases_order, coming, false≢true, inl, inr, lt-ltb, ltb-true, nat_lt, read, arith, ◌≤◌, ◌*◌, ◌^◌, waiting, Keeps, IsSound, common_steps, IsLastGame as IsLast, game_in_reader_if, ◌&&◌, Between, part_after, fault, ◌≡◌, ℕ, ◌+◌, ◌<◌, ◌↔◌, Bool, true, false, IsTrue, List, [], ◌∷◌, ◌++◌, length, Option, None, Some, Result, Ok, Err, refl, sym, ap, subst, ◌∙◌, Token, Game, Profile, Fault, LexFault, Lexical, Reason, Device, Converter, GameState, Standing, Stands, tokens_of, is_end, More, TakesToken, AfterFinish, Finishes, FinishesToFault, FinishedGame, game_in_reader, SameGames}
+use Rattle.pgn_game.specs.steps.TokenTaken.{EndsPlaced, TakesPlaced}
 use Rattle.pgn_game.specs.steps.Flow.{Known, At, EndsGames, FinishesLeft, GoesAtEnd, ReadsOn, Start, StopsAt, ended, so_far, steps_until}
 use Rattle.pgn_game.proofs.stepping.AcceptedToConverter.{has_read_more, now_at, read_as, same_games}
 use Rattle.pgn_game.proofs.stepping.OneMoreToken.{read-passes}
@@ -30,14 +30,14 @@ with_last start text c tokens o last here is =
       over = here.over;
     }
 
-still_last : (games : List Game) (old new : ReaderState) (has between : Bool) → IsLast (game_in_reader_if has old) games → (between ≡ true → new ≡ old)
+still_last : (games : List Game) (old new : GameState) (has between : Bool) → IsLast (game_in_reader_if has old) games → (between ≡ true → new ≡ old)
     → IsLast (game_in_reader_if (has && between) new) games
 still_last games old new false between last same = tt
 still_last games old new true false last same = tt
 still_last games old new true true last same = rw (same refl) last
 
 -- A converter behind the last piece, and the token that the lexer gives.
-module _ (lexer l : Standing) (reading new : ReaderState) (games : ℕ) (has : Bool) (t : Token) (gives : FinishesLexer lexer l (token t)) (d : Device) where
+module _ (lexer l : Standing) (reading new : GameState) (games : ℕ) (has : Bool) (t : Token) (gives : FinishesLexer lexer l (token t)) (d : Device) where
   abbrev old : Converter
   old = view_of lexer reading games has false None
 
@@ -92,7 +92,7 @@ module _ (lexer l : Standing) (reading new : ReaderState) (games : ℕ) (has : B
       stops start (ended s) old tokens t l new d here.since reason takes (tokens_left s tokens (is_end t.kind) l t (left_now s tokens here.lexer)) now is same
 
 -- the same of fields that are known to be so
-module _ (lexer l : Standing) (reading new : ReaderState) (games : ℕ) (has over : Bool) (fault : Option Fault) (going : over ≡ false) (none : fault ≡ None)
+module _ (lexer l : Standing) (reading new : GameState) (games : ℕ) (has over : Bool) (fault : Option Fault) (going : over ≡ false) (none : fault ≡ None)
     (t : Token) (gives : FinishesLexer lexer l (token t)) (d : Device) where
   pub left_on_at : (between e : Bool) → TakesToken reading t.kind new (Ok More) d → (between ≡ true → new.stage ≡ Between) → is_end t.kind ≡ e
       → ReadsOn (view_of lexer reading games has over fault) None (view_of l new games (has && between) e fault) (Ok false) d
@@ -164,7 +164,7 @@ holds_on first mid new false sink holds goes =
     }
 
 -- whether a game was finished since
-pub ended_games : (old new : Converter) → Holds old.games new → (finished_game : Bool) → finished_game ≡ nat_lt old.games new.games → EndsGames old new (Ok finished_game)
+pub ended_games : (old new : Converter) → Holds old.games new → (finished_game : Bool) → finished_game ≡ nat_lt old.games new.games → EndsGames false old new (Ok finished_game)
 ended_games old new holds true is = (ltb-true old.games new.games (sym is), λ between. holds.held (ltb-true old.games new.games (sym is)) between)
 ended_games old new holds false is =
     let same : new.games ≡ old.games = elim (cases_order old.games new.games) [
@@ -173,6 +173,17 @@ ended_games old new holds false is =
       | inr (inr more) ↦ absurd (omega (arith, more, holds.no_fewer))
     ] in
     (same, holds.none_else same)
+
+-- A call that stops, or that no game ends: if a game would end it, none was finished.
+pub stopped_games : (to_game : Bool) (old new : Converter) (f : Fault) → (to_game ≡ true → new.games ≡ old.games) → new.just_finished ≡ None → EndsGames to_game old new (Err f)
+stopped_games true old new f same none = omega (arith, same refl)
+stopped_games false old new f same none = none
+
+pub all_left : (to_game : Bool) (old new : Converter) → Holds old.games new → (to_game ≡ true → new.games ≡ old.games) → (finished_game : Bool)
+    → finished_game ≡ nat_lt old.games new.games → EndsGames to_game old new (Ok finished_game) × ((to_game && finished_game) ≡ false)
+all_left false old new holds same finished_game is = (ended_games old new holds finished_game is, refl)
+all_left true old new holds same false is = (omega (arith, same refl), refl)
+all_left true old new holds same true is = absurd (omega (arith, same refl, ltb-true old.games new.games (sym is)))
 
 -- ---- what `finish` promises
 
@@ -217,7 +228,7 @@ module _ (p : Profile) (u : List ℕ) (b : Option ℕ) (given : List Token) (old
       }
 
   by_games : (new : Converter) (tokens : List Token) (c : Option (List ℕ)) → At start (ended u) new tokens c → IsShown new.reading.writing.is_silent a
-      → new.is_finished ≡ true → (finished_game : Bool) → EndsGames old new (Ok finished_game) → Finishes p u given new finished_game a c
+      → new.is_finished ≡ true → (finished_game : Bool) → EndsGames false old new (Ok finished_game) → Finishes p u given new finished_game a c
   by_games new tokens c at shown over true ends =
       finishes true new tokens c at shown over (λ yes. ends.0, λ less. refl) (λ yes. ends.1 (at.over over).0) (λ no. absurd (false≢true (sym no)))
   by_games new tokens c at shown over false ends =
@@ -225,7 +236,7 @@ module _ (p : Profile) (u : List ℕ) (b : Option ℕ) (given : List Token) (old
       (λ yes. absurd (false≢true yes)) (λ no. ends.1)
 
   pub after_finish : (result : Result Bool Fault) (new : Converter) (c : Option (List ℕ)) (x y : ℕ) → IsShown new.reading.writing.is_silent a
-      → ((f : Fault) → result ≡ Err f → IsStopShown new.reading.writing.is_silent a f.reason) → FinishesLeft old new result (between a c x y)
+      → ((f : Fault) → result ≡ Err f → IsStopShown new.reading.writing.is_silent a f.reason) → FinishesLeft false old new result (between a c x y)
       → AfterFinish p u given new result a c
   after_finish (Ok finished_game) new c x y shown stop_shown left =
       let there = left.reads start (ended u) given tt begins in
@@ -239,10 +250,10 @@ both true b h = h
 both false b h = absurd (cc)
 
 -- a game just finished stays so while no game is begun
-pub kept_or_none : (before after : ReaderState) (has between : Bool) → (after.stage ≡ Between → after ≡ before) → (after.stage ≡ Between → IsTrue between)
+pub kept_or_none : (before after : GameState) (has between : Bool) → (after.stage ≡ Between → after ≡ before) → (after.stage ≡ Between → IsTrue between)
     → (game_in_reader_if has before ≡ None → game_in_reader_if (has && between) after ≡ None)
     × (after.stage ≡ Between → (before.stage ≡ Between) × (game_in_reader_if (has && between) after ≡ game_in_reader_if has before))
-kept_or_none before after has true stays is = (kept_none has, λ at. (ap (λ (r : ReaderState). r.stage) (sym (stays at)) ∙ at, kept_if has (stays at)))
+kept_or_none before after has true stays is = (kept_none has, λ at. (ap (λ (r : GameState). r.stage) (sym (stays at)) ∙ at, kept_if has (stays at)))
   where
     kept_none : (has : Bool) → game_in_reader_if has before ≡ None → game_in_reader_if (has && true) after ≡ None
     kept_none true h = absurd (cc)
@@ -256,7 +267,7 @@ kept_or_none before after false false stays is = (λ h. refl, λ at. absurd (fal
 
 -- ---- how small the counts stay
 
-module _ (old new : Standing) (before after : ReaderState) (games : ℕ) where
+module _ (old new : Standing) (before after : GameState) (games : ℕ) where
   pub sound_game_at_end : {over : Bool} {fault : Option Fault} → waiting new < waiting old → new.count ≡ old.count → old.count ≤ 2 ^ 62
       → games + waiting old ≤ 2 * old.count + 2 → before.earlier_plies + before.text.plies + waiting old ≤ 2 * old.count + 2 → Keeps before after
       → after.stage ≡ Between → fault ≡ None → IsSound new after (games + 1) true over fault

@@ -1,8 +1,8 @@
 -- What is read of a piece: white space, a token, or what the lexer rejects.
 use Rattle.pgn_lexer.specs.Scanned.{Scanned, token}
-use Rattle.pgn_game.proofs.Words.{false≢true, ◌≡◌, ℕ, ◌+◌, ◌<◌, ◌≤◌, inl, List, [], ◌∷◌, ◌++◌, length, take, drop, Option, None, Some, refl, sym, ap, subst, ◌∙◌, arith, take-add, drop-drop, length-drop, length-append, take-append_seam, Token, Standing, Converter, ReaderState, AfterScan, StandsAfter, first, more, fault, LexFault, decided, Ok, Err, true, Device, Reason, More, TakesToken, Lexical, Follows, Scans, append-nil, false, AreNext, tokens_of, take-append-drop}
+use Rattle.pgn_game.proofs.Words.{false≢true, ◌≡◌, ℕ, ◌+◌, ◌<◌, ◌≤◌, inl, List, [], ◌∷◌, ◌++◌, length, take, drop, Option, None, Some, refl, sym, ap, subst, ◌∙◌, arith, take-add, drop-drop, length-drop, length-append, take-append_seam, Token, Standing, Converter, GameState, AfterScan, StandsAfter, first, more, fault, LexFault, decided, Ok, Err, true, Device, Reason, More, TakesToken, Lexical, Follows, Scans, append-nil, false, AreNext, tokens_of, take-append-drop}
 use Rattle.pgn_lexer.specs.PartialToken.{refusal as refusal_token}
-use Rattle.pgn_game.specs.steps.PutResult.{EndsPlaced, TakesPlaced}
+use Rattle.pgn_game.specs.steps.TokenTaken.{EndsPlaced, TakesPlaced}
 use Rattle.pgn_game.specs.steps.Flow.{At, AreAllDecided, HasGivenOf, ReadsOn, ended, so_far, Start}
 use Rattle.pgn_game.proofs.flow.Takes.{closes, finished_at, stops, stops_lexical, takes_game, takes_more}
 use Rattle.pgn_game.proofs.stepping.ReadsInText.{between}
@@ -117,7 +117,7 @@ module _ (old : Converter) (piece : List ℕ) where
         stops_lexical start (so_far s) old tokens o here.since f (refused_next start s piece old tokens o here ahead f some scans) now is same
     reads_fault some f scans now is same o n start (ended s) tokens ahead here = absurd ahead
 
-    module _ (t : Token) (scans : Scans old.lexer piece l used (token t)) (new : ReaderState) (d : Device) where
+    module _ (t : Token) (scans : Scans old.lexer piece l used (token t)) (new : GameState) (d : Device) where
       pub reads_token : TakesToken old.reading t.kind new (Ok More) d → ReadsOn old (Some piece) (now_at l new old.games false) (Ok false) d
       reads_token takes start (so_far s) tokens ahead here = (
         tokens ++ t ∷ [],

@@ -332,7 +332,7 @@ module _ (p : Profile) (u : List ℕ) (given : List Token) (old : Games) (a : Op
           gains = gains;
         }
 
-    pub ended_now : (finished_game : Bool) → EndsGames mid new (Ok finished_game) → AfterNext p u given left_old left (games_of new unused) (Ok finished_game) a c
+    pub ended_now : (finished_game : Bool) → EndsGames false mid new (Ok finished_game) → AfterNext p u given left_old left (games_of new unused) (Ok finished_game) a c
     ended_now true ends = elim adds [
       | inl same ↦ absurd (omega (arith, ends.0, as_many, many, on.stands.has_read.games, ap (length {A = Game}) same))
       | inr (none, (g, adds_one)) ↦ let finished = ends.1 (here.over over).0 in one finished.0 finished.1 g adds_one
@@ -391,7 +391,7 @@ module _ (p : Profile) (u : List ℕ) (given : List Token) (old new : Games) (l 
 
   -- up to the end of the source
   pub source_ends : (last : Converter) (unused : List ℕ) (d : Option (List ℕ)) (k : ℕ) (result : Result Bool Fault)
-      → ReadsSource old new (Ok false) (between l m v w) (between a c x y) → FinishesLeft new.converter last result (between c d y k)
+      → ReadsSource old new (Ok false) (between l m v w) (between a c x y) → FinishesLeft false new.converter last result (between c d y k)
       → IsShown last.reading.writing.is_silent a → ((f : Fault) → result ≡ Err f → IsStopShown last.reading.writing.is_silent a f.reason)
       → ((f : Fault) → result ≡ Err f → IsStopShown last.reading.writing.is_silent c f.reason) → AfterNext p u given l m (games_of last unused) result a d
   source_ends last unused d k result reads left shown stop_shown shown_there = by_result result refl left
@@ -408,7 +408,7 @@ module _ (p : Profile) (u : List ℕ) (given : List Token) (old new : Games) (l 
       same : new.converter.games ≡ old.converter.games
       same = omega (arith, reads.games)
 
-      by_result : (r : Result Bool Fault) → result ≡ r → FinishesLeft new.converter last r (between c d y k) → AfterNext p u given l m (games_of last unused) r a d
+      by_result : (r : Result Bool Fault) → result ≡ r → FinishesLeft false new.converter last r (between c d y k) → AfterNext p u given l m (games_of last unused) r a d
       by_result (Ok finished_game) is left =
           let done = left.reads (start p u given old a on) (ended (u ++ so.more)) so.tokens tt
           (whole_there p u given old a on so.more l m so.consumed there.2 new.converter so.tokens c so.here none reads.not_finished same last unused d) in

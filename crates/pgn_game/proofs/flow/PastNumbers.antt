@@ -1,6 +1,6 @@
 -- White space that is passed, with numbers and periods in movetext.
 use Rattle.pgn_lexer.specs.WholeTokens.{none}
-use Rattle.pgn_game.proofs.Words.{length-drop, Bool, Standing, InMovetext, ReaderState, ◌≡◌, ℕ, ◌≤◌, List, length, take, drop, take-append-drop, Option, Ok, IsTrue, refl, arith, le_refl, false, Passes, over_space, over_token}
+use Rattle.pgn_game.proofs.Words.{length-drop, Bool, Standing, InMovetext, GameState, ◌≡◌, ℕ, ◌≤◌, List, length, take, drop, take-append-drop, Option, Ok, IsTrue, refl, arith, le_refl, false, Passes, over_space, over_token}
 use Rattle.pgn_game.specs.steps.Flow.{ReadsIn}
 use Rattle.pgn_game.proofs.flow.InPiece.{reads_more, reads_token}
 use Rattle.pgn_game.proofs.flow.InTurn.{goes_none, reads_in_then}
@@ -8,7 +8,7 @@ use Rattle.pgn_game.proofs.stepping.AcceptedToConverter.{now_at}
 use Rattle.pgn_game.proofs.stepping.PastNumbers.{takes_passed}
 use Rattle.pgn_game.proofs.stepping.ReadsInText.{between}
 
-module _ (lexer : Standing) (reading : ReaderState) (games : ℕ) (piece : List ℕ) (o : Option (List ℕ)) (n : ℕ)
+module _ (lexer : Standing) (reading : GameState) (games : ℕ) (piece : List ℕ) (o : Option (List ℕ)) (n : ℕ)
     {skips : Bool} (at : IsTrue skips → reading.stage ≡ InMovetext) where
   pub reads_past : {l : Standing} {used : ℕ} → Passes skips lexer piece l used → used ≤ length piece
       → ReadsIn (now_at lexer reading games false) piece (now_at l reading games false) used (Ok false) (between o o n n)

@@ -1,9 +1,9 @@
 -- What a step in a piece does: a call of the lexer, or what it passes and the token behind that.
 use Rattle.pgn_lexer.specs.Scanned.{token}
-use Rattle.pgn_game.proofs.Words.{subst, seen, IsBeforePiece, IsBeforeToken, LexFault, Lexical, Fault, Bool, IsTrue, true, false, ◌≡◌, ℕ, ◌+◌, ◌-◌, ◌<◌, ◌≤◌, ◌^◌, List, [], length, drop, length-drop, append-nil, le_refl, Option, None, Some, Result, Ok, Err, refl, arith, Token, InMovetext, Reason, ReaderState, Converter, Device, IsSound, Standing, fault, more, Scans, ReadsBehind}
+use Rattle.pgn_game.proofs.Words.{subst, seen, IsBeforePiece, IsBeforeToken, LexFault, Lexical, Fault, Bool, IsTrue, true, false, ◌≡◌, ℕ, ◌+◌, ◌-◌, ◌<◌, ◌≤◌, ◌^◌, List, [], length, drop, length-drop, append-nil, le_refl, Option, None, Some, Result, Ok, Err, refl, arith, Token, InMovetext, Reason, GameState, Converter, Device, IsSound, Standing, fault, more, Scans, ReadsBehind}
 use Rattle.pgn_game.specs.steps.Flow.{HasTakenToken, ReadsIn, StepsIn, settled, taken_at}
-use Rattle.pgn_game.specs.steps.PutResult.{TakesPlaced}
-use Rattle.pgn_game.proofs.flow.MarkerTaken.{placed_between, placed_counts, placed_keeps}
+use Rattle.pgn_game.specs.steps.TokenTaken.{TakesPlaced}
+use Rattle.pgn_game.proofs.putting.TokenAtPlace.{placed_between, placed_counts, placed_keeps}
 use Rattle.pgn_game.proofs.flow.InPiece.{reads_fault, reads_game, reads_more, reads_stop, reads_token}
 use Rattle.pgn_game.proofs.flow.InTurn.{steps_then}
 use Rattle.pgn_game.proofs.flow.PastNumbers.{reads_past}
@@ -14,7 +14,7 @@ use Rattle.pgn_game.proofs.stepping.StepsAtEnd.{counts_reason, sound_in_piece}
 use Rattle.pgn_game.proofs.stepping.StepsOverTokens.{sound_past}
 
 -- A reader in a converter without a fault, before a piece that ends before place 2^62.
-module _ (lexer : Standing) (reading : ReaderState) (games : ℕ) (piece : List ℕ) (some : 0 < length piece) {l : Standing} {used : ℕ} (within : used ≤ length piece) where
+module _ (lexer : Standing) (reading : GameState) (games : ℕ) (piece : List ℕ) (some : 0 < length piece) {l : Standing} {used : ℕ} (within : used ≤ length piece) where
   -- no token ends in the piece
   pub steps_more : Scans lexer piece l used more → (o : Option (List ℕ)) (n : ℕ)
       → StepsIn (now_at lexer reading games false) piece (now_at l reading games false) used (Ok false) (between o o n n)
@@ -61,7 +61,7 @@ module _ (lexer : Standing) (reading : ReaderState) (games : ℕ) (piece : List 
       }
 
   -- a token is read, which the reader takes
-  module _ {t : Token} (scans : Scans lexer piece l used (token t)) (new : ReaderState) (sink : Device) where
+  module _ {t : Token} (scans : Scans lexer piece l used (token t)) (new : GameState) (sink : Device) where
     pub steps_taken : (taken : Result Bool Reason) → TakesPlaced reading t.kind t.at new taken sink
         → StepsIn (now_at lexer reading games false) piece (settled t.at taken (now_at l new games false)) used (taken_at t.at taken) sink
     steps_taken (Ok false) takes =
@@ -134,9 +134,9 @@ module _ (lexer : Standing) (reading : ReaderState) (games : ℕ) (piece : List 
           }
 
 -- and what was passed before it
-module _ (lexer : Standing) (reading : ReaderState) (games : ℕ) (piece : List ℕ) (sound : IsSound lexer reading games false false None) (short : lexer.count + length piece ≤ 2 ^ 62)
+module _ (lexer : Standing) (reading : GameState) (games : ℕ) (piece : List ℕ) (sound : IsSound lexer reading games false false None) (short : lexer.count + length piece ≤ 2 ^ 62)
     {skips : Bool} (at : IsTrue skips → reading.stage ≡ InMovetext) {l : Standing} {used : ℕ} {t : Token} (behind : ReadsBehind skips lexer piece l used t) (within : used ≤ length piece)
-    (new : ReaderState) (taken : Result Bool Reason) (sink : Device) (takes : TakesPlaced reading t.kind t.at new taken sink) where
+    (new : GameState) (taken : Result Bool Reason) (sink : Device) (takes : TakesPlaced reading t.kind t.at new taken sink) where
   abbrev rest : List ℕ
   rest = drop behind.passed piece
 

@@ -1,6 +1,6 @@
 -- What was gained since a start, and how reading stopped: where the sink is seen, and where it is
 -- not.
-use Rattle.pgn_game.proofs.Words.{Writing, Token, Fault, Reason, WriteFault, Profile, ◌≡◌, ℕ, Bool, true, false, List, [], ◌∷◌, ◌++◌, length, Option, None, refl, sym, ap, subst, ◌∙◌, ◌⊎◌, inl, inr, bytes_seen, false≢true, due, Appends, Gains, Converter, ReaderState, IsStopped, part_after, FaultAtEnd, SameGames, Stops, games_before, position_at_stop, reported_position, ProbesAtStop, FedToFault, read}
+use Rattle.pgn_game.proofs.Words.{Writing, Token, Fault, Reason, WriteFault, Profile, ◌≡◌, ℕ, Bool, true, false, List, [], ◌∷◌, ◌++◌, length, Option, None, refl, sym, ap, subst, ◌∙◌, ◌⊎◌, inl, inr, bytes_seen, false≢true, due, Appends, Gains, Converter, GameState, IsStopped, part_after, FaultAtEnd, SameGames, Stops, games_before, position_at_stop, reported_position, ProbesAtStop, FedToFault, read}
 use Rattle.pgn_game.specs.steps.Flow.{Known, Since, Start, StopsAt, so_far}
 use Rattle.pgn_game.proofs.flow.GamesGoOn.{same_if_as_many}
 use Rattle.pgn_game.proofs.stepping.AcceptedToConverter.{at_fault, at_refusal}
@@ -47,7 +47,7 @@ same_since start c tokens after since many =
     (ap (λ ts. length (read start.profile ts).progress.games) (sym since.extends) ∙ sym since.has_read.games ∙ many)
 
 -- How reading stopped at one of the tokens `ts`. `tokens` are those before it.
-pub record StopsSince (p : Profile) (given tokens ts : List Token) (f : Fault) (reading : ReaderState) (before after : Option (List ℕ)) : Type 0 where
+pub record StopsSince (p : Profile) (given tokens ts : List Token) (f : Fault) (reading : GameState) (before after : Option (List ℕ)) : Type 0 where
   pub stops : Stops p given ts before after f
   pub games : games_before stops ≡ (read p tokens).progress.games
   pub counts : ProbesAtStop reading.writing.is_silent stops reading.most_probes

@@ -1,25 +1,25 @@
 -- One token that the lexer gave and the reader took, wherever it comes from.
-use Rattle.pgn_game.proofs.Words.{is_end, Between, Writing, WriteFault, le_refl, Token, Profile, Game, Part, Read, Next, Reason, ◌≡◌, ◌+◌, ◌∷◌, ◌++◌, ℕ, Bool, true, false, false≢true, inl, inr, List, [], Option, None, Some, Ok, Err, refl, sym, ap, subst, ◌∙◌, append_assoc, Device, Standing, ReaderState, Leads, More, Finished, Converter, IsBehind, part_after, TakesToken, game_in_reader, game_of, marker_of, next, whole, progress_with, refusal, as_written, LexFault, Lexical, Appends, Appends-nil, FinishedGame, gain, IsStopped, read}
+use Rattle.pgn_game.proofs.Words.{is_end, Between, Writing, WriteFault, le_refl, Token, Profile, Game, Part, Read, Next, Reason, ◌≡◌, ◌+◌, ◌∷◌, ◌++◌, ℕ, Bool, true, false, false≢true, inl, inr, List, [], Option, None, Some, Ok, Err, refl, sym, ap, subst, ◌∙◌, append_assoc, Device, Standing, GameState, Leads, More, Finished, Converter, IsBehind, part_after, TakesToken, game_in_reader, game_of, marker_of, next, whole, progress_with, refusal, as_written, LexFault, Lexical, Appends, Appends-nil, FinishedGame, gain, IsStopped, read}
 use Rattle.pgn_lexer.specs.PartialToken.{refusal as refusal_token}
-use Rattle.pgn_game.specs.steps.PutResult.{EndsPlaced, TakesPlaced}
-use Rattle.pgn_game.specs.steps.ReaderState.{expected_of, is_unexpected, refused}
-use Rattle.pgn_game.specs.steps.Flow.{At, Closes, EndsThere, AreAllDecided, HasGivenOf, IsNextIn, KnowsResult, Known, Since, Start, StopsAt, written_by}
+use Rattle.pgn_game.specs.steps.TokenTaken.{EndsPlaced, TakesPlaced}
+use Rattle.pgn_game.specs.steps.GameState.{expected_of, is_unexpected, refused}
+use Rattle.pgn_game.specs.steps.Flow.{At, Closes, EndsThere, AreAllDecided, HasGivenOf, IsNextIn, KnowsResult, Known, Since, Start, StopsAt, profile_written}
 use Rattle.pgn_game.proofs.stepping.AcceptedToConverter.{due_more, finished_behind, has_read_game, has_read_more, lexical-refusal, now_at}
 use Rattle.pgn_game.proofs.stepping.OneMoreToken.{read-passes}
 use Rattle.pgn_game.proofs.stepping.PairsTriedForToken.{raises_none}
 use Rattle.pgn_game.proofs.twice.MarkerCounts.{marker_finishes}
 use Rattle.pgn_game.proofs.flow.KnownResults.{due_game, expected_so, gains_as_more, same_text, writes_if_expected, written_so}
-use Rattle.pgn_game.proofs.flow.MarkerTaken.{placed_keeps}
+use Rattle.pgn_game.proofs.putting.TokenAtPlace.{placed_keeps}
 
 -- a converter that has just finished the game that its reader holds
-abbrev pub finished_at : Standing → ReaderState → ℕ → Converter
+abbrev pub finished_at : Standing → GameState → ℕ → Converter
 finished_at l r games =
     record { lexer = l; reading = r; games = games + 1; just_finished = Some (game_in_reader r); is_finished = false; fault = None }
 
-module _ (start : Start) (text : Known) (old : Converter) (given : List Token) (t : Token) (l : Standing) (new : ReaderState) (d : Device)
+module _ (start : Start) (text : Known) (old : Converter) (given : List Token) (t : Token) (l : Standing) (new : GameState) (d : Device)
     (here : Since start old given d.before) where
   abbrev w : Profile
-  w = written_by start.profile start.expected
+  w = profile_written start.profile start.expected
 
   abbrev part : Part
   part = part_after start.profile given
@@ -27,7 +27,7 @@ module _ (start : Start) (text : Known) (old : Converter) (given : List Token) (
   written_before : new.writing ≡ old.reading.writing → new.writing.is_silent ≡ false → old.reading.writing.is_silent ≡ false
   written_before writing writes = ap (λ (w : Writing). w.is_silent) (sym writing) ∙ writes
 
-  written_here : old.reading.writing.is_silent ≡ false → as_written old.reading ≡ written_by start.profile start.expected
+  written_here : old.reading.writing.is_silent ≡ false → as_written old.reading ≡ profile_written start.profile start.expected
   written_here writes = written_so start.expected start.profile old.reading here.has_read.profile (here.known writes)
 
   expected_here : old.reading.writing.is_silent ≡ false → expected_of old.reading ≡ start.expected
@@ -152,7 +152,7 @@ module _ (start : Start) (text : Known) (old : Converter) (given : List Token) (
         next = next;
         place = refl;
         stopped = elim takes [
-          | inl took ↦ inl (subst (λ (r : ReaderState). IsStopped old.reading (part_after start.profile given) t.kind r d.before d.after reason) (sym is)
+          | inl took ↦ inl (subst (λ (r : GameState). IsStopped old.reading (part_after start.profile given) t.kind r d.before d.after reason) (sym is)
               (took.0.accepts (part_after start.profile given) here.has_read.agrees))
           | inr another ↦ inr (record {
             text = another.text;

@@ -3,8 +3,8 @@ use Rattle.pgn_game.proofs.Words.{ahead_of, ◌≡◌, ℕ, ◌+◌, ◌-◌, �
 use Rattle.pgn_game.specs.declared.item.Item.{Item as CodeItem}
 use Rattle.pgn_game.specs.public.GamesCalls.{HasReadWithin}
 use Rattle.pgn_game.specs.public.ItemsCalls.{Current, Items, games_of_items}
-use Rattle.pgn_game.specs.steps.ItemsSteps.{AfterBuffered, AfterToken, AreGoing, FillsItems, GoesOn, LastIs, ReadsToken, TakesBuffered, at_token, reads_as, too_long}
-use Rattle.pgn_game.specs.steps.ReaderState.{Writing}
+use Rattle.pgn_game.specs.steps.ItemsSteps.{AfterBuffered, AfterToken, AreGoing, FillsItems, CanGoOn, LastIs, ReadsToken, TakesBuffered, at_token, reads_as, too_long}
+use Rattle.pgn_game.specs.steps.GameState.{Writing}
 use Rattle.pgn_game.proofs.stepping.AcceptedToConverter.{read_as}
 use Rattle.pgn_game.proofs.stepping.BytesWithinLimit.{front_within}
 use Rattle.pgn_game.proofs.stepping.ReadsInText.{decided_by_used}
@@ -138,7 +138,7 @@ module _ (old : Items) (going : AreGoing old) (count : old.lexer.count ≤ 2 ^ 6
               after.4,
             )
 
-        goes_to : (o : Option CodeItem) → LastIs {E = Fault} current (Ok o) → GoesOn (new None) (Ok o)
+        goes_to : (o : Option CodeItem) → LastIs {E = Fault} current (Ok o) → CanGoOn (new None) (Ok o)
         goes_to None last = record { no_fault = refl; not_finished = going.not_finished; last = last.0; pending = last.1 }
         goes_to (Some i) last = (refl, going.not_finished, last.0, last.1)
 

@@ -1,12 +1,12 @@
 -- From the event that a token means to the item that is given for it.
 use Rattle.std.proofs.lemmas.List.{map-append}
-use Rattle.pgn_game.proofs.Words.{◌≡◌, ◌↔◌, ℕ, ◌+◌, ◌||◌, Bool, true, false, is_some, IsTrue, List, [], ◌∷◌, ◌++◌, map, Option, None, Some, IsSome, IsSomeAnd, Ok, Err, refl, sym, ap, subst, ◌∙◌, arith, append-nil, false≢true, Kind, Reason, Stage, Between, AfterLeftBracket, AfterName, AfterValue, AfterTags, InMovetext, Move, Parts, Part, Pair, Item, Marker, legal, marker_text, Event, ReaderState, IsPlayed, Agrees, FinishesAtMarker, marker_of, HoldsPairs, HoldsText, next, items_meant}
+use Rattle.pgn_game.proofs.Words.{◌≡◌, ◌↔◌, ℕ, ◌+◌, ◌||◌, Bool, true, false, is_some, IsTrue, List, [], ◌∷◌, ◌++◌, map, Option, None, Some, IsSome, IsSomeAnd, Ok, Err, refl, sym, ap, subst, ◌∙◌, arith, append-nil, false≢true, Kind, Reason, Stage, Between, AfterLeftBracket, AfterName, AfterValue, AfterTags, InMovetext, Move, Parts, Part, Pair, Item, Marker, legal, marker_text, Event, GameState, IsPlayed, Agrees, FinishesAtMarker, marker_of, HoldsPairs, HoldsText, next, items_meant}
 use Rattle.pgn_game.specs.declared.event.Event.TheVariants as events
 use Rattle.pgn_game.specs.declared.item.Item.{Item as CodeItem}
 use Rattle.pgn_game.specs.declared.item.Item.TheVariants as items
 use Rattle.pgn_game.specs.public.Given.{Given, item, tags, given_at, given_of_next, given_of_part, given_with}
 use Rattle.pgn_game.specs.public.ItemsCalls.{Current, IsBehindTags, IsLegalIfMove, is_marker_item, shown_move, given_as, given_if, given_next}
-use Rattle.pgn_game.specs.steps.Accepted.{Accepts, MeansItems, answer_of, given_for, unwritten}
+use Rattle.pgn_game.specs.steps.Accepted.{Accepts, MeansItems, answer_of, given_for, without_writer}
 use Rattle.pgn_game.specs.steps.ItemsSteps.{GivesFor, GivesMore, IsAnswer, IsPlayedItem, IsSoundGame, LastIs, TakesItem, games_added, given_first, given_second, item_meant, marker_given}
 
 -- the text of a word that an event has
@@ -88,7 +88,7 @@ none_given AfterName part h = refl
 none_given AfterValue part h = refl
 none_given AfterTags part h = refl
 
-no_items : (stage : Stage) (r : ReaderState) (part : Part) → (stage ≡ InMovetext → ⊥) → HoldsPairs stage r.tags part → HoldsText stage r part → part.items ≡ []
+no_items : (stage : Stage) (r : GameState) (part : Part) → (stage ≡ InMovetext → ⊥) → HoldsPairs stage r.tags part → HoldsText stage r part → part.items ≡ []
 no_items InMovetext r part h pairs text = absurd (h refl)
 no_items Between r part h pairs text = ap (λ (p : Part). p.items) pairs
 no_items AfterLeftBracket r part h pairs text = text.0
@@ -106,7 +106,7 @@ marker_either true o is = left_of (is_marker_item o) is
     left_of false h = h
 marker_either false o is = is
 
-marker_if : (k : Kind) (r : ReaderState) (e : Event) → FinishesAtMarker k r (answer_of (Ok (Some e))) → IsTrue (is_marker_item (item_meant e))
+marker_if : (k : Kind) (r : GameState) (e : Event) → FinishesAtMarker k r (answer_of (Ok (Some e))) → IsTrue (is_marker_item (item_meant e))
     → IsTrue (is_some (marker_of k))
 marker_if k r (events.Marker m) finishes is = finishes.0
 marker_if k r (events.Word text) finishes is = absurd (false≢true is)
@@ -119,17 +119,17 @@ marker_if k r events.Open finishes is = absurd (false≢true is)
 marker_if k r events.Close finishes is = absurd (false≢true is)
 
 -- The state after a token that means this.
-module _ (old new : ReaderState) (k : Kind) (e : Event) (accepts : Accepts old k new (Ok (Some e))) (games : ℕ) (word : List ℕ) (spelled : IsSpelled e word) where
+module _ (old new : GameState) (k : Kind) (e : Event) (accepts : Accepts old k new (Ok (Some e))) (games : ℕ) (word : List ℕ) (spelled : IsSpelled e word) where
   abbrev pub after_event : Bool → Current
   after_event begun = record {
-    reading = unwritten new;
+    reading = without_writer new;
     games = games;
     word = word;
     last = given_first begun (item_meant e);
     pending = given_second begun (item_meant e);
   }
 
-  module _ (part : Part) (agrees : Agrees (unwritten old) part) where
+  module _ (part : Part) (agrees : Agrees (without_writer old) part) where
     means : MeansItems part k new e
     means = accepts.gives part agrees
 
@@ -164,14 +164,14 @@ module _ (old new : ReaderState) (k : Kind) (e : Event) (accepts : Accepts old k
     beginning : (old.stage ≡ InMovetext → ⊥) → GivesFor part k (after_event false) (Ok (Some items.Tags))
     beginning at =
         let before : given_of_part part ≡ [] = none_given part.stage part (λ is. at (agrees.stage ∙ is)) in
-        let none : part.items ≡ [] = no_items old.stage (unwritten old) part at agrees.pairs agrees.text in
+        let none : part.items ≡ [] = no_items old.stage (without_writer old) part at agrees.pairs agrees.text in
         more false items.Tags
         (means.given ∙ ap (λ (is : List Item). given_with part.pairs is ++ given_for e) none
         ∙ ap (λ (ps : List Pair). tags ps ∷ given_for e) (sym means.pairs)
         ∙ ap (λ (gs : List Given). tags new.tags.held ∷ gs) (given_item e (after_event false) spelled)
         ∙ ap (λ (gs : List Given). gs ++ tags new.tags.held ∷ given_if (after_event false) (item_meant e)) (sym before))
 
-  pub takes_event : (c : Current) → c.reading ≡ unwritten old → games ≡ c.games + games_added (answer_of (Ok (Some e))) → (begun : Bool)
+  pub takes_event : (c : Current) → c.reading ≡ without_writer old → games ≡ c.games + games_added (answer_of (Ok (Some e))) → (begun : Bool)
       → IsTrue begun ↔ (old.stage ≡ InMovetext) → TakesItem c k (after_event begun) (Ok (given_first begun (item_meant e)))
   takes_event c same counted begun is = record {
     answer = answer_of (Ok (Some e));
@@ -180,7 +180,7 @@ module _ (old new : ReaderState) (k : Kind) (e : Event) (accepts : Accepts old k
     games = counted;
     gives = λ part agrees. by begun is part (rw same at agrees);
     last = last_is begun (item_meant e) refl;
-    is_marker = λ read. marker_if k (unwritten new) e accepts.takes.finished (marker_either begun (item_meant e) read);
+    is_marker = λ read. marker_if k (without_writer new) e accepts.takes.finished (marker_either begun (item_meant e) read);
   }
     where
       last_is : (begun : Bool) (o : Option CodeItem) → item_meant e ≡ o → LastIs {E = Reason} (after_event begun) (Ok (given_first begun o))
@@ -189,15 +189,15 @@ module _ (old new : ReaderState) (k : Kind) (e : Event) (accepts : Accepts old k
       last_is false None is = (refl, subst (λ (o : Option CodeItem). IsBehindTags o (Some items.Tags)) (sym is) tt)
       last_is false (Some i) is = (refl, subst (λ (o : Option CodeItem). IsBehindTags o (Some items.Tags)) (sym is) refl)
 
-      by : (begun : Bool) → IsTrue begun ↔ (old.stage ≡ InMovetext) → (part : Part) → Agrees (unwritten old) part
+      by : (begun : Bool) → IsTrue begun ↔ (old.stage ≡ InMovetext) → (part : Part) → Agrees (without_writer old) part
           → GivesFor part k (after_event begun) (Ok (given_first begun (item_meant e)))
       by true is part agrees = going part agrees (is.0 refl) (item_meant e) refl
       by false is part agrees = beginning part agrees (λ at. false≢true (is.1 at))
 
 -- A token that is rejected.
-module _ (old new : ReaderState) (k : Kind) (c : Current) (same : c.reading ≡ unwritten old) (word : List ℕ) where
+module _ (old new : GameState) (k : Kind) (c : Current) (same : c.reading ≡ without_writer old) (word : List ℕ) where
   abbrev after_none : Current
-  after_none = record { reading = unwritten new; games = c.games; word = word; last = None; pending = None }
+  after_none = record { reading = without_writer new; games = c.games; word = word; last = None; pending = None }
 
   pub takes_refused : {reason : Reason} → Accepts old k new (Err reason) → TakesItem c k after_none (Err reason)
   takes_refused {reason} accepts = record {
@@ -230,7 +230,7 @@ move_item (Some items.Open) m is = absurd (cc)
 move_item (Some items.Close) m is = absurd (cc)
 move_item (Some (items.Marker n)) m is = absurd (cc)
 
-module _ (r : ReaderState) (o : Option CodeItem) (m : Move) (is : shown_move o ≡ Some m) where
+module _ (r : GameState) (o : Option CodeItem) (m : Move) (is : shown_move o ≡ Some m) where
   played : IsPlayedItem r o → IsPlayed r m
   played h = subst (IsPlayedItem r) (move_item o m is) h
 

@@ -11,7 +11,7 @@ use Rattle.pgn_game.specs.public.Given.{Given, Shown, given_of, shown}
 use Rattle.pgn_game.specs.public.ItemsCalls.{Current, GiveByMarker, IsHeld, IsShown, Items, ItemsRead, at_end, behind, converter_of, current_by_marker, depth_behind, given_as, given_if, given_next, items_by_marker, position_without, within}
 use Rattle.pgn_game.specs.public.MostTried.{CostsUnlessRefused, MostFrom, Tries, added}
 use Rattle.pgn_game.specs.public.MostTried as tried
-use Rattle.pgn_game.specs.steps.ReaderState.{ReaderState}
+use Rattle.pgn_game.specs.steps.GameState.{GameState}
 use Rattle.pgn_game.proofs.stepping.OneMoreToken.{first_passes, goes_on}
 use Rattle.pgn_game.proofs.twice.CountingToTaking.{by_result, refusal_taking}
 use Rattle.pgn_game.proofs.twice.MarkerCounts.{agrees_under}
@@ -174,7 +174,7 @@ gives_by_marker i silent p left u given have =
     passes (behind all rest) = rest.has_read.passes
     passes (at_end is place all) = all.has_read.passes
 
-pub sound_by_marker : (lexer : Standing) (r : ReaderState) (games : ℕ) (is_finished : Bool) (fault : Option Fault)
+pub sound_by_marker : (lexer : Standing) (r : GameState) (games : ℕ) (is_finished : Bool) (fault : Option Fault)
     → IsSound lexer r games false is_finished fault → IsSound lexer (record r { profile = taking r.profile }) games false is_finished fault
 sound_by_marker lexer r games is_finished fault sound = record {
   count = sound.count;

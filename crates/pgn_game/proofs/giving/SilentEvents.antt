@@ -1,13 +1,12 @@
 -- From what a token means to what its game answers, if nothing is written.
 use Rattle.std.proofs.lemmas.List.{map-append}
-use Rattle.pgn_game.proofs.Words.{◌≡◌, ◌↔◌, ◌&&◌, ℕ, Bool, true, false, IsTrue, List, [], ◌++◌, map, codes, decimal, Option, None, Some, Result, Ok, Err, refl, sym, ap, subst, ◌∙◌, arith, append-nil, Kind, Reason, Stage, Between, AfterLeftBracket, AfterName, AfterValue, AfterTags, InMovetext, Move, Part, Pair, Item, Marker, marker_text, marker_of, Event, Means, ReaderState, IsAnnotation, BeginsText, ReaderCall, Refuses, RefusesMarker, TakesOther, TakesMarker, IsEntry, EndsAtMarker, going, whole, next, with_items, game_of, game_by, is_begun, items_meant, pairs_meant, after_move_at, may_have_movetext, has_whole_pairs, More, EntersMovetext, TakesOutside, IsOutside, Agrees, Leads, unused}
+use Rattle.pgn_game.proofs.Words.{◌≡◌, ◌↔◌, ◌&&◌, ℕ, Bool, true, false, IsTrue, List, [], ◌++◌, map, codes, decimal, Option, None, Some, Result, Ok, Err, refl, sym, ap, subst, ◌∙◌, arith, append-nil, Kind, Reason, Stage, Between, AfterLeftBracket, AfterName, AfterValue, AfterTags, InMovetext, Move, Part, Pair, Item, Marker, marker_text, marker_of, Event, Means, GameState, IsAnnotation, BeginsText, GameCall, Refuses, RefusesMarker, TakesEntry, TakesMarker, IsEntry, EndsAtMarker, going, whole, next, with_items, game_of, game_by, is_begun, items_meant, pairs_meant, after_move_at, may_have_movetext, has_whole_pairs, More, EntersMovetext, TakesOutside, IsOutside, Agrees, Leads, unused}
 use Rattle.pgn_layout.specs.declared.sink.WriteFault.{WriteFault as Fault}
 use Rattle.pgn_game.specs.public.Given.{Given, item, given_of_next, given_at, given_with}
 use Rattle.pgn_game.specs.declared.event.Event.TheVariants as events
-use Rattle.pgn_game.specs.games.Game as games
-use Rattle.pgn_game.specs.steps.Accepted.{Accepts, AcceptsEntry, IsSoundEvent, MeansItems, answer_of, given_for, no_writer, some_event, unwritten}
+use Rattle.pgn_game.specs.steps.Accepted.{Accepts, AcceptsEntry, IsSoundEvent, MeansItems, answer_of, given_for, no_writer, some_event, without_writer}
 use Rattle.pgn_game.proofs.putting.EndToGame.{marker_refused, marker_taken}
-use Rattle.pgn_game.proofs.putting.EventToGame.{annotation_taken, move_taken, number_taken, number_means_same}
+use Rattle.pgn_game.proofs.putting.EventToGame.{annotation_taken, is_close, is_comment_close, is_comment_open, is_glyph, is_open, is_word, move_taken, number_means_same, number_taken}
 use Rattle.pgn_game.proofs.refusals.RefusalsInMovetext.{marker_whole}
 
 -- a sink that is not looked at
@@ -22,14 +21,14 @@ after_none InMovetext = refl
 after_none _ = refl
 
 -- nothing was written before
-pub no_flag : (judge : ReaderState) → no_writer ≡ record no_writer { is_after_move = after_move_at judge.stage no_writer.is_after_move }
+pub no_flag : (judge : GameState) → no_writer ≡ record no_writer { is_after_move = after_move_at judge.stage no_writer.is_after_move }
 no_flag judge = ap (λ (b : Bool). record no_writer { is_after_move = b }) (sym (after_none judge.stage))
 
-module _ (old judge : ReaderState) (k : Kind) (e : Event) (means : Means old k judge e) (at : IsTrue (may_have_movetext old.stage)) where
-  abbrev begun : ReaderState
+module _ (old judge : GameState) (k : Kind) (e : Event) (means : Means old k judge e) (at : IsTrue (may_have_movetext old.stage)) where
+  abbrev begun : GameState
   begun = record judge { stage = InMovetext }
 
-  begins : BeginsText {A = Unit {0}} {E = Fault} (unwritten judge) (unwritten begun) (Ok tt) (unused None 0)
+  begins : BeginsText {A = Unit {0}} {E = Fault} (without_writer judge) (without_writer begun) (Ok tt) (unused None 0)
   begins = record {
     text = tt;
     begun = ap (λ (b : Bool). record (game_by no_writer begun) { text = record judge.text { is_after_move = b } }) (sym (after_none judge.stage));
@@ -41,16 +40,16 @@ module _ (old judge : ReaderState) (k : Kind) (e : Event) (means : Means old k j
     counted = refl;
   }
 
-  call : ReaderCall taken failures (unwritten judge) (unwritten begun) tt tt
-      (BeginsText {A = Unit {0}} {E = Fault} (unwritten judge) (unwritten begun) (Ok tt))
+  call : GameCall taken failures (without_writer judge) (without_writer begun) tt tt
+      (BeginsText {A = Unit {0}} {E = Fault} (without_writer judge) (without_writer begun) (Ok tt))
   call = record { takes = begins; silent = record { silent = refl; untouched = λ silent. refl } }
 
-  pub number_more : e ≡ events.Number → TakesOther (unwritten old) k (unwritten begun) (Ok More) (unused None 0)
+  pub number_more : e ≡ events.Number → TakesEntry (without_writer old) k (without_writer begun) (Ok More) (unused None 0)
   number_more is =
       (number_taken taken failures no_writer no_writer old judge begun k e means at tt tt call (ap items_meant is) (ap pairs_meant is)
       (number_means_same e old.text judge.text is means.text)).takes
 
-  pub annotation_more : (token : List ℕ) → IsAnnotation token e → TakesOther (unwritten old) k (unwritten begun) (Ok More) (unused None 0)
+  pub annotation_more : (token : List ℕ) → IsAnnotation token e → TakesEntry (without_writer old) k (without_writer begun) (Ok More) (unused None 0)
   annotation_more token is =
       (annotation_taken taken failures no_writer no_writer old judge begun k e means at tt tt call refl refl (no_flag judge) no_writer tt token is
       (record {
@@ -58,7 +57,7 @@ module _ (old judge : ReaderState) (k : Kind) (e : Event) (means : Means old k j
         silent = λ silent. refl;
       })).takes
 
-  pub move_more : (m : Move) (n : ℕ) → e ≡ events.Move m n → TakesOther (unwritten old) k (unwritten begun) (Ok More) (unused None 0)
+  pub move_more : (m : Move) (n : ℕ) → e ≡ events.Move m n → TakesEntry (without_writer old) k (without_writer begun) (Ok More) (unused None 0)
   move_more m n is =
       (move_taken taken failures no_writer no_writer old judge begun k e means at tt tt call refl refl (no_flag judge) no_writer tt begun m n is
       (record {
@@ -72,27 +71,18 @@ module _ (old judge : ReaderState) (k : Kind) (e : Event) (means : Means old k j
 
   module _ (plain : (m : Marker) → e ≡ events.Marker m → ⊥) where
     -- whatever it means
-    pub event_more : TakesOther (unwritten old) k (unwritten begun) (Ok More) (unused None 0)
+    pub event_more : TakesEntry (without_writer old) k (without_writer begun) (Ok More) (unused None 0)
     event_more = by e refl
       where
-        annotation : (token : List ℕ) (x : Event) → e ≡ x → IsAnnotation token x → TakesOther (unwritten old) k (unwritten begun) (Ok More) (unused None 0)
-        annotation token x is means_it = annotation_more token (subst (IsAnnotation token) (sym is) means_it)
-
-        by : (x : Event) → e ≡ x → TakesOther (unwritten old) k (unwritten begun) (Ok More) (unused None 0)
+        by : (x : Event) → e ≡ x → TakesEntry (without_writer old) k (without_writer begun) (Ok More) (unused None 0)
         by events.Number is = number_more is
         by (events.Move m n) is = move_more m n is
-        by (events.Glyph n) is = annotation (codes "$" ++ decimal n) (events.Glyph n) is
-            (record { item = games.glyph n; adds = refl; plain = refl; written = λ b p. refl; untried = refl; moves = λ o n m. m })
-        by events.CommentOpen is = annotation (codes "{") events.CommentOpen is
-            (record { item = games.comment_open; adds = refl; plain = refl; written = λ b p. refl; untried = refl; moves = λ o n m. m })
-        by (events.Word text) is = annotation text.now (events.Word text) is
-            (record { item = games.word text.now; adds = refl; plain = refl; written = λ b p. refl; untried = refl; moves = λ o n m. m })
-        by events.CommentClose is = annotation (codes "}") events.CommentClose is
-            (record { item = games.comment_close; adds = refl; plain = refl; written = λ b p. refl; untried = refl; moves = λ o n m. m })
-        by events.Open is = annotation (codes "(") events.Open is
-            (record { item = games.open_variation; adds = refl; plain = refl; written = λ b p. refl; untried = refl; moves = λ o n m. m })
-        by events.Close is = annotation (codes ")") events.Close is
-            (record { item = games.close_variation; adds = refl; plain = refl; written = λ b p. refl; untried = refl; moves = λ o n m. m })
+        by (events.Glyph n) is = annotation_more (codes "$" ++ decimal n) (rw is (is_glyph n))
+        by events.CommentOpen is = annotation_more (codes "{") (rw is is_comment_open)
+        by (events.Word text) is = annotation_more text.now (rw is (is_word text))
+        by events.CommentClose is = annotation_more (codes "}") (rw is is_comment_close)
+        by events.Open is = annotation_more (codes "(") (rw is is_open)
+        by events.Close is = annotation_more (codes ")") (rw is is_close)
         by (events.Marker m) is = absurd (plain m is)
 
     given_plain : given_for e ≡ map item (items_meant e)
@@ -124,16 +114,16 @@ module _ (old judge : ReaderState) (k : Kind) (e : Event) (means : Means old k j
         by events.Close is = refl
 
     -- what is given for it
-    means_items : (part : Part) → IsEntry (unwritten old) k part → MeansItems part k begun e
+    means_items : (part : Part) → IsEntry (without_writer old) k part → MeansItems part k begun e
     means_items part entry =
         let to : next part k ≡ going (with_items part (items_meant e)) = entry.leads ∙ (means.says no_writer part entry.is_open).1 in
-        let leads = (event_more.takes.accepts part entry).leads in
-        let agrees : Agrees (unwritten begun) (with_items part (items_meant e)) = subst (λ x. Leads x More (unwritten begun)) to leads in
+        let leads = (event_more.accepts part entry).leads in
+        let agrees : Agrees (without_writer begun) (with_items part (items_meant e)) = subst (λ x. Leads x More (without_writer begun)) to leads in
         let held = agrees.text.0 in
         record {
           given = ap given_of_next to ∙ ap (λ (gs : List Given). given_with part.pairs [] ++ gs) (map-append item part.items (items_meant e))
               ∙ ap (λ (gs : List Given). given_with part.pairs part.items ++ gs) (sym given_plain);
-          pairs = ap (λ (r : ReaderState). r.tags.held) means.after ∙ ap (λ t. t.held) entry.is_open.pairs;
+          pairs = ap (λ (r : GameState). r.tags.held) means.after ∙ ap (λ t. t.held) entry.is_open.pairs;
           text = record { levels = held.levels; plies = held.plies; held = refl };
         }
 
@@ -155,14 +145,14 @@ module _ (old judge : ReaderState) (k : Kind) (e : Event) (means : Means old k j
 
     pub event_accepted : AcceptsEntry old k begun (Ok e)
     event_accepted = record {
-      takes = rw more_answer event_more.takes;
+      takes = rw more_answer event_more;
       gives = means_items;
       sound = sound_event;
       whole = refl;
     }
 
 -- A row of the table rejects the token.
-pub event_refused : {old new : ReaderState} {k : Kind} {reason : Reason} → Refuses old k new reason → AcceptsEntry old k new (Err reason)
+pub event_refused : {old new : GameState} {k : Kind} {reason : Reason} → Refuses old k new reason → AcceptsEntry old k new (Err reason)
 event_refused h = record { takes = h.takes no_writer None 0; gives = λ part entry. tt; sound = tt; whole = tt }
 
 -- whether movetext has begun
@@ -179,7 +169,7 @@ and_false true = refl
 and_false false = refl
 
 -- A marker.
-module _ (old new : ReaderState) (k : Kind) (marker : Marker) (is : marker_of k ≡ Some (marker_text marker)) where
+module _ (old new : GameState) (k : Kind) (marker : Marker) (is : marker_of k ≡ Some (marker_text marker)) where
   pub end_refused : {reason : Reason} → RefusesMarker old marker new reason → AcceptsEntry old k new (Err reason)
   end_refused {reason} h = record {
     takes = (marker_refused {taken = taken} {failures = failures} {a = tt} no_writer old new marker reason h).takes.takes k is;
@@ -189,7 +179,7 @@ module _ (old new : ReaderState) (k : Kind) (marker : Marker) (is : marker_of k 
   }
 
   module _ (at : IsTrue (may_have_movetext old.stage)) (h : EndsAtMarker old marker new) where
-    ends : TakesMarker (unwritten old) marker (unwritten new) (Ok tt) (unused None 0)
+    ends : TakesMarker (without_writer old) marker (without_writer new) (Ok tt) (unused None 0)
     ends =
         (marker_taken taken failures no_writer no_writer old new marker h at (is_begun old.stage) (begun_is old.stage) tt tt
         (ap (λ (b : Bool). record no_writer { is_after_move = b }) (and_false (is_begun old.stage)))
@@ -204,15 +194,15 @@ module _ (old new : ReaderState) (k : Kind) (marker : Marker) (is : marker_of k 
           let held = entry.is_open.held in
           record {
             given = ap given_of_next to;
-            pairs = ap (λ (r : ReaderState). r.tags.held) h.after ∙ ap (λ t. t.held) entry.is_open.pairs;
+            pairs = ap (λ (r : GameState). r.tags.held) h.after ∙ ap (λ t. t.held) entry.is_open.pairs;
             text = rw (append-nil part.items) (record {
-              levels = ap (λ (r : ReaderState). r.text.levels) h.after ∙ held.levels;
-              plies = ap (λ (r : ReaderState). r.text.plies) h.after ∙ held.plies;
+              levels = ap (λ (r : GameState). r.text.levels) h.after ∙ held.levels;
+              plies = ap (λ (r : GameState). r.text.plies) h.after ∙ held.plies;
               held = refl;
             });
           };
       sound = tt;
-      whole = ap (λ (r : ReaderState). has_whole_pairs r.stage) h.after;
+      whole = ap (λ (r : GameState). has_whole_pairs r.stage) h.after;
     }
 
 -- A token that is taken outside movetext, or that belongs to it.
@@ -224,8 +214,8 @@ not_begun AfterName part h = refl
 not_begun AfterValue part h = refl
 not_begun AfterTags part h = refl
 
-module _ {old new : ReaderState} {k : Kind} where
-  pub outside_accepted : TakesOutside (unwritten old) k (unwritten new) (Some (Ok More)) → IsOutside old.stage new.stage (Some (Ok More))
+module _ {old new : GameState} {k : Kind} where
+  pub outside_accepted : TakesOutside (without_writer old) k (without_writer new) (Some (Ok More)) → IsOutside old.stage new.stage (Some (Ok More))
       → Accepts old k new (Ok None)
   outside_accepted takes outside = record {
     takes = takes None 0;
@@ -237,24 +227,24 @@ module _ {old new : ReaderState} {k : Kind} where
     whole = tt;
   }
     where
-      gone : (to : _) → Leads to More (unwritten new) → given_of_next to ≡ []
+      gone : (to : _) → Leads to More (without_writer new) → given_of_next to ≡ []
       gone (going after) leads = subst (λ (s : Stage). given_at s after ≡ []) leads.stage (not_begun new.stage after outside.1)
       gone (whole g) leads = absurd leads
 
-  pub outside_refused : {reason : Reason} → TakesOutside (unwritten old) k (unwritten new) (Some (Err reason)) → Accepts old k new (Err reason)
+  pub outside_refused : {reason : Reason} → TakesOutside (without_writer old) k (without_writer new) (Some (Err reason)) → Accepts old k new (Err reason)
   outside_refused takes = record { takes = takes None 0; gives = λ part agrees. tt; sound = tt; whole = tt }
 
 -- It is taken by the reader that is ready for it.
-module _ (old ready : ReaderState) (k : Kind) (enters : EntersMovetext (unwritten old) k (unwritten ready)) where
-  pub entry_accepted : {new : ReaderState} (r : Result Event Reason) → AcceptsEntry ready k new r → Accepts old k new (some_event r)
+module _ (old ready : GameState) (k : Kind) (enters : EntersMovetext (without_writer old) k (without_writer ready)) where
+  pub entry_accepted : {new : GameState} (r : Result Event Reason) → AcceptsEntry ready k new r → Accepts old k new (some_event r)
   entry_accepted {new} (Err reason) entry = record {
-    takes = enters.takes (unwritten new) (Err reason) (unused None 0) entry.takes;
+    takes = enters.takes (without_writer new) (Err reason) (unused None 0) entry.takes;
     gives = λ part agrees. tt;
     sound = entry.sound;
     whole = entry.whole;
   }
   entry_accepted {new} (Ok event) entry = record {
-    takes = enters.takes (unwritten new) (answer_of (Ok (Some event))) (unused None 0) entry.takes;
+    takes = enters.takes (without_writer new) (answer_of (Ok (Some event))) (unused None 0) entry.takes;
     gives = λ part agrees.
         let e = enters.enters part agrees in
         let gives = entry.gives e.opened e.entry in

@@ -125,7 +125,7 @@ reads_within p left u i tokens more going (within is on) = on
 reads_within p left u i tokens more going (behind is rest) = absurd (false≢true (sym more ∙ is))
 reads_within p left u i tokens more going (at_end is place all) = absurd (false≢true (sym going ∙ is))
 
-pub so_far_none : (old : Items) (left : Option (List ℕ)) → AreGoing old → old.has_read_all ≡ false → steps.ReadSoFar old old left left
+pub so_far_none : (old : Items) (left : Option (List ℕ)) → AreGoing old → old.has_read_all ≡ false → steps.HasReadSoFar old old left left
 so_far_none old left going more p u given have = record {
   more = [];
   consumed = Consumes-nil left;

@@ -3,7 +3,7 @@ use Rattle.pgn_lexer.specs.PartialToken.{refusal as refusal_token}
 use Rattle.pgn_lexer.specs.Scanned.{token}
 use Rattle.pgn_game.proofs.Words.{◌≡◌, ℕ, ◌+◌, ◌^◌, ◌<◌, ◌≤◌, ◌||◌, IsTrue, false, List, [], ◌∷◌, ◌++◌, map, length, take, drop, fold, fold-append, Option, None, Some, IsSomeAnd, Result, Ok, Err, refl, sym, ap, subst, ◌∙◌, arith, append-nil, append_assoc, inl, false≢true, take_all, drop_of_length-le, Token, Reason, WriteFault, Lexical, LexFault, Profile, Game, Item, Pair, Next, going, whole, Progress, progress_with, read, refusal, next, Follows, StandsAfter, first, Scans, Standing, more, fault, HasRead, IsSound, Keeps, Answers, Accepted, More, Finished, CountsWrites, TakesToken, part_after, unused}
 use Rattle.pgn_game.specs.games.Progress.{position_at_fault}
-use Rattle.pgn_game.specs.steps.ReaderState as reader_state
+use Rattle.pgn_game.specs.steps.GameState as game_state
 use Rattle.pgn_game.specs.declared.item.Item.{Item as CodeItem}
 use Rattle.pgn_game.specs.public.Given.{Given, Shown, given_of, given_of_game, given_of_games, given_of_next, given_of_part, given_with, item, shown, shown_with}
 use Rattle.pgn_game.specs.public.ItemsCalls.{Current, IsHeld, given_as, given_next, has_read_marker, is_marker_item}
@@ -120,8 +120,8 @@ module _ (p : Profile) (old_lexer lexer : Standing) (old new : Current) (given :
       by reason (no_write_fails reason taken) (taken.accepts b.part has_read.agrees)
     where
       by : (why : Reason) → (why ≡ WriteFault → ⊥) → Answers old.reading b.part t.kind new.reading (Err why) None None → Rejects p given (given ++ t ∷ []) new (record { at = t.at; reason = why })
-      by why other (reader_state.unwritten none wrote tries) = absurd (other refl)
-      by why other (reader_state.refused reason some wrote tries here) =
+      by why other (game_state.unwritten none wrote tries) = absurd (other refl)
+      by why other (game_state.refused reason some wrote tries here) =
           let ends = read-refuses p given t [] reason has_read.passes (subst (λ (q : Profile). refusal q b.part t.kind ≡ Some reason) has_read.profile some) in
           record { fault = ap (λ r. r.fault) ends; gives = ap (λ r. given_of r.progress) ends; position = here ∙ sym (ap position_at_fault ends) }
 

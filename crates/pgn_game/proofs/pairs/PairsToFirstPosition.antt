@@ -51,6 +51,13 @@ faults_by : (is : Bool) (read : Result Parts FenFault) {field : ℕ} → told_by
 faults_by true (Err fault) told = (refl, cc)
 faults_by _ _ told = absurd (cc)
 
+told_is : (is : Bool) (read : Result Parts FenFault) {start : Option Parts} → told_by is read ≡ Ok start → is_some start ≡ is
+told_is is read told = grind arith
+
+-- a position comes of a FEN alone
+pub start_told : (name value : List ℕ) {start : Option Parts} → fen_position name value ≡ Ok start → is_some start ≡ bytes_eq name (codes "FEN")
+start_told name value told = told_is _ _ told
+
 pub start_faults : (name value : List ℕ) (field : ℕ) → fen_position name value ≡ Err field
     → ((bytes_eq name (codes "FEN") && is_some (fen_field value)) ≡ true) × (unwrap_or (fen_field value) 0 ≡ field)
 start_faults name value field told = faults_by _ _ told

@@ -1,7 +1,8 @@
 -- Pairs that are stored in another order.
-use Rattle.pgn_game.proofs.Words.{◌≡◌, IfSome, IsSomeAnd, length-map, length-set, refill, take-append_seam, insert_pair, IsSome, ℕ, suc, zero, ◌+◌, ◌<◌, ◌≤◌, Bool, true, false, List, [], ◌∷◌, ◌++◌, length, refl, sym, ap, ◌∙◌, arith, Option, None, Some, insert, take, drop, get_or, set, map-append, Pair, has_pair, TagPairs, AllBelow, AreInOrder, FitsPairStore, HasBegun, InOrder, index_of, pair_at, placed, pairs_seen, get_or-set_other, get_or-set_same, get_or_append_left, get_or_read, length_push, take-map, drop-map, common_steps}
+use Rattle.pgn_game.proofs.Words.{◌≡◌, IfSome, IsSomeAnd, length-map, length-set, refill, take-append_seam, insert_pair, IsSome, ℕ, suc, zero, ◌+◌, ◌<◌, ◌≤◌, ◌||◌, bytes_eq, codes, Bool, true, false, List, [], ◌∷◌, ◌++◌, length, refl, sym, ap, ◌∙◌, arith, Option, None, Some, insert, take, drop, get_or, set, map-append, Pair, has_pair, TagPairs, AllBelow, AreInOrder, FitsPairStore, HasBegun, InOrder, index_of, pair_at, placed, pairs_seen, get_or-set_other, get_or-set_same, get_or_append_left, get_or_read, length_push, take-map, drop-map, common_steps}
 use Rattle.std.proofs.lemmas.List.Edits.{length-insert}
 use Rattle.pgn_game.proofs.pairs.NameOrder.{order-insert}
+use Rattle.pgn_game.proofs.pairs.ValuesByName.{has-insert}
 use Rattle.pgn_game.proofs.pairs.SortedPairs.{index_of-le, insert-place, all-take, all-drop, order-take, order-drop}
 
 abbrev empty : Pair
@@ -76,7 +77,7 @@ pub stored-begun : (ps : List Pair) (order : List ℕ) (b : Bool) {t : TagPairs}
     → IsBegun (placed ps order) (pair_at ps (length order)) b t
 stored-begun ps order b e some = by_flag (placed ps order) (pair_at ps (length order)) b e some
 
-pub stored-in-order : {most : ℕ} {ps : List Pair} {order : List ℕ} {place : ℕ} {b : Bool} → FitsPairStore most ps order place b
+pub stored-in-order : {most : ℕ} {ps : List Pair} {order : List ℕ} {place : ℕ} {b e : Bool} → FitsPairStore most ps order place b e
     → AreInOrder ps order
 stored-in-order {order} fits = record { within = below-more order fits.first fits.within; in_order = fits.in_order }
 
@@ -107,15 +108,21 @@ pub begun-seen : {most : ℕ} {ps : List Pair} {order : List ℕ} {held : List P
     ≡ seen held (Some p.name)
 begun-seen {ps} {order} {n} p has at = grind (arith, common_steps, set, get_or-set_same, placed-set)
 
-pub begun-stored : {most : ℕ} {ps : List Pair} {order : List ℕ} {held : List Pair} {n : ℕ} (p : Pair) (place : ℕ)
+pub begun-stored : {most : ℕ} {ps : List Pair} {order : List ℕ} {held : List Pair} {n : ℕ} {e : Bool} (p : Pair) (place : ℕ)
     → HasPlace most ps order held → n ≡ length order → InOrder held → has_pair held p.name ≡ false → place ≡ index_of p.name held
-    → FitsPairStore most (refill (length ps) ps (set ps n p)) order place true
-begun-stored {most} {ps} {order} {n} p place has at sorted new index =
+    → e ≡ has_pair held (codes "FEN") → FitsPairStore most (refill (length ps) ps (set ps n p)) order place true e
+begun-stored {most} {ps} {order} {n} p place has at sorted new index fen =
     grind (arith, common_steps, set, get_or-set_same, placed-set, length-set)
 
+or-swap : (a b : Bool) → (a || b) ≡ (b || a)
+or-swap true true = refl
+or-swap true false = refl
+or-swap false true = refl
+or-swap false false = refl
+
 -- Its value comes, and its place goes into the order.
-pub place-within : {most : ℕ} {ps : List Pair} {order : List ℕ} {place : ℕ} {b : Bool} {t : TagPairs}
-    → FitsPairStore most ps order place b → seen_of ps order b ≡ t → IsSome t.pending_name
+pub place-within : {most : ℕ} {ps : List Pair} {order : List ℕ} {place : ℕ} {b e : Bool} {t : TagPairs}
+    → FitsPairStore most ps order place b e → seen_of ps order b ≡ t → IsSome t.pending_name
     → (place ≤ length order) × (length order < most)
 place-within {ps} {order} {b} fits view some = grind (arith, common_steps, stored-begun, index_of-le, length-map)
 
@@ -128,8 +135,8 @@ record IsPut (ps : List Pair) (order : List ℕ) (place n : ℕ) (q : Pair) : Ty
 abbrev named : List ℕ → List ℕ → Pair
 named name value = record { name = name; value = value }
 
-module _ {most : ℕ} {ps : List Pair} {order : List ℕ} {place : ℕ} {b : Bool} {t : TagPairs} {n : ℕ} {p : Pair}
-    (fits : FitsPairStore most ps order place b) (view : seen_of ps order b ≡ t) (some : IsSome t.pending_name)
+module _ {most : ℕ} {ps : List Pair} {order : List ℕ} {place : ℕ} {b e : Bool} {t : TagPairs} {n : ℕ} {p : Pair}
+    (fits : FitsPairStore most ps order place b e) (view : seen_of ps order b ≡ t) (some : IsSome t.pending_name)
     (at : n ≡ length order) (is : p ≡ get_or ps n p) where
   begun : IsBegun (placed ps order) (pair_at ps (length order)) b t
   begun = stored-begun ps order b view some
@@ -154,7 +161,22 @@ module _ {most : ℕ} {ps : List Pair} {order : List ℕ} {place : ℕ} {b : Boo
       → IfSome t.pending_name (λ name. seen (placed (refill (length ps) ps (set ps n q)) more) None ≡ seen (insert_pair (named name value) t.held) None)
   completed-seen q value more new is_more = grind (arith, common_steps, is-put)
 
-  pub completed-stored : (q : Pair) (value : List ℕ) (more : List ℕ) → q ≡ named p.name value → more ≡ insert order place n
-      → FitsPairStore most (refill (length ps) ps (set ps n q)) more place false
-  completed-stored q value more new is_more =
-      grind (arith, common_steps, is-put, length-set, length-insert, place-within, below-insert, below-more, order-insert)
+  -- a FEN is among them if the new one is
+  fen-put : (q : Pair) (is_fen : Bool) → IsPut ps order place n q → is_fen ≡ bytes_eq q.name (codes "FEN")
+      → (e || is_fen) ≡ has_pair (placed (set ps n q) (insert order place n)) (codes "FEN")
+  fen-put q is_fen put is =
+      ap (λ (b : Bool). b || is_fen) fits.fen ∙ or-swap (has_pair (placed ps order) (codes "FEN")) is_fen
+      ∙ ap (λ (b : Bool). b || has_pair (placed ps order) (codes "FEN")) is
+      ∙ sym (has-insert q (placed ps order) (codes "FEN")) ∙ ap (λ (qs : List Pair). has_pair qs (codes "FEN")) (sym put.pairs)
+
+  -- the name is that of the pair
+  fen-name : (q : Pair) (is_fen : Bool) → q.name ≡ p.name → IfSome t.pending_name (λ name. is_fen ≡ bytes_eq name (codes "FEN"))
+      → is_fen ≡ bytes_eq q.name (codes "FEN")
+  fen-name q is_fen same h = rw same (rw begun-name at h)
+
+  pub completed-stored : (q : Pair) (value : List ℕ) (more : List ℕ) (is_fen : Bool) → q ≡ named p.name value → more ≡ insert order place n
+      → IfSome t.pending_name (λ name. is_fen ≡ bytes_eq name (codes "FEN"))
+      → FitsPairStore most (refill (length ps) ps (set ps n q)) more place false (e || is_fen)
+  completed-stored q value more is_fen new is_more fen =
+      let named_fen = fen-name q is_fen (ap (λ (r : Pair). r.name) new) fen in
+      grind (arith, common_steps, is-put, fen-put, length-set, length-insert, place-within, below-insert, below-more, order-insert)

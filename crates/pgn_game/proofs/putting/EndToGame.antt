@@ -1,8 +1,8 @@
 -- From what a marker is judged to what its game answers, once it is written or could not be.
-use Rattle.pgn_game.proofs.Words.{◌≡◌, ◌&&◌, ◌↔◌, ℕ, Bool, true, false, IsTrue, List, [], Option, Result, Ok, Err, OnOk, is_some, refl, sym, ap, subst, ◌∙◌, arith, Appends, AppendsFront, Writes, WritesText, Device, device, Kind, Marker, Reason, Stage, Between, AfterLeftBracket, AfterName, AfterValue, AfterTags, InMovetext, Pair, ReaderState, ReaderCall, KeepsSilence, Writing, BeginsText, EndsAtMarker, RefusesMarker, FinishesAtMarker, IsOpen, ItemCall, Mode, PutResult, PutsMarker, TakesMarker, Writer, WriteFault, ending_if, game_by, is_nothing, known_of, line_behind, marker_of, marker_text, may_have_movetext, mode_of_written, section_due, section_due_of, section_unless, seen, tag_section, writing_of, Written}
+use Rattle.pgn_game.proofs.Words.{◌≡◌, ◌&&◌, ◌↔◌, ℕ, Bool, true, false, IsTrue, List, [], Option, Result, Ok, Err, OnOk, is_some, refl, sym, ap, subst, ◌∙◌, arith, Appends, AppendsFront, Writes, WritesText, Device, device, Kind, Marker, Reason, Stage, Between, AfterLeftBracket, AfterName, AfterValue, AfterTags, InMovetext, Pair, GameState, GameCall, KeepsSilence, Writing, BeginsText, EndsAtMarker, RefusesMarker, FinishesAtMarker, IsOpen, ItemCall, Mode, PutResult, PutsMarker, TakesMarker, Writer, WriteFault, ending_if, game_by, is_nothing, known_of, line_behind, marker_of, marker_text, may_have_movetext, mode_of_written, section_due, section_due_of, section_unless, seen, tag_section, writing_of, Written}
 use Rattle.pgn_game.specs.declared.mode.Written.TheVariants.{Full, Reduced, Nothing}
 use Rattle.pgn_layout.specs.declared.sink.WriteFault.{WriteFault as Fault}
-use Rattle.pgn_game.specs.steps.PutResult.{ended}
+use Rattle.pgn_game.specs.steps.TokenTaken.{ended}
 use Rattle.pgn_game.proofs.putting.MarkerToReader.{EndsText, ends_ill, ends_silent, ends_unbegun, ends_well, ending, finished_reader, to_game, writes_if_failed}
 use Rattle.pgn_game.proofs.putting.SilentReader.{seen_if, unseen}
 use Rattle.pgn_game.proofs.stepping.PairsTriedForToken.{marker_untried}
@@ -38,17 +38,17 @@ no_line Full line is = absurd (cc)
 no_line Reduced line is = absurd (cc)
 no_line Nothing line is = refl
 
-at_marker : (k : Kind) (new : ReaderState) (r : Result (Unit {0}) Reason) → IsTrue (is_some (marker_of k)) → OnOk r (new.stage ≡ Between)
+at_marker : (k : Kind) (new : GameState) (r : Result (Unit {0}) Reason) → IsTrue (is_some (marker_of k)) → OnOk r (new.stage ≡ Between)
     → FinishesAtMarker k new (ended r)
 at_marker k new (Ok done) is at = (is, at)
 at_marker k new (Err reason) is at = tt
 
 -- A row of the table rejects the marker.
-pub marker_refused : {S : Type 0} {taken : S → Option (List ℕ)} {failures : S → ℕ} {a : S} (w : Writer) (old new : ReaderState) (marker : Marker)
+pub marker_refused : {S : Type 0} {taken : S → Option (List ℕ)} {failures : S → ℕ} {a : S} (w : Writer) (old new : GameState) (marker : Marker)
     (reason : Reason) → RefusesMarker old marker new reason
-    → ReaderCall taken failures (game_by w old) (game_by w new) a a (TakesMarker (game_by w old) marker (game_by w new) (Err reason))
+    → GameCall taken failures (game_by w old) (game_by w new) a a (TakesMarker (game_by w old) marker (game_by w new) (Err reason))
 marker_refused {taken} {failures} {a} w old new marker reason h =
-    subst (λ (r : ReaderState). ReaderCall taken failures (game_by w old) (game_by w r) a a (TakesMarker (game_by w old) marker (game_by w r) (Err reason)))
+    subst (λ (r : GameState). GameCall taken failures (game_by w old) (game_by w r) a a (TakesMarker (game_by w old) marker (game_by w r) (Err reason)))
     (sym h.same)
     (record {
       takes = record {
@@ -61,9 +61,9 @@ marker_refused {taken} {failures} {a} w old new marker reason h =
     })
 
 -- The marker ends the game.
-module _ {S : Type 0} (taken : S → Option (List ℕ)) (failures : S → ℕ) (w begun_w : Writer) (old judge : ReaderState) (marker : Marker)
+module _ {S : Type 0} (taken : S → Option (List ℕ)) (failures : S → ℕ) (w begun_w : Writer) (old judge : GameState) (marker : Marker)
     (h : EndsAtMarker old marker judge) (at : IsTrue (may_have_movetext old.stage)) (begun : Bool) (is : IsTrue begun ↔ (old.stage ≡ InMovetext)) (a b : S) where
-  abbrev game : ReaderState
+  abbrev game : GameState
   game = game_by w old
 
   abbrev first : Device
@@ -72,10 +72,10 @@ module _ {S : Type 0} (taken : S → Option (List ℕ)) (failures : S → ℕ) (
   -- the section is that of the game before
   section_is : section_unless begun (tag_section judge.profile.mode (known_of (game_by w judge)) judge.tags.held) ≡ section_due_of game
   section_is =
-      ap (λ (r : ReaderState). section_unless begun (tag_section r.profile.mode (known_of (game_by w r)) r.tags.held)) h.after
+      ap (λ (r : GameState). section_unless begun (tag_section r.profile.mode (known_of (game_by w r)) r.tags.held)) h.after
       ∙ missing_is old.stage begun old.profile.mode (known_of game) old.tags.held is
 
-  answers : (new : ReaderState) (d : Device) (r : Result (Unit {0}) Reason) → new.most_probes ≡ old.most_probes → OnOk r (new.stage ≡ Between)
+  answers : (new : GameState) (d : Device) (r : Result (Unit {0}) Reason) → new.most_probes ≡ old.most_probes → OnOk r (new.stage ≡ Between)
       → PutResult game (IsOpen game) (to_game marker) new (ended r) d → TakesMarker game marker new r d
   answers new d r most between put = record {
     takes = λ k kind. takes_marker game new k marker (ended r) d put (at_marker k new r (ap is_some kind) between) most kind (λ part op. h.free w k part kind op);
@@ -88,22 +88,22 @@ module _ {S : Type 0} (taken : S → Option (List ℕ)) (failures : S → ℕ) (
     pub unbegun_marker : (f : Fault)
         → ItemCall w.written taken failures a b
         (λ by d. WritesText {A = Unit {0}} d (Err f) (section_unless begun (tag_section judge.profile.mode (known_of (game_by w judge)) judge.tags.held)))
-        → ReaderCall taken failures game (game_by begun_w judge) a b (TakesMarker game marker (game_by begun_w judge) (Err WriteFault))
+        → GameCall taken failures game (game_by begun_w judge) a b (TakesMarker game marker (game_by begun_w judge) (Err WriteFault))
     unbegun_marker f section =
         let new = game_by begun_w judge in
         let how : new.writing ≡ game.writing = ap writing_of writer in
         let begins : BeginsText {A = Unit {0}} game new (Err f) first = record {
           text = rw section_is at section.writes.written;
           begun = tt;
-          profile = ap (λ (r : ReaderState). r.profile) h.after;
+          profile = ap (λ (r : GameState). r.profile) h.after;
           writing = how;
-          earlier = ap (λ (r : ReaderState). r.earlier_plies) h.after;
-          plies = ap (λ (r : ReaderState). r.text.plies) h.after;
-          probes = ap (λ (r : ReaderState). r.most_probes) h.after;
+          earlier = ap (λ (r : GameState). r.earlier_plies) h.after;
+          plies = ap (λ (r : GameState). r.text.plies) h.after;
+          probes = ap (λ (r : GameState). r.most_probes) h.after;
           counted = section.writes.counted;
         } in
         record {
-          takes = answers new first (Err WriteFault) (ap (λ (r : ReaderState). r.most_probes) h.after) tt
+          takes = answers new first (Err WriteFault) (ap (λ (r : GameState). r.most_probes) h.after) tt
               (ends_unbegun game new marker f first (writes_if_failed (is_nothing w.written) _ _ section.writes.counted) at begins);
           silent = record { silent = ap (λ (x : Writing). x.is_silent) how; untouched = section.silent };
         }
@@ -111,7 +111,7 @@ module _ {S : Type 0} (taken : S → Option (List ℕ)) (failures : S → ℕ) (
     module _ (section : ItemCall w.written taken failures a b (λ by d. WritesText {A = Unit {0}} {E = Fault} d (Ok tt)
         (section_unless begun (tag_section judge.profile.mode (known_of (game_by w judge)) judge.tags.held)))) (new_w : Writer) (c : S)
         (r : Result (Unit {0}) Fault) (put : ItemCall begun_w.written taken failures b c (λ by. PutsMarker by (marker_text marker) begun_w new_w r)) where
-      abbrev goes : ReaderState
+      abbrev goes : GameState
       goes = game_by new_w judge
 
       begins : BeginsText {A = Unit {0}} {E = Fault} game (record game { stage = InMovetext }) (Ok tt) first
@@ -146,7 +146,7 @@ module _ {S : Type 0} (taken : S → Option (List ℕ)) (failures : S → ℕ) (
           }) how
 
       most : goes.most_probes ≡ old.most_probes
-      most = ap (λ (r : ReaderState). r.most_probes) h.after
+      most = ap (λ (r : GameState). r.most_probes) h.after
 
       silence : KeepsSilence game goes a c
       silence = record {
@@ -175,7 +175,7 @@ module _ {S : Type 0} (taken : S → Option (List ℕ)) (failures : S → ℕ) (
     module _ (section : ItemCall w.written taken failures a b (λ by d. WritesText {A = Unit {0}} {E = Fault} d (Ok tt)
         (section_unless begun (tag_section judge.profile.mode (known_of (game_by w judge)) judge.tags.held)))) (new_w : Writer) (c : S) where
       pub marker_fails : (f : Fault) → ItemCall begun_w.written taken failures b c (λ by. PutsMarker {A = Unit {0}} by (marker_text marker) begun_w new_w (Err f))
-          → ReaderCall taken failures game (game_by new_w judge) a c (TakesMarker game marker (game_by new_w judge) (Err WriteFault))
+          → GameCall taken failures game (game_by new_w judge) a c (TakesMarker game marker (game_by new_w judge) (Err WriteFault))
       marker_fails f put =
           let before = as_before section new_w c (Err f) put in
           let writes = writes_if_failed (is_nothing w.written) _ _ before.writes.counted in
@@ -191,19 +191,19 @@ module _ {S : Type 0} (taken : S → Option (List ℕ)) (failures : S → ℕ) (
           }
 
       pub marker_taken : ItemCall begun_w.written taken failures b c (λ by. PutsMarker {A = Unit {0}} {E = Fault} by (marker_text marker) begun_w new_w (Ok tt))
-          → ReaderCall taken failures game (game_by new_w judge) a c (TakesMarker game marker (game_by new_w judge) (Ok tt))
+          → GameCall taken failures game (game_by new_w judge) a c (TakesMarker game marker (game_by new_w judge) (Ok tt))
       marker_taken put = by (is_nothing w.written) refl
         where
           goes_on : PutResult game (IsOpen game) (to_game marker) (game_by new_w judge) (ended (Ok tt)) (seen (is_nothing w.written) (device taken failures a c))
-              → ReaderCall taken failures game (game_by new_w judge) a c (TakesMarker game marker (game_by new_w judge) (Ok tt))
+              → GameCall taken failures game (game_by new_w judge) a c (TakesMarker game marker (game_by new_w judge) (Ok tt))
           goes_on result = record {
             takes = answers (game_by new_w judge) (seen (is_nothing w.written) (device taken failures a c)) (Ok tt) (most section new_w c (Ok tt) put)
-                (ap (λ (r : ReaderState). r.stage) h.after) result;
+                (ap (λ (r : GameState). r.stage) h.after) result;
             silent = silence section new_w c (Ok tt) put;
           }
 
           by : (silent : Bool) → is_nothing w.written ≡ silent
-              → ReaderCall taken failures game (game_by new_w judge) a c (TakesMarker game marker (game_by new_w judge) (Ok tt))
+              → GameCall taken failures game (game_by new_w judge) a c (TakesMarker game marker (game_by new_w judge) (Ok tt))
           by false writes =
               let plain = plain_put section new_w c (Ok tt) put writes in
               goes_on

@@ -1,5 +1,5 @@
 -- What putting a token of movetext adds to what stands written of its game, and to the reader.
-use Rattle.pgn_game.proofs.Words.{◌≡◌, ℕ, ◌+◌, ◌<◌, ◌≤◌, true, false, List, [], ◌∷◌, ◌++◌, length, drop, Option, None, Result, refl, sym, ap, subst, ◌∙◌, append-nil, length-append, arith, IsTrue, Ok, Err, list_any-append, drop-append-add, drop-length, Appends-trans, Appends, AppendsFront, Device, one_more, Parts, Mode, Full, Reduced, Stage, Between, AfterTags, InMovetext, Pair, Item, Part, More, is_at, start_of, tag_section, is_move, full_text, torn_at, has_move, Next, going, HoldsItems, ReaderState, Agrees, bytes_seen, mode_unless, mode_written, item_text, Bool, Some, as_written, known_of, plies_of_finished_games, IsOpen, may_have_movetext, with_items, Adds, BeginsText, Goes, Keeps, PutResult, gain_to, section_due, section_due_of, rules, common_steps}
+use Rattle.pgn_game.proofs.Words.{◌≡◌, ℕ, ◌+◌, ◌<◌, ◌≤◌, true, false, List, [], ◌∷◌, ◌++◌, length, drop, Option, None, Result, refl, sym, ap, subst, ◌∙◌, append-nil, length-append, arith, IsTrue, Ok, Err, list_any-append, drop-append-add, drop-length, Appends-trans, Appends, AppendsFront, Device, one_more, Parts, Mode, Full, Reduced, Stage, Between, AfterTags, InMovetext, Pair, Item, Part, More, is_at, start_of, tag_section, is_move, full_text, torn_at, has_move, Next, going, HoldsItems, GameState, Agrees, bytes_seen, mode_unless, mode_written, item_text, Bool, Some, as_written, known_of, plies_of_finished_games, IsOpen, may_have_movetext, with_items, Adds, BeginsText, Goes, Keeps, PutResult, gain_to, section_due, section_due_of, rules, common_steps}
 use Rattle.pgn_layout.specs.declared.sink.WriteFault.{WriteFault}
 use Rattle.pgn_game.specs.declared.reason.Reason.TheVariants as reasons
 use Rattle.pgn_game.proofs.putting.WritesInTurn.{front_after}
@@ -22,7 +22,7 @@ pub gain_at : (mode : Mode) (result : List ℕ) (stage : Stage) (ps : List Pair)
 gain_at mode result stage ps name items lines at fresh = grind (arith, length-append, drop-append-add, no_text)
 
 -- the stage of a part is the reader's
-module _ (old : ReaderState) (part : Part) where
+module _ (old : GameState) (part : Part) where
   pub open_stage : IsOpen old part → IsTrue (may_have_movetext old.stage) → IsTrue (may_have_movetext part.stage)
   open_stage is at = rw is.stage at at
 
@@ -42,15 +42,15 @@ module _ (old : ReaderState) (part : Part) where
       )
 
 -- no move was played outside the games before
-pub plies_before : (old : ReaderState) → IsTrue (may_have_movetext old.stage) → plies_of_finished_games old ≡ old.earlier_plies
+pub plies_before : (old : GameState) → IsTrue (may_have_movetext old.stage) → plies_of_finished_games old ≡ old.earlier_plies
 plies_before old at = grind arith
 
 -- writing the section leaves what each call leaves
-pub keeps_begun : {A E : Type 0} {old new : ReaderState} {r : Result A E} {d : Device} → BeginsText old new r d → Keeps old new
+pub keeps_begun : {A E : Type 0} {old new : GameState} {r : Result A E} {d : Device} → BeginsText old new r d → Keeps old new
 keeps_begun begins = grind (arith, common_steps)
 
 -- a put that failed, and one after which the game goes on
-module _ (old new : ReaderState) (IsOf : Part → Type 0) (to : Part → Next) (d : Device) (keeps : Keeps old new) where
+module _ (old new : GameState) (IsOf : Part → Type 0) (to : Part → Next) (d : Device) (keeps : Keeps old new) where
   pub unwritten : d.failures_after ≡ one_more d.failures
       → ((part : Part) → IsOf part → AppendsFront d.before d.after (gain_to (as_written old) part (to part)))
       → PutResult old IsOf to new (Err reasons.WriteFault) d
@@ -61,7 +61,7 @@ module _ (old new : ReaderState) (IsOf : Part → Type 0) (to : Part → Next) (
   more_comes closed inside counted on = record { goes = on; keeps = keeps; stays = (closed, inside); counted = counted }
 
 -- a reader in movetext agrees with the part that it holds
-agrees_in_text : (r : ReaderState) (part : Part) → r.stage ≡ InMovetext
+agrees_in_text : (r : GameState) (part : Part) → r.stage ≡ InMovetext
     → part.stage ≡ InMovetext → r.tags ≡ record { held = part.pairs; pending_name = None }
     → HoldsItems (mode_written r) (start_of part.pairs) part.items r.text r.line
     → (IsTrue (has_move part.items) → 0 < r.most_probes) → Agrees r part
@@ -72,7 +72,7 @@ not_between stage at e = let h = sym at ∙ e in absurd (cc)
 
 -- The reader after the section and an item: its movetext and its line have changed, and nothing
 -- else but the count of probes.
-pub record IsAfterItem (begun new : ReaderState) : Type 0 where
+pub record IsAfterItem (begun new : GameState) : Type 0 where
   pub profile : new.profile ≡ begun.profile
   pub writing : new.writing ≡ begun.writing
   pub stage : new.stage ≡ begun.stage
@@ -81,7 +81,7 @@ pub record IsAfterItem (begun new : ReaderState) : Type 0 where
   pub probes : begun.most_probes ≤ new.most_probes
 
 -- the section was written, and then items or none
-goes_with : (old begun new : ReaderState) (part : Part) (more : List Item) (d : Device) → IsTrue (may_have_movetext old.stage) → IsOpen old part
+goes_with : (old begun new : GameState) (part : Part) (more : List Item) (d : Device) → IsTrue (may_have_movetext old.stage) → IsOpen old part
     → begun ≡ record old { stage = InMovetext } → IsAfterItem begun new
     → HoldsItems (mode_written old) (start_of part.pairs) (part.items ++ more) new.text new.line
     → (IsTrue (has_move (part.items ++ more)) → 0 < new.most_probes)
@@ -94,22 +94,22 @@ abbrev pub to_items : List Item → Part → Next
 to_items items part = going (with_items part items)
 
 -- A number was put, or a period: the section alone was written.
-pub puts_number : (old new : ReaderState) (d : Device) → IsTrue (may_have_movetext old.stage)
+pub puts_number : (old new : GameState) (d : Device) → IsTrue (may_have_movetext old.stage)
     → BeginsText {A = Unit} {E = WriteFault} old new (Ok tt) d → PutResult old (IsOpen old) (to_items []) new (Ok More) d
 puts_number old new d at begins = search (rules, append-nil, drop-length, gain_is, more_comes, not_between, goes_with)
 
 -- In movetext nothing is due of the section.
-pub begun_before : (old : ReaderState) (d : Device) → old.stage ≡ InMovetext
+pub begun_before : (old : GameState) (d : Device) → old.stage ≡ InMovetext
     → Appends d.before d.after [] → d.failures_after ≡ d.failures → BeginsText {A = Unit {0}} {E = WriteFault} old old (Ok tt) d
 begun_before old d at nothing counted = search rules
 
 -- where a move was played, some pair was tried
-probed_with : (old : ReaderState) (part : Part) (i : Item) (most : ℕ) → (is_move i ≡ true → 0 < old.most_probes) → old.most_probes ≤ most
+probed_with : (old : GameState) (part : Part) (i : Item) (most : ℕ) → (is_move i ≡ true → 0 < old.most_probes) → old.most_probes ≤ most
     → (IsTrue (has_move part.items) → 0 < old.most_probes) → IsTrue (has_move (part.items ++ i ∷ [])) → 0 < most
 probed_with old part i most put rises before has = grind (arith, list_any-append)
 
 -- the movetext that was held is held where its section is written
-begun_held : (old begun : ReaderState) (part : Part) → IsOpen old part → begun ≡ record old { stage = InMovetext }
+begun_held : (old begun : GameState) (part : Part) → IsOpen old part → begun ≡ record old { stage = InMovetext }
     → HoldsItems (mode_written begun) (start_of part.pairs) part.items begun.text begun.line
 begun_held old begun part is begins = rw begins is.held
 
@@ -130,7 +130,7 @@ front_of_both true mode x y z section gained item none first (n, few, rest) is =
 front_of_both false mode x y z section gained item none first second is = subst (AppendsFront x z) is (front_after x y z _ _ first second)
 
 -- The section was written, and then an item put.
-module _ (old begun new : ReaderState) (i : Item) (x y z : Option (List ℕ)) (n m k : ℕ) (at : IsTrue (may_have_movetext old.stage))
+module _ (old begun new : GameState) (i : Item) (x y z : Option (List ℕ)) (n m k : ℕ) (at : IsTrue (may_have_movetext old.stage))
     (begins : BeginsText {A = Unit} {E = WriteFault} old begun (Ok tt) (from_to (bytes_seen old.writing.is_silent x) (bytes_seen old.writing.is_silent y) n m))
     (next : IsAfterItem begun new) where
   abbrev a : Option (List ℕ)
@@ -174,6 +174,6 @@ module _ (old begun new : ReaderState) (i : Item) (x y z : Option (List ℕ)) (n
       (gain_is old part _ at is))
 
 -- where the section could not be written, movetext had not begun
-pub unbegun_part : {A : Type 0} (old new : ReaderState) (f : WriteFault) (d : Device) (part : Part)
+pub unbegun_part : {A : Type 0} (old new : GameState) (f : WriteFault) (d : Device) (part : Part)
     → IsTrue (may_have_movetext old.stage) → BeginsText {A = A} old new (Err f) d → old.stage ≡ part.stage → is_at InMovetext part ≡ false
 unbegun_part old new f d part at begins same = grind arith

@@ -1,5 +1,5 @@
 -- What putting a marker comes to, and a token of movetext whose section cannot be written.
-use Rattle.pgn_game.proofs.Words.{◌≡◌, ℕ, List, [], ◌∷◌, ◌++◌, length, drop, Option, refl, ap, subst, ◌∙◌, append_assoc, arith, IsTrue, Ok, Err, All, lit<, lit≤, drop-append_seam, Appends-trans, Appends, AppendsFront, Device, one_more, IsToken, lines_of, full_lines, last_line, text_of as text_of_lines, Put, EndGame, text_at, line_at, Finished, Marker, WhiteWins, BlackWins, Draw, Unknown, marker_text, Mode, Between, AfterTags, InMovetext, Profile, counting, counts_as, Pair, Item, Part, Level as ModelLevel, Levels as ModelLevels, start_of, outermost, last_position, tag_section, tokens_out, full_text, torn_for, Next, whole, ReaderState, IsBehind, failures_seen, seen, Bool, true, false, as_written, IsOpen, game_of, may_have_movetext, BeginsText, PutResult, gain_to, section_due, section_due_of, common_steps}
+use Rattle.pgn_game.proofs.Words.{◌≡◌, ℕ, List, [], ◌∷◌, ◌++◌, length, drop, Option, refl, ap, subst, ◌∙◌, append_assoc, arith, IsTrue, Ok, Err, All, lit<, lit≤, drop-append_seam, Appends-trans, Appends, AppendsFront, Device, one_more, IsToken, lines_of, full_lines, last_line, text_of as text_of_lines, Put, EndGame, text_at, line_at, Finished, Marker, WhiteWins, BlackWins, Draw, Unknown, marker_text, Mode, Between, AfterTags, InMovetext, Profile, counting, counts_as, Pair, Item, Part, Level as ModelLevel, Levels as ModelLevels, start_of, outermost, last_position, tag_section, tokens_out, full_text, torn_for, Next, whole, GameState, IsBehind, failures_seen, seen, Bool, true, false, as_written, IsOpen, game_of, may_have_movetext, BeginsText, PutResult, gain_to, section_due, section_due_of, common_steps}
 use Rattle.pgn_layout.specs.declared.sink.WriteFault.{WriteFault}
 use Rattle.pgn_game.specs.declared.reason.Reason.TheVariants as reasons
 use Rattle.pgn_game.proofs.putting.WritesInTurn.{front_of_more, front_after}
@@ -37,7 +37,7 @@ gain_of p result part marker at fresh each token =
     ∙ drop-append_seam (full_text p.mode (start_of part.pairs) part.items) (ending (last_line_of p.mode part.pairs part.items) marker))
 
 -- what is due for a marker, of a reader that holds the part
-due_is : (old : ReaderState) (part : Part) (marker : List ℕ) → old.writing.is_silent ≡ false
+due_is : (old : GameState) (part : Part) (marker : List ℕ) → old.writing.is_silent ≡ false
     → IsTrue (may_have_movetext old.stage) → IsToken marker → IsOpen old part
     → section_due_of old ++ ending old.line marker ≡ gain_to (as_written old) part (whole (game_of part marker))
 due_is old part marker writes at token is = grind (arith, common_steps, section_is, gain_of, open_stage)
@@ -48,15 +48,15 @@ at_depth_0 : (ls : ModelLevels) (around : List ModelLevel) → ls.around ≡ aro
 at_depth_0 ls [] e n = ap (λ (l : List ModelLevel). (outermost ls.current l).trail) e
 at_depth_0 ls (l ∷ around) e n = absurd (omega (arith, n))
 
-last_is : (old : ReaderState) (part : Part) → old.text.levels.around ≡ [] → IsOpen old part
+last_is : (old : GameState) (part : Part) → old.text.levels.around ≡ [] → IsOpen old part
     → (marker : List ℕ) → old.text.levels.current.position ≡ last_position (game_of part marker)
 last_is old part outside is marker = grind (arith, common_steps, depth_is, position_is, at_depth_0)
 
-abbrev pub finished_reader : (line marker : List ℕ) → ReaderState → ReaderState
+abbrev pub finished_reader : (line marker : List ℕ) → GameState → GameState
 finished_reader line marker r =
     record r { stage = Between; text = record r.text { is_after_move = false }; line = line; marker = marker }
 
-behind : (old : ReaderState) (part : Part) (line marker : List ℕ) → line ≡ [] → old.text.levels.around ≡ []
+behind : (old : GameState) (part : Part) (line marker : List ℕ) → line ≡ [] → old.text.levels.around ≡ []
     → IsOpen old part → IsBehind (finished_reader line marker old) (game_of part marker)
 behind old part line marker empty outside is =
     record {
@@ -84,31 +84,31 @@ writes_if_failed true n m failed = absurd (omega (arith, failed))
 writes_if_failed false n m failed = refl
 
 -- The section could not be written.
-pub ends_unbegun : (old new : ReaderState) (marker : Marker) (f : WriteFault) (d : Device) → old.writing.is_silent ≡ false
+pub ends_unbegun : (old new : GameState) (marker : Marker) (f : WriteFault) (d : Device) → old.writing.is_silent ≡ false
     → IsTrue (may_have_movetext old.stage)
     → BeginsText {A = Unit} old new (Err f) d → PutResult old (IsOpen old) (to_game marker) new (Err reasons.WriteFault) d
 ends_unbegun old new marker f d writes at begins =
     grind (arith, common_steps, unwritten, keeps_begun, due_is, marker_token, front_of_more)
 
 -- How the game ends, once its section is written.
-pub record EndsText (old begun : ReaderState) (marker : Marker) (text : List ℕ) (a b : Option (List ℕ)) (n m : ℕ) : Type 0 where
+pub record EndsText (old begun : GameState) (marker : Marker) (text : List ℕ) (a b : Option (List ℕ)) (n m : ℕ) : Type 0 where
   pub writes : old.writing.is_silent ≡ false
   pub begins : BeginsText {A = Unit} {E = WriteFault} old begun (Ok tt) (from_to a b n m)
   pub outside : old.text.levels.around ≡ []
   pub spells : text ≡ marker_text marker
   pub at : IsTrue (may_have_movetext old.stage)
 
-abbrev of_line : (old begun : ReaderState) → begun ≡ record old { stage = InMovetext } → begun.line ≡ old.line
-of_line old begun e = ap (λ (r : ReaderState). r.line) e
+abbrev of_line : (old begun : GameState) → begun ≡ record old { stage = InMovetext } → begun.line ≡ old.line
+of_line old begun e = ap (λ (r : GameState). r.line) e
 
 -- a game was finished, and what its marker adds was written
-finishes : (old new : ReaderState) (marker : Marker) (line : List ℕ) (d : Device) → IsTrue (may_have_movetext old.stage)
+finishes : (old new : GameState) (marker : Marker) (line : List ℕ) (d : Device) → IsTrue (may_have_movetext old.stage)
     → old.text.levels.around ≡ [] → new ≡ finished_reader line (marker_text marker) old → d.failures_after ≡ d.failures
     → ((part : Part) → IsOpen old part → (line ≡ []) × Appends d.before d.after (gain_to (as_written old) part (to_game marker part)))
     → PutResult old (IsOpen old) (to_game marker) new (Ok Finished) d
 finishes old new marker line d at outside same still gained = grind (arith, common_steps, behind, marker_text, plies_before)
 
-module _ (old begun new : ReaderState) (marker : Marker) where
+module _ (old begun new : GameState) (marker : Marker) where
   pub ends_well : (text : List ℕ) (a b c : Option (List ℕ)) (n m k : ℕ) → EndsText old begun marker text a b n m
       → Appends b c (ending begun.line text)
       → new ≡ finished_reader new.line (marker_text marker) begun → new.line ≡ [] → k ≡ m → PutResult old (IsOpen old)
@@ -131,7 +131,7 @@ module _ (old begun new : ReaderState) (marker : Marker) where
       (seen old.writing.is_silent (from_to a b n m))
   ends_silent a b n m silent at outside begins rest =
       finishes old new marker old.line (seen old.writing.is_silent (from_to a b n m)) at outside
-      (rest ∙ ap (λ (r : ReaderState). finished_reader r.line (marker_text marker) r) begins.begun) begins.counted
+      (rest ∙ ap (λ (r : GameState). finished_reader r.line (marker_text marker) r) begins.begun) begins.counted
       (λ part is. (rw silent at is.held.held, rw silent tt))
 
   -- a write failed behind the section
@@ -142,11 +142,11 @@ module _ (old begun new : ReaderState) (marker : Marker) where
       let begins = ends.begins in
       unwritten old new (IsOpen old) (to_game marker) (from_to a c n k)
       (record {
-        profile = ap (λ (r : ReaderState). r.profile) rest ∙ begins.profile;
-        writing = ap (λ (r : ReaderState). r.writing) rest ∙ begins.writing;
+        profile = ap (λ (r : GameState). r.profile) rest ∙ begins.profile;
+        writing = ap (λ (r : GameState). r.writing) rest ∙ begins.writing;
         plies =
-            omega (arith, ap (λ (r : ReaderState). r.earlier_plies) rest, ap (λ (r : ReaderState). r.text.plies) rest, begins.earlier, begins.plies);
-        probes = omega (arith, ap (λ (r : ReaderState). r.most_probes) rest, begins.probes);
+            omega (arith, ap (λ (r : GameState). r.earlier_plies) rest, ap (λ (r : GameState). r.text.plies) rest, begins.earlier, begins.plies);
+        probes = omega (arith, ap (λ (r : GameState). r.most_probes) rest, begins.probes);
       })
       (counted ∙ ap one_more begins.counted) (λ part is.
       subst (AppendsFront a c) (ap (λ (l : List ℕ). section_due_of old ++ ending l (marker_text marker)) (of_line old begun begins.begun)

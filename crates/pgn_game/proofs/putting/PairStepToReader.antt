@@ -1,5 +1,5 @@
 -- What putting a step of the tag section does, or nothing.
-use Rattle.pgn_game.proofs.Words.{◌≡◌, ℕ, false, List, [], Option, None, Some, sym, ◌∙◌, le_refl, arith, IfSome, Ok, drop-length, Appends, Appends-nil, Parts, Stage, Between, AfterLeftBracket, AfterTags, AfterName, AfterValue, InMovetext, Profile, Pair, has_pair, insert_pair, Item, Part, More, start_of, TagPairs, torn, Next, at_stage, going, Movetext, movetext_from, movetext_after_fen, ReaderState, Agrees, fen_position, PutResult, gain_to, rules}
+use Rattle.pgn_game.proofs.Words.{◌≡◌, ℕ, false, List, [], Option, None, Some, sym, ◌∙◌, le_refl, arith, IfSome, Ok, drop-length, Appends, Appends-nil, Parts, Stage, Between, AfterLeftBracket, AfterTags, AfterName, AfterValue, InMovetext, Profile, Pair, has_pair, insert_pair, Item, Part, More, start_of, TagPairs, torn, Next, at_stage, going, Movetext, movetext_from, movetext_after_fen, GameState, Agrees, fen_position, PutResult, gain_to, rules}
 use Rattle.std.proofs.Math.ListN.{drop_of_length-le}
 use Rattle.pgn_game.proofs.putting.ItemToMovetext.{from_to}
 use Rattle.pgn_game.proofs.refusals.ReaderToPart.{begun_name, held_at, text_at}
@@ -20,13 +20,13 @@ adds_nothing p part to o none = search (rules, Appends-nil, drop_of_length-le)
 
 -- A step goes from a stage in which the game has begun to another one, and to a part that the
 -- reader then agrees with.
-pub record IsStep (old new : ReaderState) (part : Part) (next : Next) : Type 0 where
+pub record IsStep (old new : GameState) (part : Part) (next : Next) : Type 0 where
   pub to : Part
   pub leads : going to ≡ next
   pub agrees : Agrees new to
 
 -- The reader has new pairs, and perhaps a new first position.
-steps : (old new : ReaderState) (to : Part → Next) (from stage : Stage) (tags : TagPairs) (start : Option Parts) (o : Option (List ℕ)) (n : ℕ)
+steps : (old new : GameState) (to : Part → Next) (from stage : Stage) (tags : TagPairs) (start : Option Parts) (o : Option (List ℕ)) (n : ℕ)
     → new ≡ record old { stage = stage; tags = tags; text = movetext_after_fen start old.text }
     → old.stage ≡ from → (from ≡ Between → ⊥) → (from ≡ InMovetext → ⊥) → (stage ≡ Between → ⊥) → (stage ≡ InMovetext → ⊥)
     → ((part : Part) → Agrees old part
@@ -54,8 +54,8 @@ to_value value part =
 abbrev pub to_stage : Stage → Part → Next
 to_stage stage part = going (at_stage stage part)
 
-module _ (old : ReaderState) where
-  pub puts_value : (new : ReaderState) (value name : List ℕ) (start : Option Parts) (held : TagPairs) (o : Option (List ℕ)) (n : ℕ)
+module _ (old : GameState) where
+  pub puts_value : (new : GameState) (value name : List ℕ) (start : Option Parts) (held : TagPairs) (o : Option (List ℕ)) (n : ℕ)
       → old.stage ≡ AfterName → IfSome old.tags.pending_name (λ m. held ≡ completed m value old.tags.held) → old.tags.pending_name ≡ Some name
       → fen_position name value ≡ Ok start → new ≡ record old { stage = AfterValue; tags = held; text = movetext_after_fen start old.text }
       → PutResult old (Agrees old) (to_value value) new (Ok More) (from_to o o n n)
@@ -66,15 +66,15 @@ module _ (old : ReaderState) where
   puts_nothing o n = search (rules, le_refl, drop-length, Appends-nil, more_comes)
 
   -- a bracket changes the stage alone
-  pub puts_left_bracket : (new : ReaderState) (o : Option (List ℕ)) (n : ℕ) → old.stage ≡ AfterTags
+  pub puts_left_bracket : (new : GameState) (o : Option (List ℕ)) (n : ℕ) → old.stage ≡ AfterTags
       → new ≡ record old { stage = AfterLeftBracket } → PutResult old (Agrees old) (to_stage AfterLeftBracket) new (Ok More) (from_to o o n n)
   puts_left_bracket new o n at is = search (rules, held_at, steps)
 
-  pub puts_right_bracket : (new : ReaderState) (o : Option (List ℕ)) (n : ℕ) → old.stage ≡ AfterValue → new ≡ record old { stage = AfterTags }
+  pub puts_right_bracket : (new : GameState) (o : Option (List ℕ)) (n : ℕ) → old.stage ≡ AfterValue → new ≡ record old { stage = AfterTags }
       → PutResult old (Agrees old) (to_stage AfterTags) new (Ok More) (from_to o o n n)
   puts_right_bracket new o n at is = search (rules, held_at, steps)
 
-  pub puts_name : (new : ReaderState) (name : List ℕ) (held : TagPairs) (o : Option (List ℕ)) (n : ℕ) → old.stage ≡ AfterLeftBracket
+  pub puts_name : (new : GameState) (name : List ℕ) (held : TagPairs) (o : Option (List ℕ)) (n : ℕ) → old.stage ≡ AfterLeftBracket
       → has_pair old.tags.held name ≡ false → held ≡ record old.tags { pending_name = Some name }
       → new ≡ record old { stage = AfterName; tags = held } → PutResult old (Agrees old) (to_name name) new (Ok More) (from_to o o n n)
   puts_name new name held o n at fresh begins is = search (rules, held_at, steps)

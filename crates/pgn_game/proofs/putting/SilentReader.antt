@@ -1,9 +1,9 @@
 -- What calls in turn do to the sink of a silent reader.
-use Rattle.pgn_game.proofs.Words.{Converter, IsGoing, writing_nothing, None, CountsFault, CountsReason, NoWriteFails, Fault, Reason, Ok, Err, Device, Result, seen, ◌≡◌, Bool, true, false, IsTrue, refl, ap, subst, ◌∙◌, arith, ReaderState, Writing, KeepsSilence, is_nothing, Written, common_steps}
+use Rattle.pgn_game.proofs.Words.{Converter, IsGoing, writing_nothing, None, CountsFault, CountsReason, NoWriteFails, Fault, Reason, Ok, Err, Device, Result, seen, ◌≡◌, Bool, true, false, IsTrue, refl, ap, subst, ◌∙◌, arith, GameState, Writing, KeepsSilence, is_nothing, Written, common_steps}
 use Rattle.pgn_game.specs.declared.mode.Written.TheVariants.{Nothing}
 
 -- a call that leaves how the reader writes
-module _ {S : Type 0} (old new : ReaderState) (a : S) where
+module _ {S : Type 0} (old new : GameState) (a : S) where
   pub silence_of : (b : S) → new.writing ≡ old.writing → (IsTrue old.writing.is_silent → b ≡ a) → KeepsSilence old new a b
   silence_of b same untouched = record { silent = ap (λ (w : Writing). w.is_silent) same; untouched = untouched }
 
@@ -12,7 +12,7 @@ module _ {S : Type 0} (old new : ReaderState) (a : S) where
   silence_kept same = silence_of a same (λ silent. refl)
 
 -- one call after another
-pub silence_then : {S : Type 0} (old mid new : ReaderState) (a b c : S) → KeepsSilence old mid a b → KeepsSilence mid new b c
+pub silence_then : {S : Type 0} (old mid new : GameState) (a b c : S) → KeepsSilence old mid a b → KeepsSilence mid new b c
     → KeepsSilence old new a c
 silence_then old mid new a b c first second = grind (arith, common_steps)
 

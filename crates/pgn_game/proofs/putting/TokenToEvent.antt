@@ -1,5 +1,5 @@
 -- What a reader makes of a token, for the games of all writers beside it.
-use Rattle.pgn_game.proofs.Words.{◌≡◌, ℕ, max, Bool, false, List, [], ◌∷◌, Option, None, Some, Result, Ok, Err, IsFalse, IsTrue, refl, sym, ap, ◌∙◌, arith, Move, Parts, Played, Kind, Reason, Stage, Part, Accepted, symbol, legal, going, in_text, is_number, is_score, marker_of, move_of, found_in, ok_or, with_next, IllegalMove, CostsToFind, Event, Finds, IsOpen, IsOutside, JudgesBefore, JudgesInPair, JudgesOutside, Means, MovesText, Movetext, ReaderState, Refuses, Writer, IsWritable, after_move_at, game_at, game_by, is_begun, is_outside_the_table, items_meant, may_have_movetext, movetext_after_fen, pairs_meant, text_refusal, with_items, Plays}
+use Rattle.pgn_game.proofs.Words.{◌≡◌, ℕ, max, Bool, false, List, [], ◌∷◌, Option, None, Some, Result, Ok, Err, IsFalse, IsTrue, refl, sym, ap, ◌∙◌, arith, Move, Parts, Played, Kind, Reason, Stage, Part, Accepted, symbol, legal, going, in_text, is_number, is_score, marker_of, move_of, found_in, ok_or, with_next, IllegalMove, CostsToFind, Event, Finds, IsOpen, IsOutside, JudgesBefore, JudgesInPair, JudgesOutside, Means, MovesText, Movetext, GameState, Refuses, Writer, IsWritable, after_move_at, game_at, game_by, is_begun, is_outside_the_table, items_meant, may_have_movetext, movetext_after_fen, pairs_meant, text_refusal, with_items, Plays}
 use Rattle.pgn_game.specs.declared.event.Event.TheVariants as events
 use Rattle.pgn_game.specs.games.Game.{move}
 use Rattle.pgn_game.proofs.refusals.RefusalsInMovetext.{move_free, move_leads}
@@ -12,10 +12,10 @@ use Rattle.pgn_game.proofs.stepping.PutToAnswer.{entry_refused, move_refused, ne
 before_movetext : (stage : Stage) (b : Bool) → is_begun stage ≡ false → after_move_at stage b ≡ false
 before_movetext stage b before = grind arith
 
-game_before : (w : Writer) (r : ReaderState) → is_begun r.stage ≡ false → game_at false w r ≡ game_by w r
+game_before : (w : Writer) (r : GameState) → is_begun r.stage ≡ false → game_at false w r ≡ game_by w r
 game_before w r before = ap (λ (b : Bool). game_at b w r) (sym (before_movetext r.stage w.is_after_move before))
 
-module _ {old new : ReaderState} {k : Kind} where
+module _ {old new : GameState} {k : Kind} where
   pub pair_outside : {r : Result Accepted Reason} → is_begun old.stage ≡ false → JudgesInPair old k new r → JudgesOutside old k new (Some r)
   pair_outside {r} at judged = record {
     takes = λ w. rw (← game_before w old at, ← game_before w new judged.before) (judged.takes w);
@@ -40,19 +40,19 @@ fen_alike (Some start) text = refl
 
 -- In movetext.
 
-pub none_tried : (old : ReaderState) (text : Movetext)
+pub none_tried : (old : GameState) (text : Movetext)
     → record old { text = text } ≡ record old { text = text; most_probes = max old.most_probes 0 }
 none_tried old text =
     let same : old.most_probes ≡ max old.most_probes 0 = omega arith in ap (λ (n : ℕ). record old { text = text; most_probes = n }) same
 
-pub entry_refuses : (old : ReaderState) (k : Kind) (reason : Reason) → marker_of k ≡ None → IsFalse (is_outside_the_table reason)
+pub entry_refuses : (old : GameState) (k : Kind) (reason : Reason) → marker_of k ≡ None → IsFalse (is_outside_the_table reason)
     → ((w : Writer) (part : Part) → IsOpen (game_by w old) part → text_refusal old.profile part k ≡ Some reason)
     → ((part : Part) → CostsToFind part k 0) → Refuses old k old reason
 entry_refuses old k reason none inside why costs =
     record { no_marker = none; takes = λ w o m. entry_refused (game_by w old) k reason o m inside (why w) costs }
 
 -- a token that leaves the levels as they are
-pub entry_means : (old : ReaderState) (k : Kind) (e : Event) → marker_of k ≡ None
+pub entry_means : (old : GameState) (k : Kind) (e : Event) → marker_of k ≡ None
     → ((part : Part) → (text_refusal old.profile part k ≡ None) × (in_text part k ≡ going (with_items part (items_meant e))))
     → ((part : Part) → CostsToFind part k 0) → pairs_meant e ≡ 0 → MovesText e old.text old.text → IsWritable old.text e → Means old k old e
 entry_means old k e none says finds untried text fits = record {
@@ -65,7 +65,7 @@ entry_means old k e none says finds untried text fits = record {
 }
 
 -- what was found for a symbol is found in the game of a writer
-finds_by : (w : Writer) {old new : ReaderState} {s : List ℕ} {r : Result Move Reason} {n : ℕ} → Finds old s new r n
+finds_by : (w : Writer) {old new : GameState} {s : List ℕ} {r : Result Move Reason} {n : ℕ} → Finds old s new r n
     → Finds (game_by w old) s (game_by w new) r n
 finds_by w finds = record {
   found = finds.found;
@@ -77,7 +77,7 @@ finds_by w finds = record {
   candidates = finds.candidates;
 }
 
-module _ (old found : ReaderState) (s : List ℕ) (n : ℕ) (at : IsTrue (may_have_movetext old.stage))
+module _ (old found : GameState) (s : List ℕ) (n : ℕ) (at : IsTrue (may_have_movetext old.stage))
     (number : is_number s ≡ false) (score : is_score s ≡ false) (none : marker_of (symbol s) ≡ None) where
   pub move_refuses : (reason : Reason) → Finds old s found (Err reason) n → Refuses old (symbol s) found reason
   move_refuses reason finds = record {
@@ -95,13 +95,13 @@ module _ (old found : ReaderState) (s : List ℕ) (n : ℕ) (at : IsTrue (may_ha
       sym (ap (λ (o : Option Parts). ok_or (with_next mv o) IllegalMove) leads) ∙ finds.found in
       (move_free s here number score is refl is_found, move_leads s here number score is refl is_found)
 
-  pub move_means : (new : ReaderState) (mv : Move) → Finds old s found (Ok mv) n → new ≡ record found { text = new.text }
+  pub move_means : (new : GameState) (mv : Move) → Finds old s found (Ok mv) n → new ≡ record found { text = new.text }
       → Plays mv old.text new.text → Means old (symbol s) new (events.Move mv n)
   move_means new mv finds moved text = record {
     no_marker = none;
     says = move_says mv finds;
     finds = λ w part is. costs_found s n is at number score finds.tried;
-    after = moved ∙ ap (λ (r : ReaderState). record r { text = new.text }) finds.counted;
+    after = moved ∙ ap (λ (r : GameState). record r { text = new.text }) finds.counted;
     text = text;
     fits = (finds.some, finds.few, finds.candidates);
   }

@@ -1,5 +1,5 @@
 -- What the tokens of movetext are rejected for, and where they lead, for a part that is open.
-use Rattle.pgn_game.proofs.Words.{leb-false, ◌≡◌, IsFalse, ℕ, Bool, true, false, ◌&&◌, ◌||◌, not, List, [], ◌∷◌, length, nat_le, Option, None, Some, Bor, refl, sym, ap, ◌∙◌, arith, is_some, ◌==◌, Result, Ok, Err, bytes_eq, codes, unwrap_or, length-map, or_right, or_from, option_copied, NoMove, Ambiguous, Kind, asterisk, symbol, Parts, Played, SanFault, Reason, NotAMove, IllegalMove, AmbiguousMove, MoveLimit, MarkerInVariation, ResultDiffers, Profile, Missing, Pair, value_of, Part, move_of, Level as ModelLevel, depth, start_of, marker_of, is_number, is_score, is_at_limit, levels_of_part, position_in, result_for, Next, going, whole, in_text, move_item, before_last, stored_level, ReaderState, is_outside_the_table, IsOpen, game_of, or_else, text_refusal, with_items, found_in, rules, common_steps}
+use Rattle.pgn_game.proofs.Words.{leb-false, ◌≡◌, IsFalse, ℕ, Bool, true, false, ◌&&◌, ◌||◌, not, List, [], ◌∷◌, length, nat_le, Option, None, Some, Bor, refl, sym, ap, ◌∙◌, arith, is_some, ◌==◌, Result, Ok, Err, bytes_eq, codes, unwrap_or, length-map, or_right, or_from, option_copied, NoMove, Ambiguous, Kind, asterisk, symbol, Parts, Played, SanFault, Reason, NotAMove, IllegalMove, AmbiguousMove, MoveLimit, MarkerInVariation, ResultDiffers, Profile, Missing, Pair, value_of, Part, move_of, Level as ModelLevel, depth, start_of, marker_of, is_number, is_score, is_at_limit, levels_of_part, position_in, result_for, Next, going, whole, in_text, move_item, before_last, stored_level, GameState, is_outside_the_table, IsOpen, game_of, or_else, text_refusal, with_items, found_in, rules, common_steps}
 use Rattle.pgn_game.specs.games.Game as game
 use Rattle.pgn_game.proofs.refusals.RefusalsByStage.{hit, pass, symbol_rows}
 
@@ -8,7 +8,7 @@ use Rattle.pgn_game.proofs.refusals.RefusalsByStage.{hit, pass, symbol_rows}
 some_before : (start : Parts) (l : ModelLevel) → is_some (before_last start l) ≡ l.has_own_move
 some_before start l = grind arith
 
-module _ (old : ReaderState) (part : Part) where
+module _ (old : GameState) (part : Part) where
   pub holds_is : IsOpen old part → is_some old.text.levels.current.before ≡ (levels_of_part part).current.has_own_move
   holds_is is = grind (arith, some_before)
 
@@ -86,7 +86,7 @@ found_refused p (Some (Err Ambiguous)) e = met refl (cc)
 found_refused p (Some (Ok one)) {reason} e = grind (arith, common_steps, met, hit)
 
 -- what was found at the reader's position was found at the part's
-found_at : (old : ReaderState) (part : Part) (s : List ℕ) {here : Parts} {r : Result Played Reason}
+found_at : (old : GameState) (part : Part) (s : List ℕ) {here : Parts} {r : Result Played Reason}
     → IsOpen old part → here ≡ old.text.levels.current.position → r ≡ found_in here (move_of here s)
     → found_in (position_in part) (move_of (position_in part) s) ≡ r
 found_at old part s is same found = cc (position_is old part is)
@@ -95,7 +95,7 @@ pub refused_inside : (here : Parts) (s : List ℕ) {reason : Reason}
     → Err reason ≡ found_in here (move_of here s) → IsFalse (is_outside_the_table reason)
 refused_inside here s found = (found_refused here (move_of here s) (sym found)).1
 
-module _ {old : ReaderState} {part : Part} (s : List ℕ) (here : Parts) (number : is_number s ≡ false) (score : is_score s ≡ false)
+module _ {old : GameState} {part : Part} (s : List ℕ) (here : Parts) (number : is_number s ≡ false) (score : is_score s ≡ false)
     (is : IsOpen old part) (same : here ≡ old.text.levels.current.position) where
   pub move_free : {played : Played} → Ok played ≡ found_in here (move_of here s) → text_refusal old.profile part (symbol s) ≡ None
   move_free found = grind (arith, move_refusal, found_free, found_at)
@@ -146,7 +146,7 @@ marker_tested : (p : Profile) (part : Part) (missing marker : List ℕ) (inside 
     → marker_rows p part marker ≡ or_else inside MarkerInVariation (or_else (other && (depth (levels_of_part part) == 0)) ResultDiffers None)
 marker_tested p part missing marker inside other within known test = cc
 
-module _ (old : ReaderState) (k : Kind) where
+module _ (old : GameState) (k : Kind) where
   pub marker_inside : (marker : List ℕ) (part : Part) → marker_of k ≡ Some marker → nat_le 1 (depth (levels_of_part part)) ≡ true
       → text_refusal old.profile part k ≡ Some MarkerInVariation
   marker_inside marker part is within = marker_refusal old.profile part k is ∙ hit _ _ _ within

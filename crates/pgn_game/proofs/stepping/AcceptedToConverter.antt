@@ -1,7 +1,7 @@
 -- One token that the lexer gave, and what the reader answered to it.
 use Rattle.pgn_lexer.specs.PartialToken.{refusal as refusal_token}
-use Rattle.pgn_game.proofs.Words.{Writing, Reason, Lexical, WriteFault, Profile, Game, Part, ◌≡◌, ℕ, ◌+◌, ◌<◌, ◌≤◌, ◌⊎◌, Bool, List, [], ◌∷◌, ◌++◌, length, take, Option, None, Some, Err, refl, sym, ap, subst, ◌∙◌, append_assoc, append-nil, length-append, arith, IsTrue, map, sum, map-append, list_any-append, or_cases, Appends, Token, Standing, Follows, first, still, More, Finished, refusal, position_if_move, position_in, Next, going, whole, next, Progress, progress_with, progress_after, Read, read, gain, text_next, plies_of, has_move, ReaderState, Agrees, as_written, IsBehind, plies_of_finished_games, plies_added, Leads, Answers, AppendsFront, MostTried, Raises, Tries, TriesUnwritten, sum_by-append, sum_by-cons, LexFault, finished_game_of, Converter, game_in_reader, play_moves, has_played_move, HasRead, IsLastGame, refused_stop as refused, unwritten, reported_position, FaultAtEnd, SameGames, due_as, rules, inl, inr, position_at_fault, due, torn, text_of_games as text_of, common_steps, coming, AreNext, take-append-drop, drop, tokens_of, StandsAfter}
-use Rattle.pgn_game.specs.steps.ReaderState as reader_state
+use Rattle.pgn_game.proofs.Words.{Writing, Reason, Lexical, WriteFault, Profile, Game, Part, ◌≡◌, ℕ, ◌+◌, ◌<◌, ◌≤◌, ◌⊎◌, Bool, List, [], ◌∷◌, ◌++◌, length, take, Option, None, Some, Err, refl, sym, ap, subst, ◌∙◌, append_assoc, append-nil, length-append, arith, IsTrue, map, sum, map-append, list_any-append, or_cases, Appends, Token, Standing, Follows, first, still, More, Finished, refusal, position_if_move, position_in, Next, going, whole, next, Progress, progress_with, progress_after, Read, read, gain, text_next, plies_of, has_move, GameState, Agrees, as_written, IsBehind, plies_of_finished_games, plies_added, Leads, Answers, AppendsFront, MostTried, Raises, Tries, TriesUnwritten, sum_by-append, sum_by-cons, LexFault, finished_game_of, Converter, game_in_reader, play_moves, has_played_move, HasRead, IsLastGame, refused_stop as refused, unwritten, reported_position, FaultAtEnd, SameGames, due_as, rules, inl, inr, position_at_fault, due, torn, text_of_games as text_of, common_steps, coming, AreNext, take-append-drop, drop, tokens_of, StandsAfter}
+use Rattle.pgn_game.specs.steps.GameState as game_state
 use Rattle.pgn_game.proofs.stepping.PairsTriedForToken.{most_with, most_to_refused, part_probed}
 use Rattle.pgn_game.proofs.stepping.OneMoreToken.{read-passes, read-refuses, due-passes}
 use Rattle.pgn_game.proofs.stepping.NextGrows.{next_is}
@@ -19,25 +19,25 @@ follows_none None = tt
 follows_none (Some x) = tt
 
 -- what a token leads to, with the games before; one that finishes no game counts no move
-leads_more : (nx : Next) (games : List Game) (r : ReaderState) → Leads nx More r
+leads_more : (nx : Next) (games : List Game) (r : GameState) → Leads nx More r
     → ((progress_with games nx).games ≡ games) × Agrees r (progress_with games nx).part × (plies_added nx ≡ 0)
 leads_more (going part) games r h = (refl, h, refl)
 leads_more (whole g) games r h = absurd h
 
 -- what stands written then, where a missing Result is written as by w
-text_more : (w p : Profile) (nx : Next) (games : List Game) (r : ReaderState) → Leads nx More r
+text_more : (w p : Profile) (nx : Next) (games : List Game) (r : GameState) → Leads nx More r
     → text_of p (progress_with games nx).games ++ torn w (progress_with games nx).part ≡ text_of p games ++ text_next w nx
 text_more w p (going part) games r h = refl
 text_more w p (whole g) games r h = absurd h
 
-leads_finished : (nx : Next) (games : List Game) (r : ReaderState) → Leads nx Finished r
+leads_finished : (nx : Next) (games : List Game) (r : GameState) → Leads nx Finished r
     → (g : Game) × ((progress_with games nx).games ≡ games ++ g ∷ [])
     × Agrees r (progress_with games nx).part × IsBehind r g × (plies_added nx ≡ plies_of g)
 leads_finished (going part) games r h = absurd h
 leads_finished (whole g) games r h = (g, refl, h.agrees, h, refl)
 
 -- what the reader still holds of the game that it is behind
-pub finished_behind : {r : ReaderState} {g : Game} → IsBehind r g → game_in_reader r ≡ finished_game_of g
+pub finished_behind : {r : GameState} {g : Game} → IsBehind r g → game_in_reader r ≡ finished_game_of g
 finished_behind h = cc (h.pairs, h.plies, h.position, h.marker)
 
 plies-snoc : (games : List Game) (g : Game) → sum (map plies_of (games ++ g ∷ [])) ≡ sum (map plies_of games) + plies_of g
@@ -51,16 +51,16 @@ pub in_games : (b : Progress) → IsTrue (play_moves b.games) → IsTrue (has_pl
 in_games b h = grind (arith, common_steps)
 
 -- some pair was tried where a move was played in a game, or in the part
-in_either : {r : ReaderState} (b : Progress) → Agrees r b.part
+in_either : {r : GameState} (b : Progress) → Agrees r b.part
     → (IsTrue (play_moves b.games) → 0 < r.most_probes) → IsTrue (has_played_move b) → 0 < r.most_probes
 in_either {r} b agrees before moves = grind (arith, common_steps, part_probed)
 
 -- a converter after a token, where it finishes no game and is no fault
-abbrev pub now_at : Standing → ReaderState → ℕ → Bool → Converter
+abbrev pub now_at : Standing → GameState → ℕ → Bool → Converter
 now_at l r games finished =
     record { lexer = l; reading = r; games = games; just_finished = None; is_finished = finished; fault = None }
 
-module _ (p : Profile) (old : Converter) (given : List Token) (t : Token) (l : Standing) (new : ReaderState) (finished : Bool)
+module _ (p : Profile) (old : Converter) (given : List Token) (t : Token) (l : Standing) (new : GameState) (finished : Bool)
     (has_read : HasRead p old given) (profile : new.profile ≡ old.reading.profile) (probes : old.reading.most_probes ≤ new.most_probes)
     (writing : new.writing ≡ old.reading.writing) where
   abbrev b : Progress
@@ -170,8 +170,8 @@ module _ (p : Profile) (old : Converter) (given : List Token) (t : Token) (l : S
   -- where the reason is not that a write failed
   pub at_refusal : (us : List Token) {a c : Option (List ℕ)} {why : Reason} → (why ≡ WriteFault → ⊥)
       → Answers old.reading b.part t.kind new (Err why) a c → FaultAtEnd p given (given ++ t ∷ us) (record { at = t.at; reason = why }) new a c
-  at_refusal us other (reader_state.refused reason some wrote tries here) = at_refused us some wrote tries here
-  at_refusal us other (reader_state.unwritten none wrote tries) = absurd (other refl)
+  at_refusal us other (game_state.refused reason some wrote tries here) = at_refused us some wrote tries here
+  at_refusal us other (game_state.unwritten none wrote tries) = absurd (other refl)
 
   -- where the game goes on, the same profile writes what the token adds
   pub due_more : (w : Profile) → refusal old.reading.profile b.part t.kind ≡ None → Leads (next b.part t.kind) More new
@@ -219,8 +219,8 @@ module _ (p : Profile) (old : Converter) (given : List Token) (t : Token) (l : S
 
     pub at_fault : (us : List Token) {a c : Option (List ℕ)} {why : Reason} → Answers old.reading b.part t.kind new (Err why) a c
         → FaultAtEnd p given (given ++ t ∷ us) (record { at = t.at; reason = why }) new a c
-    at_fault us (reader_state.refused reason some wrote tries here) = at_refused us some wrote tries here
-    at_fault us (reader_state.unwritten none wrote tries) = at_unwritten us none wrote tries
+    at_fault us (game_state.refused reason some wrote tries here) = at_refused us some wrote tries here
+    at_fault us (game_state.unwritten none wrote tries) = at_unwritten us none wrote tries
 
 -- a text that goes on behind the bytes used goes on behind the piece
 pub next_in_piece : (l : Standing) (u piece : List ℕ) (used : ℕ) {given : List Token}

@@ -1,7 +1,7 @@
 -- How many pairs were tried for a token: from what the reader counts to what is said of tokens.
 use Rattle.pgn_game.proofs.stepping.OneMoreToken.{goes_on}
 use Rattle.pgn_lexer.specs.Tokens as tokens
-use Rattle.pgn_game.proofs.Words.{Parts, Kind, Token, Mode, Reason, InMovetext, Profile, ◌≡◌, ◌⊎◌, inl, ℕ, ◌<◌, max, Bool, true, false, ◌||◌, List, [], ◌∷◌, ◌++◌, Option, None, Some, is_some, Result, Ok, Err, refl, sym, subst, arith, IsTrue, drop-append_seam, drop-length, and_right, or_right, false≢true, Move, Accepted, depth, refusal, is_at, is_number, is_outside_tag_pairs, is_score, levels_of_part, marker_of, position_in, Next, going, Progress, progress_after, read_from, read, Costs, CostsIf, CostsToFind, is_written, CostsToWrite, added, CostsToAdd, Tries, MostFrom, MostTried, Raises, has_move, ReaderState, Agrees, IsOpen, may_have_movetext, with_items, TriesItem, mode_written, LexReason, is_move, Item, Part, rules, not, ap, ◌&&◌, common_steps}
+use Rattle.pgn_game.proofs.Words.{Parts, Kind, Token, Mode, Reason, InMovetext, Profile, ◌≡◌, ◌⊎◌, inl, ℕ, ◌<◌, max, Bool, true, false, ◌||◌, List, [], ◌∷◌, ◌++◌, Option, None, Some, is_some, Result, Ok, Err, refl, sym, subst, arith, IsTrue, drop-append_seam, drop-length, and_right, or_right, false≢true, Move, Accepted, depth, refusal, is_at, is_number, is_outside_tag_pairs, is_score, levels_of_part, marker_of, position_in, Next, going, Progress, progress_after, read_from, read, Costs, CostsIf, CostsToFind, is_written, CostsToWrite, added, CostsToAdd, Tries, MostFrom, MostTried, Raises, has_move, GameState, Agrees, IsOpen, may_have_movetext, with_items, TriesItem, mode_written, LexReason, is_move, Item, Part, rules, not, ap, ◌&&◌, common_steps}
 use Rattle.pgn_game.specs.games.Game.{move}
 use Rattle.pgn_game.specs.public.MostTried as most_tried
 use Rattle.pgn_game.proofs.refusals.RefusalsInMovetext.{depth_is, position_is}
@@ -43,7 +43,7 @@ pub raises_none : {silent : Bool} {p : Profile} {part : Part} {r : LexReason} {w
 raises_none is = search rules
 
 -- some pair was tried if a move is in the part
-pub part_probed : (r : ReaderState) {part : Part} → Agrees r part → IsTrue (has_move part.items) → 0 < r.most_probes
+pub part_probed : (r : GameState) {part : Part} → Agrees r part → IsTrue (has_move part.items) → 0 < r.most_probes
 part_probed r agrees = search (rules, held_at, text_at)
 
 -- No pair is tried for a symbol in a tag pair, nor for a number and a marker.
@@ -66,13 +66,13 @@ module _ (part : Part) where
   marker_untried k h1 = search (rules, and_right, costs_nothing, false≢true)
 
 -- The move of another symbol is sought where movetext can begin or goes on.
-pub costs_found : {r : ReaderState} {part : Part} (s : List ℕ) (n : ℕ) → IsOpen r part
+pub costs_found : {r : GameState} {part : Part} (s : List ℕ) (n : ℕ) → IsOpen r part
     → IsTrue (may_have_movetext r.stage) → is_number s ≡ false → is_score s ≡ false
     → Costs r.text.levels.current.position s n → CostsToFind part (tokens.symbol s) n
 costs_found s n is at number score costs = search (rules, false≢true, position_is)
 
 -- An item is written at the cost that its place has.
-item_held : (r : ReaderState) {to : Part} (i : Item) (n k : ℕ) → IsOpen r to → TriesItem (mode_written r) r.text i n k
+item_held : (r : GameState) {to : Part} (i : Item) (n k : ℕ) → IsOpen r to → TriesItem (mode_written r) r.text i n k
     → CostsToWrite (is_written (mode_written r) (depth (levels_of_part to)) i) (position_in to) i n k
 item_held r {to} i n k is h = grind (arith, common_steps, depth_is, position_is)
 
@@ -108,6 +108,6 @@ adds_item mode i part plain = adds_items mode part (i ∷ []) 0 0
 pub adds_same : (mode : Option Mode) (part : Part) (to : Part) → to.items ≡ part.items → CostsToPut mode part (going to) 0 0
 adds_same mode part to same = grind (arith, common_steps, drop-length)
 
-pub adds_move : (r : ReaderState) (part : Part) (m : Move) (n k : ℕ) → IsOpen r part → TriesItem (mode_written r) r.text (move m) n k
+pub adds_move : (r : GameState) (part : Part) (m : Move) (n k : ℕ) → IsOpen r part → TriesItem (mode_written r) r.text (move m) n k
     → CostsToPut (mode_written r) part (going (with_items part (move m ∷ []))) n k
 adds_move r part m n k is tries = adds_items (mode_written r) part (move m ∷ []) n k (item_held r (move m) n k is tries)

@@ -2,10 +2,10 @@
 use Rattle.pgn_lexer.specs.Tokens.{period}
 use Rattle.pgn_lexer.specs.WholeTokens.{none}
 use Rattle.pgn_lexer.specs.declared.token.TokenKind.TheVariants as token_kinds
-use Rattle.pgn_game.proofs.Words.{Agrees, Bool, Marker, Kind, next, Standing, waiting, InMovetext, ReaderState, Device, Reason, ◌≡◌, ℕ, ◌+◌, ◌*◌, ◌≤◌, List, [], Option, None, Ok, IsTrue, refl, sym, ap, subst, ◌∙◌, arith, Appends-nil, More, kind_of, TokenKind, Result, Accepted, may_have_movetext, TakesToken, symbol, Passes, is_passed, over_space, over_token, MeetsEntry, Part, IsEntry, IsOpen, PutResult, CostsToFind, mode_written, going, in_text, text_refusal, with_items, TakesEntry, TakesUnlessMarker, common_steps}
+use Rattle.pgn_game.proofs.Words.{Agrees, Bool, Kind, next, Standing, waiting, InMovetext, GameState, Device, Reason, ◌≡◌, ℕ, ◌+◌, ◌*◌, ◌≤◌, List, [], Option, None, Ok, IsTrue, refl, sym, ap, subst, ◌∙◌, arith, Appends-nil, More, kind_of, TokenKind, Result, Accepted, may_have_movetext, TakesToken, symbol, Passes, is_passed, over_space, over_token, EntersMovetext, Part, IsEntry, IsOpen, PutResult, CostsToFind, mode_written, going, in_text, text_refusal, with_items, TakesEntry, common_steps}
 use Rattle.pgn_game.proofs.putting.ItemToReader.{begun_before, puts_number, to_items}
 use Rattle.pgn_game.proofs.stepping.PairsTriedForToken.{adds_none}
-use Rattle.pgn_game.proofs.stepping.PutToAnswer.{entry_met, takes_put}
+use Rattle.pgn_game.proofs.stepping.PutToAnswer.{takes_put}
 use Rattle.pgn_game.proofs.ReaderLemmas.{counting_none, enters, entry_in_movetext, number_no_score, number_free, number_leads, number_untried}
 
 -- ---- how far the lexer gets
@@ -33,12 +33,12 @@ abbrev still_at : Option (List ℕ) → ℕ → Device
 still_at taken failures = record { before = taken; after = taken; failures = failures; failures_after = failures }
 
 -- in movetext such a token adds nothing
-puts_none : (r : ReaderState) (taken : Option (List ℕ)) (failures : ℕ) → r.stage ≡ InMovetext
+puts_none : (r : GameState) (taken : Option (List ℕ)) (failures : ℕ) → r.stage ≡ InMovetext
     → PutResult r (IsOpen r) (to_items []) r (Ok More) (still_at taken failures)
 puts_none r taken failures at =
     puts_number r r (still_at taken failures) (ap may_have_movetext at) (begun_before r (still_at taken failures) at (Appends-nil taken) refl)
 
-passes : (r : ReaderState) (k : Kind) (taken : Option (List ℕ)) (failures : ℕ) → r.stage ≡ InMovetext
+passes : (r : GameState) (k : Kind) (taken : Option (List ℕ)) (failures : ℕ) → r.stage ≡ InMovetext
     → ((part : Part) → IsOpen r part → (text_refusal r.profile part k ≡ None) × (in_text part k ≡ going (with_items part [])))
     → ((part : Part) → CostsToFind part k 0) → TakesEntry r k r (Ok More) (still_at taken failures)
 passes r k taken failures at says finds =
@@ -47,7 +47,7 @@ passes r k taken failures at says finds =
     (λ part is. (is.row ∙ (says part is.is_open).0, is.leads ∙ (says part is.is_open).1)) (λ part is. finds part)
     (λ part is. adds_none (mode_written r) part)
 
-entry_passed : (r : ReaderState) (k : Kind) (taken : Option (List ℕ)) (failures : ℕ) → r.stage ≡ InMovetext → IsTrue (is_passed k)
+entry_passed : (r : GameState) (k : Kind) (taken : Option (List ℕ)) (failures : ℕ) → r.stage ≡ InMovetext → IsTrue (is_passed k)
     → TakesEntry r k r (Ok More) (still_at taken failures)
 entry_passed r (symbol text) taken failures at number =
     let score = number_no_score text number in
@@ -56,12 +56,15 @@ entry_passed r (symbol text) taken failures at number =
 entry_passed r period taken failures at h = passes r period taken failures at (λ part is. (refl, refl)) (λ part. refl)
 entry_passed r _ taken failures at h = absurd (cc)
 
-takes_in_movetext : (r new : ReaderState) (k : TokenKind) (answer : Result Accepted Reason) (d : Device) → r.stage ≡ InMovetext
-    → TakesEntry r (kind_of k) new answer d → TakesToken r (kind_of k) new answer d
-takes_in_movetext r new k answer d at takes =
-    (enters r k (ap may_have_movetext at) (λ part agrees. entry_in_movetext r k part at agrees)).takes new answer d takes
+-- in movetext a token is one of movetext
+pub enters_in_movetext : (r : GameState) (k : TokenKind) → r.stage ≡ InMovetext → EntersMovetext r (kind_of k) r
+enters_in_movetext r k at = enters r k (ap may_have_movetext at) (λ part agrees. entry_in_movetext r k part at agrees)
 
-pub takes_passed : (r : ReaderState) (k : Kind) (taken : Option (List ℕ)) (failures : ℕ) → r.stage ≡ InMovetext → IsTrue (is_passed k)
+takes_in_movetext : (r new : GameState) (k : TokenKind) (answer : Result Accepted Reason) (d : Device) → r.stage ≡ InMovetext
+    → TakesEntry r (kind_of k) new answer d → TakesToken r (kind_of k) new answer d
+takes_in_movetext r new k answer d at takes = (enters_in_movetext r k at).takes new answer d takes
+
+pub takes_passed : (r : GameState) (k : Kind) (taken : Option (List ℕ)) (failures : ℕ) → r.stage ≡ InMovetext → IsTrue (is_passed k)
     → TakesToken r k r (Ok More) (still_at taken failures)
 takes_passed r k taken failures at h =
     let returned = given_as k h in
@@ -70,7 +73,7 @@ takes_passed r k taken failures at h =
     (subst (λ j. TakesEntry r j r (Ok More) (still_at taken failures)) (sym returned.1) (entry_passed r k taken failures at h)))
 
 -- it leads to a part with the same items
-entry_leads : (r : ReaderState) (k : TokenKind) (part : Part) → r.stage ≡ InMovetext → Agrees r part → next part (kind_of k) ≡ in_text part (kind_of k)
+entry_leads : (r : GameState) (k : TokenKind) (part : Part) → r.stage ≡ InMovetext → Agrees r part → next part (kind_of k) ≡ in_text part (kind_of k)
 entry_leads r k part at agrees = (entry_in_movetext r k part at agrees).leads
 
 adds_no_items : (part : Part) (k : Kind) → IsTrue (is_passed k) → in_text part k ≡ going (with_items part [])
@@ -78,14 +81,8 @@ adds_no_items part (symbol text) number = number_leads part text number (number_
 adds_no_items part period h = refl
 adds_no_items part _ h = absurd (cc)
 
-pub passed_leads : (r : ReaderState) (k : Kind) (part : Part) → r.stage ≡ InMovetext → IsTrue (is_passed k) → Agrees r part
+pub passed_leads : (r : GameState) (k : Kind) (part : Part) → r.stage ≡ InMovetext → IsTrue (is_passed k) → Agrees r part
     → next part k ≡ going (with_items part [])
 passed_leads r k part at h agrees =
     let returned = given_as k h in
     subst (λ (j : Kind). next part j ≡ in_text part j) returned.1 (entry_leads r returned.0 part at agrees) ∙ adds_no_items part k h
-
--- a token that is met in movetext
-pub meets_in_movetext : (r new : ReaderState) (k : TokenKind) (met : Result (Option Marker) Reason) (d : Device) → r.stage ≡ InMovetext
-    → MeetsEntry r (kind_of k) new met d → TakesUnlessMarker r (kind_of k) new met d
-meets_in_movetext r new k met d at meets =
-    entry_met r r new (kind_of k) met d (enters r k (ap may_have_movetext at) (λ part agrees. entry_in_movetext r k part at agrees)) meets

@@ -1,7 +1,7 @@
 -- From what putting a token results in, and from its row of the table, to what the reader answers.
 use Rattle.pgn_lexer.specs.declared.token.TokenKind.TheVariants as token_kinds
-use Rattle.pgn_game.proofs.Words.{Parts, Kind, Reason, Stage, Between, AfterTags, InMovetext, Profile, Part, no_part, ◌≡◌, ◌⊎◌, ℕ, max, Bool, true, false, ◌||◌, List, length, drop, Option, None, Some, Bor, Result, Ok, Err, IsFalse, IsTrue, is_some, refl, sym, ap, subst, ◌∙◌, arith, Appends-nil, AppendsFront, Device, kind_of, TokenKind, symbol, Accepted, More, Marker, marker_text, torn, refusal, is_at, is_comment, is_end, is_number, is_outside_tag_pairs, is_score, marker_of, position_if_move, position_in, Next, going, at_stage, next, gain, text_next, CostsToFind, Tries, TriesUnwritten, ReaderState, mode_written, Agrees, Answers, as_written, IsStopped, is_outside_the_table, FinishesAtMarker, IsEntry, IsOpen, may_have_movetext, text_refusal, with_items, Event, Means, Writer, game_by, items_meant, pairs_meant, CountsMove, EntersMovetext, EntersPart, Finds, HoldsPairs, HoldsText, FinishesNone, GoesTo, PutResult, Takes, TakesEntry, TakesOther, TakesOutside, TakesToken, TakesUnwritten, at_game_start, counting_probes, unused, rules, inl, inr, false≢true, Finished, le-max_left, MeetsEntry, TakesUnlessMarker, common_steps}
-use Rattle.pgn_game.specs.steps.ReaderState as reader_state
+use Rattle.pgn_game.proofs.Words.{Parts, Kind, Reason, Stage, Between, AfterTags, InMovetext, Profile, Part, no_part, ◌≡◌, ◌⊎◌, ℕ, max, Bool, true, false, ◌||◌, List, length, drop, Option, None, Some, Bor, Result, Ok, Err, IsFalse, IsTrue, is_some, refl, sym, ap, subst, ◌∙◌, arith, Appends-nil, AppendsFront, Device, kind_of, TokenKind, symbol, Accepted, More, Marker, marker_text, torn, refusal, is_at, is_comment, is_end, is_number, is_outside_tag_pairs, is_score, marker_of, position_if_move, position_in, Next, going, at_stage, next, gain, text_next, CostsToFind, Tries, TriesUnwritten, GameState, mode_written, Agrees, Answers, as_written, IsStopped, is_outside_the_table, FinishesAtMarker, IsEntry, IsOpen, may_have_movetext, text_refusal, with_items, Event, Means, Writer, game_by, items_meant, pairs_meant, CountsMove, EntersMovetext, EntersPart, Finds, HoldsPairs, HoldsText, FinishesNone, GoesTo, PutResult, Takes, TakesEntry, TakesOutside, TakesToken, TakesUnwritten, at_game_start, counting_probes, unused, rules, inl, inr, false≢true, Finished, le-max_left, common_steps}
+use Rattle.pgn_game.specs.steps.GameState as game_state
 use Rattle.pgn_game.proofs.refusals.RefusalsByStage.{begins_alike, comment_passes, drops_comments, passes_between}
 use Rattle.pgn_game.proofs.refusals.RefusalsInMovetext.{marker_whole, move_refused as move_row_refused, position_is, refused_inside}
 use Rattle.pgn_game.proofs.refusals.ReaderToPart.{held_at, part_stage, position_in_pair}
@@ -11,12 +11,12 @@ use Rattle.pgn_game.proofs.putting.PairStepToReader.{puts_nothing, no_torn}
 use Rattle.pgn_game.proofs.stepping.PairsTriedForToken.{CostsToPut, TriesPut, adds_same, costs_found, marker_untried, plain_untried, tries_put, untried_in_pair}
 use Rattle.pgn_game.specs.public.MostTried as most_tried
 
-pub counting_none : (old : ReaderState) → old ≡ counting_probes old 0
+pub counting_none : (old : GameState) → old ≡ counting_probes old 0
 counting_none old = let same : old.most_probes ≡ max old.most_probes 0 = omega arith in ap (λ (n : ℕ). record old { most_probes = n }) same
 
 -- Rejections.
 
-pub refused_after : (old new : ReaderState) (IsOf : Part → Type 0) (k : Kind) (reason : Reason) (n : ℕ) (o : Option (List ℕ)) (m : ℕ)
+pub refused_after : (old new : GameState) (IsOf : Part → Type 0) (k : Kind) (reason : Reason) (n : ℕ) (o : Option (List ℕ)) (m : ℕ)
     → new ≡ counting_probes old n
     → IsFalse (is_outside_the_table reason) → ((part : Part) → IsOf part → refusal old.profile part k ≡ Some reason)
     → ((part : Part) → IsOf part → CostsToFind part k n)
@@ -24,7 +24,7 @@ pub refused_after : (old new : ReaderState) (IsOf : Part → Type 0) (k : Kind) 
     → Takes old IsOf k new (Err reason) (unused o m)
 refused_after old new IsOf k reason n o m counted inside why costs here = record {
   accepts = λ part is.
-      reader_state.refused reason (why part is) (Appends-nil o)
+      game_state.refused reason (why part is) (Appends-nil o)
       (record {
         tried = n;
         allowed = record { found = n; finds = costs part is; writes = rw (why part is) };
@@ -33,8 +33,8 @@ refused_after old new IsOf k reason n o m counted inside why costs here = record
   keeps = record {
     profile = rw counted;
     writing = rw counted;
-    plies = omega (arith, ap (λ (r : ReaderState). r.earlier_plies) counted, ap (λ (r : ReaderState). r.text.plies) counted);
-    probes = omega (arith, ap (λ (r : ReaderState). r.most_probes) counted, le-max_left old.most_probes n);
+    plies = omega (arith, ap (λ (r : GameState). r.earlier_plies) counted, ap (λ (r : GameState). r.text.plies) counted);
+    probes = omega (arith, ap (λ (r : GameState). r.most_probes) counted, le-max_left old.most_probes n);
   };
   stays = tt;
   finished = tt;
@@ -42,7 +42,7 @@ refused_after old new IsOf k reason n o m counted inside why costs here = record
 }
 
 -- in movetext, where no pair was tried
-pub entry_refused : (old : ReaderState) (k : Kind) (reason : Reason) (o : Option (List ℕ)) (m : ℕ) → IsFalse (is_outside_the_table reason)
+pub entry_refused : (old : GameState) (k : Kind) (reason : Reason) (o : Option (List ℕ)) (m : ℕ) → IsFalse (is_outside_the_table reason)
     → ((part : Part) → IsOpen old part → text_refusal old.profile part k ≡ Some reason)
     → ((part : Part) → CostsToFind part k 0) → TakesEntry old k old (Err reason) (unused o m)
 entry_refused old k reason o m inside why costs =
@@ -53,7 +53,7 @@ entry_refused old k reason o m inside why costs =
 -- Tokens that are put.
 
 -- what was put after the move of a token was sought is what the reader answers
-module _ (old counted new : ReaderState) (part : Part) (k : Kind) (to : Next) (d : Device) (n more : ℕ) (same : counted ≡ counting_probes old n)
+module _ (old counted new : GameState) (part : Part) (k : Kind) (to : Next) (d : Device) (n more : ℕ) (same : counted ≡ counting_probes old n)
     (says : (refusal old.profile part k ≡ None) × (next part k ≡ to))
     (finds : CostsToFind part k n) (most : new.most_probes ≡ max old.most_probes more) where
   gain_is : drop (length (torn (as_written counted) part)) (text_next (as_written counted) to) ≡ gain (as_written old) part k
@@ -71,10 +71,10 @@ module _ (old counted new : ReaderState) (part : Part) (k : Kind) (to : Next) (d
   answers (Ok accepted) goes costs = grind (arith, common_steps, gain_is, tries)
   answers (Err reason) (is, front) costs =
       subst (λ (r : Reason). IsStopped old part k new d.before d.after r) (sym is)
-      (reader_state.unwritten says.0 (subst (AppendsFront d.before d.after) gain_is front)
+      (game_state.unwritten says.0 (subst (AppendsFront d.before d.after) gain_is front)
       (record { tried = more; allowed = unwritten costs; most = most }))
 
-pub takes_put : (old : ReaderState) {counted new : ReaderState} (IsOf IsPut : Part → Type 0)
+pub takes_put : (old : GameState) {counted new : GameState} (IsOf IsPut : Part → Type 0)
     (k : Kind) {to : Part → Next} {r : Result Accepted Reason} {d : Device} (n more : ℕ)
     → counted ≡ counting_probes old n → PutResult counted IsPut to new r d
     → FinishesAtMarker k new r → (counted.stage ≡ Between → counted ≡ old)
@@ -84,13 +84,13 @@ pub takes_put : (old : ReaderState) {counted new : ReaderState} (IsOf IsPut : Pa
     → ((part : Part) → IsOf part → TriesPut (mode_written old) part (to part) r n more) → Takes old IsOf k new r d
 takes_put old IsOf IsPut k n more same puts finished closed most sub says finds costs = search (rules, answers, le-max_left)
 
-finishes_none : (k : Kind) (new : ReaderState) (r : Result Accepted Reason) → FinishesNone r → FinishesAtMarker k new r
+finishes_none : (k : Kind) (new : GameState) (r : Result Accepted Reason) → FinishesNone r → FinishesAtMarker k new r
 finishes_none k new (Ok More) none = tt
 finishes_none k new (Ok Finished) none = absurd none
 finishes_none k new (Err reason) none = tt
 
 -- A step of a tag pair, and a token that changes nothing.
-pub takes_step : (old new : ReaderState) (k : Kind) (to : Part → Next) (o : Option (List ℕ)) (m : ℕ)
+pub takes_step : (old new : GameState) (k : Kind) (to : Part → Next) (o : Option (List ℕ)) (m : ℕ)
     → PutResult old (Agrees old) to new (Ok More) (unused o m) → new.most_probes ≡ old.most_probes
     → ((part : Part) → Agrees old part → (refusal old.profile part k ≡ None) × (next part k ≡ to part))
     → ((part : Part) → Agrees old part → CostsToFind part k 0)
@@ -98,7 +98,7 @@ pub takes_step : (old new : ReaderState) (k : Kind) (to : Part → Next) (o : Op
 takes_step old new k to o m puts most says finds costs = grind (arith, common_steps, takes_put, counting_none)
 
 -- Tokens of a tag pair, at one of its stages.
-module _ (old new : ReaderState) (k : Kind) (stage : Stage) (at : old.stage ≡ stage)
+module _ (old new : GameState) (k : Kind) (stage : Stage) (at : old.stage ≡ stage)
     (inside : (q : Part) → is_outside_tag_pairs (at_stage stage q) ≡ false) where
   untried : (part : Part) → Agrees old part → CostsToFind part k 0
   untried part agrees = untried_in_pair part k (rw (part_stage old part stage agrees at) (inside part))
@@ -114,16 +114,16 @@ module _ (old new : ReaderState) (k : Kind) (stage : Stage) (at : old.stage ≡ 
       → TakesUnwritten old k new (Ok More)
   step_in_pair to puts most costs says o m = takes_step old new k to o m (puts o m) most says untried costs
 
-pub comment_in_pair : (old new : ReaderState) (k : TokenKind) (stage : Stage) → old.stage ≡ stage
+pub comment_in_pair : (old new : GameState) (k : TokenKind) (stage : Stage) → old.stage ≡ stage
     → ((q : Part) → is_outside_tag_pairs (at_stage stage q) ≡ false) → new ≡ old
     → IsTrue (drops_comments stage) → true ≡ is_comment (kind_of k) → TakesUnwritten old (kind_of k) new (Ok More)
 comment_in_pair old new k stage at inside same drops is =
-    subst (λ (r : ReaderState). TakesUnwritten old (kind_of k) r (Ok More)) (sym same)
+    subst (λ (r : GameState). TakesUnwritten old (kind_of k) r (Ok More)) (sym same)
     (step_in_pair old old (kind_of k) stage at inside going (puts_nothing old) refl (λ part. adds_same (mode_written old) part part refl)
     (λ part agrees. comment_passes old.profile k (sym at ∙ agrees.stage) drops is))
 
 -- A token that belongs to movetext at the stage of the reader.
-pub enters : (old : ReaderState) (k : TokenKind) → IsTrue (may_have_movetext old.stage)
+pub enters : (old : GameState) (k : TokenKind) → IsTrue (may_have_movetext old.stage)
     → ((part : Part) → Agrees old part → IsEntry old (kind_of k) part) → EntersMovetext old (kind_of k) old
 enters old k at entry = record {
   stage = at;
@@ -156,17 +156,17 @@ module _ (silent : Bool) (p : Profile) (k : TokenKind) (row : refusal p no_pairs
   gain_alike : (w : Profile) → gain w no_pairs (kind_of k) ≡ gain w no_part (kind_of k)
   gain_alike w = grind (arith, common_steps, no_torn)
 
-module _ (old new : ReaderState) where
+module _ (old new : GameState) where
   answers_alike : (k : TokenKind) (r : Result Accepted Reason) (a b : Option (List ℕ)) → old.stage ≡ Between
       → refusal old.profile no_pairs (kind_of k) ≡ refusal old.profile no_part (kind_of k) → next no_pairs (kind_of k) ≡ next no_part (kind_of k)
       → Answers (at_game_start old) no_pairs (kind_of k) new r a b → Answers old no_part (kind_of k) new r a b
   answers_alike k (Ok accepted) a b at row leads h =
       grind (arith, common_steps, gain_alike, tries_alike)
-  answers_alike k (Err reason) a b at row leads (reader_state.refused why is none t here) =
-      reader_state.refused why (sym row ∙ is) none
+  answers_alike k (Err reason) a b at row leads (game_state.refused why is none t here) =
+      game_state.refused why (sym row ∙ is) none
       (record { tried = t.tried; allowed = tries_alike old.writing.is_silent old.profile k row leads t.allowed; most = t.most }) here
-  answers_alike k (Err reason) a b at row leads (reader_state.unwritten free front t) =
-      reader_state.unwritten (sym row ∙ free) (subst (AppendsFront a b) (gain_alike old.writing.is_silent old.profile k row leads (as_written old)) front)
+  answers_alike k (Err reason) a b at row leads (game_state.unwritten free front t) =
+      game_state.unwritten (sym row ∙ free) (subst (AppendsFront a b) (gain_alike old.writing.is_silent old.profile k row leads (as_written old)) front)
       (record { tried = t.tried; allowed = unwritten_alike old.writing.is_silent old.profile k row leads t.allowed; most = t.most })
 
   pub takes_first : (k : TokenKind) (r : Result Accepted Reason) (d : Device) → old.stage ≡ Between → is_comment (kind_of k) ≡ false
@@ -187,7 +187,7 @@ module _ (old new : ReaderState) where
 -- Moves.
 
 -- a reader that counts more probes holds the same part
-open_counted : {old : ReaderState} (n : ℕ) {part : Part} → IsOpen old part → IsOpen (counting_probes old n) part
+open_counted : {old : GameState} (n : ℕ) {part : Part} → IsOpen old part → IsOpen (counting_probes old n) part
 open_counted n is = search (rules, le-max_left)
 
 pub next_of : (o : Option Parts) → is_some o ≡ true → (q : Parts) × (o ≡ Some q)
@@ -195,7 +195,7 @@ next_of None h = absurd (cc)
 next_of (Some q) h = (q, refl)
 
 -- What was found for a symbol that is neither a number nor a marker.
-module _ (old found : ReaderState) (s : List ℕ) (n : ℕ) (at : IsTrue (may_have_movetext old.stage))
+module _ (old found : GameState) (s : List ℕ) (n : ℕ) (at : IsTrue (may_have_movetext old.stage))
     (number : is_number s ≡ false) (score : is_score s ≡ false) where
   pub move_refused : (reason : Reason) (o : Option (List ℕ)) (m : ℕ)
       → Finds old s found (Err reason) n → TakesEntry old (symbol s) found (Err reason) (unused o m)
@@ -207,35 +207,33 @@ module _ (old found : ReaderState) (s : List ℕ) (n : ℕ) (at : IsTrue (may_ha
       (λ part is. ap (position_if_move reason) (position_is old part is.is_open))
 
 -- What was written of a token that means this is what the reader answers.
-module _ (w : Writer) (old reader : ReaderState) (k : Kind) (e : Event) (means : Means old k reader e) (at : IsTrue (may_have_movetext old.stage)) where
+module _ (w : Writer) (old reader : GameState) (k : Kind) (e : Event) (means : Means old k reader e) (at : IsTrue (may_have_movetext old.stage)) where
   not_between : (counting_probes (game_by w old) (pairs_meant e)).stage ≡ Between → counting_probes (game_by w old) (pairs_meant e) ≡ game_by w old
   not_between between = let h : IsTrue (may_have_movetext Between) = rw between at at in absurd (cc)
 
-  pub takes_event : (new : ReaderState) (r : Result Accepted Reason) (d : Device) (more : ℕ)
+  pub takes_event : (new : GameState) (r : Result Accepted Reason) (d : Device) (more : ℕ)
       → PutResult (counting_probes (game_by w old) (pairs_meant e)) (IsOpen (counting_probes (game_by w old) (pairs_meant e))) (to_items (items_meant e)) new r d
       → FinishesNone r → new.most_probes ≡ max old.most_probes more
       → ((part : Part) → IsOpen (game_by w old) part
       → TriesPut (mode_written (game_by w old)) part (going (with_items part (items_meant e))) r (pairs_meant e) more)
-      → TakesOther (game_by w old) k new r d
-  takes_event new r d more puts none most costs = record {
-    no_marker = means.no_marker;
-    takes = takes_put (game_by w old) (IsEntry (game_by w old) k) (IsOpen (counting_probes (game_by w old) (pairs_meant e))) k (pairs_meant e) more
-        refl puts (finishes_none k new r none) not_between most
-        (λ part is. open_counted (pairs_meant e) is.is_open)
-        (λ part is. (is.row ∙ (means.says w part is.is_open).0, is.leads ∙ (means.says w part is.is_open).1))
-        (λ part is. means.finds w part is.is_open) (λ part is. costs part is.is_open);
-  }
+      → TakesEntry (game_by w old) k new r d
+  takes_event new r d more puts none most costs =
+      takes_put (game_by w old) (IsEntry (game_by w old) k) (IsOpen (counting_probes (game_by w old) (pairs_meant e))) k (pairs_meant e) more
+      refl puts (finishes_none k new r none) not_between most
+      (λ part is. open_counted (pairs_meant e) is.is_open)
+      (λ part is. (is.row ∙ (means.says w part is.is_open).0, is.leads ∙ (means.says w part is.is_open).1))
+      (λ part is. means.finds w part is.is_open) (λ part is. costs part is.is_open)
 
 -- A token between games that begins none.
 bare_untried : (k : TokenKind) (part : Part) → (is_comment (kind_of k) || is_end (kind_of k)) ≡ true → CostsToFind part (kind_of k) 0
 bare_untried (token_kinds.Symbol s) part is = absurd (false≢true is)
 bare_untried _ part is = refl
 
-module _ (old : ReaderState) where
-  pub passes_first : (new : ReaderState) (k : TokenKind) (o : Option (List ℕ)) (m : ℕ) → new ≡ old → old.stage ≡ Between
+module _ (old : GameState) where
+  pub passes_first : (new : GameState) (k : TokenKind) (o : Option (List ℕ)) (m : ℕ) → new ≡ old → old.stage ≡ Between
       → (is_comment (kind_of k) || is_end (kind_of k)) ≡ true → TakesToken old (kind_of k) new (Ok More) (unused o m)
   passes_first new k o m same at is =
-      subst (λ (r : ReaderState). TakesToken old (kind_of k) r (Ok More) (unused o m)) (sym same)
+      subst (λ (r : GameState). TakesToken old (kind_of k) r (Ok More) (unused o m)) (sym same)
       (takes_step old old (kind_of k) going o m (puts_nothing old o m) refl
       (λ part agrees. passes_between old.profile k (part_stage old part Between agrees at) is)
       (λ part agrees. bare_untried k part is) (λ part. adds_same (mode_written old) part part refl))
@@ -257,7 +255,7 @@ module _ (old : ReaderState) where
   }
 
   first_enters : (k : TokenKind) → old.stage ≡ Between → is_comment (kind_of k) ≡ false → is_end (kind_of k) ≡ false
-      → {ready : ReaderState} (part : Part) → Agrees old part
+      → {ready : GameState} (part : Part) → Agrees old part
       → ((q : Part) → Agrees (at_game_start old) q → EntersPart ready (kind_of k) q) → EntersPart ready (kind_of k) part
   first_enters k at comment over part agrees enters =
       let first = enters no_pairs (agrees_first part at agrees) in
@@ -271,7 +269,7 @@ module _ (old : ReaderState) where
       })
 
   -- The first token of a game is taken as after pairs, of which there is none.
-  pub takes_outside_first : (new : ReaderState) (k : TokenKind) (o : Option (Result Accepted Reason)) → old.stage ≡ Between
+  pub takes_outside_first : (new : GameState) (k : TokenKind) (o : Option (Result Accepted Reason)) → old.stage ≡ Between
       → is_comment (kind_of k) ≡ false → is_end (kind_of k) ≡ false → TakesOutside (at_game_start old) (kind_of k) new o
       → TakesOutside old (kind_of k) new o
   takes_outside_first new k (Some r) at comment over t =
@@ -285,11 +283,3 @@ module _ (old : ReaderState) where
     enters = λ part agrees. first_enters k at comment over part agrees t.enters;
     takes = λ newer r d entry. takes_first old newer k r d at comment over (t.takes newer r d entry);
   }
-
-  -- a token that enters movetext is met there
-  pub entry_met : (ready new : ReaderState) (k : Kind) (r : Result (Option Marker) Reason) (d : Device) → EntersMovetext old k ready
-      → MeetsEntry ready k new r d → TakesUnlessMarker old k new r d
-  entry_met ready new k (Ok (Some marker)) d enters h =
-      record { is = h.is; enters = subst (EntersMovetext old k) (sym h.same) enters; unwritten = h.unwritten; still = h.still }
-  entry_met ready new k (Ok None) d enters h = enters.takes new (Ok _) d h.takes
-  entry_met ready new k (Err reason) d enters h = (enters.takes new (Err reason) d h.takes, λ is. h.no_marker)

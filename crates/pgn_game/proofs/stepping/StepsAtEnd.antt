@@ -1,6 +1,6 @@
 -- Steps behind the last piece, and how small the counts stay.
 use Rattle.pgn_lexer.specs.Tokens as tokens
-use Rattle.pgn_game.proofs.Words.{length, Kind, Token, Stage, Between, Reason, Fault, Profile, Pair, Item, Game, ◌≡◌, ℕ, ◌+◌, ◌<◌, ◌≤◌, Bool, true, false, List, [], ◌∷◌, ◌++◌, Option, None, Some, Err, refl, sym, subst, append-nil, append_assoc, arith, ◌*◌, ◌^◌, IsTrue, is_some, Device, tokens_of, Standing, StandsAfter, waiting, HasLeft, IsNext, FinishGivesToken, refusal, is_end, marker_of, next, progress_with, Progress, ReaderState, CountsWrites, Keeps, Converter, IsSound, game_in_reader_if, HasRead, CountsReason, rules, ap, ◌∙◌, coming, none-some, false≢true, IsBeforePiece, IsBeforeToken, common_steps}
+use Rattle.pgn_game.proofs.Words.{length, Kind, Token, Stage, Between, Reason, Fault, Profile, Pair, Item, Game, ◌≡◌, ℕ, ◌+◌, ◌<◌, ◌≤◌, Bool, true, false, List, [], ◌∷◌, ◌++◌, Option, None, Some, Err, refl, sym, subst, append-nil, append_assoc, arith, ◌*◌, ◌^◌, IsTrue, is_some, Device, tokens_of, Standing, StandsAfter, waiting, HasLeft, IsNext, FinishGivesToken, refusal, is_end, marker_of, next, progress_with, Progress, GameState, CountsWrites, Keeps, Converter, IsSound, game_in_reader_if, HasRead, CountsReason, rules, ap, ◌∙◌, coming, none-some, false≢true, IsBeforePiece, IsBeforeToken, common_steps}
 use Rattle.pgn_game.proofs.stepping.AcceptedToConverter.{follows_none, now_at, read_as}
 
 -- what is left behind a token: nothing behind the end
@@ -61,12 +61,12 @@ pub counts_reason : (r : Reason) (sink : Device) → CountsWrites (Err r) sink �
 counts_reason r sink h1 = search rules
 
 -- after a fault a converter owes no more than that few bytes are used
-module _ (lexer : Standing) (reading : ReaderState) (games : ℕ) (is_finished : Bool) where
+module _ (lexer : Standing) (reading : GameState) (games : ℕ) (is_finished : Bool) where
   pub sound_behind_fault : (f : Fault) → lexer.count ≤ 2 ^ 62 → IsSound lexer reading games false is_finished (Some f)
   sound_behind_fault f count = search rules
 
 -- a token behind the last piece keeps the counts small
-module _ (old new : Standing) (before after : ReaderState) (games : ℕ) where
+module _ (old new : Standing) (before after : GameState) (games : ℕ) where
   pub sound_behind : {finished : Bool} {fault : Option Fault} → Nearer false old new → old.count ≤ 2 ^ 62
       → games + waiting old ≤ 2 * old.count + 2 → before.earlier_plies + before.text.plies + waiting old ≤ 2 * old.count + 2 → Keeps before after
       → IsSound new after games false finished fault
@@ -84,7 +84,7 @@ module _ (old new : Standing) (before after : ReaderState) (games : ℕ) where
       → IsSound new after games false finished fault
   sound_in_piece used size sooner count within short few plies keeps = grind (arith, common_steps, false≢true)
 
-pub not_just_finished : (b : Bool) (r : ReaderState) → game_in_reader_if b r ≡ None → b ≡ false
+pub not_just_finished : (b : Bool) (r : GameState) → game_in_reader_if b r ≡ None → b ≡ false
 not_just_finished true r h = absurd (cc)
 not_just_finished false r h = refl
 
@@ -92,13 +92,13 @@ pub left_of : (l : Standing) (u : List ℕ) (b : Option ℕ) (given : List Token
 left_of l u b given stands = ap tokens_of (sym (append-nil u)) ∙ stands.tokens [] (follows_none b)
 
 -- while no game is just finished a converter owes no more
-pub sound_at_none : (lexer : Standing) (reading : ReaderState) (games : ℕ) (has_finished_game is_finished : Bool) (fault : Option Fault)
+pub sound_at_none : (lexer : Standing) (reading : GameState) (games : ℕ) (has_finished_game is_finished : Bool) (fault : Option Fault)
     → IsSound lexer reading games has_finished_game is_finished fault → IsSound lexer reading games false is_finished fault
 sound_at_none lexer reading games has_finished_game is_finished fault sound = search rules
 
 -- ---- the fields of a converter
 
-abbrev pub view_of : Standing → ReaderState → ℕ → Bool → Bool → Option Fault → Converter
+abbrev pub view_of : Standing → GameState → ℕ → Bool → Bool → Option Fault → Converter
 view_of lexer reading games has_finished_game is_finished fault = record {
   lexer = lexer;
   reading = reading;
@@ -109,7 +109,7 @@ view_of lexer reading games has_finished_game is_finished fault = record {
 }
 
 -- before a token
-pub record FieldsBefore (lexer : Standing) (reading : ReaderState) (games : ℕ) (has_finished_game is_finished : Bool) (fault : Option Fault)
+pub record FieldsBefore (lexer : Standing) (reading : GameState) (games : ℕ) (has_finished_game is_finished : Bool) (fault : Option Fault)
     (old : Converter) : Type 0 where
   pub flag : has_finished_game ≡ false
   pub not_over : is_finished ≡ false
@@ -117,7 +117,7 @@ pub record FieldsBefore (lexer : Standing) (reading : ReaderState) (games : ℕ)
   pub sound : IsSound lexer reading games false false None
   pub same : now_at lexer reading games false ≡ old
 
-pub fields_before : {lexer : Standing} {reading : ReaderState} {games : ℕ} {has_finished_game is_finished : Bool} {fault : Option Fault} {old : Converter}
+pub fields_before : {lexer : Standing} {reading : GameState} {games : ℕ} {has_finished_game is_finished : Bool} {fault : Option Fault} {old : Converter}
     → view_of lexer reading games has_finished_game is_finished fault ≡ old → IsSound lexer reading games has_finished_game is_finished fault
     → IsBeforeToken old → FieldsBefore lexer reading games has_finished_game is_finished fault old
 fields_before {reading = reading} {has_finished_game = has_finished_game} view sound before = grind (arith, common_steps, not_just_finished)
@@ -126,7 +126,7 @@ pub short_before : {view old : Converter} {piece : List ℕ} → view ≡ old �
 short_before view before = omega (arith, ap (λ (s : Converter). s.lexer.count) view, before.short)
 
 -- behind the end a game counts as just finished only between games
-pub sound_finished : (lexer : Standing) (reading : ReaderState) (games : ℕ) {had has is_finished : Bool} {fault : Option Fault}
+pub sound_finished : (lexer : Standing) (reading : GameState) (games : ℕ) {had has is_finished : Bool} {fault : Option Fault}
     → IsSound lexer reading games had is_finished fault
     → (IsTrue has → reading.stage ≡ Between) → fault ≡ None → IsSound lexer reading games has is_finished fault
 sound_finished lexer reading games sound between none = grind (arith, common_steps)

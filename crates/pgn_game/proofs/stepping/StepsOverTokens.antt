@@ -1,9 +1,9 @@
 -- What a step does over one call of the lexer, and over what is passed before a token.
-use Rattle.pgn_game.proofs.Words.{Bool, IsTrue, false, ◌≡◌, ℕ, ◌+◌, ◌<◌, ◌≤◌, ◌^◌, List, length, None, arith, InMovetext, ReaderState, IsSound, Standing, more, Scans, Passes, common_steps}
+use Rattle.pgn_game.proofs.Words.{Bool, IsTrue, false, ◌≡◌, ℕ, ◌+◌, ◌<◌, ◌≤◌, ◌^◌, List, length, None, arith, InMovetext, GameState, IsSound, Standing, more, Scans, Passes, common_steps}
 use Rattle.pgn_game.proofs.stepping.PastNumbers.{passes_count, passes_few}
 
 -- A reader in a converter without a fault, before a piece that ends before place 2^62.
-module _ (lexer : Standing) (reading : ReaderState) (games : ℕ) (piece : List ℕ)
+module _ (lexer : Standing) (reading : GameState) (games : ℕ) (piece : List ℕ)
     (sound : IsSound lexer reading games false false None) (short : lexer.count + length piece ≤ 2 ^ 62) where
   -- ---- a call of the lexer that reads the piece
 

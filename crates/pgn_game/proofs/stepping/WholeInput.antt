@@ -1,6 +1,6 @@
 -- Conversions of whole inputs.
 use Rattle.std.specs.Io.KnownBytes.{Keeps}
-use Rattle.pgn_game.proofs.Words.{Token, InputTooLong, Fault, Profile, ◌≡◌, ℕ, false, ◌^◌, ◌≤◌, List, [], ◌++◌, length, Option, None, Some, Result, Ok, Err, IfSome, OnOk, sym, ap, subst, ◌∙◌, append-nil, map, sum, Consumes-nil, Consumes-trans, tokens_of, decided, plies_of, plies_of_finished_games, Gains, IsConverted, IsTotalled, MostProbes, ReadsNoMore, FailsOn, Fails, AfterEnd, AfterConversion, AfterSlice, verdict_in, Games, games_of, ahead_of, HaveRead, NextGame, NoGame, NextStops, ReadSoFar, ReaderState, Bool, Appends, Consumes, Totals, Read, read, due, refused as is_refused, totals, verdict, verdict_of, Converter, HasRead, Stands, Stops, refused_stop as refused, unwritten, StopsIn, at_token, too_long, FedFault, FedWhole, ReadsUpTo, Finishes, rules, no_progress, inl, refl, within, first, writing_nothing, IsAtEnd, IfSome_then, AreShown, IsRefused, arith, common_steps}
+use Rattle.pgn_game.proofs.Words.{Token, InputTooLong, Fault, Profile, ◌≡◌, ℕ, false, ◌^◌, ◌≤◌, List, [], ◌++◌, length, Option, None, Some, Result, Ok, Err, IfSome, OnOk, sym, ap, subst, ◌∙◌, append-nil, map, sum, Consumes-nil, Consumes-trans, tokens_of, decided, plies_of, plies_of_finished_games, Gains, IsConverted, IsTotalled, MostProbes, ReadsNoMore, FailsOn, Fails, AfterEnd, AfterConversion, AfterSlice, verdict_in, Games, games_of, ahead_of, HaveRead, NextGame, NoGame, NextStops, ReadSoFar, GameState, Bool, Appends, Consumes, Totals, Read, read, due, refused as is_refused, totals, verdict, verdict_of, Converter, HasRead, Stands, Stops, refused_stop as refused, unwritten, StopsIn, at_token, too_long, FedFault, FedWhole, ReadsUpTo, Finishes, rules, no_progress, inl, refl, within, first, writing_nothing, IsAtEnd, IfSome_then, AreShown, IsRefused, arith, common_steps}
 use Rattle.pgn_game.specs.public.GamesCalls as games_calls
 use Rattle.pgn_game.specs.public.Conversion as conversion
 use Rattle.pgn_game.proofs.stepping.OneMoreToken.{torn-none, gains_none, gains_more, stops_more, stops_from}
@@ -115,7 +115,7 @@ module _ (p : Profile) (left_old left left_new : Option (List ℕ)) (now : Games
       known_whole left_old left_new text (λ s. IsTotalled new.converter.reading.writing.is_silent p s t a d) (all end.more end.consumed) end.have_read_all.at_end
       (record { short = end.have_read_all.short; converted = (is_verdict, appended (gains_more so.gains end.gains)); probes = most })
 
-  pub games_stop : {r : ReaderState} {f : Fault} → NextStops p so.bytes so.tokens left left_new r c d f → Fails p left_old left_new a d f
+  pub games_stop : {r : GameState} {f : Fault} → NextStops p so.bytes so.tokens left left_new r c d f → Fails p left_old left_new a d f
   games_stop (games_calls.at_token g more consumed to) = by_stops (stops_more so.gains to.stops)
     where
       by_stops : {h : Fault} → Stops p [] to.tokens a d h → Fails p left_old left_new a d h

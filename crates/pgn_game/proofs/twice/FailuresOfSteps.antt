@@ -1,5 +1,5 @@
 -- Which device counts a failure in a step, of the reasons one by one.
-use Rattle.pgn_game.proofs.Words.{Reason, ReadFault, WriteFault, Changed, ◌≡◌, ℕ, refl, ap, subst, ◌∙◌, inl, inr, arith, Device, Bool, true, false, sym, Result, Ok, Err, Fault, CountsFault, CountsReading, seen, nowhere, no_sink, CountsResult, CountsSink, CountsWriting, NoWriteFails, Totals, CountsThree, IsStill, one_more, CountsReason, CountsDevices, changed_reason}
+use Rattle.pgn_game.proofs.Words.{Reason, ReadFault, WriteFault, Changed, ◌≡◌, ℕ, refl, ap, subst, ◌∙◌, inl, inr, arith, Device, Bool, true, false, sym, Result, Ok, Err, Fault, CountsFault, seen, nowhere, no_sink, CountsResult, NoWriteFails, Totals, CountsThree, IsStill, one_more, CountsReason, CountsDevices, changed_reason}
 
 -- an error of the reader is no difference, and no failed read
 pub reader_reason : (r : Reason) (s o n : ℕ) → CountsReason r o n → CountsDevices r s s o n
@@ -21,9 +21,9 @@ pub no_write_in : (r : Result Totals Fault) (source : Device) → CountsResult r
 no_write_in (Ok t) source h = tt
 no_write_in (Err f) source h = no_write f.reason _ _ h
 
-pub no_write_to : (r : Result Totals Fault) → CountsSink r nowhere → NoWriteFails r
+pub no_write_to : (r : Result Totals Fault) → CountsFault r nowhere → NoWriteFails r
 no_write_to (Ok t) h = tt
-no_write_to (Err f) h = λ is. absurd (omega (arith, subst (λ (x : Reason). CountsWriting x nowhere) is h))
+no_write_to (Err f) h = λ is. absurd (omega (arith, subst (λ (x : Reason). CountsReason x 0 0) is h))
 
 -- a fault that shows a change counts as the fault that it is
 pub counts_changed : (r : Reason) (s t o n : ℕ) → CountsDevices r s t o n → CountsDevices (changed_reason r) s t o n
@@ -55,12 +55,12 @@ first_counts _ first second sink s here still none h = (h.0 ∙ here, still, non
 
 -- what is counted behind the bytes of a source
 pub counts_behind : (r : Result Bool Fault) (source sink last : Device) → source.failures_after ≡ source.failures → last.failures ≡ sink.failures
-    → last.failures_after ≡ sink.failures_after → CountsFault r last → CountsReading r source sink
+    → last.failures_after ≡ sink.failures_after → CountsFault r last → CountsResult r source sink
 counts_behind (Ok finished) source sink last still before after h = (still, sym after ∙ h ∙ before)
 counts_behind (Err f) source sink last still before after h =
     behind_still f.reason _ _ _ _ _ _ still before (rw after at (reader_reason f.reason source.failures_after last.failures last.failures_after h))
 
 -- a silent reader counts no failure of a sink
-pub none_written : (silent : Bool) (f : Fault) (source d : Device) → silent ≡ true → CountsReading {A = Bool} (Err f) source (seen silent d) → f.reason ≡ WriteFault → ⊥
+pub none_written : (silent : Bool) (f : Fault) (source d : Device) → silent ≡ true → CountsResult {A = Bool} (Err f) source (seen silent d) → f.reason ≡ WriteFault → ⊥
 none_written true f source d is h = no_write f.reason _ _ h
 none_written false f source d is h = absurd (cc (is))

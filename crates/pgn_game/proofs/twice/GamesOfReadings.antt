@@ -2,10 +2,10 @@
 -- stopped.
 use Rattle.pgn_lexer.specs.Tokens as tokens
 use Rattle.pgn_game.specs.declared.marker.PlacedMarker.{PlacedMarker as CodePlacedMarker}
-use Rattle.pgn_game.proofs.Words.{Kind, Token, Reason, Changed, WriteFault, Fault, Profile, Game, Part, no_part, ◌≡◌, ℕ, ◌+◌, ◌^◌, ◌<◌, ◌≤◌, ◌||◌, ◌&&◌, ◌==◌, not, is_some, bytes_eq, Bool, true, false, true≢false, false≢true, inl, inr, List, [], ◌∷◌, ◌++◌, length, length-append, take, drop, Option, None, Some, Ok, refl, sym, ap, subst, ◌∙◌, append_assoc, append-nil, append_cancel_left, drop-length, arith, Appends-nil, Appends, TokensRise, tokens_of, Stage, Between, InMovetext, HoldsText, counting, refusal, is_end, marker_of, torn, gain, text_next, text_of_games as text_of, Next, going, whole, next, Read, progress_with, HasLeft, first, within_limit, read, ReaderState, with_announced, as_written, IsStopped, Converter, IsGoing, marker_text, PlacedMarker, is_other, is_changed, HasMarkers, HasMatched, Reading, model_marker, changed_reason, OneGame, SameGames, GainsAs, due_as, part_after, game_text, AfterGameEnd, AllRead, BeginsAt, ComesNext, FirstFails, GameRead, GameWritten, HasGiven, HasGivenIn, ReadingStops, SourceGives, SecondFails, StandsBetween, known_by, decided, as_changed, announcing, AreShown, writing_nothing, common_steps}
+use Rattle.pgn_game.proofs.Words.{Kind, Token, Reason, Changed, WriteFault, Fault, Profile, Game, Part, no_part, ◌≡◌, ℕ, ◌+◌, ◌^◌, ◌<◌, ◌≤◌, ◌||◌, ◌&&◌, ◌==◌, not, is_some, bytes_eq, Bool, true, false, true≢false, false≢true, inl, inr, List, [], ◌∷◌, ◌++◌, length, length-append, take, drop, Option, None, Some, Ok, refl, sym, ap, subst, ◌∙◌, append_assoc, append-nil, append_cancel_left, drop-length, arith, Appends-nil, Appends, TokensRise, tokens_of, Stage, Between, InMovetext, HoldsText, counting, refusal, is_end, marker_of, torn, gain, text_next, text_of_games as text_of, Next, going, whole, next, Read, progress_with, HasLeft, first, within_limit, read, GameState, with_announced, as_written, IsStopped, Converter, IsGoing, marker_text, PlacedMarker, is_other, is_changed, HasMarkers, HasMatched, Reading, model_marker, changed_reason, OneGame, SameGames, GainsAs, due_as, part_after, game_text, AfterGameEnd, AllRead, BeginsAt, ComesNext, FirstFails, GameRead, GameWritten, HasGiven, HasGivenIn, ReadingStops, SourceGives, SecondFails, StandsBetween, known_by, decided, as_changed, announcing, AreShown, writing_nothing, common_steps}
 use Rattle.pgn_game.specs.steps.Flow.{At, Closes, IsNextIn, Known, Since, Start, ended, so_far}
-use Rattle.pgn_game.specs.steps.ReaderState as reader_state
-use Rattle.pgn_game.specs.steps.ReaderState.{is_unexpected}
+use Rattle.pgn_game.specs.steps.GameState as game_state
+use Rattle.pgn_game.specs.steps.GameState.{is_unexpected}
 use Rattle.pgn_game.specs.steps.Readings.{at_read, at_token}
 use Rattle.pgn_game.specs.steps.Readings as readings
 use Rattle.pgn_game.specs.public.ConverterCalls.{at_end}
@@ -215,17 +215,17 @@ module _ (q : Profile) (left_old left left_new : Option (List ℕ)) (given : Lis
       }
 
   -- nothing is written, so it is no write that fails
-  refused_first : (ts : List Token) (t : Token) (f : Fault) (r s : ReaderState) (b d : Option (List ℕ)) → r.profile ≡ q → f.at ≡ t.at
+  refused_first : (ts : List Token) (t : Token) (f : Fault) (r s : GameState) (b d : Option (List ℕ)) → r.profile ≡ q → f.at ≡ t.at
       → (f.reason ≡ WriteFault → ⊥) → ComesNext left_old ts t → IsStopped r (part_after q ts) t.kind s b d f.reason
       → readings.WhyFirst q left_old left_new ts f
   refused_first ts t f r s b d profile place no_write comes stopped = by_stop f.reason refl stopped
     where
       by_stop : (x : Reason) → f.reason ≡ x → IsStopped r (part_after q ts) t.kind s b d x → readings.WhyFirst q left_old left_new ts f
-      by_stop x is (reader_state.refused reason some wrote tries here) =
+      by_stop x is (game_state.refused reason some wrote tries here) =
           subst (readings.WhyFirst q left_old left_new ts)
           (ap (λ n. record { at = n; reason = x }) (sym place) ∙ ap (λ (y : Reason). record { at = f.at; reason = y }) (sym is))
           (readings.refused t reason comes (subst (λ (p : Profile). refusal p (part_after q ts) t.kind ≡ Some reason) profile some))
-      by_stop x is (reader_state.unwritten free wrote tries) = absurd (no_write is)
+      by_stop x is (game_state.unwritten free wrote tries) = absurd (no_write is)
 
   pub first_fails : (f : Fault) → (f.reason ≡ WriteFault → ⊥) → new.converter.games ≡ old.converter.games
       → ReadingStops (start_at q old given a None) left_old left_new f new.converter c → FirstFails q left_old left_new given f
@@ -250,7 +250,7 @@ module _ (q : Profile) (left_old left left_new : Option (List ℕ)) (given : Lis
 -- ---- the second reading, to which the marker of the game was announced
 
 -- an announced marker changes nothing else
-text_announced : (marker : CodePlacedMarker) (r : ReaderState) (here : Part) (stage : Stage) → HoldsText stage r here
+text_announced : (marker : CodePlacedMarker) (r : GameState) (here : Part) (stage : Stage) → HoldsText stage r here
     → HoldsText stage (with_announced marker r) here
 text_announced marker r here InMovetext h = h
 text_announced marker r here _ h = h
@@ -330,7 +330,7 @@ module _ (q : Profile) (left_old left left_new : Option (List ℕ)) (given : Lis
         }
 
     -- a token that is not taken shows a difference, or its text could not be written
-    why_token : (t : Token) (f : Fault) (s : ReaderState) (d : Option (List ℕ)) → f.at ≡ t.at → ComesNext left_old ts t
+    why_token : (t : Token) (f : Fault) (s : GameState) (d : Option (List ℕ)) → f.at ≡ t.at → ComesNext left_old ts t
         → (f.reason ≡ WriteFault → (text : List ℕ) → marker_of t.kind ≡ Some text → is_unexpected (Some announced) text t.at ≡ false)
         → IsStopped now.reading (part_after q ts) t.kind s o d f.reason → readings.WhySecond q left_old left_new ts announced o d (as_changed f)
     why_token t f s d place comes expects stopped = by_stop f.reason refl stopped
@@ -351,13 +351,13 @@ module _ (q : Profile) (left_old left left_new : Option (List ℕ)) (given : Lis
 
         by_stop : (r : Reason) → f.reason ≡ r → IsStopped now.reading (part_after q ts) t.kind s o d r
             → readings.WhySecond q left_old left_new ts announced o d (as_changed f)
-        by_stop r is (reader_state.refused reason some wrote tries here) =
+        by_stop r is (game_state.refused reason some wrote tries here) =
             let row = subst (λ (p : Profile). refusal p (part_after q ts) t.kind ≡ Some reason) since.has_read.profile some in
             let changed : changed_reason f.reason ≡ Changed = ap changed_reason is ∙ changes reason (refusals_are_inside q (part_after q ts) t.kind reason row) in
             subst (readings.WhySecond q left_old left_new ts announced o d)
             (ap (λ n. record { at = n; reason = Changed }) (sym place) ∙ ap (λ (x : Reason). record { at = f.at; reason = x }) (sym changed))
             (readings.differs t comes (differs_refused q expected (part_after q ts) t reason row) wrote)
-        by_stop r is (reader_state.unwritten none (n, short, wrote) tries) =
+        by_stop r is (game_state.unwritten none (n, short, wrote) tries) =
             let row = subst (λ (p : Profile). refusal p (part_after q ts) t.kind ≡ None) since.has_read.profile none in
             let less = subst (λ (w : Profile). n < length (gain w (part_after q ts) t.kind)) by short in
             subst (readings.WhySecond q left_old left_new ts announced o d)
@@ -369,7 +369,7 @@ module _ (q : Profile) (left_old left left_new : Option (List ℕ)) (given : Lis
   pub second_fails : (f : Fault) → new.converter.games ≡ old.converter.games → new.converter.reading.writing.is_silent ≡ false
       → ReadingStops (start_at q old given a (Some announced)) left_old left_new f new.converter c → SecondFails q left_old left_new given announced (as_changed f) a c
   second_fails f games writes (at_token text h comes) =
-      let still : h.now.reading.writing.is_silent ≡ false = ap (λ (w : reader_state.Writing). w.is_silent) (sym h.writing) ∙ writes in
+      let still : h.now.reading.writing.is_silent ≡ false = ap (λ (w : game_state.Writing). w.is_silent) (sym h.writing) ∙ writes in
       fails_behind h.tokens h.now h.mid h.since (sym h.games ∙ games) still (as_changed f) c h.token (begins_known text h.tokens h.token h.next)
       (elim h.stopped [
         | inl stopped ↦ why_token h.tokens h.now h.mid h.since (sym h.games ∙ games) still h.token f new.converter.reading c h.place comes (h.expected still) stopped
@@ -381,7 +381,7 @@ module _ (q : Profile) (left_old left left_new : Option (List ℕ)) (given : Lis
       ])
   second_fails f games writes (at_read u fails all) =
       let behind = some_coming all.now.lexer in
-      let still : all.now.reading.writing.is_silent ≡ false = ap (λ (r : ReaderState). r.writing.is_silent) (sym all.same) ∙ writes in
+      let still : all.now.reading.writing.is_silent ≡ false = ap (λ (r : GameState). r.writing.is_silent) (sym all.same) ∙ writes in
       fails_behind (decided u) all.now c all.since (sym all.games ∙ games) still (as_changed f) c behind.0
       (u, behind.1, all.left ∙ ap (λ (ts : List Token). decided u ++ ts) behind.2) (readings.unread f fails (Appends-nil c))
 

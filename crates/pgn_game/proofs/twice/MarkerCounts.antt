@@ -4,7 +4,7 @@
 -- marker `text`. k is the kind of a token, g a game.
 use Rattle.pgn_lexer.specs.Tokens as tokens
 use Rattle.pgn_lexer.specs.declared.token.LexReason.TheVariants as lex_reasons
-use Rattle.pgn_game.proofs.Words.{mode_unless, Kind, Reason, Changed, Lexical, ReadFault, WriteFault, changed_reason, Stage, Between, AfterLeftBracket, AfterName, AfterValue, AfterTags, InMovetext, Profile, Missing, counts_as, takes_the_marker, Game, Part, ◌≡◌, ℕ, ◌⊎◌, Bool, true, false, not, List, [], ◌∷◌, Option, None, Some, inl, inr, refl, sym, ap, subst, ◌∙◌, true≢false, IsTrue, list_all, counting, with_missing, start_of, Row, rows, first_holding, refusal, in_name, is_score, has_other_result, marker_of, game_text, going, whole, at_stage, items_of, in_text, next, next_in, HoldsItems, ReaderState, Agrees, HoldsText, is_outside_the_table, game_of, or_else, with_items, and_parts, not-true, LexReason, arith, common_steps}
+use Rattle.pgn_game.proofs.Words.{mode_unless, Kind, Reason, Changed, Lexical, ReadFault, WriteFault, changed_reason, Stage, Between, AfterLeftBracket, AfterName, AfterValue, AfterTags, InMovetext, Profile, Missing, counts_as, takes_the_marker, Game, Part, ◌≡◌, ℕ, ◌⊎◌, Bool, true, false, not, List, [], ◌∷◌, Option, None, Some, inl, inr, refl, sym, ap, subst, ◌∙◌, true≢false, IsTrue, list_all, counting, with_missing, start_of, Row, rows, first_holding, refusal, in_name, is_score, has_other_result, marker_of, game_text, going, whole, at_stage, items_of, in_text, next, next_in, HoldsItems, GameState, Agrees, HoldsText, is_outside_the_table, game_of, or_else, with_items, and_parts, not-true, LexReason, arith, common_steps}
 use Rattle.pgn_game.proofs.MarkerTexts.{score_marker, marker_no_name}
 use Rattle.pgn_game.proofs.refusals.RefusalsByStage.{name_refusal, test_failed}
 use Rattle.pgn_game.proofs.refusals.RefusalsInMovetext.{marker_whole, other_if, score_of}
@@ -81,7 +81,7 @@ pub no_marker_goes : (part : Part) (k : Kind) → marker_of k ≡ None → (to :
 no_marker_goes part k none = goes_at part.stage part k none
 
 -- The reader agrees with a part in any profile of its mode.
-module _ (q : Profile) (r : ReaderState) (part : Part) where
+module _ (q : Profile) (r : GameState) (part : Part) where
   text_under : (stage : Stage) → q.mode ≡ r.profile.mode → HoldsText stage r part → HoldsText stage (record r { profile = q }) part
   text_under InMovetext same h = (subst (λ mode. HoldsItems (mode_unless r.writing.is_silent mode) (start_of part.pairs) part.items r.text r.line) (sym same) h.0, h.1)
   text_under _ same h = h

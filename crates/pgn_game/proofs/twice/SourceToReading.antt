@@ -1,9 +1,9 @@
 -- What one of two readings has read of its source, up to the end of a game, of the source, or to
 -- where it stops.
 use Rattle.pgn_lexer.specs.declared.partial_token.LexMode.{LexMode}
-use Rattle.pgn_game.proofs.Words.{Token, InputTooLong, ReadFault, Fault, Profile, ◌≡◌, ◌^◌, ◌≤◌, ℕ, arith, Bool, false, true, false≢true, inl, inr, List, [], ◌∷◌, ◌++◌, length, take, drop, zero, suc, length-drop, length-take, take_all, drop_of_length-le, tokens_of, take-append-drop, append_assoc, Option, None, Result, Ok, Err, IfSome, refl, sym, ap, subst, ◌∙◌, Consumes-trans, Consumes, Stands, takes_the_marker, with_missing, decided, Standing, StandsAfter, coming, first, Converter, Reading, AreNext, AreShown, taking_announced_marker, within_limit, HasGiven, HasGivenIn, ReadFails, ReadingStops, ReadsAllOf, SourceGives, Stores, StandsInText, known_by, common_steps, AfterGameEnd, BeginsAt, Games, games_of}
+use Rattle.pgn_game.proofs.Words.{Token, InputTooLong, ReadFault, Fault, Profile, ◌≡◌, ◌^◌, ◌≤◌, ℕ, arith, Bool, false, true, false≢true, inl, inr, List, [], ◌∷◌, ◌++◌, length, take, drop, zero, suc, length-drop, length-take, take_all, drop_of_length-le, tokens_of, take-append-drop, append_assoc, Option, None, Result, Ok, Err, IfSome, refl, sym, ap, subst, ◌∙◌, Consumes-trans, Consumes, Stands, takes_the_marker, with_missing, decided, Standing, StandsAfter, coming, first, Converter, Reading, AreNext, AreShown, letting_missing_result_take_marker, within_limit, HasGiven, HasGivenIn, ReadFails, ReadingStops, ReadsAllOf, SourceGives, Stores, StandsInText, known_by, common_steps, AfterGameEnd, BeginsAt, Games, games_of}
 use Rattle.pgn_game.specs.public.ConverterCalls.{at_end}
-use Rattle.pgn_game.specs.steps.Flow.{At, FinishesGame, HasGivenOf, Known, PassesLimit, ReadsOn, Since, Start, ended, so_far}
+use Rattle.pgn_game.specs.steps.Flow.{At, FinishesLeft, read_on, HasGivenOf, Known, PassesLimit, ReadsOn, Since, Start, ended, so_far}
 use Rattle.pgn_game.specs.steps.SourceFlow.{AfterSource, ReadsSource, SourceStops}
 use Rattle.pgn_game.specs.steps.SourceFlow as source_flow
 use Rattle.pgn_game.specs.steps.Readings.{at_read, at_token, reading_of}
@@ -32,7 +32,7 @@ pub some_coming : (l : Standing) → (t : Token) × (us : List Token) × (coming
 some_coming l = some_left (coming l []) (left_in l.held.mode)
 
 -- before the first byte
-pub given_none : (p : Profile) (c d : Converter) (unused : List ℕ) (left : Option (List ℕ)) → Stands p c [] None [] → d ≡ taking_announced_marker c → unused ≡ []
+pub given_none : (p : Profile) (c d : Converter) (unused : List ℕ) (left : Option (List ℕ)) → Stands p c [] None [] → d ≡ letting_missing_result_take_marker c → unused ≡ []
     → HasGiven (with_missing p takes_the_marker) left left (record { converter = d; unused = unused; has_ended = false }) []
 given_none p c d unused left stands is empty = grind (arith, common_steps, none_next, reads_taking)
 
@@ -223,14 +223,14 @@ ended_before left_old l start old u a begins over =
 -- ---- behind the last piece
 
 pub ends_source : (start : Start) (left_old m : Option (List ℕ)) (now new : Converter) (unused : List ℕ) (result : Result Bool Fault) (b c : Option (List ℕ)) (y z : ℕ)
-    → AtSourceEnd start left_old m now unused b → FinishesGame now new result (between b c y z)
+    → AtSourceEnd start left_old m now unused b → FinishesLeft true now new result (between b c y z)
     → AfterGameEnd start left_old m (reading_of new unused true) result c
 ends_source start left_old m now new unused result b c y z (u, consumed, stores, tokens, stood) finishes = by_result result finishes.reads
   where
     now_stores : Stores true new.lexer.count unused u left_old
     now_stores = (finishes.count ∙ stores.0, stores.1, stores.2)
 
-    by_result : (r : Result Bool Fault) → ReadsOn now None new r (between b c y z) → AfterGameEnd start left_old m (reading_of new unused true) r c
+    by_result : (r : Result Bool Fault) → ReadsOn now None new (read_on true r) (between b c y z) → AfterGameEnd start left_old m (reading_of new unused true) r c
     by_result (Ok true) reads =
         let to = reads start (ended u) tokens tt stood in
         (u, record { consumed = consumed; stores = now_stores }, to.0, to.1, to.2)

@@ -13,7 +13,7 @@ use Rattle.pgn_game.specs.declared.reason.Fault.{Fault}
 use Rattle.pgn_game.specs.declared.reason.Reason.TheVariants.{ReadFault, InputTooLong}
 use Rattle.pgn_game.specs.public.ItemsCalls.{HaveGiven, Items, shown_games}
 use Rattle.pgn_game.specs.public.SourceCalls.{IsSetTo}
-use Rattle.pgn_game.specs.steps.ReaderState.{is_outside_the_table}
+use Rattle.pgn_game.specs.steps.GameState.{is_outside_the_table}
 
 -- The items, where the current game begins, and how many games were given before the last bad one
 -- that was skipped. A game begins where the one before it ends.

@@ -6,7 +6,7 @@
 -- they report them.
 use Rattle.std.specs.Prelude.{◌≡◌, ℕ, ◌^◌, ◌<◌, ◌≤◌, Bool, true, false, IsTrue, List, [], ◌++◌, length, Option, None, Result, Ok, Err, IfSome}
 use Rattle.std.specs.Io.KnownBytes.{Appends, Consumes}
-use Rattle.pgn_layout.specs.Device.{Device, FailsOnce, IsStill, one_more}
+use Rattle.pgn_layout.specs.Device.{Device, IsStill, one_more}
 use Rattle.pgn_lexer.specs.Tokens.{Token}
 use Rattle.pgn_lexer.specs.TokensOf.{tokens_of}
 use Rattle.pgn_lexer.specs.Decided.{decided}
@@ -123,20 +123,10 @@ CountsDevices WriteFault source_old source_new sink_old sink_new = (source_new �
 CountsDevices _ source_old source_new sink_old sink_new = (source_new ≡ source_old) × (sink_new ≡ sink_old)
 
 -- the same for a result: without a fault no count rises
-abbrev pub CountsResult : Result Totals Fault → Device → Device → Type 0
-CountsResult (Ok t) source sink = IsStill source × IsStill sink
+abbrev pub CountsResult : {A : Type 0} → Result A Fault → Device → Device → Type 0
+CountsResult (Ok x) source sink = IsStill source × IsStill sink
 CountsResult (Err f) source sink =
     CountsDevices f.reason source.failures source.failures_after sink.failures sink.failures_after
-
--- If the reason is `WriteFault`, the sink counts one failure more, and for any other reason none.
-abbrev pub CountsWriting : Reason → Device → Type 0
-CountsWriting WriteFault sink = FailsOnce sink
-CountsWriting _ sink = IsStill sink
-
--- the same for a result: without a fault the count stays
-abbrev pub CountsSink : {A : Type 0} → Result A Fault → Device → Type 0
-CountsSink (Ok t) sink = IsStill sink
-CountsSink (Err f) sink = CountsWriting f.reason sink
 
 -- How a conversion ends after the bytes u, which are then the whole input: all tokens were read, or
 -- reading stopped.

@@ -35,7 +35,7 @@ use Rattle.pgn_game.specs.public.MostTried.{MostTried, Raises, TriesUnwritten}
 use Rattle.pgn_game.specs.export.Due.{Gains}
 use Rattle.pgn_game.specs.games.Levels.{plies_of, last_position}
 use Rattle.pgn_game.specs.export.Text.{has_move}
-use Rattle.pgn_game.specs.steps.ReaderState.{ReaderState, Agrees, IsKnown, silenced, plies_of_finished_games}
+use Rattle.pgn_game.specs.steps.GameState.{GameState, Agrees, IsKnown, silenced, plies_of_finished_games}
 
 -- what can be asked of the game just finished: its pairs, the number of its moves outside
 -- variations, the position after these, and its marker
@@ -53,7 +53,7 @@ finished_game_of g = record { pairs = g.pairs; plies = plies_of g; position = la
 -- has ended, and the fault
 pub record Converter : Type 0 where
   pub lexer : Standing
-  pub reading : ReaderState
+  pub reading : GameState
   pub games : ℕ
   pub just_finished : Option FinishedGame
   pub is_finished : Bool
@@ -65,18 +65,18 @@ abbrev pub profile_of : ℕ → ℕ → Mode → Profile
 profile_of most depth mode = record { tags = most; depth = depth; mode = mode; missing_result = counts_as (codes "*") }
 
 -- the game just finished, as the reader still holds it
-abbrev pub game_in_reader : ReaderState → FinishedGame
+abbrev pub game_in_reader : GameState → FinishedGame
 game_in_reader reading = record { pairs = reading.tags.held; plies = reading.text.plies; position = reading.text.levels.current.position; marker = reading.marker }
 
 -- the same, if a game is just finished
-abbrev pub game_in_reader_if : Bool → ReaderState → Option FinishedGame
+abbrev pub game_in_reader_if : Bool → GameState → Option FinishedGame
 game_in_reader_if true reading = Some (game_in_reader reading)
 game_in_reader_if false reading = None
 
 -- What always holds of a converter. At most 2^62 bytes are used. Before a fault the games and the
 -- plies are at most twice as many, but for a few: a byte ends at most two tokens. While a game is
 -- just finished, no game is begun, and there is no fault.
-pub record IsSound (lexer : Standing) (reading : ReaderState) (games : ℕ) (has_finished_game is_finished : Bool) (fault : Option Fault) : Type 0 where
+pub record IsSound (lexer : Standing) (reading : GameState) (games : ℕ) (has_finished_game is_finished : Bool) (fault : Option Fault) : Type 0 where
   pub count : lexer.count ≤ 2 ^ 62
   pub few : fault ≡ None → games + waiting lexer ≤ 2 * lexer.count + 2
   pub few_plies : fault ≡ None → reading.earlier_plies + reading.text.plies + waiting lexer ≤ 2 * lexer.count + 3
@@ -106,7 +106,7 @@ finished_game_section c = elim c.just_finished [
 ]
 
 -- the position that a reader reports with a fault, if a move was rejected: its current one
-abbrev pub reported_position : ReaderState → Reason → Option Parts
+abbrev pub reported_position : GameState → Reason → Option Parts
 reported_position reading reason = position_if_move reason reading.text.levels.current.position
 
 -- the position in which a move was rejected, if that is the fault
@@ -261,7 +261,7 @@ pub record ProbesAtStop (silent : Bool) {p : Profile} {given tokens : List Token
 
 -- A fault, as `FedFault` says. Before it no game was finished. If a move was rejected, the reader
 -- holds the position in which it was.
-pub record FedToFault (p : Profile) (bytes : List ℕ) (given : List Token) (f : Fault) (reading : ReaderState) (before after : Option (List ℕ)) : Type 0 where
+pub record FedToFault (p : Profile) (bytes : List ℕ) (given : List Token) (f : Fault) (reading : GameState) (before after : Option (List ℕ)) : Type 0 where
   pub fed : FedFault p bytes given f before after
   pub no_game : games_before fed.stops ≡ (read p given).progress.games
   pub counts : ProbesAtStop reading.writing.is_silent fed.stops reading.most_probes
@@ -411,10 +411,14 @@ ReadsByMarker old new =
     (p : Profile) (u : List ℕ) (b : Option ℕ)
     → Stands p old u b [] → Stands (with_missing p takes_the_marker) new u b []
 
+-- the fault of a result, if it has one
+abbrev pub fault_of : {A : Type 0} → Result A Fault → Option Fault
+fault_of (Ok x) = None
+fault_of (Err f) = Some f
+
 -- The fault that a call returns is kept. After any other result there is none.
 abbrev pub KeepsFault : {A : Type 0} → Converter → Result A Fault → Type 0
-KeepsFault new (Ok x) = new.fault ≡ None
-KeepsFault new (Err f) = new.fault ≡ Some f
+KeepsFault new result = new.fault ≡ fault_of result
 
 -- After a fault each call returns it again, and neither the converter nor the sink changes.
 abbrev pub Again : {A S : Type 0} → Converter → Converter → Result A Fault → S → S → Type 0

@@ -7,7 +7,7 @@
 -- taken.
 use Rattle.std.specs.Prelude.{◌≡◌, ℕ, ◌+◌, ◌-◌, ◌^◌, ◌<◌, ◌≤◌, Bool, true, false, List, [], ◌∷◌, ◌++◌, length, take, Option, None, Some, Result, Ok, Err}
 use Rattle.std.specs.Io.KnownBytes.{Consumes, IsAtEnd}
-use Rattle.pgn_layout.specs.Device.{Device, IsStill}
+use Rattle.pgn_layout.specs.Device.{Device}
 use Rattle.pgn_lexer.specs.Tokens.{Token}
 use Rattle.pgn_lexer.specs.TokensOf.{tokens_of}
 use Rattle.pgn_lexer.specs.Stands.{IsDecided, first}
@@ -19,8 +19,7 @@ use Rattle.pgn_game.specs.export.Text.{text_of}
 use Rattle.pgn_game.specs.games.Progress.{read, due}
 use Rattle.pgn_game.specs.export.Due.{Gains}
 use Rattle.pgn_game.specs.public.ConverterCalls.{Converter, finished_game_of, HasRead, Stands, AreNext, within_limit, Stops, games_before, ProbesAtStop, ReadsUpTo}
-use Rattle.pgn_game.specs.steps.ReaderState.{ReaderState}
-use Rattle.pgn_game.specs.public.Conversion.{CountsDevices}
+use Rattle.pgn_game.specs.steps.GameState.{GameState}
 
 -- ---- what was read so far
 
@@ -102,7 +101,7 @@ pub record NoGame (p : Profile) (u : List ℕ) (given : List Token) (left_old le
 
 -- One of the tokens that these bytes decide is rejected, or a write failed. No game was finished
 -- before. r is the reader, which has counted the pairs tried.
-pub record StopsAtToken (p : Profile) (bytes : List ℕ) (given : List Token) (r : ReaderState) (f : Fault) (before after : Option (List ℕ)) : Type 0 where
+pub record StopsAtToken (p : Profile) (bytes : List ℕ) (given : List Token) (r : GameState) (f : Fault) (before after : Option (List ℕ)) : Type 0 where
   pub tokens : List Token
   pub next : AreNext bytes tokens
   pub stops : Stops p given tokens before after f
@@ -110,7 +109,7 @@ pub record StopsAtToken (p : Profile) (bytes : List ℕ) (given : List Token) (r
   pub counts : ProbesAtStop r.writing.is_silent stops r.most_probes
 
 -- The same for the tokens of the text u, whose end was read.
-pub record StopsAtEnd (p : Profile) (u : List ℕ) (given : List Token) (r : ReaderState) (f : Fault) (before after : Option (List ℕ)) : Type 0 where
+pub record StopsAtEnd (p : Profile) (u : List ℕ) (given : List Token) (r : GameState) (f : Fault) (before after : Option (List ℕ)) : Type 0 where
   pub stops : Stops p given (tokens_of u) before after f
   pub no_game : games_before stops ≡ (read p given).progress.games
   pub counts : ProbesAtStop r.writing.is_silent stops r.most_probes
@@ -126,7 +125,7 @@ pub record ReadsNoGame (p : Profile) (given : List Token) (u : List ℕ) (before
 -- - `at_end`: at a token of the whole text, which has at most 2^62 bytes.
 -- - `unread`: a read failed.
 -- - `too_long`: the source has given the byte at place 2^62.
-pub data NextStops (p : Profile) (u : List ℕ) (given : List Token) (left_old left_new : Option (List ℕ)) (r : ReaderState) (before after : Option (List ℕ)) : Fault → Type 0 where
+pub data NextStops (p : Profile) (u : List ℕ) (given : List Token) (left_old left_new : Option (List ℕ)) (r : GameState) (before after : Option (List ℕ)) : Fault → Type 0 where
   at_token : (f : Fault) (more : List ℕ) → Consumes left_old left_new more → StopsAtToken p (within_limit (u ++ more)) given r f before after
       → NextStops p u given left_old left_new r before after f
   at_end : (f : Fault) (more : List ℕ) → Consumes left_old left_new more → IsAtEnd left_new → length (u ++ more) ≤ 2 ^ 62
@@ -168,12 +167,6 @@ abbrev pub NextAgain : {R W : Type 0} → Games → Games → Result Bool Fault 
 NextAgain old new result source_old source_new out_old out_new =
     (f : Fault) → old.converter.fault ≡ Some f
     → (result ≡ Err f) × (new ≡ old) × (source_new ≡ source_old) × (out_new ≡ out_old)
-
--- If the fault is `ReadFault`, the source counts one failure more. If it is `WriteFault`, the sink
--- does. Otherwise no count rises.
-abbrev pub CountsNext : Result Bool Fault → Device → Device → Type 0
-CountsNext (Ok is_game) source sink = IsStill source × IsStill sink
-CountsNext (Err f) source sink = CountsDevices f.reason source.failures source.failures_after sink.failures sink.failures_after
 
 -- A bound on the games that are still to come: each game lowers it.
 abbrev pub most_left_behind : Bool → ℕ → ℕ

@@ -32,7 +32,7 @@ use Rattle.pgn_game.specs.public.ConverterCalls.{AreNext, Converter, HasRead, re
 use Rattle.pgn_game.specs.public.GamesCalls.{Games, HasReadAll, HasReadWithin}
 use Rattle.pgn_game.specs.public.Given.{Given, Shown, given_of, item, marker, shown, tags}
 use Rattle.pgn_game.specs.steps.Movetext.{HoldsItems}
-use Rattle.pgn_game.specs.steps.ReaderState.{ReaderState}
+use Rattle.pgn_game.specs.steps.GameState.{GameState}
 
 -- ---- what was given so far
 
@@ -45,7 +45,7 @@ is_marker_item _ = false
 -- were finished, the word that was read last, the item given last, if the last call gave one, and
 -- the one that was read and is given next.
 pub record Current : Type 0 where
-  pub reading : ReaderState
+  pub reading : GameState
   pub games : ℕ
   pub word : List ℕ
   pub last : Option CodeItem
@@ -134,7 +134,7 @@ pub data ItemsRead (p : Profile) (left : Option (List ℕ)) (u : List ℕ) (i : 
   at_end : i.is_finished ≡ true → i.lexer.count ≡ length u → HasReadAll p left u (games_of_items i) tokens → ItemsRead p left u i tokens
 
 -- the position after the items given: without the item that was read and is given next
-abbrev pub position_without : Option CodeItem → ReaderState → Parts
+abbrev pub position_without : Option CodeItem → GameState → Parts
 position_without (Some (items.Move m)) reading =
     unwrap_or reading.text.levels.current.before reading.text.levels.current.position
 position_without _ reading = reading.text.levels.current.position
@@ -193,7 +193,7 @@ shown_uci c = option_map uci (shown_move c.last)
 
 -- The number of open variations after the items given. Something is given next only behind the
 -- tags, where none is open. Without a game there is none.
-abbrev pub depth_behind : (last next : Option CodeItem) → ReaderState → ℕ
+abbrev pub depth_behind : (last next : Option CodeItem) → GameState → ℕ
 depth_behind None next reading = 0
 depth_behind (Some i) None reading = length reading.text.levels.around
 depth_behind (Some i) (Some next) reading = 0

@@ -16,7 +16,7 @@ use Rattle.pgn_game.specs.games.Game.{Game, Part}
 use Rattle.pgn_game.specs.export.Text.{text_of, torn}
 use Rattle.pgn_game.specs.games.Progress.{read}
 use Rattle.pgn_game.specs.export.Due.{Gains}
-use Rattle.pgn_game.specs.steps.ReaderState.{ReaderState, with_announced}
+use Rattle.pgn_game.specs.steps.GameState.{GameState, with_announced}
 use Rattle.pgn_game.specs.public.ConverterCalls.{Converter, CountsFault, KeepsFault, Stands, Stops, games_before, position_at_stop, reported_position, ProbesAtStop}
 
 -- ---- what was read and written
@@ -62,11 +62,6 @@ pub record IsBeforePiece (c : Converter) (piece : List ℕ) : Type 0 where
   pub some : 0 < length piece
   pub short : c.lexer.count + length piece ≤ 2 ^ 62
 
--- the fault that is kept after a call
-abbrev pub fault_of : {A : Type 0} → Result A Fault → Option Fault
-fault_of (Ok x) = None
-fault_of (Err f) = Some f
-
 -- ---- however many games
 
 -- what was read of a piece up to a place, however many games were finished in it
@@ -94,7 +89,7 @@ pub record GoesToEndOfPiece (old : Converter) (piece : List ℕ) (new : Converte
 
 -- A token of these is rejected, or a write failed. Before it no game was finished, and the reader
 -- holds the position in which a move was rejected.
-pub record FaultAtEnd (p : Profile) (given tokens : List Token) (f : Fault) (reading : ReaderState) (before after : Option (List ℕ)) : Type 0 where
+pub record FaultAtEnd (p : Profile) (given tokens : List Token) (f : Fault) (reading : GameState) (before after : Option (List ℕ)) : Type 0 where
   pub stops : Stops p given tokens before after f
   pub no_game : games_before stops ≡ (read p given).progress.games
   pub counts : ProbesAtStop reading.writing.is_silent stops reading.most_probes
@@ -103,8 +98,8 @@ pub record FaultAtEnd (p : Profile) (given tokens : List Token) (f : Fault) (rea
 -- ---- an input that is read twice
 
 -- the same converter, but a missing Result takes the marker from now on
-abbrev pub taking_announced_marker : Converter → Converter
-taking_announced_marker c =
+abbrev pub letting_missing_result_take_marker : Converter → Converter
+letting_missing_result_take_marker c =
     record c { reading = record c.reading { profile = with_missing c.reading.profile takes_the_marker } }
 
 -- the same converter, but the next game's marker is announced

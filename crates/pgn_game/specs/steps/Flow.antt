@@ -3,7 +3,7 @@
 -- Letters: l is a lexer, c a converter, s the bytes known of a text, t a token, f a fault. `sink`
 -- is the sink before a call and after it, `after` are the bytes that it has taken then, if it
 -- reports them.
-use Rattle.std.specs.Prelude.{◌≡◌, ℕ, ◌+◌, ◌-◌, ◌*◌, ◌^◌, ◌<◌, ◌≤◌, ◌⊎◌, Bool, true, false, not, List, [], ◌∷◌, ◌++◌, length, take, drop, Option, None, Some, Result, Ok, Err, IfOk, is_ok}
+use Rattle.std.specs.Prelude.{◌≡◌, ℕ, ◌+◌, ◌-◌, ◌*◌, ◌^◌, ◌<◌, ◌≤◌, ◌⊎◌, ◌&&◌, Bool, true, false, not, List, [], ◌∷◌, ◌++◌, length, take, drop, Option, None, Some, Result, Ok, Err, IfOk, is_ok}
 use Rattle.pgn_layout.specs.Device.{Device}
 use Rattle.pgn_lexer.specs.Tokens.{Token, EndsAt}
 use Rattle.pgn_lexer.specs.TokensOf.{tokens_of}
@@ -21,8 +21,8 @@ use Rattle.pgn_game.specs.games.Profile.{Profile, counting, takes_the_marker}
 use Rattle.pgn_game.specs.games.Game.{Game}
 use Rattle.pgn_game.specs.games.FaultTable.{is_end, marker_of, refusal}
 use Rattle.pgn_game.specs.games.Progress.{next, read, whole}
-use Rattle.pgn_game.specs.steps.ReaderState.{IsKnown, IsStopped, ReaderState, is_unexpected}
-use Rattle.pgn_game.specs.steps.ConverterSteps.{GainsAs, IsBeforeToken, fault_of, part_after}
+use Rattle.pgn_game.specs.steps.GameState.{IsKnown, IsStopped, GameState, is_unexpected}
+use Rattle.pgn_game.specs.steps.ConverterSteps.{GainsAs, IsBeforeToken, part_after}
 use Rattle.pgn_game.specs.public.ConverterCalls.{Advances, AreNext, Converter, CountsFault, FinishedGame, HasRead, KeepsFault, KeepsGames, finished_game_of, game_in_reader, used_of, within_limit}
 
 -- ---- a text, and where reading stands in it
@@ -72,12 +72,12 @@ pub record Start : Type 0 where
   pub expected : Option PlacedMarker
 
 -- the profile by which text is written then: a missing Result counts as the announced marker
-abbrev pub written_by : Profile → Option PlacedMarker → Profile
-written_by p None = p
-written_by p (Some m) = counting p (marker_text m.marker)
+abbrev pub profile_written : Profile → Option PlacedMarker → Profile
+profile_written p None = p
+profile_written p (Some m) = counting p (marker_text m.marker)
 
 -- A reader that writes knows what a missing Result is: by the profile, or the marker was announced.
-abbrev pub KnowsResult : Option PlacedMarker → Profile → ReaderState → Type 0
+abbrev pub KnowsResult : Option PlacedMarker → Profile → GameState → Type 0
 KnowsResult None p reading = IsKnown p
 KnowsResult (Some m) p reading = (p.missing_result ≡ takes_the_marker) × (reading.writing.announced ≡ Some m)
 
@@ -94,7 +94,7 @@ pub record Since (start : Start) (c : Converter) (tokens : List Token) (after : 
   pub extends : tokens ≡ start.given ++ more
   pub has_read : HasRead start.profile c tokens
   pub known : c.reading.writing.is_silent ≡ false → KnowsResult start.expected start.profile c.reading
-  pub gains : c.reading.writing.is_silent ≡ false → GainsAs (written_by start.profile start.expected) start.profile start.given tokens start.before after
+  pub gains : c.reading.writing.is_silent ≡ false → GainsAs (profile_written start.profile start.expected) start.profile start.given tokens start.before after
 
 -- the last of them is the end
 abbrev pub EndsText : List Token → Type 0
@@ -210,7 +210,7 @@ FinishesNoneElse new (Ok true) = Unit {0}
 FinishesNoneElse new _ = new.just_finished ≡ None
 
 -- What a call does to the rest of a converter that reads on in `size` bytes.
-pub record GoesOn (old : Converter) (size : ℕ) (new : Converter) (used : ℕ) (result : Result Bool Fault)
+pub record GoesThrough (old : Converter) (size : ℕ) (new : Converter) (used : ℕ) (result : Result Bool Fault)
     (sink : Device) : Type 0 where
   pub within : used ≤ size
   pub count : new.lexer.count ≡ old.lexer.count + used
@@ -218,7 +218,7 @@ pub record GoesOn (old : Converter) (size : ℕ) (new : Converter) (used : ℕ) 
   pub games : new.games ≡ old.games + games_in result
   pub none_else : FinishesNoneElse new result
   pub not_finished : new.is_finished ≡ false
-  pub fault : new.fault ≡ fault_of result
+  pub fault : KeepsFault new result
   pub probes : old.reading.most_probes ≤ new.reading.most_probes
   pub counted : CountsFault result sink
 
@@ -226,7 +226,7 @@ pub record GoesOn (old : Converter) (size : ℕ) (new : Converter) (used : ℕ) 
 pub record ReadsIn (old : Converter) (piece : List ℕ) (new : Converter) (used : ℕ) (result : Result Bool Fault)
     (sink : Device) : Type 0 where
   pub reads : ReadsOn old (Some piece) new result sink
-  pub goes : GoesOn old (length piece) new used result sink
+  pub goes : GoesThrough old (length piece) new used result sink
 
 -- Without a fault a step brings the end of the piece nearer: it uses a byte, or a token was
 -- waiting.
@@ -328,42 +328,34 @@ pub record GoesAtEnd (old new : Converter) (result : Result Bool Fault) (sink : 
   pub games : new.games ≡ old.games + games_in result
   pub kept : KeepsFinished old new result
   pub unfinished : IsUnfinished new result
-  pub fault : new.fault ≡ fault_of result
-  pub probes : old.reading.most_probes ≤ new.reading.most_probes
-  pub counted : CountsFault result sink
-
--- behind the last piece: games that are finished do not end a call
-abbrev pub read_on : Result Bool Fault → Result Bool Fault
-read_on (Ok finished) = Ok false
-read_on (Err f) = Err f
-
--- A game that the call finished is just finished, if none is begun behind it.
-abbrev pub EndsGames : Converter → Converter → Result Bool Fault → Type 0
-EndsGames old new (Ok true) = (old.games < new.games) × (new.reading.stage ≡ Between → (finished : FinishedGame) × (new.just_finished ≡ Some finished))
-EndsGames old new (Ok false) = (new.games ≡ old.games) × (new.just_finished ≡ None)
-EndsGames old new (Err f) = new.just_finished ≡ None
-
--- What `finish` does behind the last piece, of a converter that has met no fault.
-pub record FinishesLeft (old new : Converter) (result : Result Bool Fault) (sink : Device) : Type 0 where
-  pub reads : ReadsOn old None new (read_on result) sink
-  pub games : EndsGames old new result
-  pub finished : new.is_finished ≡ is_ok result
-  pub count : new.lexer.count ≡ old.lexer.count
   pub fault : KeepsFault new result
   pub probes : old.reading.most_probes ≤ new.reading.most_probes
   pub counted : CountsFault result sink
 
--- the input has ended if there is no game more
-abbrev pub is_over : Result Bool Fault → Bool
-is_over (Ok finished) = not finished
-is_over (Err f) = false
+-- Behind the last piece a game ends a call only if that is asked for (`true`).
+abbrev pub read_on : Bool → Result Bool Fault → Result Bool Fault
+read_on to_game (Ok finished) = Ok (to_game && finished)
+read_on to_game (Err f) = Err f
 
--- What `finish_game` does behind the last piece: it reads up to the end of the next game, or to the
--- end of the input.
-pub record FinishesGame (old new : Converter) (result : Result Bool Fault) (sink : Device) : Type 0 where
-  pub reads : ReadsOn old None new result sink
-  pub games : new.games ≡ old.games + games_in result
-  pub finished : new.is_finished ≡ is_over result
+-- A call that no game ends: a game that it finished is just finished, if none is begun behind it.
+abbrev pub EndsGames : Bool → Converter → Converter → Result Bool Fault → Type 0
+EndsGames true old new result = new.games ≡ old.games + games_in result
+EndsGames false old new (Ok true) =
+    (old.games < new.games) × (new.reading.stage ≡ Between → (finished : FinishedGame) × (new.just_finished ≡ Some finished))
+EndsGames false old new (Ok false) = (new.games ≡ old.games) × (new.just_finished ≡ None)
+EndsGames false old new (Err f) = new.just_finished ≡ None
+
+-- the input has ended, unless a game ended the call
+abbrev pub is_over : Bool → Result Bool Fault → Bool
+is_over to_game (Ok finished) = not (to_game && finished)
+is_over to_game (Err f) = false
+
+-- What `finish_left` does behind the last piece, of a converter that has met no fault.
+pub record FinishesLeft (to_game : Bool) (old new : Converter) (result : Result Bool Fault) (sink : Device) : Type 0 where
+  pub reads : ReadsOn old None new (read_on to_game result) sink
+  pub games : EndsGames to_game old new result
+  pub finished : new.is_finished ≡ is_over to_game result
   pub count : new.lexer.count ≡ old.lexer.count
-  pub fault : new.fault ≡ fault_of result
+  pub fault : KeepsFault new result
+  pub probes : old.reading.most_probes ≤ new.reading.most_probes
   pub counted : CountsFault result sink

@@ -2,13 +2,13 @@
 -- Letters: as in `GamesCalls` and `ConverterSteps`.
 use Rattle.std.specs.Prelude.{◌≡◌, ℕ, ◌<◌, ◌≤◌, Bool, true, false, List, [], length, Option, None, Some, Result, Ok, Err}
 use Rattle.std.specs.Io.KnownBytes.{Consumes, IsAtEnd, Keeps}
-use Rattle.pgn_layout.specs.Device.{Device, IsStill}
+use Rattle.pgn_layout.specs.Device.{Device}
 use Rattle.pgn_game.specs.declared.reason.Reason.TheVariants.{ReadFault}
 use Rattle.pgn_game.specs.declared.reason.Fault.{Fault}
 use Rattle.pgn_game.specs.declared.source.ReadFailed.{ReadFailed}
 use Rattle.pgn_game.specs.public.ConverterCalls.{Converter, KeepsFault}
-use Rattle.pgn_game.specs.public.Conversion.{CountsDevices}
-use Rattle.pgn_game.specs.public.GamesCalls.{CountsNext, Games, ReadsNext, most_left}
+use Rattle.pgn_game.specs.public.Conversion.{CountsResult}
+use Rattle.pgn_game.specs.public.GamesCalls.{Games, ReadsNext, most_left}
 
 -- what a read puts into the empty buffer: bytes, or none at the end of the source (`false`) or if
 -- it fails
@@ -24,16 +24,10 @@ MoreResult left_old left_new old new unused (Ok true) = (new ≡ old) × (0 < le
 MoreResult left_old left_new old new unused (Ok false) = (new ≡ old) × (unused ≡ []) × Consumes left_old left_new [] × IsAtEnd left_new
 MoreResult left_old left_new old new unused (Err f) = (f ≡ record { at = old.lexer.count; reason = ReadFault }) × (new ≡ record old { just_finished = None; fault = Some f }) × Keeps left_old left_new
 
--- If the fault is `ReadFault`, the source counts one failure more. If it is `WriteFault`, the sink
--- does. Otherwise no count rises.
-abbrev pub CountsReading : {A : Type 0} → Result A Fault → Device → Device → Type 0
-CountsReading (Ok x) source sink = IsStill source × IsStill sink
-CountsReading (Err f) source sink = CountsDevices f.reason source.failures source.failures_after sink.failures sink.failures_after
-
 -- What `next_game` does to a converter and a buffer, and what it counts.
 pub record GoesToNextGame (old new : Games) (result : Result Bool Fault) (source sink : Device) : Type 0 where
   pub reads : ReadsNext old new result source sink
   pub fewer : result ≡ Ok true → most_left new < most_left old
   pub fault : KeepsFault new.converter result
   pub probes : old.converter.reading.most_probes ≤ new.converter.reading.most_probes
-  pub counted : old.converter.fault ≡ None → CountsNext result source sink
+  pub counted : old.converter.fault ≡ None → CountsResult result source sink

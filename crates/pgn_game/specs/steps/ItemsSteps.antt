@@ -32,11 +32,11 @@ use Rattle.pgn_game.specs.public.ItemsCalls.{Current, EndsWithMarker, GivesFault
 use Rattle.pgn_game.specs.steps.Judged.{IsPlayed}
 use Rattle.pgn_game.specs.steps.Movetext.{HoldsItems}
 use Rattle.pgn_game.specs.steps.TokenInMovetext.{has_whole_pairs}
-use Rattle.pgn_game.specs.steps.PutResult.{TakesToken, unused}
-use Rattle.pgn_game.specs.steps.ReaderState.{Accepted, Agrees, Finished, ReaderState, restarted}
+use Rattle.pgn_game.specs.steps.TokenTaken.{TakesToken, unused}
+use Rattle.pgn_game.specs.steps.GameState.{Accepted, Agrees, Finished, GameState, restarted}
 
 -- a move was just played
-abbrev pub IsPlayedItem : ReaderState → Option CodeItem → Type 0
+abbrev pub IsPlayedItem : GameState → Option CodeItem → Type 0
 IsPlayedItem reading (Some (items.Move m)) = IsPlayed reading m
 IsPlayedItem reading _ = Unit {0}
 
@@ -226,11 +226,11 @@ pub record AreGoing (i : Items) : Type 0 where
   pub pending : i.current.pending ≡ None
 
 -- A token of the bytes that were read was taken. So far as it gives no item, the next one can be.
-abbrev pub GoesOn : Items → Result (Option CodeItem) Fault → Type 0
-GoesOn new (Ok None) = AreGoing new
-GoesOn new (Ok (Some i)) =
+abbrev pub CanGoOn : Items → Result (Option CodeItem) Fault → Type 0
+CanGoOn new (Ok None) = AreGoing new
+CanGoOn new (Ok (Some i)) =
     (new.fault ≡ None) × (new.is_finished ≡ false) × (new.current.last ≡ Some i) × IsBehindTags new.current.pending new.current.last
-GoesOn new (Err f) = (new.fault ≡ Some f) × (new.current.last ≡ None) × (new.current.pending ≡ None)
+CanGoOn new (Err f) = (new.fault ≡ Some f) × (new.current.last ≡ None) × (new.current.pending ≡ None)
 
 -- How reading stops in the bytes that were read.
 pub data StopsInBuffer (p : Profile) (u : List ℕ) (given : List Token) (new : Current) : Fault → Type 0 where
@@ -248,7 +248,7 @@ AfterBuffered p u given new (Err f) = StopsInBuffer p u given new.current f
 pub record TakesBuffered (old new : Items) (result : Result (Option CodeItem) Fault) : Type 0 where
   pub after : (p : Profile) (u : List ℕ) (given : List Token) → HasReadWithin p u (games_of_items old) given
       → AfterBuffered p u given new result
-  pub goes : GoesOn new result
+  pub goes : CanGoOn new result
   pub read_all : IfOk result (λ item. new.has_read_all ≡ old.has_read_all)
   pub short : new.lexer.count ≤ 2 ^ 62
   pub nearer : IfOk result (λ item. waiting new.lexer + 4 * old.lexer.count < 4 * new.lexer.count + waiting old.lexer)
@@ -280,8 +280,8 @@ pub record ItemsSoFar (p : Profile) (u : List ℕ) (given : List Given) (left_ol
   pub whole : given_of (read p tokens).progress ≡ given
   pub no_sooner : ReadsNoSooner p u more given
 
-abbrev pub ReadSoFar : Items → Items → Option (List ℕ) → Option (List ℕ) → Type 0
-ReadSoFar old now left_old left_now =
+abbrev pub HasReadSoFar : Items → Items → Option (List ℕ) → Option (List ℕ) → Type 0
+HasReadSoFar old now left_old left_now =
     (p : Profile) (u : List ℕ) (given : List Given) → HaveGiven p left_old u old given → ItemsSoFar p u given left_old left_now now
 
 -- What was read behind the last bytes of the source, if nothing more was given.

@@ -30,8 +30,8 @@ use Rattle.pgn_game.specs.games.Markers.{marker_text}
 use Rattle.pgn_game.specs.games.Progress.{going, in_text}
 use Rattle.pgn_game.specs.steps.ItemResult.{Annotates, LeavesSink, Plays, PutsMove}
 use Rattle.pgn_game.specs.steps.Movetext.{Movetext}
-use Rattle.pgn_game.specs.steps.PutResult.{TakesEntry, TakesOutside, TakesUnwritten, MeetsEntry, counting_probes, unused}
-use Rattle.pgn_game.specs.steps.ReaderState.{Accepted, ReaderCall, ReaderState, Writing, is_outside_the_table}
+use Rattle.pgn_game.specs.steps.TokenTaken.{TakesEntry, TakesEntryPlaced, TakesOutside, TakesUnwritten, counting_probes, unused}
+use Rattle.pgn_game.specs.steps.GameState.{Accepted, GameCall, GameState, Writing, is_outside_the_table}
 use Rattle.pgn_game.specs.steps.TokenInMovetext.{IsOpen, may_have_movetext, text_refusal, with_items}
 
 -- The game of a reader and a writer.
@@ -50,7 +50,7 @@ writing_of w =
     record { announced = w.announced; is_silent = is_nothing w.written }
 
 -- the game of a writer, where this says whether a move was written last
-abbrev pub game_at : Bool → Writer → ReaderState → ReaderState
+abbrev pub game_at : Bool → Writer → GameState → GameState
 game_at is_after_move w reader = record reader {
   writing = writing_of w;
   text = record reader.text { is_after_move = is_after_move };
@@ -58,18 +58,18 @@ game_at is_after_move w reader = record reader {
 }
 
 -- the game of a writer
-abbrev pub game_by : Writer → ReaderState → ReaderState
+abbrev pub game_by : Writer → GameState → GameState
 game_by w reader = game_at (after_move_at reader.stage w.is_after_move) w reader
 
 -- Outside movetext.
 
 -- a token of a tag pair is taken, or rejected, by a reader whose game is not in movetext yet
-pub record JudgesInPair (old : ReaderState) (k : Kind) (new : ReaderState) (r : Result Accepted Reason) : Type 0 where
+pub record JudgesInPair (old : GameState) (k : Kind) (new : GameState) (r : Result Accepted Reason) : Type 0 where
   pub takes : (w : Writer) → TakesUnwritten (game_at false w old) k (game_at false w new) r
   pub before : is_begun new.stage ≡ false
 
 -- the same for a token that may begin movetext, and so belong to it
-pub record JudgesBefore (old : ReaderState) (k : Kind) (new : ReaderState)
+pub record JudgesBefore (old : GameState) (k : Kind) (new : GameState)
     (r : Option (Result Accepted Reason)) : Type 0 where
   pub takes : (w : Writer) → TakesOutside (game_at false w old) k (game_at false w new) r
   pub before : is_begun new.stage ≡ false
@@ -80,7 +80,7 @@ IsOutside old new None = Unit {0}
 IsOutside old new (Some r) = (is_begun old ≡ false) × (is_begun new ≡ false)
 
 -- a token is taken outside movetext, or it belongs to movetext
-pub record JudgesOutside (old : ReaderState) (k : Kind) (new : ReaderState)
+pub record JudgesOutside (old : GameState) (k : Kind) (new : GameState)
     (r : Option (Result Accepted Reason)) : Type 0 where
   pub takes : (w : Writer) → TakesOutside (game_by w old) k (game_by w new) r
   pub outside : IsOutside old.stage new.stage r
@@ -120,7 +120,7 @@ IsWritable old _ = Unit {0}
 -- A token of movetext is accepted, is no marker, and means this.
 -- - `says`: no row of the table rejects it, and the part goes on with its items.
 -- - `finds`: its pairs were tried to find its move.
-pub record Means (old : ReaderState) (k : Kind) (new : ReaderState) (e : Event) : Type 0 where
+pub record Means (old : GameState) (k : Kind) (new : GameState) (e : Event) : Type 0 where
   pub no_marker : marker_of k ≡ None
   pub says : (w : Writer) (part : Part) → IsOpen (game_by w old) part
       → (text_refusal old.profile part k ≡ None) × (in_text part k ≡ going (with_items part (items_meant e)))
@@ -130,38 +130,38 @@ pub record Means (old : ReaderState) (k : Kind) (new : ReaderState) (e : Event) 
   pub fits : IsWritable old.text e
 
 -- A row of the table rejects a token of movetext that is no marker.
-pub record Refuses (old : ReaderState) (k : Kind) (new : ReaderState) (reason : Reason) : Type 0 where
+pub record Refuses (old : GameState) (k : Kind) (new : GameState) (reason : Reason) : Type 0 where
   pub no_marker : marker_of k ≡ None
   pub takes : (w : Writer) (taken : Option (List ℕ)) (failures : ℕ)
       → TakesEntry (game_by w old) k (game_by w new) (Err reason) (unused taken failures)
 
 -- The token is this marker, and nothing has changed.
-pub record MeansMarker (old : ReaderState) (k : Kind) (new : ReaderState) (marker : Marker) : Type 0 where
+pub record MeansMarker (old : GameState) (k : Kind) (new : GameState) (marker : Marker) : Type 0 where
   pub is : marker_of k ≡ Some (marker_text marker)
   pub same : new ≡ old
 
 -- what a token of movetext means, or that it is rejected
-abbrev pub Judges : ReaderState → Kind → ReaderState → Result Event Reason → Type 0
+abbrev pub Judges : GameState → Kind → GameState → Result Event Reason → Type 0
 Judges old k new (Ok (events.Marker marker)) = MeansMarker old k new marker
 Judges old k new (Ok e) = Means old k new e
 Judges old k new (Err reason) = Refuses old k new reason
 
 -- The marker ends the game, whatever token it is.
-pub record EndsAtMarker (old : ReaderState) (marker : Marker) (new : ReaderState) : Type 0 where
+pub record EndsAtMarker (old : GameState) (marker : Marker) (new : GameState) : Type 0 where
   pub free : (w : Writer) (k : Kind) (part : Part) → marker_of k ≡ Some (marker_text marker)
       → IsOpen (game_by w old) part → text_refusal old.profile part k ≡ None
   pub outside : old.text.levels.around ≡ []
   pub after : new ≡ record old { stage = Between; marker = marker_text marker }
 
 -- A row of the table rejects the marker, whatever token it is.
-pub record RefusesMarker (old : ReaderState) (marker : Marker) (new : ReaderState)
+pub record RefusesMarker (old : GameState) (marker : Marker) (new : GameState)
     (reason : Reason) : Type 0 where
   pub inside : IsFalse (is_outside_the_table reason)
   pub why : (w : Writer) (k : Kind) (part : Part) → marker_of k ≡ Some (marker_text marker)
       → IsOpen (game_by w old) part → text_refusal old.profile part k ≡ Some reason
   pub same : new ≡ old
 
-abbrev pub JudgesMarker : ReaderState → Marker → ReaderState → Result (Unit {0}) Reason → Type 0
+abbrev pub JudgesMarker : GameState → Marker → GameState → Result (Unit {0}) Reason → Type 0
 JudgesMarker old marker new (Ok done) = EndsAtMarker old marker new
 JudgesMarker old marker new (Err reason) = RefusesMarker old marker new reason
 
@@ -171,20 +171,20 @@ section_unless true section = []
 section_unless false section = section
 
 -- the move just played leads from the position before it
-abbrev pub IsPlayed : ReaderState → Move → Type 0
+abbrev pub IsPlayed : GameState → Move → Type 0
 IsPlayed reading m =
     IsSomeAnd reading.text.levels.current.before
     (λ here. legal here m ≡ Some reading.text.levels.current.position)
 
 -- as many pairs were tried to find the move just played as it has candidates, or more
-abbrev pub IsFound : ReaderState → Move → ℕ → Type 0
+abbrev pub IsFound : GameState → Move → ℕ → Type 0
 IsFound reading m pairs =
     IsSomeAnd reading.text.levels.current.before (λ here. disambiguation_pairs here m ≤ pairs)
 
 -- The move just played was written, or left out, if it leads from the position before it. The pairs
 -- tried for it are counted, those to find it having been counted before.
 pub record WritesMove {S A E : Type 0} (taken : S → Option (List ℕ)) (failures : S → ℕ) (m : Move)
-    (pairs : ℕ) (old new : ReaderState) (w_old w_new : Writer) (sink_old sink_new : S)
+    (pairs : ℕ) (old new : GameState) (w_old w_new : Writer) (sink_old sink_new : S)
     (r : Result A E) : Type 0 where
   pub tried : ℕ
   pub writes : (here : Parts) → old.text.levels.current.before ≡ Some here
@@ -204,13 +204,13 @@ pub record IsAnnotation (token : List ℕ) (e : Event) : Type 0 where
   pub moves : (old new : Movetext) → MovesText e old new → Annotates e old new
 
 -- A token of movetext that a reader has judged is taken by its game, or a write failed: whatever it
--- means, if `Is` holds of that.
+-- means, if `Is` holds of that, and wherever it is.
 pub record TakesMeant {S : Type 0} (taken : S → Option (List ℕ)) (failures : S → ℕ)
-    (judge new : ReaderState) (w_old w_new : Writer) (sink_old sink_new : S)
-    (r : Result (Option Marker) Reason) (Is : Event → Type 0) : Type 0 where
+    (judge new : GameState) (w_old w_new : Writer) (sink_old sink_new : S)
+    (r : Result Bool Reason) (Is : Event → Type 0) : Type 0 where
   pub written : w_new.written ≡ w_old.written
-  pub takes : (old : ReaderState) (k : Kind) (e : Event) → Means old k judge e
+  pub takes : (old : GameState) (k : Kind) (at : ℕ) (e : Event) → Means old k judge e
       → IsTrue (may_have_movetext old.stage)
       → mode_of_written w_old.written ≡ mode_unless (is_nothing w_old.written) old.profile.mode → Is e
-      → ReaderCall taken failures (game_by w_old old) (game_by w_new new) sink_old sink_new
-      (MeetsEntry (game_by w_old old) k (game_by w_new new) r)
+      → GameCall taken failures (game_by w_old old) (game_by w_new new) sink_old sink_new
+      (TakesEntryPlaced (game_by w_old old) k at (game_by w_new new) r)

@@ -6,6 +6,7 @@
 -- has left now. `left_before` and `left_after` (or `left_new`) are those that it has left before
 -- and after a call. `old` and `new` are the reading then, and `before` and `after` the bytes that
 -- the sink has taken.
+use Rattle.pgn_game.specs.public.Conversion.{CountsResult}
 use Rattle.std.specs.Prelude.{◌≡◌, ℕ, ◌+◌, ◌^◌, ◌<◌, ◌≤◌, Bool, true, false, List, [], ◌∷◌, ◌++◌, length, drop, Option, None, Some, Result, Ok, Err, IfSome}
 use Rattle.std.specs.Io.KnownBytes.{Appends, Consumes}
 use Rattle.pgn_layout.specs.Device.{AppendsFront, Device}
@@ -25,10 +26,9 @@ use Rattle.pgn_game.specs.games.FaultTable.{refusal}
 use Rattle.pgn_game.specs.export.Text.{game_text, text_of, torn}
 use Rattle.pgn_game.specs.games.Progress.{no_progress, read}
 use Rattle.pgn_game.specs.export.Due.{gain}
-use Rattle.pgn_game.specs.public.ConverterCalls.{Converter, AreShown, within_limit, HasRead}
-use Rattle.pgn_game.specs.steps.ConverterSteps.{IsGoing, OneGame, SameGames, fault_of, part_after}
+use Rattle.pgn_game.specs.public.ConverterCalls.{Converter, AreShown, within_limit, HasRead, KeepsFault}
+use Rattle.pgn_game.specs.steps.ConverterSteps.{IsGoing, OneGame, SameGames, part_after}
 use Rattle.pgn_game.specs.steps.Flow.{At, Closes, Known, KnowsResult, Since, StandsInText, Start, StopsAt, ended, games_in, is_over, so_far}
-use Rattle.pgn_game.specs.steps.GamesSteps.{CountsReading}
 use Rattle.pgn_game.specs.public.Checked.{PlacedMarker, markers, markers_from, is_changed, compared_from, with_marker}
 
 -- a reading: its converter, the bytes that were read and are not used yet, and whether the source
@@ -142,7 +142,7 @@ pub data ReadingStops (start : Start) (left_old left_new : Option (List ℕ)) (f
   at_read : (u : List ℕ) → ReadFails left_old left_new (decided u) f → ReadsAllOf start u new after
       → ReadingStops start left_old left_new f new after
 
--- What `next_game` results in: a game was finished, the end of the text was read, or reading
+-- What `read_to_game_end` results in: a game was finished, the end of the text was read, or reading
 -- stopped.
 abbrev pub AfterGameEnd : Start → Option (List ℕ) → Option (List ℕ) → Reading → Result Bool Fault → Option (List ℕ) → Type 0
 AfterGameEnd start left_old left_new new (Ok true) after =
@@ -152,15 +152,15 @@ AfterGameEnd start left_old left_new new (Ok false) after =
     (u : List ℕ) × Stores true new.converter.lexer.count new.unused u left_old × (tokens : List Token) × At start (ended u) new.converter tokens after
 AfterGameEnd start left_old left_new new (Err f) after = ReadingStops start left_old left_new f new.converter after
 
--- What `next_game` does to a reading, and what it counts.
+-- What `read_to_game_end` does to a reading, and what it counts.
 pub record ReadsToGameEnd (old new : Reading) (result : Result Bool Fault) (source sink : Device) : Type 0 where
   pub reads : (start : Start) (left_old : Option (List ℕ)) (u : List ℕ) → BeginsAt left_old source.before start old u sink.before
       → AfterGameEnd start left_old source.after new result sink.after
   pub games : new.converter.games ≡ old.converter.games + games_in result
   pub few : result ≡ Ok true → old.converter.games < 2 ^ 64
-  pub finished : new.converter.is_finished ≡ is_over result
-  pub fault : new.converter.fault ≡ fault_of result
-  pub counted : CountsReading result source sink
+  pub finished : new.converter.is_finished ≡ is_over true result
+  pub fault : KeepsFault new.converter result
+  pub counted : CountsResult result source sink
 
 -- ---- one game
 

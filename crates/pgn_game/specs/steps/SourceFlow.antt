@@ -1,16 +1,15 @@
 -- **Bookkeeping**: how far a source was read up to the end of its next game, or to its own end.
 -- Letters: as in `Flow` and `GamesCalls`. The source has given the bytes u before a call.
+use Rattle.pgn_game.specs.public.Conversion.{CountsResult}
 use Rattle.std.specs.Prelude.{◌≡◌, ◌+◌, ◌^◌, ◌<◌, ◌≤◌, Bool, true, false, List, [], ◌++◌, ℕ, drop, Option, None, Some, Result, Ok, Err}
 use Rattle.std.specs.Io.KnownBytes.{Consumes, IsAtEnd}
 use Rattle.pgn_layout.specs.Device.{Device}
 use Rattle.pgn_lexer.specs.Tokens.{Token}
 use Rattle.pgn_game.specs.declared.reason.Reason.TheVariants.{ReadFault}
 use Rattle.pgn_game.specs.declared.reason.Fault.{Fault}
-use Rattle.pgn_game.specs.public.ConverterCalls.{Converter, within_limit}
+use Rattle.pgn_game.specs.public.ConverterCalls.{Converter, KeepsFault, within_limit}
 use Rattle.pgn_game.specs.public.GamesCalls.{Games}
-use Rattle.pgn_game.specs.steps.ConverterSteps.{fault_of}
 use Rattle.pgn_game.specs.steps.Flow.{At, Closes, FinishesNoneElse, PassesLimit, Start, StopsAt, games_in, so_far}
-use Rattle.pgn_game.specs.steps.GamesSteps.{CountsReading}
 
 -- A call has read so far from a start: the source has given `more`, and of all its bytes those
 -- before place 2^62 are read but for the unused ones.
@@ -58,6 +57,6 @@ pub record ReadsSource (old new : Games) (result : Result Bool Fault) (source si
   pub few : result ≡ Ok true → old.converter.games < 2 ^ 64
   pub none_else : FinishesNoneElse new.converter result
   pub not_finished : new.converter.is_finished ≡ false
-  pub fault : new.converter.fault ≡ fault_of result
+  pub fault : KeepsFault new.converter result
   pub probes : old.converter.reading.most_probes ≤ new.converter.reading.most_probes
-  pub counted : CountsReading result source sink
+  pub counted : CountsResult result source sink

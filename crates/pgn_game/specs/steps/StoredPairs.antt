@@ -2,7 +2,7 @@
 -- They lie as they were read. The order of their names is kept beside them. The one whose value is
 -- still to come lies behind those that are complete. Behind these may be pairs of earlier games,
 -- which no contract sees.
-use Rattle.std.specs.Prelude.{ℕ, ◌+◌, ◌≤◌, ◌<◌, ◌≡◌, IsTrue, IfSome, Bool, true, false, List, [], ◌∷◌, length, drop, map, slice_index_or, Option, None, Some, Result, Ok, Err}
+use Rattle.std.specs.Prelude.{ℕ, ◌+◌, ◌≤◌, ◌<◌, ◌≡◌, IsTrue, IfSome, Bool, true, false, codes, List, [], ◌∷◌, length, drop, map, slice_index_or, Option, None, Some, Result, Ok, Err}
 use Rattle.std.specs.Borrow.{Bor}
 use Rattle.std.specs.List.{AllByRecursion}
 use Rattle.std.specs.Option.{option_copied}
@@ -58,13 +58,14 @@ pub record HasBegun (ps : List Pair) (order : List ℕ) (place : ℕ) : Type 0 w
   pub index : place ≡ index_of (pair_at ps (length order)).name (placed ps order)
 
 -- How the pairs are stored: at most so many. The first belong to the game, one for each place in
--- the order.
-pub record FitsPairStore (most : ℕ) (ps : List Pair) (order : List ℕ) (place : ℕ) (has_pending_name : Bool) : Type 0 where
+-- the order. Whether a FEN is one of these is stored.
+pub record FitsPairStore (most : ℕ) (ps : List Pair) (order : List ℕ) (place : ℕ) (has_pending_name has_fen : Bool) : Type 0 where
   pub room : length ps ≤ most
   pub within : length order ≤ length ps
   pub first : AllBelow (length order) order
   pub in_order : InOrder (placed ps order)
   pub begun : IsTrue has_pending_name → HasBegun ps order place
+  pub fen : has_fen ≡ has_pair (placed ps order) (codes "FEN")
 
 -- the bytes of one pair are its name, of this length, and its value; both fit on their line
 pub record FitsOnLine (name_length : ℕ) (text : List ℕ) : Type 0 where

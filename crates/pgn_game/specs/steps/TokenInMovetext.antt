@@ -15,7 +15,7 @@ use Rattle.pgn_game.specs.games.FaultTable.{refusal, is_marker, has_other_result
 use Rattle.pgn_game.specs.games.Progress.{next, in_text}
 use Rattle.pgn_game.specs.steps.Movetext.{HoldsItems}
 use Rattle.pgn_game.specs.export.Text.{has_move}
-use Rattle.pgn_game.specs.steps.ReaderState.{ReaderState, mode_written}
+use Rattle.pgn_game.specs.steps.GameState.{GameState, mode_written}
 
 -- the part with these items more
 abbrev pub with_items : Part → List Item → Part
@@ -38,7 +38,7 @@ has_whole_pairs AfterName = false
 has_whole_pairs _ = true
 
 -- the reader can take a move: movetext can begin or go on, and the move can be counted
-pub record MayTakeMove (reading : ReaderState) : Type 0 where
+pub record MayTakeMove (reading : GameState) : Type 0 where
   pub few : reading.text.plies < 2 ^ 64 - 1
   pub stage : IsTrue (may_have_movetext reading.stage)
 
@@ -52,7 +52,7 @@ fen_position name value = elim (bytes_eq name (codes "FEN")) [
 -- Movetext.
 
 -- The reader holds a part whose movetext it reads, or after whose pairs movetext can begin.
-pub record IsOpen (reading : ReaderState) (part : Part) : Type 0 where
+pub record IsOpen (reading : GameState) (part : Part) : Type 0 where
   pub stage : reading.stage ≡ part.stage
   pub pairs : reading.tags ≡ record { held = part.pairs; pending_name = None }
   pub fresh : reading.stage ≡ AfterTags → part.items ≡ []
@@ -94,7 +94,7 @@ text_refusal p part k = None
 
 -- The part is open. A token of this kind is rejected by the rows for movetext, and leads on as in
 -- movetext.
-pub record IsEntry (reading : ReaderState) (k : Kind) (part : Part) : Type 0 where
+pub record IsEntry (reading : GameState) (k : Kind) (part : Part) : Type 0 where
   pub is_open : IsOpen reading part
   pub row : refusal reading.profile part k ≡ text_refusal reading.profile part k
   pub leads : next part k ≡ in_text part k

@@ -1,5 +1,5 @@
 -- Games listed one by one.
-use Rattle.pgn_tool.proofs.Words.{◌≡◌, ℕ, ◌+◌, ◌^◌, ◌≤◌, false, List, [], ◌∷◌, ◌++◌, drop, length, length-take, take-append-drop, Option, None, Some, IfSome, refl, sym, ap, subst, ◌∙◌, append-nil, append_assoc, length-append, arith, Appends, Consumes, IsAtEnd, Appends-trans, Consumes-trans, AppendsFront, Token, tokens_of, InputTooLong, Fault, Game, Read, no_progress, read, HasRead, CountsDevices, Games, HaveRead, within, at_end, NextGame, NoGame, NextStops, ReadsNoGame, IsListed, ListsNoMore, ListStops, game_line, line_just_finished, lines_from, lines_of, list_profile, too_long, unread, Decides, ListedSoFar, Refused, Unwritten, Consumes-whole, Stops, games_before, AreNext, common_steps, AreShown, IsRefused, so_far, within_limit, ReaderState}
+use Rattle.pgn_tool.proofs.Words.{◌≡◌, ℕ, ◌+◌, ◌^◌, ◌≤◌, false, List, [], ◌∷◌, ◌++◌, drop, length, length-take, take-append-drop, Option, None, Some, IfSome, refl, sym, ap, subst, ◌∙◌, append-nil, append_assoc, length-append, arith, Appends, Consumes, IsAtEnd, Appends-trans, Consumes-trans, AppendsFront, Token, tokens_of, InputTooLong, Fault, Game, Read, no_progress, read, HasRead, CountsDevices, Games, HaveRead, within, at_end, NextGame, NoGame, NextStops, ReadsNoGame, IsListed, ListsNoMore, ListStops, game_line, line_just_finished, lines_from, lines_of, list_profile, too_long, unread, Decides, ListedSoFar, Refused, Unwritten, Consumes-whole, Stops, games_before, AreNext, common_steps, AreShown, IsRefused, so_far, within_limit, GameState}
 use Rattle.pgn_tool.proofs.runs.PartsOfText.{front_after}
 use Rattle.pgn_tool.proofs.runs.TokensInTwoParts.{read_stops}
 
@@ -122,7 +122,7 @@ module _ (left_old left left_new : Option (List ℕ)) (old new : Games) (a b : O
   no_more : (u : List ℕ) → ReadsNoGame list_profile so.tokens u None None → ListsNoMore u a b
   no_more u none = grind (arith, common_steps, read, list_profile, lines_of, lines_from)
 
-  pub list_stops : (r : ReaderState) (f : Fault) (s t : ℕ)
+  pub list_stops : (r : GameState) (f : Fault) (s t : ℕ)
       → NextStops list_profile so.bytes so.tokens left left_new r None None f → CountsDevices f.reason s t 0 0
       → ListStops left_old left_new a b (Refused f)
   list_stops r f s t stopped counted = by_stop stopped counted

@@ -1,4 +1,4 @@
-use Rattle.pgn_game.proofs.Words.{Profile, ◌-◌, max, refl, ap, ◌∙◌, arith, device, Device, one_more, checked_profile, CountsReading, WritesGame}
+use Rattle.pgn_game.proofs.Words.{Profile, ◌-◌, max, refl, ap, ◌∙◌, arith, device, Device, one_more, checked_profile, WritesGame, CountsResult}
 use Rattle.pgn_game.proofs.putting.SilentReader.{unseen}
 use Rattle.pgn_game.proofs.twice.FailuresOfSteps.{first_counts, second_counts, source_fails}
 use Rattle.pgn_game.proofs.twice.ReadingsToConversion.{both_end, both_more, both_none, first_stops, second_stops}
@@ -39,8 +39,8 @@ module _ (g : Over) (c : After-write_game g) where
       sink_here.before sink_here.after
   writes = c.write_game.ensures.writes c.loop-marker.invariant.second_writes
 
-  counted : CountsReading c.write_game.result second_here sink_here
-  counted = unseen (CountsReading c.write_game.result second_here) _ sink_here c.loop-marker.invariant.second_writes c.write_game.ensures.counted
+  counted : CountsResult c.write_game.result second_here sink_here
+  counted = unseen (CountsResult c.write_game.result second_here) _ sink_here c.loop-marker.invariant.second_writes c.write_game.ensures.counted
 
 pub loop-marker-init : goal.loop-marker-init
 loop-marker-init g c =

@@ -1,4 +1,4 @@
-use Rattle.pgn_game.proofs.Words.{◌∙◌, arith, le_trans, refl, Bool, Err, Device, device}
+use Rattle.pgn_game.proofs.Words.{false, ◌∙◌, arith, le_trans, refl, Bool, Err, Device, device}
 use Rattle.pgn_game.specs.steps.Flow.{FinishesLeft}
 use Rattle.pgn_game.proofs.ReaderFitsInMemory.{fits_alike}
 use Rattle.pgn_game.proofs.flow.NextGame.{source_ends, source_game, source_stops}
@@ -57,7 +57,7 @@ returns-clause-goes g c =
     let same = c.read_source.ensures.silent.silent in
     let quiet = c.finish_left.ensures.silent.silent ∙ same in
     let last = device g.W.Sink.taken g.W.Sink.failures c.read_source.new.out c.finish_left.new.out in
-    let left = seen_alike (λ (d : Device). FinishesLeft c.read_source.new.converter c.finish_left.new.self c.finish_left.result d) _ _ last same
+    let left = seen_alike (λ (d : Device). FinishesLeft false c.read_source.new.converter c.finish_left.new.self c.finish_left.result d) _ _ last same
     c.finish_left.ensures.finishes in
     record {
       reads = λ p u given have.

@@ -7,23 +7,23 @@ pub returns-then-not-has_fen : goal.returns-then-not-has_fen
 returns-then-not-has_fen c =
     rw c.ok.ensures.value
     (found_pair _ c.args.index _ c.nth_pair.ensures
-    ∙ ap (λ (ps : List Pair). slice_get ps c.args.index) (others_without_fen c.args.pairs.now (sym c.has_fen.ensures ∙ c.if-not-has_fen.true)))
+    ∙ ap (λ (ps : List Pair). slice_get ps c.args.index) (others_without_fen c.args.pairs.now (sym c.requires ∙ c.if-not-has_fen.true)))
 
 pub returns-in-Ok : goal.returns-in-Ok
 returns-in-Ok c =
-    let some : has_pair c.args.pairs.now (codes "FEN") ≡ true = sym c.has_fen.ensures ∙ c.if-not-has_fen.false in
+    let some : has_pair c.args.pairs.now (codes "FEN") ≡ true = sym c.requires ∙ c.if-not-has_fen.false in
     sym (ap (λ (ps : List Pair). slice_get ps c.args.index) (sym (both_sides c.args.pairs.now _ _ _ c.index_of.ensures.index c.split_at-before.ensures.front c.split_at-before.ensures.back some))
     ∙ about_front _ _ c.args.index _ (rw c.in-Ok.is at c.nth_pair-2.ensures))
 
 pub returns-then-left-eq0 : goal.returns-then-left-eq0
 returns-then-left-eq0 c =
-    let some : has_pair c.args.pairs.now (codes "FEN") ≡ true = sym c.has_fen.ensures ∙ c.if-not-has_fen.false in
+    let some : has_pair c.args.pairs.now (codes "FEN") ≡ true = sym c.requires ∙ c.if-not-has_fen.false in
     sym (ap (λ (ps : List Pair). slice_get ps c.args.index) (sym (both_sides c.args.pairs.now _ _ _ c.index_of.ensures.index c.split_at-before.ensures.front c.split_at-before.ensures.back some))
     ∙ about_here _ _ c.args.index (rw (c.in-Err.is, c.if-left-eq0.true) at c.nth_pair-2.ensures))
 
 pub returns-else-left-eq0 : goal.returns-else-left-eq0
 returns-else-left-eq0 c =
-    let some : has_pair c.args.pairs.now (codes "FEN") ≡ true = sym c.has_fen.ensures ∙ c.if-not-has_fen.false in
+    let some : has_pair c.args.pairs.now (codes "FEN") ≡ true = sym c.requires ∙ c.if-not-has_fen.false in
     rw c.ok-in-Err.ensures.value
     (found_pair (others true c.split_at-before.result.1) (c.in-Err.left - 1) _ c.nth_pair-in-Err.ensures
     ∙ sym (about_behind _ _ c.in-Err.left c.args.index (rw c.in-Err.is at c.nth_pair-2.ensures) (omega (arith, c.if-left-eq0.false)))

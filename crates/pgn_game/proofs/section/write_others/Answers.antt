@@ -15,7 +15,7 @@ returns-then-not-has_fen g c = search (rules, lines_without_fen)
 
 pub returns-in_err-write_pairs : goal.returns-in_err-write_pairs
 returns-in_err-write_pairs g c =
-    let some : has_pair c.args.pairs.now (codes "FEN") ≡ true = sym c.has_fen.ensures ∙ c.if-not-has_fen.false in
+    let some : has_pair c.args.pairs.now (codes "FEN") ≡ true = sym c.requires ∙ c.if-not-has_fen.false in
     let first = c.in_err-write_pairs.ensures in
     rw (err_from_is_err_and c.from_residual.result c.from_residual.ensures.1).1
     (record {
@@ -26,7 +26,7 @@ returns-in_err-write_pairs g c =
 
 pub returns-in_err-write_tag : goal.returns-in_err-write_tag
 returns-in_err-write_tag g c =
-    let some : has_pair c.args.pairs.now (codes "FEN") ≡ true = sym c.has_fen.ensures ∙ c.if-not-has_fen.false in
+    let some : has_pair c.args.pairs.now (codes "FEN") ≡ true = sym c.requires ∙ c.if-not-has_fen.false in
     let first = c.in_ok-write_pairs.ensures in
     rw (err_from_is_err_and c.from_residual-in_err-write_tag.result c.from_residual-in_err-write_tag.ensures.1).1
     (record {
@@ -37,7 +37,7 @@ returns-in_err-write_tag g c =
 
 pub returns : goal.returns
 returns g c =
-    let some : has_pair c.args.pairs.now (codes "FEN") ≡ true = sym c.has_fen.ensures ∙ c.if-not-has_fen.false in
+    let some : has_pair c.args.pairs.now (codes "FEN") ≡ true = sym c.requires ∙ c.if-not-has_fen.false in
     let first = c.in_ok-write_pairs.ensures in
     let set_up = c.in_ok-write_tag.ensures in
     let others = c.write_pairs-3.ensures in

@@ -1,4 +1,4 @@
-use Rattle.pgn_tool.proofs.Words.{◌≡◌, Bool, true, false, Ok, Err, Device, device, Games, ap, refl, subst, ◌∙◌, [], Appends-nil, Consumes-nil, nowhere, CountsNext, ReadsNext, seen}
+use Rattle.pgn_tool.proofs.Words.{◌≡◌, Bool, true, false, Ok, Err, Device, device, Games, ap, refl, subst, ◌∙◌, [], Appends-nil, Consumes-nil, nowhere, ReadsNext, seen, CountsResult}
 use Rattle.pgn_tool.proofs.runs.CallToLines.{all_listed, game_cut, game_listed, list_stops}
 use Rattle.pgn_tool.proofs.list.list_games.Goals as goal
 
@@ -32,7 +32,7 @@ returns-in-Err-clause-lists g c =
     let next = silently (λ (d : Device). ReadsNext c.loop-fault.games c.next.new.self (Err c.in-Err.fault) source d) _ nowhere
     c.loop-fault.invariant.silent c.in-Err.ensures.reads in
     list_stops _ _ _ c.loop-fault.games c.next.new.self _ _ so _ c.in-Err.fault _ _ (next _ _ _ so.have_read).stops
-    (silently (λ (d : Device). CountsNext (Err c.in-Err.fault) source d) _ nowhere c.loop-fault.invariant.silent
+    (silently (λ (d : Device). CountsResult {A = Bool} (Err c.in-Err.fault) source d) _ nowhere c.loop-fault.invariant.silent
     (c.in-Err.ensures.counted c.loop-fault.invariant.fault))
 
 pub returns-in-Err-write_game-clause-lists : goal.returns-in-Err-write_game-clause-lists

@@ -1,4 +1,4 @@
-use Rattle.pgn_tool.proofs.Words.{rules, Bool, Device, FileStep, GameFile, List, NotMade, Option, None, Some, bytes_in, failures_in, added, ap, append_assoc, ◌∙◌, ◌++◌, ◌≡◌, ℕ, device, false, subst, CountsNext, ReadsNext, seen, file_sink}
+use Rattle.pgn_tool.proofs.Words.{rules, Bool, Device, FileStep, GameFile, List, NotMade, Option, None, Some, bytes_in, failures_in, added, ap, append_assoc, ◌∙◌, ◌++◌, ◌≡◌, ℕ, device, false, subst, ReadsNext, seen, file_sink, CountsResult}
 use Rattle.pgn_tool.proofs.split.write_game.Goals as goal
 
 -- the sink of games that are written, as it is
@@ -38,7 +38,7 @@ returns-clause-splits g c =
       begun = search rules;
       reads = openly (λ (d : Device). ReadsNext c.args.games.now c.next-answer.new.self c.next-answer.result source d) _ sink _
           c.requires.writes same c.next-answer.ensures.reads;
-      counted = openly (λ (d : Device). CountsNext c.next-answer.result source d) _ sink _
+      counted = openly (λ (d : Device). CountsResult c.next-answer.result source d) _ sink _
           c.requires.writes same (c.next-answer.ensures.counted c.requires.no_fault);
     }
 

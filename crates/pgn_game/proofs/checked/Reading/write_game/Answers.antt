@@ -1,15 +1,15 @@
-use Rattle.pgn_game.proofs.Words.{◌≡◌, ◌∙◌, ℕ, ap, arith, refl, Bool, true, false, Option, Some, Ok, Err, List, Profile, Token, Fault, Result, Reading, Converter, Device, HasGiven, KeepsSilence, ReadsToGameEnd, AfterGameEnd, StandsBetween, CountsReading, device, sink_of}
+use Rattle.pgn_game.proofs.Words.{◌≡◌, ◌∙◌, ℕ, ap, arith, refl, Bool, true, false, Option, Some, Ok, Err, List, Profile, Token, Fault, Result, Reading, Converter, Device, HasGiven, KeepsSilence, ReadsToGameEnd, AfterGameEnd, StandsBetween, device, sink_of, CountsResult}
 use Rattle.pgn_game.specs.steps.Readings.{reading_of}
 use Rattle.pgn_game.proofs.ReaderFitsInMemory.{reading_fits_converter}
 use Rattle.pgn_game.proofs.putting.SilentReader.{seen_alike, silence_then, unseen}
 use Rattle.pgn_game.proofs.twice.FailuresOfSteps.{counts_changed}
 use Rattle.pgn_game.proofs.twice.GamesOfReadings.{announced_reading, begins_second, ends_before, game_written, second_fails, start_at}
 use Rattle.pgn_game.proofs.checked.Reading.write_game.Goals as goal
-use Rattle.pgn_game.proofs.checked.Reading.write_game.Goals.{After-next_game-read}
+use Rattle.pgn_game.proofs.checked.Reading.write_game.Goals.{After-read_to_game_end-read}
 
 -- The second reading, up to the end of the game. The marker of the first reading is announced to
 -- it.
-module _ (g : _) (c : After-next_game-read g) where
+module _ (g : _) (c : After-read_to_game_end-read g) where
   abbrev old : Reading
   old = reading_of c.self.inside.converter c.self.inside.buffer c.self.inside.has_ended
 
@@ -17,26 +17,26 @@ module _ (g : _) (c : After-next_game-read g) where
   announced = reading_of c.announce_marker.new.self c.self.inside.buffer c.self.inside.has_ended
 
   abbrev new : Reading
-  new = reading_of c.next_game-read.new.converter c.next_game-read.new.buffer c.next_game-read.new.has_ended
+  new = reading_of c.read_to_game_end-read.new.converter c.read_to_game_end-read.new.buffer c.read_to_game_end-read.new.has_ended
 
   abbrev source : Device
-  source = device g.R.Source.left g.R.Source.failures c.args.source.now c.next_game-read.new.source
+  source = device g.R.Source.left g.R.Source.failures c.args.source.now c.read_to_game_end-read.new.source
 
   abbrev sink : Device
-  sink = device g.W.Sink.taken g.W.Sink.failures c.args.out.now c.next_game-read.new.out
+  sink = device g.W.Sink.taken g.W.Sink.failures c.args.out.now c.read_to_game_end-read.new.out
 
   same : c.announce_marker.new.self.reading.writing.is_silent ≡ c.self.inside.converter.reading.writing.is_silent
   same = ap (λ (s : Converter). s.reading.writing.is_silent) c.announce_marker.ensures
 
-  silent : KeepsSilence c.self.inside.converter.reading c.next_game-read.new.converter.reading c.args.out.now c.next_game-read.new.out
-  silent = silence_then _ _ _ _ _ _ (record { silent = same; untouched = λ silent. refl }) c.next_game-read.ensures.silent
+  silent : KeepsSilence c.self.inside.converter.reading c.read_to_game_end-read.new.converter.reading c.args.out.now c.read_to_game_end-read.new.out
+  silent = silence_then _ _ _ _ _ _ (record { silent = same; untouched = λ silent. refl }) c.read_to_game_end-read.ensures.silent
 
-  still : c.self.inside.converter.reading.writing.is_silent ≡ false → c.next_game-read.new.converter.reading.writing.is_silent ≡ false
-  still writes = c.next_game-read.ensures.silent.silent ∙ same ∙ writes
+  still : c.self.inside.converter.reading.writing.is_silent ≡ false → c.read_to_game_end-read.new.converter.reading.writing.is_silent ≡ false
+  still writes = c.read_to_game_end-read.ensures.silent.silent ∙ same ∙ writes
 
-  module _ (r : Result Bool Fault) (is : c.next_game-read.result ≡ r) where
-    all : ReadsToGameEnd announced new r source (sink_of c.announce_marker.new.self.reading g.W.Sink.taken g.W.Sink.failures c.args.out.now c.next_game-read.new.out)
-    all = rw is at c.next_game-read.ensures.reads
+  module _ (r : Result Bool Fault) (is : c.read_to_game_end-read.result ≡ r) where
+    all : ReadsToGameEnd announced new r source (sink_of c.announce_marker.new.self.reading g.W.Sink.taken g.W.Sink.failures c.args.out.now c.read_to_game_end-read.new.out)
+    all = rw is at c.read_to_game_end-read.ensures.reads
 
     has : (q : Profile) (left_old : Option (List ℕ)) (given : List Token) → StandsBetween q left_old source.before given old → HasGiven q left_old source.before announced given
     has q left_old given stands = announced_reading q left_old source.before old given c.args.expected c.announce_marker.new.self c.announce_marker.ensures stands.has_given
@@ -56,14 +56,14 @@ module _ (g : _) (c : After-next_game-read g) where
         (begins_second q left_old source.before announced given sink.before (has q left_old given stands)
         (rw c.announce_marker.ensures (record { no_fault = going.no_fault; not_finished = going.not_finished })) c.args.expected told)
 
-    counted : CountsReading r source (sink_of c.self.inside.converter.reading g.W.Sink.taken g.W.Sink.failures c.args.out.now c.next_game-read.new.out)
-    counted = seen_alike (CountsReading r source) _ _ sink same all.counted
+    counted : CountsResult r source (sink_of c.self.inside.converter.reading g.W.Sink.taken g.W.Sink.failures c.args.out.now c.read_to_game_end-read.new.out)
+    counted = seen_alike (CountsResult r source) _ _ sink same all.counted
 
 pub announce_marker-requires : goal.announce_marker-requires
 announce_marker-requires g c = search reading_fits_converter
 
-pub next_game-read-requires : goal.next_game-read-requires
-next_game-read-requires g c =
+pub read_to_game_end-read-requires : goal.read_to_game_end-read-requires
+read_to_game_end-read-requires g c =
     let going = rw (← c.self.view_is) at c.requires.going in
     (search reading_fits_converter, rw c.announce_marker.ensures (record { no_fault = going.no_fault; not_finished = going.not_finished }))
 
@@ -72,7 +72,7 @@ place-requires g c = search reading_fits_converter
 
 pub returns-in-Err : goal.returns-in-Err
 returns-in-Err g c =
-    let place = (goal.at.returns-in-Err g c).After-next_game-read in
+    let place = (goal.at.returns-in-Err g c).After-read_to_game_end-read in
     let f = c.in-Err.fault in
     rw (← c.self.view_is, c.changed.ensures) (record {
       writes = λ writes q left_old given stands.
@@ -85,8 +85,8 @@ returns-in-Err g c =
 
 pub returns-then-finished : goal.returns-then-finished
 returns-then-finished g c =
-    let place = (goal.at.returns-then-finished g c).After-next_game-read in
-    let is : c.next_game-read.result ≡ Ok true = c.in-Ok.is ∙ ap Ok c.if-finished.true in
+    let place = (goal.at.returns-then-finished g c).After-read_to_game_end-read in
+    let is : c.read_to_game_end-read.result ≡ Ok true = c.in-Ok.is ∙ ap Ok c.if-finished.true in
     let all = all g place (Ok true) is in
     rw (← c.self.view_is) (record {
       writes = λ writes q left_old given stands.
@@ -99,8 +99,8 @@ returns-then-finished g c =
 
 pub returns : goal.returns
 returns g c =
-    let place = (goal.at.returns g c).After-next_game-read in
-    let is : c.next_game-read.result ≡ Ok false = c.in-Ok.is ∙ ap Ok c.if-finished.false in
+    let place = (goal.at.returns g c).After-read_to_game_end-read in
+    let is : c.read_to_game_end-read.result ≡ Ok false = c.in-Ok.is ∙ ap Ok c.if-finished.false in
     let all = all g place (Ok false) is in
     rw (← c.self.view_is, c.differs.ensures, c.place.ensures) (record {
       writes = λ writes q left_old given stands.

@@ -1,8 +1,8 @@
-use Rattle.pgn_game.proofs.Words.{◌≡◌, ◌∙◌, ap, sym, refl, le_refl, le_trans, true, Ok, Err, None, false, Device, device, err_from_is_err_and, Converter, sink_of}
+use Rattle.pgn_game.proofs.Words.{arith, false≢true, inl, inr, nat_lt, ◌≡◌, ◌∙◌, ap, sym, refl, le_refl, le_trans, true, Ok, Err, None, false, Device, device, err_from_is_err_and, Converter, sink_of}
 use Rattle.pgn_game.specs.steps.Flow.{GoesAtEnd, ReadsOn}
 use Rattle.pgn_game.proofs.ReaderFitsInMemory.{fits_alike}
 use Rattle.pgn_game.proofs.putting.SilentReader.{seen_alike, silence_kept, silence_then}
-use Rattle.pgn_game.proofs.flow.AtEnd.{ended_games, ends_then, goes_on, holds_none, holds_on, lets_go}
+use Rattle.pgn_game.proofs.flow.AtEnd.{all_left, ends_then, goes_on, holds_none, holds_on, lets_go, stopped_games}
 use Rattle.pgn_game.proofs.converter.Converter.finish_left.Goals as goal
 use Rattle.pgn_game.proofs.converter.Converter.finish_left.Goals.{After-step_at_end}
 
@@ -15,6 +15,7 @@ loop-self-init g c =
       counted = refl;
       silent = silence_kept _ _ _ refl;
       holds = holds_none _ refl;
+      only = λ to_game. refl;
       reads = lets_go _ _ 0;
     })
 
@@ -54,6 +55,10 @@ loop-self-preserved g c =
       counted = goes.counted ∙ at.counted;
       silent = silence_then _ _ _ _ _ _ at.silent c.step_at_end.ensures.silent;
       holds = holds_on _ _ _ finished _ at.holds goes;
+      only = λ to_game. elim c.else-branch.either [
+        | inl both ↦ absurd (false≢true (sym both.1 ∙ to_game))
+        | inr none ↦ let same = rw none at goes in omega (arith, same.games, at.only to_game)
+      ];
       reads = ends_then _ c.loop-self.self c.step_at_end.new.self (Ok false) _ _ _ at.reads (goes_on c.loop-self.self c.step_at_end.new.self _ _ finished reads);
     }
 
@@ -69,7 +74,7 @@ returns-in_err-step_at_end-clause-finishes g c =
     let reads = rw c.in_err-step_at_end.was at (step_reads g after) in
     rw (e.1, e.2) (record {
       reads = ends_then _ c.loop-self.self c.step_at_end.new.self (Err c.in_err-step_at_end.field-0.0) _ _ _ at.reads reads;
-      games = goes.kept;
+      games = stopped_games c.args.to_game _ _ _ (λ to_game. omega (arith, goes.games, at.only to_game)) goes.kept;
       finished = goes.unfinished;
       count = goes.count ∙ at.count;
       fault = goes.fault;
@@ -80,16 +85,46 @@ returns-in_err-step_at_end-clause-finishes g c =
 pub returns-in_err-step_at_end-clause-silent : goal.returns-in_err-step_at_end-clause-silent
 returns-in_err-step_at_end-clause-silent g c = silence_then _ _ _ _ _ _ c.loop-self.invariant.silent c.step_at_end.ensures.silent
 
+-- a game ends the call
+pub returns-then-to_game-clause-finishes : goal.returns-then-to_game-clause-finishes
+returns-then-to_game-clause-finishes g c =
+    let at = c.loop-self.invariant in
+    let after = (goal.at.returns-then-to_game-clause-finishes g c).After-step_at_end in
+    let goes = rw (c.in_ok-step_at_end.was, c.if-branch.true) at (step_goes g after) in
+    let reads = rw (c.in_ok-step_at_end.was, c.if-branch.true) at (step_reads g after) in
+    rw c.if-to_game.true (record {
+      reads = ends_then _ c.loop-self.self c.step_at_end.new.self (Ok true) _ _ _ at.reads reads;
+      games = omega (arith, goes.games, at.only c.if-to_game.true);
+      finished = goes.unfinished;
+      count = goes.count ∙ at.count;
+      fault = goes.fault;
+      probes = le_trans at.probes goes.probes;
+      counted = goes.counted ∙ at.counted;
+    })
+
+pub returns-then-to_game-clause-silent : goal.returns-then-to_game-clause-silent
+returns-then-to_game-clause-silent g c = silence_then _ _ _ _ _ _ c.loop-self.invariant.silent c.step_at_end.ensures.silent
+
 pub returns-clause-finishes : goal.returns-clause-finishes
 returns-clause-finishes g c =
     let at = c.loop-self.invariant in
     let over : c.loop-self.self.is_finished ≡ true = sym (ap (λ (s : Converter). s.is_finished) c.self-in-loop-self.view_is) ∙ c.loop-self-test.false in
+    let left = all_left c.args.to_game c.args.self.now c.loop-self.self at.holds at.only (nat_lt c.self.inside.games c.self-2.inside.games) (cc (ap (λ (s : Converter). s.games) c.self.view_is, ap (λ (s : Converter). s.games) c.self-2.view_is)) in
     record {
-      reads = at.reads;
-      games = ended_games c.args.self.now c.loop-self.self at.holds _ (cc (ap (λ (s : Converter). s.games) c.self.view_is, ap (λ (s : Converter). s.games) c.self-2.view_is));
-      finished = over;
+      reads = rw left.1 at.reads;
+      games = left.0;
+      finished = rw left.1 over;
       count = at.count;
       fault = at.no_fault;
       probes = at.probes;
       counted = at.counted;
     }
+
+pub returns-in_err-step_at_end-clause-few : goal.returns-in_err-step_at_end-clause-few
+returns-in_err-step_at_end-clause-few g c = rw (← c.self.view_is) (omega (arith, c.self.invariant.few (rw (← c.self.view_is) at c.requires.no_fault), c.self.invariant.count))
+
+pub returns-then-to_game-clause-few : goal.returns-then-to_game-clause-few
+returns-then-to_game-clause-few g c = rw (← c.self.view_is) (omega (arith, c.self.invariant.few (rw (← c.self.view_is) at c.requires.no_fault), c.self.invariant.count))
+
+pub returns-clause-few : goal.returns-clause-few
+returns-clause-few g c = rw (← c.self.view_is) (omega (arith, c.self.invariant.few (rw (← c.self.view_is) at c.requires.no_fault), c.self.invariant.count))

@@ -1,4 +1,4 @@
-use Rattle.pgn_game.proofs.Words.{◌≡◌, ◌≤◌, None, Ok, false, IsStill, sink_of, KeepsSilence}
+use Rattle.pgn_game.proofs.Words.{◌≡◌, ◌≤◌, None, Ok, true, false, IsStill, sink_of, KeepsSilence}
 use Rattle.pgn_game.specs.steps.Flow.{ReadsOn, steps_left}
 use Rattle.pgn_game.proofs.flow.AtEnd.{Holds}
 use Rattle.pgn_game.proofs.converter.Converter.finish_left.Given as goal
@@ -12,6 +12,7 @@ invariant-loop-self g l =
       counted : IsStill (sink_of l.fn.self.reading g.W.Sink.taken g.W.Sink.failures l.fn.out l.out);
       silent : KeepsSilence l.fn.self.reading l.self.reading l.fn.out l.out;
       holds : Holds l.fn.self.games l.self;
+      only : l.fn.to_game ≡ true → l.self.games ≡ l.fn.self.games;
       reads : ReadsOn l.fn.self None l.self (Ok false)
           (sink_of l.fn.self.reading g.W.Sink.taken g.W.Sink.failures l.fn.out l.out);
     }

@@ -1,6 +1,6 @@
-use Rattle.pgn_game.proofs.Words.{Bool, Converter, IsSound, KeepsSilence, Err, Reason, ReaderState, Result, false, true, sink_of, kind_of, ◌≡◌, ◌∙◌, arith, ap, subst, Ok, take_rest, device, drop, refl}
+use Rattle.pgn_game.proofs.Words.{Bool, Converter, IsSound, KeepsSilence, Err, Reason, GameState, Result, false, true, sink_of, kind_of, ◌≡◌, ◌∙◌, arith, ap, subst, Ok, take_rest, device, drop, refl}
 use Rattle.pgn_game.specs.steps.Flow.{HasTakenToken, ReadsIn, StepsIn, settled, taken_at}
-use Rattle.pgn_game.specs.steps.PutResult.{TakesPlaced}
+use Rattle.pgn_game.specs.steps.TokenTaken.{TakesPlaced}
 use Rattle.pgn_game.proofs.ReaderFitsInMemory.{fits_alike, fits_game}
 use Rattle.pgn_game.proofs.flow.InTurn.{goes_none, reads_in_then, steps_then}
 use Rattle.pgn_game.proofs.flow.PastNumbers.{reads_past}
@@ -46,7 +46,7 @@ module _ (g : _) (c : After-take_entry g) where
   silent : KeepsSilence c.args.self.now.reading c.take_entry.new.self c.args.out.now c.take_entry.new.out
   silent =
       silence_then _ _ _ _ _ _ c.loop-used.invariant.silent
-      (subst (λ (r : ReaderState). KeepsSilence r c.take_entry.new.self c.loop-used.out c.take_entry.new.out) (ap (λ (s : Converter). s.reading) c.self.view_is)
+      (subst (λ (r : GameState). KeepsSilence r c.take_entry.new.self c.loop-used.out c.take_entry.new.out) (ap (λ (s : Converter). s.reading) c.self.view_is)
       c.take_entry.ensures.silent)
 
   module _ (taken : Result Bool Reason) (is : c.take_entry.result ≡ taken) where

@@ -4,8 +4,8 @@ use Rattle.pgn_game.proofs.ReaderFitsInMemory.{fits_game}
 use Rattle.pgn_game.proofs.putting.SilentReader.{silence_kept}
 use Rattle.pgn_game.proofs.stepping.StepsAtEnd.{counts_reason, marker_or_end, nearer_by}
 use Rattle.pgn_lexer.specs.Stands.{Finishes}
-use Rattle.pgn_game.specs.steps.PutResult.{TakesPlaced}
-use Rattle.pgn_game.proofs.flow.MarkerTaken.{placed_counts, placed_keeps}
+use Rattle.pgn_game.specs.steps.TokenTaken.{TakesPlaced}
+use Rattle.pgn_game.proofs.putting.TokenAtPlace.{placed_counts, placed_keeps}
 use Rattle.pgn_game.proofs.flow.AtEnd.{kept_or_none, left_fault, left_game_at, left_on_at, left_stop_at, nearer_end, sound_game_at_end, sound_on}
 use Rattle.pgn_game.proofs.converter.Converter.step_at_end.Goals as goal
 use Rattle.pgn_game.proofs.converter.Converter.step_at_end.Goals.{After-take_copied}

@@ -1,6 +1,6 @@
 use Rattle.pgn_game.proofs.Words.{Bool, Err, Reason, Result, kind_of, true, ◌≡◌, ◌∙◌, ap, sink_of, IsSound, List, Option, ℕ, refl, None, false, ◌<◌, take_rest, IsTrue, Ok, false≢true, length, arith}
 use Rattle.pgn_game.specs.steps.Flow.{HasTakenToken, ReadsIn, StepsIn, settled, taken_at}
-use Rattle.pgn_game.specs.steps.PutResult.{TakesPlaced}
+use Rattle.pgn_game.specs.steps.TokenTaken.{TakesPlaced}
 use Rattle.pgn_game.proofs.ReaderFitsInMemory.{fits_alike, fits_game}
 use Rattle.pgn_game.proofs.flow.InTurn.{steps_at_once, steps_then}
 use Rattle.pgn_game.proofs.flow.PastNumbers.{reads_past}

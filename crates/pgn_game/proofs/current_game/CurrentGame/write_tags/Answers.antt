@@ -6,3 +6,6 @@ mode-requires g c = search current_fits_reader
 
 pub pairs-requires : goal.pairs-requires
 pairs-requires g c = (search current_fits_reader, c.self.invariant.whole (c.if-is_none.ensures))
+
+pub has_fen-requires : goal.has_fen-requires
+has_fen-requires g c = search current_fits_reader

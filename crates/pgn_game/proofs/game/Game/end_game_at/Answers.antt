@@ -1,27 +1,40 @@
-use Rattle.pgn_game.proofs.Words.{◌∙◌, sym, refl, inl, inr, le_refl, arith}
+use Rattle.pgn_game.proofs.Words.{◌≡◌, ◌∙◌, ℕ, List, false, Some, sym, refl, subst, inl, inr, le_refl, arith, marker_text}
+use Rattle.pgn_game.specs.steps.GameState.{expected_of, is_unexpected}
 use Rattle.pgn_game.proofs.ReaderLemmas.{reader_fits}
-use Rattle.pgn_game.proofs.flow.MarkerTaken.{marker_placed}
 use Rattle.pgn_game.proofs.putting.SilentReader.{silence_kept}
+use Rattle.pgn_game.proofs.putting.TokenAtPlace.{marker_placed}
 use Rattle.pgn_game.proofs.reader.ErrorReturned.{error_returned}
 use Rattle.pgn_game.proofs.game.Game.end_game_at.Goals as goal
+
+some_same : {A : Type 0} {x y : A} → Some x ≡ Some y → x ≡ y
+some_same e = cc
 
 pub returns-then-is_unexpected : goal.returns-then-is_unexpected
 returns-then-is_unexpected g c =
     record {
-      takes = inr (record {
-        other = sym c.is_unexpected.ensures ∙ c.if-is_unexpected.true;
-        why = refl;
-        keeps = record { profile = refl; writing = refl; plies = omega arith; probes = le_refl _ };
-        unwritten = refl;
-        still = refl;
-      });
+      takes = λ k is.
+          inr (record {
+            text = marker_text c.args.marker;
+            is = is;
+            unexpected = record {
+              other = sym c.is_unexpected.ensures ∙ c.if-is_unexpected.true;
+              why = refl;
+              keeps = record { profile = refl; writing = refl; plies = omega arith; probes = le_refl _ };
+              unwritten = refl;
+              still = refl;
+            };
+          });
       silent = silence_kept _ _ _ refl;
     }
 
 pub returns-in_err-end_game : goal.returns-in_err-end_game
 returns-in_err-end_game g c =
+    let expected : is_unexpected (expected_of c.args.self.now) (marker_text c.args.marker) c.args.at ≡ false = sym c.is_unexpected.ensures ∙ c.if-is_unexpected.false in
     rw (error_returned _ c.from_residual.ensures.1) (record {
-      takes = inl (c.in_err-end_game.ensures.takes, sym c.is_unexpected.ensures ∙ c.if-is_unexpected.false);
+      takes = λ k is. inl (
+        c.in_err-end_game.ensures.takes.takes k is,
+        λ text named failed. subst (λ (x : List ℕ). is_unexpected (expected_of c.args.self.now) x c.args.at ≡ false) (some_same (sym is ∙ named)) expected,
+      );
       silent = c.in_err-end_game.ensures.silent;
     })
 
@@ -32,6 +45,13 @@ pub returns : goal.returns
 returns g c =
     let ends = rw (← c.self.view_is) at c.in_ok-end_game.ensures in
     rw c.place_marker.ensures (record {
-      takes = (marker_placed c.args.self.now c.args.marker _ c.args.at _ ends.takes, refl, sym c.is_unexpected.ensures ∙ c.if-is_unexpected.false);
+      takes = λ k is.
+          record {
+            takes = (marker_placed c.args.self.now c.args.marker _ c.args.at _ ends.takes).takes k is;
+            place = refl;
+            text = marker_text c.args.marker;
+            is = is;
+            expected = sym c.is_unexpected.ensures ∙ c.if-is_unexpected.false;
+          };
       silent = record { silent = ends.silent.silent; untouched = ends.silent.untouched };
     })

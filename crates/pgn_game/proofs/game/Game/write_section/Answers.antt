@@ -12,3 +12,6 @@ pub pairs-requires : goal.pairs-requires
 pairs-requires g c =
     let between = rw (← c.self.view_is) at c.requires in
     (search reader_fits, ap has_whole_pairs between)
+
+pub has_fen-requires : goal.has_fen-requires
+has_fen-requires g c = search reader_fits

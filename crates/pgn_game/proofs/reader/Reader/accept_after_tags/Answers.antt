@@ -1,4 +1,4 @@
-use Rattle.pgn_game.proofs.Words.{nat_le, or_else, None, ◌≡◌, length, true, false, refl, sym, ap, ◌∙◌, arith, le-leb, lt-leb, false≢true, kind_of, TokenKind, SetUpWithoutFen, TooManyTags, UnexpectedEnd, AfterLeftBracket, AfterTags, Part, TagPairs, refusal, next, ReaderState, Agrees, may_have_movetext, Writer, [], game_at, is_begun}
+use Rattle.pgn_game.proofs.Words.{nat_le, or_else, None, ◌≡◌, length, true, false, refl, sym, ap, ◌∙◌, arith, le-leb, lt-leb, false≢true, kind_of, TokenKind, SetUpWithoutFen, TooManyTags, UnexpectedEnd, AfterLeftBracket, AfterTags, Part, TagPairs, refusal, next, GameState, Agrees, may_have_movetext, Writer, [], game_at, is_begun}
 use Rattle.pgn_game.specs.declared.mode.Written.TheVariants.{Nothing}
 use Rattle.pgn_game.proofs.ReaderLemmas.{tags_fit, hit, pass, textual, end_after_tags, open_refusal, open_next, refuses_set_up, entry_after_tags, lacks_of, part_stage, held_at, puts_left_bracket, to_stage, adds_same, counting_none, enters, refused_after, takes_step}
 use Rattle.pgn_game.proofs.reader.Reader.accept_after_tags.Given.{Over}
@@ -6,7 +6,7 @@ use Rattle.pgn_game.proofs.reader.Reader.accept_after_tags.Goals.{In-LeftBracket
 use Rattle.pgn_game.proofs.reader.Reader.accept_after_tags.Goals as goal
 
 -- what a `[` is rejected for, by the pairs that the reader holds
-opens : (g : Over) (c : In-LeftBracket g) (w : Writer) (held : ReaderState) → held ≡ c.args.self.now → (part : Part)
+opens : (g : Over) (c : In-LeftBracket g) (w : Writer) (held : GameState) → held ≡ c.args.self.now → (part : Part)
     → Agrees (game_at false w c.args.self.now) part
     → refusal c.args.self.now.profile part (kind_of c.args.kind) ≡ or_else (nat_le held.profile.tags (length held.tags.held)) TooManyTags None
 opens g c w held same part agrees =
@@ -14,7 +14,7 @@ opens g c w held same part agrees =
     ap (λ (k : TokenKind). refusal old.profile part (kind_of k)) c.in-LeftBracket.is
     ∙ open_refusal old.profile part (part_stage old part AfterTags agrees c.requires)
     ∙ ap (λ (t : TagPairs). or_else (nat_le old.profile.tags (length t.held)) TooManyTags None) (sym (held_at old part AfterTags agrees c.requires))
-    ∙ ap (λ (r : ReaderState). or_else (nat_le r.profile.tags (length r.tags.held)) TooManyTags None) (sym same)
+    ∙ ap (λ (r : GameState). or_else (nat_le r.profile.tags (length r.tags.held)) TooManyTags None) (sym same)
 
 pub returns-in-End : goal.returns-in-End
 returns-in-End g c = record {
@@ -48,8 +48,8 @@ returns-else-is_full g c =
       takes = λ w o m.
           let old = game_at false w c.args.self.now in
           takes_step old _ _ (to_stage AfterLeftBracket) o m
-          (puts_left_bracket old _ o m c.requires (ap (λ (r : ReaderState). record (game_at false w r) { stage = AfterLeftBracket }) v))
-          (ap (λ (r : ReaderState). r.most_probes) v) (λ part agrees. (
+          (puts_left_bracket old _ o m c.requires (ap (λ (r : GameState). record (game_at false w r) { stage = AfterLeftBracket }) v))
+          (ap (λ (r : GameState). r.most_probes) v) (λ part agrees. (
             opens g (goal.at.returns-else-is_full g c).In-LeftBracket w _ v part agrees ∙ pass _ _ _ room,
             ap (λ (k : TokenKind). next part (kind_of k)) c.in-LeftBracket.is ∙ open_next part (part_stage old part AfterTags agrees c.requires),
           ))
@@ -68,7 +68,7 @@ returns-then-lacks_fen g c = record {
       (lacks_of old part true agrees c.requires (sym c.lacks_fen.ensures ∙ c.if-lacks_fen.true))) counts.tried
       (λ part agrees. refl);
   before =
-      ap (λ (r : ReaderState). is_begun r.stage) (c.count_move.ensures (record {
+      ap (λ (r : GameState). is_begun r.stage) (c.count_move.ensures (record {
         line = [];
         written = Nothing;
         announced = None;
@@ -90,4 +90,4 @@ returns-else-lacks_fen g c =
     }
 
 pub is_full-requires : goal.is_full-requires
-is_full-requires g c = (search tags_fit, rw (ap (λ (r : ReaderState). r.stage) c.self.view_is ∙ c.requires) at c.self.invariant.0)
+is_full-requires g c = (search tags_fit, rw (ap (λ (r : GameState). r.stage) c.self.view_is ∙ c.requires) at c.self.invariant.0)

@@ -1,4 +1,4 @@
-use Rattle.pgn_game.proofs.Words.{◌≡◌, refl, sym, subst, may_have_movetext, IsTrue, Event, Kind, Marker, Means, Ok, ReaderState, RefusesMarker, EndsAtMarker}
+use Rattle.pgn_game.proofs.Words.{◌≡◌, refl, sym, subst, may_have_movetext, IsTrue, Event, Kind, Marker, Means, Ok, GameState, RefusesMarker, EndsAtMarker}
 use Rattle.pgn_game.proofs.ReaderLemmas.{reader_alike}
 use Rattle.pgn_game.specs.declared.event.Event.TheVariants as events
 use Rattle.pgn_game.specs.steps.Judged.{Judges}
@@ -6,7 +6,7 @@ use Rattle.pgn_game.proofs.giving.SilentEvents.{end_accepted, end_refused, event
 use Rattle.pgn_game.proofs.reader.Reader.accept_in_movetext.Goals as goal
 
 -- what is no marker is one of the other events
-meant : (old : ReaderState) (k : Kind) (new : ReaderState) (e : Event) → ((m : Marker) → e ≡ events.Marker m → ⊥) → Judges old k new (Ok e) → Means old k new e
+meant : (old : GameState) (k : Kind) (new : GameState) (e : Event) → ((m : Marker) → e ≡ events.Marker m → ⊥) → Judges old k new (Ok e) → Means old k new e
 meant old k new (events.Marker m) plain h = absurd (plain m refl)
 meant old k new events.Number plain h = h
 meant old k new (events.Move m n) plain h = h
@@ -23,23 +23,23 @@ returns-in-Err g c = event_refused c.in-Err.ensures
 pub begin_movetext-requires : goal.begin_movetext-requires
 begin_movetext-requires g c =
     let means = meant _ _ _ c.in-Ok.event c.in_default.not-Marker c.in-Ok.ensures in
-    (search reader_alike, subst (λ (r : ReaderState). IsTrue (may_have_movetext r.stage)) (sym means.after) c.requires.may.stage)
+    (search reader_alike, subst (λ (r : GameState). IsTrue (may_have_movetext r.stage)) (sym means.after) c.requires.may.stage)
 
 pub end_game-requires : goal.end_game-requires
 end_game-requires g c =
     let h = rw c.in-Marker.is at c.in-Ok.ensures in
-    (search reader_alike, subst (λ (r : ReaderState). IsTrue (may_have_movetext r.stage)) (sym h.same) c.requires.may.stage)
+    (search reader_alike, subst (λ (r : GameState). IsTrue (may_have_movetext r.stage)) (sym h.same) c.requires.may.stage)
 
 pub returns-in-Err-end_game : goal.returns-in-Err-end_game
 returns-in-Err-end_game g c =
     let h = rw c.in-Marker.is at c.in-Ok.ensures in
-    end_refused _ _ _ c.in-Marker.marker h.is (subst (λ (r : ReaderState). RefusesMarker r c.in-Marker.marker c.end_game.new.self c.in-Err-end_game.reason) h.same c.in-Err-end_game.ensures)
+    end_refused _ _ _ c.in-Marker.marker h.is (subst (λ (r : GameState). RefusesMarker r c.in-Marker.marker c.end_game.new.self c.in-Err-end_game.reason) h.same c.in-Err-end_game.ensures)
 
 pub returns-in-Ok-end_game : goal.returns-in-Ok-end_game
 returns-in-Ok-end_game g c =
     let h = rw c.in-Marker.is at c.in-Ok.ensures in
     end_accepted _ _ _ c.in-Marker.marker h.is c.requires.may.stage
-    (subst (λ (r : ReaderState). EndsAtMarker r c.in-Marker.marker c.end_game.new.self) h.same c.in-Ok-end_game.ensures)
+    (subst (λ (r : GameState). EndsAtMarker r c.in-Marker.marker c.end_game.new.self) h.same c.in-Ok-end_game.ensures)
 
 pub returns-in_default : goal.returns-in_default
 returns-in_default g c =

@@ -1,4 +1,4 @@
-use Rattle.pgn_game.proofs.Words.{IsTrue, Movetext, Plays, ReaderState, ap, is_legal, marker_of, or_parts, refl, subst, sym, ◌∙◌, arith}
+use Rattle.pgn_game.proofs.Words.{IsTrue, Movetext, Plays, GameState, ap, is_legal, marker_of, or_parts, refl, subst, sym, ◌∙◌, arith}
 use Rattle.pgn_game.proofs.ReaderLemmas.{text_fits}
 use Rattle.pgn_game.proofs.putting.TokenToEvent.{move_means, move_refuses}
 use Rattle.pgn_game.proofs.reader.Reader.accept_move.Goals as goal
@@ -12,7 +12,7 @@ returns-in-Err g c =
 pub play-requires : goal.play-requires
 play-requires g c =
     let finds = c.in-Ok.ensures in
-    let text = ap (λ (r : ReaderState). r.text) (c.self.view_is ∙ finds.counted) in (
+    let text = ap (λ (r : GameState). r.text) (c.self.view_is ∙ finds.counted) in (
       search text_fits,
       (
         subst (λ (t : Movetext). IsTrue (is_legal t.levels.current.position c.in-Ok.mv)) (sym text) finds.legal,
@@ -24,7 +24,7 @@ pub returns-in-Ok : goal.returns-in-Ok
 returns-in-Ok g c =
     let plain = or_parts _ _ c.requires.is_move in
     let finds = c.in-Ok.ensures in
-    let text = ap (λ (r : ReaderState). r.text) (c.self.view_is ∙ finds.counted) in
+    let text = ap (λ (r : GameState). r.text) (c.self.view_is ∙ finds.counted) in
     move_means c.args.self.now c.find.new.self c.args.text.now _ c.requires.may.stage plain.1 plain.0 (rw (plain.0, marker_of) refl) _ c.in-Ok.mv finds
-    (ap (λ (r : ReaderState). record r { text = c.play.new.self }) c.self.view_is)
+    (ap (λ (r : GameState). record r { text = c.play.new.self }) c.self.view_is)
     (subst (λ (t : Movetext). Plays c.in-Ok.mv t c.play.new.self) text c.play.ensures)

@@ -1,4 +1,4 @@
-use Rattle.pgn_game.proofs.Words.{IsFalse, Reason, Err, is_outside_the_table, ◌≡◌, has_pair, Part, Agrees, not, length, is_some, Some, refl, sym, ap, ◌∙◌, kind_of, TokenKind, ExpectedName, BadTagName, DuplicateTag, TagLineTooLong, ReducedFen, AfterLeftBracket, AfterName, TagPairs, next, refusal, ReaderState, JudgesInPair, Writer, false, game_at, is_begun}
+use Rattle.pgn_game.proofs.Words.{IsFalse, Reason, Err, is_outside_the_table, ◌≡◌, has_pair, Part, Agrees, not, length, is_some, Some, refl, sym, ap, ◌∙◌, kind_of, TokenKind, ExpectedName, BadTagName, DuplicateTag, TagLineTooLong, ReducedFen, AfterLeftBracket, AfterName, TagPairs, next, refusal, GameState, JudgesInPair, Writer, false, game_at, is_begun}
 use Rattle.std.proofs.lemmas.Bool.{lt-ltb, le-ltb}
 use Rattle.pgn_game.proofs.ReaderLemmas.{name_rows, hit, pass, expected_name, name_refusal, name_next, part_stage, held_at, puts_name, to_name, adds_same, comment_in_pair, refused_in_pair, step_in_pair, tags_fit}
 use Rattle.pgn_game.proofs.reader.Reader.accept_name.Given.{Over}
@@ -6,7 +6,7 @@ use Rattle.pgn_game.proofs.reader.Reader.accept_name.Goals.{In-Symbol}
 use Rattle.pgn_game.proofs.reader.Reader.accept_name.Goals as goal
 
 -- What a name is rejected for, by the mode and the pairs that the reader holds.
-rows : (g : Over) (c : In-Symbol g) (w : Writer) (held : ReaderState) → held ≡ c.args.self.now → (part : Part) → Agrees (game_at false w c.args.self.now) part
+rows : (g : Over) (c : In-Symbol g) (w : Writer) (held : GameState) → held ≡ c.args.self.now → (part : Part) → Agrees (game_at false w c.args.self.now) part
     → refusal c.args.self.now.profile part (kind_of c.args.kind) ≡ name_rows held.profile held.tags.held c.in-Symbol.name.now
 rows g c w held same part agrees =
     let old = game_at false w c.args.self.now in
@@ -14,9 +14,9 @@ rows g c w held same part agrees =
     ap (λ (k : TokenKind). refusal old.profile part (kind_of k)) c.in-Symbol.is
     ∙ name_refusal old.profile part name (part_stage old part _ agrees c.requires.stage)
     ∙ ap (λ (t : TagPairs). name_rows old.profile t.held name) (sym (held_at old part _ agrees c.requires.stage))
-    ∙ ap (λ (r : ReaderState). name_rows r.profile r.tags.held name) (sym same)
+    ∙ ap (λ (r : GameState). name_rows r.profile r.tags.held name) (sym same)
 
-refused : (g : Over) (c : In-Symbol g) (held : ReaderState) (reason : Reason) → held ≡ c.args.self.now → IsFalse (is_outside_the_table reason)
+refused : (g : Over) (c : In-Symbol g) (held : GameState) (reason : Reason) → held ≡ c.args.self.now → IsFalse (is_outside_the_table reason)
     → name_rows held.profile held.tags.held c.in-Symbol.name.now ≡ Some reason
     → JudgesInPair c.args.self.now (kind_of c.args.kind) c.args.self.now (Err reason)
 refused g c held reason same inside why = record {
@@ -69,7 +69,7 @@ returns-then-is_reduced_fen g c =
 
 pub begin-requires : goal.begin-requires
 begin-requires g c =
-    let sound = rw (ap (λ (r : ReaderState). r.stage) c.self.view_is ∙ c.requires.stage) at c.self.invariant.0 in (
+    let sound = rw (ap (λ (r : GameState). r.stage) c.self.view_is ∙ c.requires.stage) at c.self.invariant.0 in (
       search tags_fit,
       record {
         whole = sound.0;
@@ -90,10 +90,10 @@ returns g c =
           let old = game_at false w c.args.self.now in
           step_in_pair old _ _ AfterLeftBracket c.requires.stage (λ q. refl) (to_name name)
           (λ o m. puts_name old _ name held o m c.requires.stage
-          (ap (λ (r : ReaderState). has_pair r.tags.held name) (sym v) ∙ c.in-Err.ensures.new)
-          (c.begin.ensures ∙ ap (λ (r : ReaderState). record r.tags { pending_name = Some name }) v)
-          (ap (λ (r : ReaderState). record (game_at false w r) { stage = AfterName; tags = held }) v))
-          (ap (λ (r : ReaderState). r.most_probes) v) (λ part. search adds_same) (λ part agrees. (
+          (ap (λ (r : GameState). has_pair r.tags.held name) (sym v) ∙ c.in-Err.ensures.new)
+          (c.begin.ensures ∙ ap (λ (r : GameState). record r.tags { pending_name = Some name }) v)
+          (ap (λ (r : GameState). record (game_at false w r) { stage = AfterName; tags = held }) v))
+          (ap (λ (r : GameState). r.most_probes) v) (λ part. search adds_same) (λ part agrees. (
             rows g (goal.at.returns g c).In-Symbol w _ v part agrees
                 ∙ pass _ _ _ (ap not (sym c.is_tag_name.ensures ∙ c.if-not-is_tag_name.false)) ∙ pass _ _ _ c.in-Err.ensures.new
                 ∙ pass _ _ _ (le-ltb 249 (length name) c.if-name-gt-NAME_OR_VALUE_LENGTH.false)
@@ -105,4 +105,4 @@ returns g c =
     }
 
 pub find-requires : goal.find-requires
-find-requires g c = (search tags_fit, (rw (ap (λ (r : ReaderState). r.stage) c.self.view_is ∙ c.requires.stage) at c.self.invariant.0).0)
+find-requires g c = (search tags_fit, (rw (ap (λ (r : GameState). r.stage) c.self.view_is ∙ c.requires.stage) at c.self.invariant.0).0)

@@ -1,11 +1,11 @@
-use Rattle.pgn_game.proofs.Words.{◌≡◌, ap, sym, ◌∙◌, Stage, ReaderState, game_by, is_begun, may_have_movetext}
+use Rattle.pgn_game.proofs.Words.{◌≡◌, ap, sym, ◌∙◌, Stage, GameState, game_by, is_begun, may_have_movetext}
 use Rattle.pgn_game.proofs.ReaderLemmas.{entry_in_movetext, enters}
 use Rattle.pgn_game.proofs.putting.TokenToEvent.{before_outside, pair_outside}
 use Rattle.pgn_game.proofs.reader.Reader.accept_outside.Goals as goal
 
 -- the stage that was met is the reader's
-stage_is : (old held : ReaderState) (stage : Stage) → held ≡ old → held.stage ≡ stage → old.stage ≡ stage
-stage_is old held stage same at = ap (λ (r : ReaderState). r.stage) (sym same) ∙ at
+stage_is : (old held : GameState) (stage : Stage) → held ≡ old → held.stage ≡ stage → old.stage ≡ stage
+stage_is old held stage same at = ap (λ (r : GameState). r.stage) (sym same) ∙ at
 
 pub returns-in-InMovetext : goal.returns-in-InMovetext
 returns-in-InMovetext g c = record {

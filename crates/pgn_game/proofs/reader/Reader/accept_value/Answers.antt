@@ -1,4 +1,5 @@
-use Rattle.pgn_game.proofs.Words.{IsFalse, Err, Reason, is_outside_the_table, IsSome, None, ◌≡◌, ◌≤◌, ◌+◌, false, Some, IsTrue, ℕ, length, Bool, true, nat_lt, Option, refl, sym, ap, ◌∙◌, IsSomeAnd, is_ok, ltb-false, false≢true, escaped, kind_of, TokenKind, ExpectedValue, BadResult, BadFen, TagLineTooLong, AfterName, AfterValue, Part, refusal, next, ReaderState, Agrees, movetext_after_fen, true_from_ne_false, JudgesInPair, Movetext, Writer, game_at, is_begun}
+use Rattle.pgn_game.proofs.Words.{IsFalse, Err, Reason, is_outside_the_table, IsSome, None, ◌≡◌, ◌≤◌, ◌+◌, false, Some, IsTrue, ℕ, length, Bool, true, nat_lt, Option, refl, sym, ap, ◌∙◌, IsSomeAnd, is_ok, ltb-false, false≢true, escaped, kind_of, TokenKind, ExpectedValue, BadResult, BadFen, TagLineTooLong, AfterName, AfterValue, Part, refusal, next, GameState, Agrees, movetext_after_fen, true_from_ne_false, JudgesInPair, Movetext, Writer, game_at, is_begun}
+use Rattle.pgn_game.proofs.pairs.PairsToFirstPosition.{start_told}
 use Rattle.pgn_game.proofs.putting.TokenToEvent.{fen_alike}
 use Rattle.std.proofs.lemmas.Bool.{le-ltb}
 use Rattle.pgn_game.proofs.ReaderLemmas.{value_rows, hit, pass, expected_value, value_refusal, value_next, start_fine, start_faults, part_stage, held_at, begun_name, puts_value, to_value, adds_same, comment_in_pair, refused_in_pair, step_in_pair, tags_fit, text_fits}
@@ -14,7 +15,7 @@ rows g c w part agrees =
     let old = game_at false w c.args.self.now in
     let at = c.requires.stage in
     let name = begun_name old.tags part _ (held_at old part _ agrees at).0
-    (sym (ap (λ (r : ReaderState). r.tags.pending_name) c.self.view_is) ∙ c.pending_name-name.ensures) in (
+    (sym (ap (λ (r : GameState). r.tags.pending_name) c.self.view_is) ∙ c.pending_name-name.ensures) in (
       name,
       ap (λ (k : TokenKind). refusal old.profile part (kind_of k)) c.in-Str.is ∙ value_refusal old.profile part _ (part_stage old part _ agrees at)
           ∙ ap (λ n. value_rows n c.in-Str.value.now) (sym name),
@@ -71,7 +72,13 @@ returns-then-not-fits_tag_line g c =
 -- The parts of the reader that change.
 
 pub complete-requires : goal.complete-requires
-complete-requires g c = (search tags_fit, rw c.pending_name-name.ensures (c.fits_tag_line.ensures.0 c.if-not-fits_tag_line.false))
+complete-requires g c = (
+  search tags_fit,
+  (
+    rw c.pending_name-name.ensures (c.fits_tag_line.ensures.0 c.if-not-fits_tag_line.false),
+    rw c.pending_name-name.ensures (c.is_some.ensures ∙ start_told c.pending_name-name.result.now c.in-Str.value.now (sym c.fen_position.ensures ∙ c.in-Ok.is)),
+  ),
+)
 
 pub begin_at-requires : goal.begin_at-requires
 begin_at-requires g c = search text_fits
@@ -90,11 +97,11 @@ returns g c =
           let old = game_at false w c.args.self.now in
           step_in_pair old _ _ AfterName c.requires.stage (λ q. refl) (to_value value)
           (λ o m. puts_value old _ value name c.in-Ok.start held o m c.requires.stage
-          (rw (← v) c.complete.ensures) (sym (ap (λ (r : ReaderState). r.tags.pending_name) v) ∙ c.pending_name-name.ensures) tells
+          (rw (← v) c.complete.ensures) (sym (ap (λ (r : GameState). r.tags.pending_name) v) ∙ c.pending_name-name.ensures) tells
           (rw c.begin_at.ensures
-          (ap (λ (r : ReaderState). game_at false w (record r { stage = AfterValue; tags = held; text = movetext_after_fen c.in-Ok.start r.text })) v
+          (ap (λ (r : GameState). game_at false w (record r { stage = AfterValue; tags = held; text = movetext_after_fen c.in-Ok.start r.text })) v
           ∙ ap (λ (t : Movetext). record old { stage = AfterValue; tags = held; text = t }) (fen_alike c.in-Ok.start c.args.self.now.text))))
-          (ap (λ (r : ReaderState). r.most_probes) v) (λ part. search adds_same) (λ part agrees. (
+          (ap (λ (r : GameState). r.most_probes) v) (λ part. search adds_same) (λ part agrees. (
             (rows g (goal.at.returns g c).After-pending_name-name w part agrees).1 ∙ pass _ _ _ (sym c.is_bad_result.ensures ∙ c.if-is_bad_result.false) ∙ pass _ _ _ fine
                 ∙ pass _ _ _ short,
             ap (λ (k : TokenKind). next part (kind_of k)) c.in-Str.is ∙ value_next part value (part_stage old part AfterName agrees c.requires.stage),
@@ -108,5 +115,5 @@ is_some P (Some x) h = refl
 
 pub pending_name-name-requires : goal.pending_name-name-requires
 pending_name-name-requires g c =
-    let at = ap (λ (r : ReaderState). r.stage) c.self.view_is ∙ c.requires.stage in
+    let at = ap (λ (r : GameState). r.stage) c.self.view_is ∙ c.requires.stage in
     (search tags_fit, is_some _ _ (rw at at c.self.invariant.0))

@@ -1,4 +1,4 @@
-use Rattle.pgn_game.proofs.Words.{◌≡◌, ◌+◌, [], None, ap, refl, AfterTags, first_position, movetext_from, ReaderState, initial}
+use Rattle.pgn_game.proofs.Words.{◌≡◌, ◌+◌, [], None, ap, refl, AfterTags, first_position, movetext_from, GameState, initial}
 use Rattle.pgn_game.proofs.ReaderPartsFitInMemory.{tags_fit, text_fits}
 use Rattle.pgn_game.proofs.reader.Reader.begin_game.Goals as goal
 
@@ -9,7 +9,7 @@ is_first = refl
 pub returns : goal.returns
 returns g c =
     rw (c.clear.ensures, c.begin.ensures, c.initial.ensures, is_first, c.plies.ensures)
-    (ap (λ (r : ReaderState). record r {
+    (ap (λ (r : GameState). record r {
       stage = AfterTags;
       tags = record { held = []; pending_name = None };
       text = movetext_from first_position;

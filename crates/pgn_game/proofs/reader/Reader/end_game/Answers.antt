@@ -1,11 +1,11 @@
-use Rattle.pgn_game.proofs.Words.{IsOpen, Part, ReaderState, TagPairs, Writer, game_by, ◌≡◌, Bool, true, false, length, refl, sym, ap, ◌∙◌, arith, codes, le-leb, Between, value_of, marker_text, depth, levels_of_part, result_for, Marker}
+use Rattle.pgn_game.proofs.Words.{IsOpen, Part, GameState, TagPairs, Writer, game_by, ◌≡◌, Bool, true, false, length, refl, sym, ap, ◌∙◌, arith, codes, le-leb, Between, value_of, marker_text, depth, levels_of_part, result_for, Marker}
 use Rattle.pgn_game.proofs.ReaderLemmas.{tags_fit, text_fits, no_name, depth_is, marker_inside, marker_differs, marker_free, none_around, test_of, differs}
 use Rattle.pgn_game.proofs.reader.Reader.end_game.Given.{Over}
 use Rattle.pgn_game.proofs.reader.Reader.end_game.Goals.{After-ne}
 use Rattle.pgn_game.proofs.reader.Reader.end_game.Goals as goal
 
 -- What the reader's calls say before a game ends: it is at depth 0, and whether its Result differs.
-record Tested (old : ReaderState) (marker : Marker) (other : Bool) : Type 0 where
+record Tested (old : GameState) (marker : Marker) (other : Bool) : Type 0 where
   none : length old.text.levels.around ≡ 0
   result : (w : Writer) (part : Part) → IsOpen (game_by w old) part → differs (result_for old.profile.missing_result (marker_text marker))
       (value_of part.pairs (codes "Result")) (marker_text marker) ≡ other
@@ -29,7 +29,7 @@ returns-then-depth-gt0 g c =
             c.if-depth-gt0.true,
             c.depth.ensures.value,
             depth_is (game_by w old) part op,
-            ap (λ (r : ReaderState). length r.text.levels.around) c.self.view_is,
+            ap (λ (r : GameState). length r.text.levels.around) c.self.view_is,
           )));
       same = refl;
     }
@@ -53,7 +53,7 @@ returns g c =
       free = λ w k part is op.
           marker_free old k _ (marker_text c.args.marker) part is (sym (depth_is (game_by w old) part op) ∙ t.none) refl (t.result w part op);
       outside = none_around old.text.levels.around t.none;
-      after = ap (λ (r : ReaderState). record r { stage = Between; marker = marker_text c.args.marker }) c.self.view_is;
+      after = ap (λ (r : GameState). record r { stage = Between; marker = marker_text c.args.marker }) c.self.view_is;
     }
 
 pub depth-requires : goal.depth-requires

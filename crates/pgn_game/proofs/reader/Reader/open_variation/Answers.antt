@@ -1,11 +1,11 @@
-use Rattle.pgn_game.proofs.Words.{Annotates, IsOpen, Movetext, None, Open, Part, ReaderState, Writer, game_by, nat_le, or_else, subst, text_refusal, ◌≡◌, ◌-◌, length, not, refl, sym, ap, ◌∙◌, arith, is_some, le-leb, lt-leb, NoMoveBefore, TooDeep, left_paren}
+use Rattle.pgn_game.proofs.Words.{Annotates, IsOpen, Movetext, None, Open, Part, GameState, Writer, game_by, nat_le, or_else, subst, text_refusal, ◌≡◌, ◌-◌, length, not, refl, sym, ap, ◌∙◌, arith, is_some, le-leb, lt-leb, NoMoveBefore, TooDeep, left_paren}
 use Rattle.pgn_game.proofs.ReaderLemmas.{hit, pass, holds_is, depth_is}
 use Rattle.pgn_game.proofs.ReaderPartsFitInMemory.{text_fits}
 use Rattle.pgn_game.proofs.putting.TokenToEvent.{entry_refuses, none_tried}
 use Rattle.pgn_game.proofs.reader.Reader.open_variation.Goals as goal
 
 -- what a `(` is rejected for, by what the reader holds
-rows : (old held : ReaderState) → held ≡ old → (w : Writer) (part : Part) → IsOpen (game_by w old) part → text_refusal old.profile part left_paren
+rows : (old held : GameState) → held ≡ old → (w : Writer) (part : Part) → IsOpen (game_by w old) part → text_refusal old.profile part left_paren
     ≡ or_else (not (is_some held.text.levels.current.before)) NoMoveBefore
     (or_else (nat_le held.profile.depth (length held.text.levels.around)) TooDeep None)
 rows old held same w part is = rw same (cc (holds_is (game_by w old) part is, depth_is (game_by w old) part is))
@@ -33,8 +33,8 @@ returns g c =
         refl,
       );
       finds = λ w part is. refl;
-      after = ap (λ (r : ReaderState). record r { text = c.open.new.self }) c.self.view_is ∙ none_tried old c.open.new.self;
-      text = subst (λ (t : Movetext). Annotates Open t c.open.new.self) (ap (λ (r : ReaderState). r.text) c.self.view_is) c.open.ensures;
+      after = ap (λ (r : GameState). record r { text = c.open.new.self }) c.self.view_is ∙ none_tried old c.open.new.self;
+      text = subst (λ (t : Movetext). Annotates Open t c.open.new.self) (ap (λ (r : GameState). r.text) c.self.view_is) c.open.ensures;
       fits = tt;
     }
 

@@ -1,4 +1,4 @@
-use Rattle.pgn_game.proofs.Words.{[], arith, rules, ◌≡◌, subst, length, InOrder}
+use Rattle.pgn_game.proofs.Words.{[], ap, codes, ◌∙◌, List, Pair, has_pair, arith, rules, ◌≡◌, subst, length, InOrder}
 use Rattle.pgn_game.proofs.pairs.StoredPlaces.{stored-held, held-count, HasPlace, place-of-new, place-of-old, begun-seen, begun-stored}
 use Rattle.pgn_game.proofs.tags.TagPairs.begin.Goals as goal
 use Rattle.pgn_game.proofs.tags.TagPairs.begin.Goals.{then-count-len, else-count-len}
@@ -44,6 +44,11 @@ invariant_of-self g c =
       | then-count-len w ↦ rw w.self-inside-is c.len-count.ensures.value
       | else-count-len w ↦ rw w.self-inside-is c.len-count.ensures.value
     ] in
+    let fen : c.if-count-len.self-inside.has_fen ≡ has_pair c.args.self.now.held (codes "FEN") =
+    elim c.if-count-len.branch [
+      | then-count-len w ↦ rw w.self-inside-is (c.self.invariant.fen ∙ ap (λ (ps : List Pair). has_pair ps (codes "FEN")) same)
+      | else-count-len w ↦ rw w.self-inside-is (c.self.invariant.fen ∙ ap (λ (ps : List Pair). has_pair ps (codes "FEN")) same)
+    ] in
     rw (c.as_mut_slice-stored.ensures.value, c.set_name.ensures)
     (begun-stored (record { name = c.args.name.now; value = [] }) c.args.place has at (subst InOrder same c.self.invariant.in_order)
-    c.requires.new c.requires.place)
+    c.requires.new c.requires.place fen)

@@ -37,7 +37,7 @@ pub record Writing : Type 0 where
 -- The profile, how the reader writes, the stage of the game, its pairs, its movetext, the number of
 -- moves outside variations of the games before it, the most pairs tried for a move, the line of
 -- movetext, and the marker that ended the game before, with its place.
-pub record ReaderState : Type 0 where
+pub record GameState : Type 0 where
   pub profile : Profile
   pub writing : Writing
   pub stage : Stage
@@ -50,7 +50,7 @@ pub record ReaderState : Type 0 where
   pub marker_at : ℕ
 
 -- a reader that has read no token, with room for so many pairs and levels
-abbrev pub unread : (tags levels : ℕ) → Mode → ReaderState
+abbrev pub unread : (tags levels : ℕ) → Mode → GameState
 unread tags levels mode = record {
   profile = record {
     tags = tags;
@@ -70,7 +70,7 @@ unread tags levels mode = record {
 }
 
 -- the same reader before its first token
-abbrev pub restarted : ReaderState → ReaderState
+abbrev pub restarted : GameState → GameState
 restarted reading = record reading {
   stage = Between;
   tags = record { held = []; pending_name = None };
@@ -80,30 +80,30 @@ restarted reading = record reading {
 }
 
 -- the same of this game
-abbrev pub mode_written : ReaderState → Option Mode
+abbrev pub mode_written : GameState → Option Mode
 mode_written reading = mode_unless reading.writing.is_silent reading.profile.mode
 
 -- the reader to which this marker was announced
-abbrev pub with_announced : PlacedMarker → ReaderState → ReaderState
+abbrev pub with_announced : PlacedMarker → GameState → GameState
 with_announced marker reading = record reading { writing = record reading.writing { announced = Some marker } }
 
 -- the reader that writes nothing from now on
-abbrev pub silenced : ReaderState → ReaderState
+abbrev pub silenced : GameState → GameState
 silenced reading = record reading { writing = record reading.writing { is_silent = true } }
 
 -- the sink of a reader before a call and after it, as the contracts see it
-abbrev pub sink_of : {S : Type 0} → ReaderState → (S → Option (List ℕ)) → (S → ℕ) → S → S → Device
+abbrev pub sink_of : {S : Type 0} → GameState → (S → Option (List ℕ)) → (S → ℕ) → S → S → Device
 sink_of reading bytes failures old new = seen reading.writing.is_silent (device bytes failures old new)
 
 -- A call leaves the reader silent or not, as it was. If it is silent, the sink does not change.
-pub record KeepsSilence {S : Type 0} (old new : ReaderState) (sink_old sink_new : S) : Type 0 where
+pub record KeepsSilence {S : Type 0} (old new : GameState) (sink_old sink_new : S) : Type 0 where
   pub silent : new.writing.is_silent ≡ old.writing.is_silent
   pub untouched : IsTrue old.writing.is_silent → sink_new ≡ sink_old
 
 -- `Takes` holds of the sink that contracts see. The call leaves the reader silent or not, as it
 -- was.
-pub record ReaderCall {S : Type 0} (taken : S → Option (List ℕ)) (failures : S → ℕ)
-    (old new : ReaderState) (sink_old sink_new : S) (Takes : Device → Type 0) : Type 0 where
+pub record GameCall {S : Type 0} (taken : S → Option (List ℕ)) (failures : S → ℕ)
+    (old new : GameState) (sink_old sink_new : S) (Takes : Device → Type 0) : Type 0 where
   pub takes : Takes (sink_of old taken failures sink_old sink_new)
   pub silent : KeepsSilence old new sink_old sink_new
 
@@ -124,7 +124,7 @@ HoldsPairs _ tags part = tags ≡ record { held = part.pairs; pending_name = Non
 -- The movetext held is that of the part, which has no item before its movetext begins. Once it has
 -- a move, a pair was tried. Between games it may be that of the game before, but for the line,
 -- which is empty.
-abbrev pub HoldsText : Stage → ReaderState → Part → Type 0
+abbrev pub HoldsText : Stage → GameState → Part → Type 0
 HoldsText Between reading part = reading.line ≡ []
 HoldsText InMovetext reading part =
     HoldsItems (mode_written reading) (start_of part.pairs) part.items reading.text reading.line × (IsTrue (has_move part.items) → 0 < reading.most_probes)
@@ -132,14 +132,14 @@ HoldsText _ reading part = (part.items ≡ []) × (reading.text ≡ movetext_fro
 
 -- The reader agrees with a part: its stage, its pairs and its movetext are those of the part.
 -- Between games it may still hold the game before.
-pub record Agrees (reading : ReaderState) (part : Part) : Type 0 where
+pub record Agrees (reading : GameState) (part : Part) : Type 0 where
   pub stage : reading.stage ≡ part.stage
   pub pairs : HoldsPairs reading.stage reading.tags part
   pub text : HoldsText reading.stage reading part
 
 -- The reader has just finished the game g, and still holds its pairs, its number of moves, its last
 -- position and its marker.
-pub record IsBehind (reading : ReaderState) (g : Game) : Type 0 where
+pub record IsBehind (reading : GameState) (g : Game) : Type 0 where
   pub agrees : Agrees reading no_part
   pub pairs : reading.tags.held ≡ g.pairs
   pub plies : reading.text.plies ≡ plies_of g
@@ -154,7 +154,7 @@ plies_at_stage Between earlier plies = earlier + plies
 plies_at_stage _ earlier plies = earlier
 
 -- the same, of a reader
-abbrev pub plies_of_finished_games : ReaderState → ℕ
+abbrev pub plies_of_finished_games : GameState → ℕ
 plies_of_finished_games reading = plies_at_stage reading.stage reading.earlier_plies reading.text.plies
 
 -- how many moves a token adds to them: those of the game that it finishes
@@ -169,7 +169,7 @@ pub data Accepted : Type 0 where
 
 -- the reader after a token: it agrees with the part that the token leaves, or has just finished the
 -- game
-abbrev pub Leads : Next → Accepted → ReaderState → Type 0
+abbrev pub Leads : Next → Accepted → GameState → Type 0
 Leads (going part) More new = Agrees new part
 Leads (going part) Finished new = ⊥
 Leads (whole g) More new = ⊥
@@ -183,11 +183,11 @@ known_text takes_the_marker None = []
 known_text takes_the_marker (Some m) = marker_text m.marker
 
 -- the same, of a reader
-abbrev pub known_of : ReaderState → List ℕ
+abbrev pub known_of : GameState → List ℕ
 known_of reading = known_text reading.profile.missing_result reading.writing.announced
 
 -- the profile by which a reader writes: a missing Result counts as that value
-abbrev pub as_written : ReaderState → Profile
+abbrev pub as_written : GameState → Profile
 as_written reading = counting reading.profile (known_of reading)
 
 -- The marker that the game has to end with: the one that was announced to a reader that writes, and
@@ -197,7 +197,7 @@ expected_by false takes_the_marker announced = announced
 expected_by _ _ announced = None
 
 -- the same, of a reader
-abbrev pub expected_of : ReaderState → Option PlacedMarker
+abbrev pub expected_of : GameState → Option PlacedMarker
 expected_of reading = expected_by reading.writing.is_silent reading.profile.missing_result reading.writing.announced
 
 -- a marker with this text, at this place, is another one than the game has to end with
@@ -211,7 +211,7 @@ IsKnown p = p.missing_result ≡ counts_as (known_result p.missing_result)
 
 -- A token is accepted: it leads on, what it adds was appended, and the pairs tried for it are
 -- counted.
-pub record IsAccepted (old : ReaderState) (part : Part) (k : Kind) (new : ReaderState) (accepted : Accepted) (before after : Option (List ℕ)) : Type 0 where
+pub record IsAccepted (old : GameState) (part : Part) (k : Kind) (new : GameState) (accepted : Accepted) (before after : Option (List ℕ)) : Type 0 where
   pub free : refusal old.profile part k ≡ None
   pub leads : Leads (next part k) accepted new
   pub plies : plies_of_finished_games new ≡ plies_of_finished_games old + plies_added (next part k)
@@ -222,7 +222,7 @@ pub record IsAccepted (old : ReaderState) (part : Part) (k : Kind) (new : Reader
 -- - `refused`: a row of the fault table rejects it, and nothing is appended. If it is rejected as a
 --   move, the reader still holds the position before it.
 -- - `unwritten`: a write failed. A prefix of what the token adds was appended, and not all.
-pub data IsStopped (old : ReaderState) (part : Part) (k : Kind) (new : ReaderState)
+pub data IsStopped (old : GameState) (part : Part) (k : Kind) (new : GameState)
     (before after : Option (List ℕ)) : Reason → Type 0 where
   refused : (reason : Reason) → refusal old.profile part k ≡ Some reason → Appends before after []
       → Raises (Tries old.writing.is_silent old.profile part k) old.most_probes new.most_probes
@@ -235,21 +235,21 @@ pub data IsStopped (old : ReaderState) (part : Part) (k : Kind) (new : ReaderSta
 
 -- What the reader returns for a token after a part that it agrees with: the token is accepted, or
 -- it is not.
-abbrev pub Answers : ReaderState → Part → Kind → ReaderState → Result Accepted Reason → Option (List ℕ)
+abbrev pub Answers : GameState → Part → Kind → GameState → Result Accepted Reason → Option (List ℕ)
     → Option (List ℕ) → Type 0
 Answers old part k new (Ok accepted) before after = IsAccepted old part k new accepted before after
 Answers old part k new (Err reason) before after = IsStopped old part k new before after reason
 
 -- A token after which no game is begun, and that finished none, changes nothing. In movetext, one
 -- that finishes no game leaves the reader there.
-abbrev pub Stays : ReaderState → ReaderState → Result Accepted Reason → Type 0
+abbrev pub Stays : GameState → GameState → Result Accepted Reason → Type 0
 Stays old new (Ok More) =
     (new.stage ≡ Between → new ≡ old) × (old.stage ≡ InMovetext → new.stage ≡ InMovetext)
 Stays old new (Ok Finished) = Unit {0}
 Stays old new (Err reason) = Unit {0}
 
 -- only a marker finishes a game, and no game is begun then
-abbrev pub FinishesAtMarker : Kind → ReaderState → Result Accepted Reason → Type 0
+abbrev pub FinishesAtMarker : Kind → GameState → Result Accepted Reason → Type 0
 FinishesAtMarker k new (Ok More) = Unit {0}
 FinishesAtMarker k new (Ok Finished) = IsTrue (is_some (marker_of k)) × (new.stage ≡ Between)
 FinishesAtMarker k new (Err reason) = Unit {0}

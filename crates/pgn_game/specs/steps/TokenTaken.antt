@@ -32,13 +32,13 @@ use Rattle.pgn_game.specs.games.Progress.{Next, next, in_text}
 use Rattle.pgn_game.specs.export.Due.{text_next}
 use Rattle.pgn_game.specs.public.FoundMove.{found_in}
 use Rattle.pgn_game.specs.steps.Movetext.{movetext_from}
-use Rattle.pgn_game.specs.steps.ReaderState.{Accepted, More, Finished, ReaderState, Agrees, Answers, as_written, FinishesAtMarker, Leads, Stays, CountsWrites, expected_of, is_unexpected, known_of, plies_added, plies_of_finished_games}
+use Rattle.pgn_game.specs.steps.GameState.{Accepted, More, Finished, GameState, Agrees, Answers, as_written, FinishesAtMarker, Leads, Stays, CountsWrites, expected_of, is_unexpected, known_of, plies_added, plies_of_finished_games}
 use Rattle.pgn_game.specs.steps.TokenInMovetext.{IsEntry, may_have_movetext}
 
 -- A game begins.
 
 -- nothing is left of the game before, and movetext may come as it does after pairs
-abbrev pub at_game_start : ReaderState → ReaderState
+abbrev pub at_game_start : GameState → GameState
 at_game_start old = record old {
   stage = AfterTags;
   tags = record { held = []; pending_name = None };
@@ -48,7 +48,7 @@ at_game_start old = record old {
 
 -- What a call leaves as it was, or nearly: the profile, how the reader writes, the number of moves,
 -- but for one more, and the most pairs tried, which does not fall.
-pub record Keeps (old new : ReaderState) : Type 0 where
+pub record Keeps (old new : GameState) : Type 0 where
   pub profile : new.profile ≡ old.profile
   pub writing : new.writing ≡ old.writing
   pub plies : new.earlier_plies + new.text.plies ≤ old.earlier_plies + old.text.plies + 1
@@ -59,20 +59,20 @@ abbrev pub gain_to : Profile → Part → Next → List ℕ
 gain_to p part to = drop (length (torn p part)) (text_next p to)
 
 -- the reader holds the part or the game that a token leads to, and what that adds was appended
-pub record Goes (old : ReaderState) (part : Part) (to : Next) (new : ReaderState) (accepted : Accepted)
+pub record Goes (old : GameState) (part : Part) (to : Next) (new : GameState) (accepted : Accepted)
     (d : Device) : Type 0 where
   pub leads : Leads to accepted new
   pub plies : plies_of_finished_games new ≡ plies_of_finished_games old + plies_added to
   pub appended : Appends d.before d.after (gain_to (as_written old) part to)
 
 -- the same, or a write failed, and a prefix of it was appended and not all
-abbrev pub GoesTo : ReaderState → Part → Next → ReaderState → Result Accepted Reason → Device → Type 0
+abbrev pub GoesTo : GameState → Part → Next → GameState → Result Accepted Reason → Device → Type 0
 GoesTo old part to new (Ok accepted) d = Goes old part to new accepted d
 GoesTo old part to new (Err reason) d =
     (reason ≡ WriteFault) × AppendsFront d.before d.after (gain_to (as_written old) part to)
 
 -- What putting a token results in, for each part that `IsOf` allows.
-pub record PutResult (old : ReaderState) (IsOf : Part → Type 0) (to : Part → Next) (new : ReaderState)
+pub record PutResult (old : GameState) (IsOf : Part → Type 0) (to : Part → Next) (new : GameState)
     (r : Result Accepted Reason) (d : Device) : Type 0 where
   pub goes : (part : Part) → IsOf part → GoesTo old part (to part) new r d
   pub keeps : Keeps old new
@@ -96,7 +96,7 @@ FinishesNone (Ok Finished) = ⊥
 FinishesNone (Err reason) = Unit {0}
 
 -- What the reader returns for a token, after each part that `IsOf` allows.
-pub record Takes (old : ReaderState) (IsOf : Part → Type 0) (k : Kind) (new : ReaderState)
+pub record Takes (old : GameState) (IsOf : Part → Type 0) (k : Kind) (new : GameState)
     (r : Result Accepted Reason) (d : Device) : Type 0 where
   pub accepts : (part : Part) → IsOf part → Answers old part k new r d.before d.after
   pub keeps : Keeps old new
@@ -105,34 +105,15 @@ pub record Takes (old : ReaderState) (IsOf : Part → Type 0) (k : Kind) (new : 
   pub counted : CountsWrites r d
 
 -- what the reader returns for a token after a part with which it agrees
-abbrev pub TakesToken : ReaderState → Kind → ReaderState → Result Accepted Reason → Device → Type 0
+abbrev pub TakesToken : GameState → Kind → GameState → Result Accepted Reason → Device → Type 0
 TakesToken old k new r d = Takes old (Agrees old) k new r d
 
 -- the same for a token of movetext
-abbrev pub TakesEntry : ReaderState → Kind → ReaderState → Result Accepted Reason → Device → Type 0
+abbrev pub TakesEntry : GameState → Kind → GameState → Result Accepted Reason → Device → Type 0
 TakesEntry old k new r d = Takes old (IsEntry old k) k new r d
 
--- The token is this marker, and was not taken: nothing has changed.
-pub record ReturnsMarker (old : ReaderState) (k : Kind) (marker : Marker) (new : ReaderState) (d : Device) : Type 0 where
-  pub is : marker_of k ≡ Some (marker_text marker)
-  pub same : new ≡ old
-  pub unwritten : d.after ≡ d.before
-  pub still : IsStill d
-
--- a token of movetext that is no marker is taken
-pub record TakesOther (old : ReaderState) (k : Kind) (new : ReaderState) (r : Result Accepted Reason)
-    (d : Device) : Type 0 where
-  pub no_marker : marker_of k ≡ None
-  pub takes : TakesEntry old k new r d
-
--- A token of movetext is taken, unless it is a marker.
-abbrev pub MeetsEntry : ReaderState → Kind → ReaderState → Result (Option Marker) Reason → Device → Type 0
-MeetsEntry old k new (Ok (Some marker)) d = ReturnsMarker old k marker new d
-MeetsEntry old k new (Ok None) d = TakesOther old k new (Ok More) d
-MeetsEntry old k new (Err reason) d = TakesOther old k new (Err reason) d
-
 -- The marker that ends a game was taken, whatever token it is.
-pub record TakesMarker (old : ReaderState) (marker : Marker) (new : ReaderState)
+pub record TakesMarker (old : GameState) (marker : Marker) (new : GameState)
     (r : Result Unit Reason) (d : Device) : Type 0 where
   pub takes : (k : Kind) → marker_of k ≡ Some (marker_text marker)
       → TakesEntry old k new (ended r) d
@@ -146,13 +127,13 @@ unused taken failures =
     record { before = taken; after = taken; failures = failures; failures_after = failures }
 
 -- what the reader returns for a token for which nothing is written
-abbrev pub TakesUnwritten : ReaderState → Kind → ReaderState → Result Accepted Reason → Type 0
+abbrev pub TakesUnwritten : GameState → Kind → GameState → Result Accepted Reason → Type 0
 TakesUnwritten old k new r =
     (taken : Option (List ℕ)) (failures : ℕ) → TakesToken old k new r (unused taken failures)
 
 -- A token that comes after this part is taken as the first of movetext, or as the next one, after a
 -- part with the same pairs and items.
-pub record EntersPart (ready : ReaderState) (k : Kind) (part : Part) : Type 0 where
+pub record EntersPart (ready : GameState) (k : Kind) (part : Part) : Type 0 where
   pub opened : Part
   pub entry : IsEntry ready k opened
   pub next : next part k ≡ in_text opened k
@@ -161,80 +142,73 @@ pub record EntersPart (ready : ReaderState) (k : Kind) (part : Part) : Type 0 wh
 
 -- A token belongs to movetext, and `ready` is a reader that can take it as such. That is the same
 -- as to take it by `old`.
-pub record EntersMovetext (old : ReaderState) (k : Kind) (ready : ReaderState) : Type 0 where
+pub record EntersMovetext (old : GameState) (k : Kind) (ready : GameState) : Type 0 where
   pub stage : IsTrue (may_have_movetext ready.stage)
   pub profile : ready.profile ≡ old.profile
   pub writing : ready.writing ≡ old.writing
   pub plies : ready.earlier_plies + ready.text.plies ≤ old.earlier_plies + old.text.plies
   pub probes : old.most_probes ≤ ready.most_probes
   pub enters : (part : Part) → Agrees old part → EntersPart ready k part
-  pub takes : (new : ReaderState) (r : Result Accepted Reason) (d : Device) → TakesEntry ready k new r d
+  pub takes : (new : GameState) (r : Result Accepted Reason) (d : Device) → TakesEntry ready k new r d
       → TakesToken old k new r d
 
 -- outside movetext a token is taken, or it belongs to movetext
-abbrev pub TakesOutside : ReaderState → Kind → ReaderState → Option (Result Accepted Reason) → Type 0
+abbrev pub TakesOutside : GameState → Kind → GameState → Option (Result Accepted Reason) → Type 0
 TakesOutside old k new (Some r) = TakesUnwritten old k new r
 TakesOutside old k new None = EntersMovetext old k new
-
--- The token is this marker, and was not taken: the reader is ready to take it in movetext.
-pub record MeetsMarker (old : ReaderState) (k : Kind) (marker : Marker) (ready : ReaderState) (d : Device) : Type 0 where
-  pub is : marker_of k ≡ Some (marker_text marker)
-  pub enters : EntersMovetext old k ready
-  pub unwritten : d.after ≡ d.before
-  pub still : IsStill d
-
--- A token is taken, unless it is a marker that may end the game. No write fails at a marker.
-abbrev pub TakesUnlessMarker : ReaderState → Kind → ReaderState → Result (Option Marker) Reason → Device → Type 0
-TakesUnlessMarker old k new (Ok (Some marker)) d = MeetsMarker old k marker new d
-TakesUnlessMarker old k new (Ok None) d = TakesToken old k new (Ok More) d
-TakesUnlessMarker old k new (Err reason) d =
-    TakesToken old k new (Err reason) d × (reason ≡ WriteFault → marker_of k ≡ None)
 
 -- ---- a token at its place
 
 -- A marker with this text, at this place, was not taken: another one was announced. Nothing was
 -- written of it.
-pub record IsUnexpected (old : ReaderState) (text : List ℕ) (at : ℕ) (new : ReaderState) (reason : Reason) (d : Device) : Type 0 where
+pub record IsUnexpected (old : GameState) (text : List ℕ) (at : ℕ) (new : GameState) (reason : Reason) (d : Device) : Type 0 where
   pub other : is_unexpected (expected_of old) text at ≡ true
   pub why : reason ≡ ResultDiffers
   pub keeps : Keeps old new
   pub unwritten : d.after ≡ d.before
   pub still : IsStill d
 
--- the marker at this place ends the game, or it is not taken
-abbrev pub EndsAtPlace : ReaderState → Marker → ℕ → ReaderState → Result Unit Reason → Device → Type 0
-EndsAtPlace old marker at new (Ok done) d =
-    TakesMarker old marker new (Ok done) d × (new.marker_at ≡ at) × (is_unexpected (expected_of old) (marker_text marker) at ≡ false)
-EndsAtPlace old marker at new (Err reason) d =
-    (TakesMarker old marker new (Err reason) d × (is_unexpected (expected_of old) (marker_text marker) at ≡ false))
-    ⊎ IsUnexpected old (marker_text marker) at new reason d
-
--- The token at this place finished the game: it is the marker that was announced, if one was.
-pub record EndsPlaced (old : ReaderState) (k : Kind) (at : ℕ) (new : ReaderState) (d : Device) : Type 0 where
-  pub takes : TakesToken old k new (Ok Finished) d
-  pub place : new.marker_at ≡ at
-  pub text : List ℕ
-  pub is : marker_of k ≡ Some text
-  pub expected : is_unexpected (expected_of old) text at ≡ false
-
 -- The token at this place is another marker than was announced.
-pub record MeetsAnother (old : ReaderState) (k : Kind) (at : ℕ) (new : ReaderState) (reason : Reason) (d : Device) : Type 0 where
+pub record MeetsAnother (old : GameState) (k : Kind) (at : ℕ) (new : GameState) (reason : Reason) (d : Device) : Type 0 where
   pub text : List ℕ
   pub is : marker_of k ≡ Some text
   pub unexpected : IsUnexpected old text at new reason d
 
 -- If it is a marker of which a write failed, it is no other one than was announced.
-abbrev pub IsExpectedIf : ReaderState → Kind → ℕ → Reason → Type 0
+abbrev pub IsExpectedIf : GameState → Kind → ℕ → Reason → Type 0
 IsExpectedIf old k at reason =
     (text : List ℕ) → marker_of k ≡ Some text → reason ≡ WriteFault → is_unexpected (expected_of old) text at ≡ false
 
--- The token at this place is taken, and the result says whether it finished the game; or it is not
--- taken.
-abbrev pub TakesPlaced : ReaderState → Kind → ℕ → ReaderState → Result Bool Reason → Device → Type 0
-TakesPlaced old k at new (Ok true) d = EndsPlaced old k at new d
-TakesPlaced old k at new (Ok false) d = TakesToken old k new (Ok More) d
-TakesPlaced old k at new (Err reason) d =
-    (TakesToken old k new (Err reason) d × IsExpectedIf old k at reason) ⊎ MeetsAnother old k at new reason d
+-- The token at this place finished the game: it is the marker that was announced, if one was.
+pub record EndsAt (old : GameState) (IsOf : Part → Type 0) (k : Kind) (at : ℕ) (new : GameState) (d : Device) : Type 0 where
+  pub takes : Takes old IsOf k new (Ok Finished) d
+  pub place : new.marker_at ≡ at
+  pub text : List ℕ
+  pub is : marker_of k ≡ Some text
+  pub expected : is_unexpected (expected_of old) text at ≡ false
+
+-- The token at this place is taken, after each part that `IsOf` allows, and the result says whether
+-- it finished the game; or it is not taken.
+abbrev pub TakesAt : GameState → (Part → Type 0) → Kind → ℕ → GameState → Result Bool Reason → Device → Type 0
+TakesAt old IsOf k at new (Ok true) d = EndsAt old IsOf k at new d
+TakesAt old IsOf k at new (Ok false) d = Takes old IsOf k new (Ok More) d
+TakesAt old IsOf k at new (Err reason) d =
+    (Takes old IsOf k new (Err reason) d × IsExpectedIf old k at reason) ⊎ MeetsAnother old k at new reason d
+
+-- after a part with which the reader agrees
+abbrev pub TakesPlaced : GameState → Kind → ℕ → GameState → Result Bool Reason → Device → Type 0
+TakesPlaced old k at new r d = TakesAt old (Agrees old) k at new r d
+
+abbrev pub EndsPlaced : GameState → Kind → ℕ → GameState → Device → Type 0
+EndsPlaced old k at new d = EndsAt old (Agrees old) k at new d
+
+-- the same for a token of movetext
+abbrev pub TakesEntryPlaced : GameState → Kind → ℕ → GameState → Result Bool Reason → Device → Type 0
+TakesEntryPlaced old k at new r d = TakesAt old (IsEntry old k) k at new r d
+
+-- the marker at this place ends the game, whatever token it is, or it is not taken
+abbrev pub EndsAtPlace : GameState → Marker → ℕ → GameState → Result Bool Reason → Device → Type 0
+EndsAtPlace old marker at new r d = (k : Kind) → marker_of k ≡ Some (marker_text marker) → TakesEntryPlaced old k at new r d
 
 -- Moves.
 
@@ -254,11 +228,11 @@ pub record NamesMove (p : Parts) (text : List ℕ) (r : Result Move Reason) (bef
   pub candidates : IfOk r (λ m. before + disambiguation_pairs p m ≤ after)
 
 -- the reader with so many as the most pairs tried, unless there were more before
-abbrev pub counting_probes : ReaderState → ℕ → ReaderState
+abbrev pub counting_probes : GameState → ℕ → GameState
 counting_probes old n = record old { most_probes = max old.most_probes n }
 
 -- The move that a symbol names was sought, and the pairs that were tried are counted.
-pub record Finds (old : ReaderState) (s : List ℕ) (new : ReaderState) (r : Result Move Reason)
+pub record Finds (old : GameState) (s : List ℕ) (new : GameState) (r : Result Move Reason)
     (n : ℕ) : Type 0 where
   pub found : with_position old.text.levels.current.position r
       ≡ found_in old.text.levels.current.position (move_of old.text.levels.current.position s)
@@ -271,7 +245,7 @@ pub record Finds (old : ReaderState) (s : List ℕ) (new : ReaderState) (r : Res
 
 -- The move of a token that another row rejects was sought, if it has one, and the pairs that were
 -- tried are counted.
-pub record CountsMove (old : ReaderState) (k : Kind) (new : ReaderState) : Type 0 where
+pub record CountsMove (old : GameState) (k : Kind) (new : GameState) : Type 0 where
   pub pairs : ℕ
   pub counted : new ≡ counting_probes old pairs
   pub tried : (part : Part) → Agrees old part → CostsToFind part k pairs
@@ -285,11 +259,11 @@ section_due InMovetext mode result ps = []
 section_due _ mode result ps = tag_section mode result ps
 
 -- the same, of a reader
-abbrev pub section_due_of : ReaderState → List ℕ
+abbrev pub section_due_of : GameState → List ℕ
 section_due_of r = section_due r.stage r.profile.mode (known_of r) r.tags.held
 
 -- The tag section was written, if movetext begins here, and nothing else has changed.
-pub record BeginsText {A E : Type 0} (old new : ReaderState) (r : Result A E)
+pub record BeginsText {A E : Type 0} (old new : GameState) (r : Result A E)
     (d : Device) : Type 0 where
   pub text : Writes d.before d.after r (section_due_of old)
   pub begun : OnOk r (new ≡ record old { stage = InMovetext })

@@ -4,7 +4,7 @@ use Rattle.pgn_game.specs.public.MostTried.{CostsToWrite}
 use Rattle.pgn_game.specs.games.Game.{move}
 use Rattle.pgn_game.proofs.putting.ItemToMovetext.{not_silent}
 use Rattle.pgn_game.proofs.putting.SilentReader.{seen_if}
-use Rattle.pgn_game.proofs.game.put_move.Goals as goal
+use Rattle.pgn_game.proofs.game.write_move.Goals as goal
 
 pub returns-then-not-writes_move : goal.returns-then-not-writes_move
 returns-then-not-writes_move g c =
