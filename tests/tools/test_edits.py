@@ -37,9 +37,10 @@ def call(*words):
 class Edits(unittest.TestCase):
     def setUp(self):
         script = loaded()
-        self.by_crate = script.edits_by_crate()
-        self.edits = [it for them in self.by_crate.values() for it in them]
-        self.notices = script.notices()
+        self.by_crate = script.guards_by_crate(script.Edit)
+        self.edits = list(itertools.chain(*self.by_crate.values()))
+        self.notices = [it for it in itertools.chain(*script.guards_by_crate().values())
+                        if it.kind != "edit"]
 
     def test_each_fits_its_source(self):
         for it in self.edits:
@@ -101,12 +102,12 @@ class Edits(unittest.TestCase):
     def test_each_test_and_file_of_rows_is_there(self):
         sources = "".join(text_of(it) for pattern in ("crates/*/src/**/*.rt", "tests/tools/*.py")
                           for it in glob.glob(pattern, root_dir=ROOT, recursive=True))
-        for it in self.notices:
-            with self.subTest(it.place):
-                if it.kind == "test":
-                    self.assertRegex(sources, r"\b(fn|def) %s\(" % it.text)
-                elif it.kind == "rows":
-                    files = glob.glob("crates/*/proofs/**/%s.antt" % it.text, root_dir=ROOT,
+        for kind, name in ((it.kind, name) for it in self.notices for name in it.texts):
+            with self.subTest(name):
+                if kind == "test":
+                    self.assertRegex(sources, r"\b(fn|def) %s\(" % name)
+                elif kind == "rows":
+                    files = glob.glob("crates/*/proofs/**/%s.antt" % name, root_dir=ROOT,
                                       recursive=True)
                     self.assertEqual(len(files), 1)
         kinds = {it.kind for it in self.notices}
@@ -169,9 +170,9 @@ class Names(unittest.TestCase):
         return missing_names(edit, tuple(sorted(set(crates))))
 
     def test_each_uses_what_is_there(self):
-        for them in loaded().edits_by_crate().values():
-            for it in them:
-                self.assertEqual(self.missing(it), [], it.name)
+        script = loaded()
+        for it in itertools.chain(*script.guards_by_crate(script.Edit).values()):
+            self.assertEqual(self.missing(it), [], it.name)
 
     def planted(self, crate, path, old, new):
         edit = loaded().Edit(crate, "a-f-x", "")
@@ -213,7 +214,8 @@ class Names(unittest.TestCase):
             self.assertEqual(found, missing, new)
 
 
-HEAD = "edit: lib-f-is-wrong\nguards: f, text\nfile: src/lib.rt\n"
+HEAD = "edit: lib-f-is-wrong\nguards: f, text\n"
+EACH_CHANGE = "edit: lib-f-is-wrong (on each change)\n"
 
 
 class Reading(Folder, unittest.TestCase):
@@ -224,46 +226,64 @@ class Reading(Folder, unittest.TestCase):
 
     def test_lines_of_an_edit(self):
         edits = self.read("# low\n\n" + HEAD + "# a reason\nold:  a\nnew:  b: c\nold: d\nnew:\n\n\n"
-                          + HEAD + "guards: g\ntried: on each change\nold: e\nnew: f")
+                          + EACH_CHANGE + "guards: f, text; h\nguards: g\nold: e\nnew: f")
         self.assertEqual([it.changes for it in edits], [
             [("src/lib.rt", " a", " b: c"), ("src/lib.rt", "d", "")], [("src/lib.rt", "e", "f")]])
-        self.assertEqual([it.guards for it in edits], [[{"f", "text"}], [{"f", "text"}, {"g"}]])
+        self.assertEqual([it.guards for it in edits],
+                         [[{"f", "text"}], [{"f", "text"}, {"h"}, {"g"}]])
         self.assertEqual([it.each_change for it in edits], [False, True])
         self.assertEqual([it.name for it in edits], ["lib-f-is-wrong"] * 2)
-        self.assertRegex(edits[1].place, r"low\.edits:13$")
+        self.assertEqual([(it.file, it.function) for it in edits], [("lib", "f")] * 2)
+        self.assertRegex(edits[1].place, r"low\.edits:12$")
+
+    def test_the_files_of_an_edit(self):
+        """A file holds for what follows. Of the next edit, its name says it."""
+        pair, other = "old: a\nnew: b\n", "file: specs/A.antt\n"
+        edits = self.read(HEAD + pair + other + pair + pair + "file: src/lib.rt\n" + pair + "\n"
+                          + HEAD + other + pair + "\n" + HEAD + pair)
+        self.assertEqual([[it[0] for it in edit.changes] for edit in edits], [
+            ["src/lib.rt", "specs/A.antt", "specs/A.antt", "src/lib.rt"], ["specs/A.antt"],
+            ["src/lib.rt"]])
 
     def test_an_edit_of_a_private_function_has_no_row(self):
-        edit, = self.read("edit: lib-f-is-wrong\nfile: src/lib.rt\nold: a\nnew: b\n")
+        edit, = self.read("edit: lib-f-is-wrong\nold: a\nnew: b\n")
         self.assertEqual((edit.guards, edit.changes), ([], [("src/lib.rt", "a", "b")]))
 
     def test_what_else_guards_a_row(self):
-        found = self.read("test: a_b\nguards: f, text\nguards: g\n\nrows: ARows\nguards: h\n\n"
-                          "noticed: a word: `b`\n# why\nguards: i\n")
-        self.assertEqual([(it.kind, it.text, it.guards) for it in found], [
-            ("test", "a_b", [{"f", "text"}, {"g"}]), ("rows", "ARows", [{"h"}]),
-            ("noticed", "a word: `b`", [{"i"}])])
+        found = self.read("test: a_b, c\nguards: f, text\nguards: g\n\nrows: ARows\nguards: h; i, j"
+                          "\n\nnoticed: a word: `b`, c\n# why\nguards: i\n")
+        self.assertEqual([(it.kind, it.texts, it.guards) for it in found], [
+            ("test", ["a_b", "c"], [{"f", "text"}, {"g"}]), ("rows", ["ARows"], [{"h"}, {"i", "j"}]),
+            ("noticed", ["a word: `b`, c"], [{"i"}])])
 
     def test_what_cannot_be_read(self):
         pair = "an `old:` line is followed by its `new:` line"
         incomplete = "an edit changes something, and all else has a `guards:` line"
+        name = "a name is a file, a function and what is wrong"
+        said = "the name or a line above says this: "
         for text, number, why in (
-            (HEAD + "old: a\n", 5, pair),
-            (HEAD + "old: a\n\nnew: b\n", 5, pair),
-            (HEAD + "new: a\n", 4, pair),
-            (HEAD + "old: a\nold: b\nnew: c\n", 5, pair),
+            (HEAD + "old: a\n", 4, pair),
+            (HEAD + "old: a\n\nnew: b\n", 4, pair),
+            (HEAD + "new: a\n", 3, pair),
+            (HEAD + "old: a\nold: b\nnew: c\n", 4, pair),
             (HEAD, 1, incomplete),
+            (EACH_CHANGE, 1, incomplete),
             ("edit: lib-f-is-wrong\nfile: a\n", 1, incomplete),
             ("test: a_b\n", 1, incomplete),
             ("test:\n", 1, "this line is out of place: test:"),
             ("test: a_b\nfile: a\n", 2, "this line is out of place: file: a"),
-            ("noticed: a\ntried: on each change\n", 2,
-             "this line is out of place: tried: on each change"),
-            ("edit: is wrong\n", 1, "a name is a file, a function and what is wrong"),
+            ("noticed: a\nold: a\n", 2, "this line is out of place: old: a"),
+            ("edit: is wrong\n", 1, name), ("edit: lib-f\n", 1, name),
+            ("edit: lib-f-is-wrong (now)\n", 1, name), (EACH_CHANGE[:-1] + " x\n", 1, name),
             ("guards: f\n", 1, "this line is out of place: guards: f"),
-            (HEAD + "edit: lib-g\n", 4, "this line is out of place: edit: lib-g"),
-            ("edit: lib-f-is-wrong\nold: a\n", 2, "this line is out of place: old: a"),
-            (HEAD + "old:\n", 4, "this line is out of place: old:"),
-            (HEAD + "tried: now\n", 4, "this line is out of place: tried: now"),
+            (HEAD + "edit: lib-g\n", 3, "this line is out of place: edit: lib-g"),
+            (HEAD + "old:\n", 3, "this line is out of place: old:"),
+            (HEAD + "file:\nold: a\n", 4, "this line is out of place: old: a"),
+            (HEAD + "tried: now\n", 3, "this line is out of place: tried: now"),
+            # the name says it, or a line above
+            (HEAD + "file: src/lib.rt\nold: a\nnew: b\n", 3, said + "file: src/lib.rt"),
+            (EACH_CHANGE + "file: src/lib.rt\n", 2, said + "file: src/lib.rt"),
+            (HEAD + "file: a\nold: a\nnew: b\nfile: a\n", 6, said + "file: a"),
         ):
             with self.assertRaises(Exception) as raised:
                 self.read(text)
@@ -299,7 +319,7 @@ class Guards(unittest.TestCase):
         script, found = loaded(), []
         for kind, name, *rows in guards:
             found.append(script.Edit("low", name, "low.edits:1") if kind == "edit"
-                         else script.Notice("low", kind, name, "low.edits:1"))
+                         else script.Guard("low", kind, [name], "low.edits:1"))
             found[-1].guards = [frozenset(it.split(", ")) for it in rows]
         return script, found
 
