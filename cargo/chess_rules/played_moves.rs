@@ -30,10 +30,8 @@ impl<'a> IntoIterator for LegalMoves<'a> {
     type IntoIter = PlayedMoves<'a>;
 
     fn into_iter(self) -> PlayedMoves<'a> {
-        PlayedMoves {
-            moves: self,
-            probes: Probes::new(),
-        }
+        let (moves, probes) = (self, Probes::new());
+        PlayedMoves { moves, probes }
     }
 }
 

@@ -95,22 +95,16 @@ impl FromStr for Piece {
 
     /// Reads what `Display` writes, as `N`.
     fn from_str(text: &str) -> Result<Piece, TextFault> {
-        let (colour, kind) = match text {
-            "K" => (Colour::White, Kind::King),
-            "Q" => (Colour::White, Kind::Queen),
-            "R" => (Colour::White, Kind::Rook),
-            "B" => (Colour::White, Kind::Bishop),
-            "N" => (Colour::White, Kind::Knight),
-            "P" => (Colour::White, Kind::Pawn),
-            "k" => (Colour::Black, Kind::King),
-            "q" => (Colour::Black, Kind::Queen),
-            "r" => (Colour::Black, Kind::Rook),
-            "b" => (Colour::Black, Kind::Bishop),
-            "n" => (Colour::Black, Kind::Knight),
-            "p" => (Colour::Black, Kind::Pawn),
-            _ => return Err(TextFault::NotAPiece),
-        };
-        Ok(Piece { colour, kind })
+        use Kind::*;
+        for colour in [Colour::White, Colour::Black] {
+            for kind in [King, Queen, Rook, Bishop, Knight, Pawn] {
+                let piece = Piece { colour, kind };
+                if text.as_bytes() == [letter(piece)] {
+                    return Ok(piece);
+                }
+            }
+        }
+        Err(TextFault::NotAPiece)
     }
 }
 
@@ -146,12 +140,11 @@ fn small_letter(promotion: Promotion) -> u8 {
 }
 
 fn move_of(text: &[u8]) -> Option<Move> {
-    let promotion = match text.get(4..)? {
+    use Promotion::*;
+    let mut all = [Queen, Rook, Bishop, Knight].into_iter();
+    let promotion = match *text.get(4..)? {
         [] => None,
-        b"q" => Some(Promotion::Queen),
-        b"r" => Some(Promotion::Rook),
-        b"b" => Some(Promotion::Bishop),
-        b"n" => Some(Promotion::Knight),
+        [letter] => Some(all.find(|it| small_letter(*it) == letter)?),
         _ => return None,
     };
     Some(Move {

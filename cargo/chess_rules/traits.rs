@@ -71,8 +71,7 @@ impl Debug for Board {
     /// Writes the ranks from the eighth to the first, as `r...k..r`.
     fn fmt(&self, out: &mut Formatter<'_>) -> fmt::Result {
         for rank in (0..8).rev() {
-            let squares = (0..8).filter_map(|file| Square::new(file, rank));
-            for square in squares {
+            for square in (0..8).filter_map(|file| Square::new(file, rank)) {
                 out.write_char(self.at(square).map_or('.', |it| letter(it).into()))?;
             }
             out.write_str(if rank == 0 { "" } else { "/" })?;

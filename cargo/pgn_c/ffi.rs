@@ -51,21 +51,35 @@ extern "C" fn pgn_version() -> u32 {
     crate::pgn_version()
 }
 
-/// Exports functions: what C passes, the slices that are made of it, what this crate's function gets
-/// in turn, and what is returned if a slice cannot be made.
+/// Exports functions. C passes perhaps a `*struct`, texts, each as a pointer with its `[length]`,
+/// then words, then a buffer behind `=>`, and perhaps a last word. If a slice or the reference cannot
+/// be made, `else` is returned.
 macro_rules! exports {
     ($(
-        $name:ident($($word:ident: $type:ty),*) -> $result:ty,
-        ($($slice:ident = $make:ident($pointer:ident, $length:ident)),*) => ($($given:ident),*),
-        else $otherwise:expr;
+        $name:ident(
+            $(*$struct:ident: $struct_type:ty,)? $($text:ident[$length:ident]),* $(; $($word:ident: $type:ty),*)?
+            $(=> $buffer:ident[$capacity:ident] $(, $last:ident: $last_type:ty)?)?
+        ) -> $result:ty, else $otherwise:expr;
     )*) => {$(
         /// # Safety
         ///
-        /// The conditions of `pgn.h` hold.
+        /// The conditions of `pgn.h` hold. No one else uses what the call may change.
         #[no_mangle]
-        unsafe extern "C" fn $name($($word: $type),*) -> $result {
-            match unsafe { ($($make($pointer, $length),)*) } {
-                ($(Some($slice),)*) => crate::$name($($given),*),
+        unsafe extern "C" fn $name(
+            $($struct: *mut $struct_type,)?
+            $($text: Bytes, $length: usize,)*
+            $($($word: $type,)*)?
+            $($buffer: Room, $capacity: usize, $($last: $last_type)?)?
+        ) -> $result {
+            match unsafe {
+                (
+                    $($struct.as_mut(),)? $(text_of($text, $length),)*
+                    $(buffer_of($buffer, $capacity),)?
+                )
+            } {
+                ($(Some($struct),)? $(Some($text),)* $(Some($buffer),)?) => {
+                    crate::$name($($struct,)? $($text,)* $($($word,)*)? $($buffer, $($last)?)?)
+                }
                 _ => $otherwise,
             }
         }
@@ -73,90 +87,41 @@ macro_rules! exports {
 }
 
 exports! {
-    pgn_check(text: Bytes, length: usize) -> PgnResult,
-    (text = text_of(text, length)) => (text),
-    else no_mode();
+    pgn_check(text[length]) -> PgnResult, else no_mode();
 
-    pgn_convert(text: Bytes, length: usize, buffer: Room, capacity: usize, mode: u32) -> PgnResult,
-    (text = text_of(text, length), buffer = buffer_of(buffer, capacity)) => (text, buffer, mode),
-    else no_mode();
+    pgn_convert(text[length] => buffer[capacity], mode: u32) -> PgnResult, else no_mode();
 
-    pgn_fen_normalize(fen: Bytes, length: usize, buffer: Room, capacity: usize) -> PgnText,
-    (fen = text_of(fen, length), buffer = buffer_of(buffer, capacity)) => (fen, buffer),
+    pgn_fen_normalize(fen[length] => buffer[capacity]) -> PgnText,
     else PgnText { status: NO_MODE, field: 0, length: 0 };
 
-    pgn_key(fen: Bytes, length: usize, buffer: Room, capacity: usize) -> PgnText,
-    (fen = text_of(fen, length), buffer = buffer_of(buffer, capacity)) => (fen, buffer),
+    pgn_key(fen[length] => buffer[capacity]) -> PgnText,
     else PgnText { status: NO_MODE, field: 0, length: 0 };
 
-    pgn_san(fen: Bytes, fen_length: usize, text: Bytes, length: usize, notation: u32) -> PgnMove,
-    (fen = text_of(fen, fen_length), text = text_of(text, length)) => (fen, text, notation),
-    else no_notation();
+    pgn_san(fen[fen_length], text[length]; notation: u32) -> PgnMove, else no_notation();
 
-    pgn_line(
-        fen: Bytes, fen_length: usize, text: Bytes, length: usize, format: u32, buffer: Room,
-        capacity: usize
-    ) -> PgnPlies,
-    (
-        fen = text_of(fen, fen_length), text = text_of(text, length),
-        buffer = buffer_of(buffer, capacity)
-    ) => (fen, text, format, buffer),
+    pgn_line(fen[fen_length], text[length]; format: u32 => buffer[capacity]) -> PgnPlies,
     else no_line_in_format();
 
-    pgn_next_game(
-        text: Bytes, length: usize, from: usize, mode: u32, missing_result: u32, buffer: Room,
-        capacity: usize
-    ) -> PgnGame,
-    (text = text_of(text, length), buffer = buffer_of(buffer, capacity))
-        => (text, from, mode, missing_result, buffer),
-    else no_game(NO_MODE);
+    pgn_next_game(text[length]; from: usize, mode: u32, missing_result: u32 => buffer[capacity])
+        -> PgnGame, else no_game(NO_MODE);
 
-    pgn_read_game(
-        text: Bytes, length: usize, from: usize, mode: u32, missing_result: u32, buffer: Room,
-        capacity: usize
-    ) -> PgnGame,
-    (text = text_of(text, length), buffer = buffer_of(buffer, capacity))
-        => (text, from, mode, missing_result, buffer),
-    else no_game(NO_MODE);
+    pgn_read_game(text[length]; from: usize, mode: u32, missing_result: u32 => buffer[capacity])
+        -> PgnGame, else no_game(NO_MODE);
 
-    pgn_items(
-        text: Bytes, length: usize, from: usize, first_item: u64, fields: u32, buffer: Room,
-        capacity: usize
-    ) -> PgnItems,
-    (text = text_of(text, length), buffer = buffer_of(buffer, capacity))
-        => (text, from, first_item, fields, buffer),
-    else plain_result(NO_MODE, 0, 0);
+    pgn_items(text[length]; from: usize, first_item: u64, fields: u32 => buffer[capacity])
+        -> PgnItems, else plain_result(NO_MODE, 0, 0);
 
-    pgn_tag_at(text: Bytes, length: usize, at: usize) -> PgnTag,
-    (text = text_of(text, length)) => (text, at),
+    pgn_tag_at(text[length]; at: usize) -> PgnTag,
     else PgnTag {
         status: NO_MODE, name_at: 0, name_length: 0, value_at: 0, value_length: 0, next: 0
     };
 
-    pgn_check_numbers(text: Bytes, length: usize) -> PgnNumber,
-    (text = text_of(text, length)) => (text),
+    pgn_check_numbers(text[length]) -> PgnNumber,
     else PgnNumber { status: NO_MODE, unusual: 0, place: 0, number: 0, before: 0 };
 
-    pgn_explain(fen: Bytes, fen_length: usize, text: Bytes, length: usize) -> PgnExplanation,
-    (fen = text_of(fen, fen_length), text = text_of(text, length)) => (fen, text),
+    pgn_explain(fen[fen_length], text[length]) -> PgnExplanation,
     else PgnExplanation { status: NO_MODE, ..no_explanation(0, 0) };
-}
 
-/// # Safety
-///
-/// The conditions of `pgn.h` hold. No one else uses the game during the call.
-#[no_mangle]
-unsafe extern "C" fn pgn_next_section(
-    game: *mut PgnBadGame,
-    piece: Bytes,
-    length: usize,
-    is_last: u32,
-) -> PgnSection {
-    match unsafe { (game.as_mut(), text_of(piece, length)) } {
-        (Some(game), Some(piece)) => crate::pgn_next_section(game, piece, is_last),
-        _ => PgnSection {
-            status: NO_MODE,
-            place: 0,
-        },
-    }
+    pgn_next_section(*game: PgnBadGame, piece[length]; is_last: u32) -> PgnSection,
+    else PgnSection { status: NO_MODE, place: 0 };
 }

@@ -44,34 +44,20 @@ impl Display for ReadFailed {
 
 impl Error for ReadFailed {}
 
-impl<R> Debug for Inlet<R> {
-    fn fmt(&self, out: &mut Formatter<'_>) -> fmt::Result {
-        out.debug_struct("Inlet").finish_non_exhaustive()
-    }
-}
-
 impl<R: Read + Seek> Rewinds for Inlet<R> {
     fn set_to(&mut self, place: u64) -> Result<(), ReadFailed> {
-        match self.reader.seek(SeekFrom::Start(place)) {
-            Ok(_) => Ok(()),
-            Err(_) => {
-                self.failures = self.failures.saturating_add(1);
-                Err(ReadFailed)
-            }
+        if self.reader.seek(SeekFrom::Start(place)).is_ok() {
+            return Ok(());
         }
+        self.failures = self.failures.saturating_add(1);
+        Err(ReadFailed)
     }
 }
 
-impl Debug for SliceSource<'_> {
-    fn fmt(&self, out: &mut Formatter<'_>) -> fmt::Result {
-        out.debug_struct("SliceSource").finish_non_exhaustive()
-    }
-}
-
-/// Shows a type by calls of its own.
+/// Shows a type, with its parameters, by calls of its own.
 macro_rules! shows {
-    ($($type:ident: $($call:ident)*;)*) => {$(
-        impl<const T: usize, const L: usize> Debug for $type<T, L> {
+    ($([$($parameters:tt)*] $type:ident<$($argument:tt),+>: $($call:ident)*;)*) => {$(
+        impl<$($parameters)*> Debug for $type<$($argument),+> {
             fn fmt(&self, out: &mut Formatter<'_>) -> fmt::Result {
                 out.debug_struct(stringify!($type))
                     $(.field(stringify!($call), &self.$call()))*
@@ -82,31 +68,26 @@ macro_rules! shows {
 }
 
 shows! {
-    Converter: place games fault is_finished;
-    Games: games;
-    Items: place games depth;
-    ArchiveItems: items games;
+    [const T: usize, const L: usize] Converter<T, L>: place games fault is_finished;
+    [const T: usize, const L: usize] Games<T, L>: games;
+    [const T: usize, const L: usize] Items<T, L>: place games depth;
+    [const T: usize, const L: usize] ArchiveItems<T, L>: items games;
+    [] LineOfPlay<'_>: position;
+    [] SliceSource<'_>:;
+    [R] Inlet<R>:;
 }
 
-/// The default is what `new` makes.
-macro_rules! is_new_by_default {
-    ($($type:ident)*) => {$(
-        impl<const T: usize, const L: usize> Default for $type<T, L> {
-            #[track_caller]
-            fn default() -> Self {
-                $type::new()
-            }
-        }
-    )*};
+impl<const T: usize, const L: usize> Default for ArchiveItems<T, L> {
+    #[track_caller]
+    fn default() -> Self {
+        ArchiveItems::new()
+    }
 }
 
-is_new_by_default!(ArchiveItems Items);
-
-impl Debug for LineOfPlay<'_> {
-    fn fmt(&self, out: &mut Formatter<'_>) -> fmt::Result {
-        out.debug_struct("LineOfPlay")
-            .field("position", self.position())
-            .finish_non_exhaustive()
+impl<const T: usize, const L: usize> Default for Items<T, L> {
+    #[track_caller]
+    fn default() -> Self {
+        Items::new()
     }
 }
 

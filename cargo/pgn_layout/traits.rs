@@ -22,26 +22,21 @@ impl<W> Debug for Outlet<W> {
     }
 }
 
-impl Debug for CurrentLine {
-    fn fmt(&self, out: &mut Formatter<'_>) -> fmt::Result {
-        out.debug_struct("CurrentLine").finish_non_exhaustive()
-    }
+/// Shows a type by its name. The default is what `new` makes.
+macro_rules! is_plain {
+    ($($type:ident)*) => {$(
+        impl Debug for $type {
+            fn fmt(&self, out: &mut Formatter<'_>) -> fmt::Result {
+                out.debug_struct(stringify!($type)).finish_non_exhaustive()
+            }
+        }
+
+        impl Default for $type {
+            fn default() -> $type {
+                $type::new()
+            }
+        }
+    )*};
 }
 
-impl Default for CurrentLine {
-    fn default() -> CurrentLine {
-        CurrentLine::new()
-    }
-}
-
-impl Debug for Layout {
-    fn fmt(&self, out: &mut Formatter<'_>) -> fmt::Result {
-        out.debug_struct("Layout").finish_non_exhaustive()
-    }
-}
-
-impl Default for Layout {
-    fn default() -> Layout {
-        Layout::new()
-    }
-}
+is_plain!(CurrentLine Layout);

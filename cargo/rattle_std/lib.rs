@@ -47,14 +47,12 @@ impl Text for String {
 }
 
 /// A `Vec`, where there may be no memory.
-pub trait Items<T> {
+pub trait Items<T: Clone> {
     fn try_push(&mut self, item: T) -> Result<(), AllocError>;
-    fn try_extend_from_slice(&mut self, items: &[T]) -> Result<(), AllocError>
-    where
-        T: Clone;
+    fn try_extend_from_slice(&mut self, items: &[T]) -> Result<(), AllocError>;
 }
 
-impl<T> Items<T> for Vec<T> {
+impl<T: Clone> Items<T> for Vec<T> {
     fn try_push(&mut self, item: T) -> Result<(), AllocError> {
         self.try_reserve(1)?;
         self.push(item);
@@ -62,10 +60,7 @@ impl<T> Items<T> for Vec<T> {
     }
 
     #[inline]
-    fn try_extend_from_slice(&mut self, items: &[T]) -> Result<(), AllocError>
-    where
-        T: Clone,
-    {
+    fn try_extend_from_slice(&mut self, items: &[T]) -> Result<(), AllocError> {
         self.try_reserve(items.len())?;
         self.extend_from_slice(items);
         Ok(())

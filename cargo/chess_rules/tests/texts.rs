@@ -3,19 +3,14 @@
 use chess_rules::{Colour, Kind, Move, Piece, Position, Promotion, Square, TextFault};
 use std::error::Error;
 
-const PIECES: [(&str, Colour, Kind); 12] = [
-    ("K", Colour::White, Kind::King),
-    ("Q", Colour::White, Kind::Queen),
-    ("R", Colour::White, Kind::Rook),
-    ("B", Colour::White, Kind::Bishop),
-    ("N", Colour::White, Kind::Knight),
-    ("P", Colour::White, Kind::Pawn),
-    ("k", Colour::Black, Kind::King),
-    ("q", Colour::Black, Kind::Queen),
-    ("r", Colour::Black, Kind::Rook),
-    ("b", Colour::Black, Kind::Bishop),
-    ("n", Colour::Black, Kind::Knight),
-    ("p", Colour::Black, Kind::Pawn),
+/// The letters of the white and of the black piece of each kind.
+const KINDS: [(&str, &str, Kind); 6] = [
+    ("K", "k", Kind::King),
+    ("Q", "q", Kind::Queen),
+    ("R", "r", Kind::Rook),
+    ("B", "b", Kind::Bishop),
+    ("N", "n", Kind::Knight),
+    ("P", "p", Kind::Pawn),
 ];
 const PROMOTIONS: [(&str, Option<Promotion>); 5] = [
     ("", None),
@@ -61,14 +56,16 @@ fn a_square_is_its_file_and_its_rank() {
 
 #[test]
 fn a_piece_is_its_letter_in_a_fen() {
-    for (text, colour, kind) in PIECES {
-        let piece = Piece { colour, kind };
-        assert_eq!(piece.to_string(), text);
-        assert_eq!(text.parse(), Ok(piece));
+    for (white, black, kind) in KINDS {
+        for (text, colour) in [(white, Colour::White), (black, Colour::Black)] {
+            let piece = Piece { colour, kind };
+            assert_eq!(piece.to_string(), text);
+            assert_eq!(text.parse(), Ok(piece));
+        }
     }
     for byte in 0..=127u8 {
         let text = char::from(byte).to_string();
-        let is_letter = PIECES.iter().any(|it| it.0 == text);
+        let is_letter = KINDS.iter().any(|it| text == it.0 || text == it.1);
         assert_eq!(text.parse::<Piece>().is_ok(), is_letter, "{text}");
     }
     for text in ["", "KK", "K ", "♔", "é"] {

@@ -123,19 +123,11 @@ impl Seek for Short {
     }
 }
 
-fn short(text: &[u8], most: usize) -> Inlet<Short> {
-    failing(text, most, usize::MAX).0
-}
-
 /// Such a source, and how many calls are left before the one that fails.
-fn failing(text: &[u8], most: usize, calls: usize) -> (Inlet<Short>, Rc<Cell<usize>>) {
-    let (text, left) = (Cursor::new(text.to_vec()), Rc::new(Cell::new(calls)));
-    let short = Short {
-        text,
-        most,
-        left: left.clone(),
-    };
-    (Inlet::new(short), left)
+fn short(text: &[u8], most: usize) -> (Inlet<Short>, Rc<Cell<usize>>) {
+    let (text, calls) = (Cursor::new(text.to_vec()), Rc::new(Cell::new(usize::MAX)));
+    let left = calls.clone();
+    (Inlet::new(Short { text, most, left }), calls)
 }
 
 fn are_skipped(text: &[u8]) -> usize {
@@ -143,7 +135,8 @@ fn are_skipped(text: &[u8]) -> usize {
     let said = String::from_utf8_lossy(text);
     assert_eq!(by_items(&mut SliceSource::new(text)), wanted, "{said}");
     for most in [1, 2, 3, 7, 4096] {
-        assert_eq!(by_items(&mut short(text, most)), wanted, "{said} by {most}");
+        let found = by_items(&mut short(text, most).0);
+        assert_eq!(found, wanted, "{said} by {most}");
     }
     wanted.0.len()
 }
@@ -166,7 +159,7 @@ fn a_bad_game_is_longer_than_a_read() {
     let words = "word ".repeat(3000);
     let bad = format!("1. e4 e9 {{{words}}} *\n\n");
     let text = format!("{bad}[White \"Ada\"]\n\n1. d4 *\n");
-    let (skips, games) = by_items(&mut short(text.as_bytes(), 1000));
+    let (skips, games) = by_items(&mut short(text.as_bytes(), 1000).0);
     assert_eq!((skips.len(), games), (1, 1));
     assert_eq!(skips[0].1, Some(bad.len() as u64));
 }
@@ -176,7 +169,7 @@ fn a_failed_call_leaves_the_items_as_they_were() {
     let text = TEXTS[0].as_bytes();
     let mut failed = 0;
     for fails_at in 0.. {
-        let (mut source, left) = failing(text, 5, usize::MAX);
+        let (mut source, left) = short(text, 5);
         let mut archive = ArchiveItems::<64, 33>::new();
         let fault = loop {
             if let Err(fault) = archive.next(&mut source) {
@@ -203,7 +196,8 @@ fn a_failed_call_leaves_the_items_as_they_were() {
 
 #[test]
 fn a_read_that_failed_is_no_game() {
-    let (mut source, left) = failing(b"1. e4 e9", 5, 0);
+    let (mut source, left) = short(b"1. e4 e9", 5);
+    left.set(0);
     let mut archive = ArchiveItems::<64, 33>::new();
     let fault = archive.next(&mut source).unwrap_err();
     assert_eq!(fault.reason, Reason::ReadFault);

@@ -18,11 +18,9 @@ thread_local! {
 
 /// The call panics with this sentence, and names a line of this file.
 fn refuses<X>(sentence: &str, call: impl FnOnce() -> X + UnwindSafe) {
-    set_hook(Box::new(|panic| {
-        SAID.with(|said| *said.borrow_mut() = panic.to_string())
-    }));
+    set_hook(Box::new(|panic| SAID.set(panic.to_string())));
     assert!(catch_unwind(call).is_err(), "no panic: {sentence}");
-    let said = SAID.with(|said| said.borrow().clone());
+    let said = SAID.take();
     assert!(said.contains(sentence), "{said}");
     assert!(said.contains("conditions.rs:"), "{said}");
 }
@@ -89,12 +87,11 @@ fn a_tag_pair_fits_on_a_line() {
         write_tag(b"A", &longest, &mut out).unwrap();
         Layout::new().tag(b"A", &longest, &mut out).unwrap();
         assert_eq!(out.into_inner().len(), 2 * 255);
-        let too_long = [front, &byte.repeat(times + 1)].concat().into_bytes();
-        assert!(!fits_tag_line(b"A", &too_long));
-        let (one, other) = (too_long.clone(), too_long);
+        let too_long: &[u8] = &[front, &byte.repeat(times + 1)].concat().into_bytes();
+        assert!(!fits_tag_line(b"A", too_long));
         refused! { "a tag pair fits on a line of 255 bytes";
-            write_tag(b"A", &one, &mut Nowhere);
-            Layout::new().tag(b"A", &other, &mut Nowhere);
+            write_tag(b"A", too_long, &mut Nowhere);
+            Layout::new().tag(b"A", too_long, &mut Nowhere);
         }
     }
 }
