@@ -47,12 +47,14 @@ impl Text for String {
 }
 
 /// A `Vec`, where there may be no memory.
-pub trait Items<T: Clone> {
+pub trait Items<T> {
     fn try_push(&mut self, item: T) -> Result<(), AllocError>;
-    fn try_extend_from_slice(&mut self, items: &[T]) -> Result<(), AllocError>;
+    fn try_extend_from_slice(&mut self, items: &[T]) -> Result<(), AllocError>
+    where
+        T: Clone;
 }
 
-impl<T: Clone> Items<T> for Vec<T> {
+impl<T> Items<T> for Vec<T> {
     fn try_push(&mut self, item: T) -> Result<(), AllocError> {
         self.try_reserve(1)?;
         self.push(item);
@@ -60,7 +62,10 @@ impl<T: Clone> Items<T> for Vec<T> {
     }
 
     #[inline]
-    fn try_extend_from_slice(&mut self, items: &[T]) -> Result<(), AllocError> {
+    fn try_extend_from_slice(&mut self, items: &[T]) -> Result<(), AllocError>
+    where
+        T: Clone,
+    {
         self.try_reserve(items.len())?;
         self.extend_from_slice(items);
         Ok(())

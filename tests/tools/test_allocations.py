@@ -26,15 +26,12 @@ class AllocationsTest(Folder, unittest.TestCase):
         need("cc")
         super().setUp()
 
-    def test_program(self):
+    def test_all_calls_of_the_program_and_one(self):
         need_proved_program()
         lines = output_of(run(["bin/try_allocations"])).decode().splitlines()
         self.assertEqual(len(lines), 16)
         for line in lines:
             self.assertRegex(line, r"^.*: \d+ refusals, [1-9]\d* reported, 0 wrong$")
-
-    def test_one_call(self):
-        need_proved_program()
         out = output_of(run(["bin/try_allocations", "check"], input=b"* *"), err=None)
         self.assertRegex(out, rb"^check: \d+ refusals, \d+ reported, 0 wrong\n$")
 

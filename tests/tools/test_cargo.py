@@ -1,5 +1,6 @@
 """Tests of bin/to_cargo, and of what cargo builds from it."""
 import glob
+import itertools
 import os
 import re
 import shutil
@@ -11,8 +12,9 @@ import unittest
 
 import programs
 from documents import blocks_of, code_of, lines_of, printed_by, table
-from programs import ROOT, Folder, need_cargo, run, text_of, write_file
+from programs import ROOT, Folder, need_cargo, output_of, run, text_of, write_file
 
+TO_CARGO = programs.load("bin/to_cargo")
 # One folder for all runs, so that only the first one builds everything.
 OUT = os.path.join(ROOT, "cargo/out")
 # What follows a sample that is the function NAME: it converts a game.
@@ -56,6 +58,9 @@ fn main() {
     assert_eq!(fault.to_string(), "byte 12: input cannot be read");
 }
 """
+BARE_PACKAGE = ('[package]\nname = "bare"\nversion = "0.1.0"\nedition = "2021"\n'
+                '[lib]\ncrate-type = ["staticlib"]\n[profile.dev]\npanic = "abort"\n'
+                '[dependencies]\n')
 # A library with a panic handler of its own, so that it has to have nothing of std.
 BARE = """#![no_std]
 use chess_rules::{Move, Position, TextFault};
@@ -282,8 +287,7 @@ class Built(CargoTest):
         for words in ([word], ["doc", "--no-deps"]):
             self.passed(*words, "--no-default-features", *packages(WITHOUT_STD))
         for words in ([], *(["--target=" + it] for it in self.targets_without_std())):
-            ran = self.bare("default-features = false", *words)
-            self.assertEqual((ran.returncode, ran.stderr), (0, b""), words)
+            output_of(self.bare("default-features = false", *words))
         # The same with std is refused.
         ran = self.bare("default-features = true")
         self.assertIn("error[E0152]: found duplicate lang item `panic_impl`", ran.stderr.decode())
@@ -293,13 +297,10 @@ class Built(CargoTest):
         folder = programs.new_folder(self)
         os.mkdir(folder + "/src")
         shutil.copytree(OUT + "/.cargo", folder + "/.cargo")
-        lines = ["[package]", 'name = "bare"', 'version = "0.1.0"', 'edition = "2021"',
-                 "[lib]", 'crate-type = ["staticlib"]',
-                 "[profile.dev]", 'panic = "abort"', "[dependencies]"]
-        lines += ['%s = { path = "%s/crates/%s", %s }' % (it, OUT, it, features)
-                  for it in WITHOUT_STD]
-        for name, text in (("Cargo.toml", "\n".join(lines) + "\n"), ("src/lib.rs", BARE)):
-            write_file("%s/%s" % (folder, name), text)
+        needs = "".join('%s = { path = "%s/crates/%s", %s }\n' % (it, OUT, it, features)
+                        for it in WITHOUT_STD)
+        write_file(folder + "/Cargo.toml", BARE_PACKAGE + needs)
+        write_file(folder + "/src/lib.rs", BARE)
         return cargo("build", "--quiet", *words, folder=folder, target="bare")
 
     def targets_without_std(self):
@@ -311,9 +312,7 @@ class Built(CargoTest):
 
     def test_a_call_needs_room_for_its_pairs(self):
         self.build_libraries()
-        ran = self.run_sample(SAMPLE_OF_ROOM)
-        self.assertEqual((ran.returncode, ran.stderr), (0, b""))
-        said = ran.stdout.decode()
+        said = output_of(self.run_sample(SAMPLE_OF_ROOM)).decode()
         lines = [str(number) for number, line in enumerate(SAMPLE_OF_ROOM.split("\n"), 1)
                  if re.search(r"with_room_for\(.*;$", line) and "played =" not in line]
         self.assertEqual(re.findall(r"sample\.rs:(\d+):", said), lines)
@@ -353,9 +352,8 @@ class Built(CargoTest):
     def test_the_program_converts_each_vector(self):
         program = built()
         ran = run(["bin/pgn_conform", "--counts", program + " check", program, "export"])
-        self.assertEqual(ran.returncode, 0, ran.stdout)
         row = b"| all | %d | %d | 0 | 0 | 0 |\n" % (2 * (len(programs.vectors()),))
-        self.assertIn(row, ran.stdout)
+        self.assertIn(row, output_of(ran, err=None))
 
     def test_the_program_does_what_the_proved_one_does(self):
         proved, program = programs.need_proved_program(), built()
@@ -424,8 +422,7 @@ class Built(CargoTest):
             write_file("%s/mine/%s" % (folder, name), "\n".join(block) + "\n")
         call = {"folder": folder + "/mine", "target": "dependent"}
         ran = cargo("run", "--quiet", "--", ROOT + "/examples/two-games.pgn", **call)
-        self.assertEqual((ran.returncode, ran.stderr), (0, b""))
-        plies = ran.stdout.decode().splitlines()
+        plies = output_of(ran).decode().splitlines()
         listed = run([built(), "list", "examples/two-games.pgn"]).stdout.decode().splitlines()
         self.assertEqual(plies, ["%s plies: %s" % tuple(it.split("\t")[-2:]) for it in listed])
         bad = ROOT + "/examples/no-such-move.pgn"
@@ -435,8 +432,7 @@ class Built(CargoTest):
 
     def test_the_program_passes_the_tests_of_devices(self):
         env = dict(os.environ, PGN_TOOL=built())
-        ran = run(["bin/test_tools", *DEVICES], env=env, timeout=500)
-        self.assertEqual(ran.returncode, 0, ran.stdout.decode())
+        output_of(run(["bin/test_tools", *DEVICES], env=env, timeout=500), err=None)
 
 
 class Memory(unittest.TestCase):
@@ -452,9 +448,8 @@ class Memory(unittest.TestCase):
         for words, asks in ((["export", "GAMES"], 2), (["check"], 1), (["split", "FOLDER"], 4)):
             call = tries.Call(library, folder, words, tries.GAMES)
             right, whole, _ = call.run()
-            met, number, reported = True, 0, 0
-            while met:
-                number += 1
+            reported = 0
+            for number in itertools.count(1):
                 answer, files, met = call.run(number, number)
                 if answer[0] == -signal.SIGABRT:
                     self.assertEqual(answer[1], b"", (words, number))
@@ -464,6 +459,8 @@ class Memory(unittest.TestCase):
                     reported += 1
                 else:
                     self.assertEqual((answer, files), (right, whole), (words, number))
+                if not met:
+                    break
             self.assertGreaterEqual(reported, asks, words)
 
 
@@ -479,9 +476,8 @@ class Release(Folder, CargoTest):
         programs.need("git")
         run(["git", "init", "--quiet", self.folder])
         out, parts = self.folder + "/out", ["--part", "cargo", "--part", "python"]
-        ran = run([sys.executable, "bin/dist", *parts, out], timeout=500)
-        self.assertEqual(ran.returncode, 0, ran.stderr.decode())
-        version = programs.load("bin/to_cargo").version()
+        said = output_of(run([sys.executable, "bin/dist", *parts, out], timeout=500), err=None)
+        version = TO_CARGO.version()
         workspace = "%s/gillspoon-%s" % (out, version)
         crates = os.listdir(workspace + "/crates")
         packages = ["%s-%s.crate" % (it, version) for it in crates]
@@ -496,10 +492,10 @@ class Release(Folder, CargoTest):
         # nothing of this machine
         self.assertEqual(sorted(os.listdir(workspace)),
                          ["CHANGELOG.md", "Cargo.toml", "LICENSE-MIT", "README.md", "crates"])
-        self.assertIn("gillspoon-%s: " % version, ran.stdout.decode())
+        self.assertIn("gillspoon-%s: " % version, said.decode())
 
     def test_the_page_of_changes_has_the_version(self):
-        version = programs.load("bin/to_cargo").version()
+        version = TO_CARGO.version()
         heads = re.findall(r"^## (\S+?),? ", text_of("CHANGELOG.md"), re.MULTILINE)
         self.assertEqual(heads[0], version)
         changes = programs.load("bin/dist").check_changes
@@ -507,15 +503,11 @@ class Release(Folder, CargoTest):
             self.assertRaises(SystemExit, changes, text, version)
         changes("# Changes\n\n## %s, later\n\n## 0.0.9\n" % version, version)
 
-    def test_clippy_has_no_warning(self):
-        """But for the exceptions."""
-        programs.need("cargo-clippy")
-        write_out()
-        self.passed("clippy", "--workspace", "--all-targets")
-
-    def test_the_documentation_has_no_warning(self):
+    def test_clippy_and_the_documentation_have_no_warning(self):
         write_out()
         self.passed("doc", "--workspace", "--no-deps", "--lib")
+        programs.need("cargo-clippy")
+        self.passed("clippy", "--workspace", "--all-targets")
 
 
 def shown(ran):
@@ -532,14 +524,13 @@ class Workspace(unittest.TestCase):
 
     def pairs(self, crates=(*LIBRARIES, *RENAMED)):
         """Each file that is written from one of ours, and that one, which its first line names."""
-        copies = programs.load("bin/to_cargo").COPIED
         for crate in crates:
             folder = "%s/crates/%s/src/" % (self.out, crate)
             for path in glob.glob(folder + "**/*.rs", recursive=True):
                 first, text = text_of(path).split("\n", 1)
                 if first.startswith("// From "):
                     name = path[len(folder) : -3]
-                    other, copied = copies.get(crate, (None, ()))
+                    other, copied = TO_CARGO.COPIED.get(crate, (None, ()))
                     source = "crates/%s/src/%s.rt" % (other if name in copied else crate, name)
                     self.assertTrue(first.startswith("// From %s, without its " % source), first)
                     yield path, text.split("\n"), text_of(source)
@@ -560,34 +551,33 @@ class Workspace(unittest.TestCase):
             count += 1
         self.assertGreater(count, 60)
 
-    def test_no_function_goes(self):
+    def test_no_function_goes_and_no_contract_is_left(self):
         head = re.compile(r"^ *(?:pub(?:\(crate\))? )?(?:const )?fn \w+", re.MULTILINE)
         count = 0
         for path, lines, source in self.pairs():
             source = source.replace('pub extern "C" fn', "pub fn")
             source = source.replace("pub(crate) fn add_one(", "pub fn add_one(")
-            self.assertEqual(head.findall("\n".join(lines)), head.findall(source), path)
+            text = "\n".join(lines)
+            self.assertEqual(head.findall(text), head.findall(source), path)
+            self.assertNotRegex(text, r"(?m)^\s*(?:ghost|requires|ensures)\b", path)
             count += len(head.findall(source))
         self.assertGreater(count, 400)
 
-    def test_no_contract_is_left(self):
-        for path, lines, _ in self.pairs():
-            self.assertNotRegex("\n".join(lines), r"(?m)^\s*(?:ghost|requires|ensures)\b", path)
-
     def test_each_exception_of_clippy_has_its_reason(self):
-        lints = text_of(self.out + "/Cargo.toml").split("[workspace.lints.clippy]\n")[1]
+        text = text_of(self.out + "/Cargo.toml")
+        lints = text.split("[workspace.lints.clippy]\n")[1]
         for line in lints.split("\n\n")[0].split("\n"):
             self.assertRegex(line, r'^\w+ = "allow" # .')
+        # With a warning the tests of what Cargo builds fail. bin/unused does not look for it.
+        self.assertNotIn("dead_code", text)
 
-    def test_dead_code_is_a_warning(self):
-        """With which the tests of what Cargo builds fail. bin/unused does not look for it."""
-        self.assertNotIn("dead_code", text_of(self.out + "/Cargo.toml"))
-
-    def test_what_is_not_proved_says_so(self):
+    def test_what_is_not_proved_says_so_and_the_header_is_the_same(self):
         for file in ("rattle_std/src/lib.rs", "pgn_c/src/ffi.rs", "pgn_c/build.rs"):
             first = text_of(self.out + "/crates/" + file).split("\n", 1)[0]
             self.assertIn("**Not proved.**", first)
         self.assertLess(text_of(self.out + "/crates/rattle_std/src/lib.rs").count("\n"), 110)
+        header = "/crates/pgn_c/pgn.h"
+        self.assertEqual(text_of(self.out + header), text_of(ROOT + header))
         self.assertIn("**Nothing in this folder is proved", text_of(self.out + "/README.md"))
 
     def test_one_file_has_unsafe_code(self):
@@ -599,10 +589,6 @@ class Workspace(unittest.TestCase):
             is_face = "/pgn_c/" in file
             self.assertEqual("[lints]\nworkspace = true\n" in text_of(file), not is_face, file)
             self.assertEqual('unsafe_code = "deny"' in text_of(file), is_face, file)
-
-    def test_the_header_is_the_same(self):
-        header = "/crates/pgn_c/pgn.h"
-        self.assertEqual(text_of(self.out + header), text_of(ROOT + header))
 
     def test_each_line_that_is_another_has_its_row(self):
         """In the README of the workspace, with the reason."""
@@ -651,12 +637,15 @@ class Written(Folder, unittest.TestCase):
         self.assertIn("was not written by this script", said)
         self.assertEqual(os.listdir(out), ["Cargo.toml"])
 
-    def test_a_second_run_writes_nothing_anew(self):
+    def test_a_second_run_writes_nothing_anew_and_removes_what_is_gone(self):
         out, _, _ = self.write()
         before = {it: os.stat(it).st_mtime_ns for it in glob.glob(out + "/**", recursive=True)}
         self.assertEqual(self.write()[1], 0)
         after = {it: os.stat(it).st_mtime_ns for it in glob.glob(out + "/**", recursive=True)}
         self.assertEqual(before, after)
+        extra = self.put("out/crates/pgn_game/src/extra.rs", "")
+        self.write()
+        self.assertFalse(os.path.exists(extra))
 
     def test_another_source_of_crates_begins_anew(self):
         """Cargo.lock has the versions of one source of crates, which another may not have."""
@@ -672,12 +661,6 @@ class Written(Folder, unittest.TestCase):
             self.write()
             self.assertEqual(os.path.exists(config), is_offline)
             self.assertEqual(os.path.exists(lock), is_same)
-
-    def test_a_file_that_is_gone_is_removed(self):
-        self.write()
-        extra = self.put("out/crates/pgn_game/src/extra.rs", "")
-        self.write()
-        self.assertFalse(os.path.exists(extra))
 
     def test_source_that_is_not_understood_stops_it(self):
         """In a copy of all that bin/to_cargo reads, with a change in one file."""
@@ -699,20 +682,19 @@ class Written(Folder, unittest.TestCase):
 
 def without_added(path, lines, source):
     """The lines of a file without those that bin/to_cargo adds, each of which has to be there."""
-    script = programs.load("bin/to_cargo")
     file = "crates/%s.rt" % path.split("/crates/")[1][:-3]
     joined = re.sub(r"\n *// (?!Cargo: )", " ", source)
     conditions = re.findall(r'// Cargo: (\w+)!\((.*), "(.*)"\)', joined)
-    added = [line for words in conditions for line in script.assertion(*words)]
-    for _, line, others in script.other_lines(file):
-        added += [script.SOURCE_HAS % line, *others]
+    added = [line for words in conditions for line in TO_CARGO.assertion(*words)]
+    for _, line, others in TO_CARGO.other_lines(file):
+        added += [TO_CARGO.SOURCE_HAS % line, *others]
     for mark, modules in (
             ("// Written for Cargo, not proved.", ("traits", "text", "played_moves", "ffi")),
             ("#[cfg(test)]", ("conditions", "own_pair"))):
         for module in ("mod %s;" % it for it in modules):
             added += [mark, module] * (module in lines and module not in source.split("\n"))
     if path.endswith("/lib.rs"):
-        more, lines = added_to_root(file.split("/")[1], lines, script)
+        more, lines = added_to_root(file.split("/")[1], lines)
         added += more
     if file == "crates/pgn_game/src/reason.rt":
         added += ["#[non_exhaustive]"]
@@ -729,24 +711,25 @@ def without_added(path, lines, source):
     return left
 
 
-def added_to_root(crate, lines, script):
+def added_to_root(crate, lines):
     """The lines that bin/to_cargo adds to the first file of a crate, and its others."""
     added = ["#[doc(hidden)]"] * ("pub mod laws;" in lines)
-    if crate in script.COPIED:
+    if crate in TO_CARGO.COPIED:
         added += ["// What reads and writes a FEN is also in chess_text."]
-        added += ["mod %s;" % it for it in script.COPIED[crate][1]]
+        added += ["mod %s;" % it for it in TO_CARGO.COPIED[crate][1]]
     if crate == "chess_rules":
         added += ["pub use text::TextFault;"]
     if "mod played_moves;" in lines:
         added += ["pub use played_moves::PlayedMoves;"]
-    if crate in script.WITHOUT_STD:
-        added += [script.NO_STD, *script.OTHER_LINKS.get(crate, [])]
+    if crate in TO_CARGO.WITHOUT_STD:
+        added += [TO_CARGO.NO_STD, *TO_CARGO.OTHER_LINKS.get(crate, [])]
         added += ['#[cfg(feature = "std")]'] * (2 * (crate == "pgn_layout"))
         # The page of cargo/CRATE/lib.md ends the documentation of the crate.
-        page = ["", *text_of("cargo/%s/lib.md" % crate).splitlines()]
+        page, own = TO_CARGO.first_page(crate), text_of("cargo/%s/lib.md" % crate)
+        assert "\n".join(it[4:] for it in page).startswith("\n" + own.rstrip()), crate
         end = max(at for at, it in enumerate(lines) if it.startswith("//!")) + 1
         begin = end - len(page)
-        assert lines[begin:end] == [("//! " + it).rstrip() for it in page], crate
+        assert lines[begin:end] == page and "//! # Without std" in page, crate
         lines = lines[:begin] + lines[end:]
     return added, lines
 

@@ -18,7 +18,6 @@ from programs import ROOT, bytes_of, on_a_terminal, output_of, run, text_of
 
 MARK = re.compile(r"<!-- *not run\b:? *(.*?) *-->")
 LINK = re.compile(r"\[(?:[^\]`]|`[^`]*`)*\]\(([^)\s]+)\)")
-MOST_LINES = {"README.md": 200}
 BUILT = ["%s/%s" % (ROOT, it) for it in (
     "crates/pgn_tool/out/pgn_tool", "crates/pgn_c/out/libpgn_c.a", "crates/pgn_c/out/libpgn_c.so",
     "cargo/out/pgn_tool", "cargo/out/libpgn_c.a", "cargo/out/libpgn_c.so")]
@@ -66,10 +65,9 @@ class Home:
         skipped = shutil.ignore_patterns(".git", "out", "__pycache__")
         shutil.copytree(ROOT, self.copy, ignore=skipped, symlinks=True)
         shutil.copy(self.copy + "/examples/two-games.pgn", self.copy + "/games.pgn")
-        if not programs.printed_by_build():
-            programs.not_tried("the program cannot be built")
-        if not programs.printed_by_build("--library"):
-            programs.not_tried("the library cannot be built")
+        for options, what in (([], "program"), (["--library"], "library")):
+            if not programs.printed_by_build(*options):
+                programs.not_tried("the %s cannot be built" % what)
         for file in filter(os.path.exists, BUILT):
             to = os.path.join(self.copy, os.path.relpath(file, ROOT))
             os.makedirs(os.path.dirname(to), exist_ok=True)
@@ -103,17 +101,15 @@ class Console(unittest.TestCase):
         if any("bin/try_allocations" in it for it in lines):
             programs.need_proved_program()
         shown = home.shown(lines)
-        if not agrees(lines, shown):
-            self.fail("\n" + "\n".join(difflib.unified_diff(
-                lines, shown.split("\n")[:-1], "the document", "the terminal", lineterm="")))
+        differences = difflib.unified_diff(lines, shown.split("\n")[:-1], "the document",
+                                           "the terminal", lineterm="")
+        self.assertTrue(agrees(lines, shown), "\n" + "\n".join(differences))
 
-    def test_there_are_blocks(self):
+    def test_marks(self):
+        """Each has a reason, and is on the line before a console block, of which there are some."""
         found = [it for document in ("README.md", "docs/TOOLS.md")
                  for it in blocks_of(lines_of(document)) if is_console(it[2])]
         self.assertGreater(len(found), 5)
-
-    def test_marks(self):
-        """Each has a reason, and is on the line before a console block."""
         for document in documents():
             lines = lines_of(document)
             starts = {number for number, _, inner in blocks_of(lines) if is_console(inner)}
@@ -146,25 +142,20 @@ class Itself(unittest.TestCase):
             self.assertFalse(agrees(lines, shown), shown)
         self.assertFalse(agrees(["1. e4 e5 2. d4... *"], "1. e4 e5 2. d4 exd4 *\n"))
 
-    def shown(self, *lines):
-        return on_a_terminal(["sh", "-c", script_of(lines)])
-
     def test_what_is_shown(self):
         for lines in (["$ echo a; echo b >&2", "a", "b", "$ false", "$ echo $?", "1"],
                       ["$ echo a \\", "    b", "a b", "$ cd /", "$ pwd", "/"],
                       ["$ printf 'a\\r\\n'", "a\r"], ["$ test -t 1 && test -t 2 && echo yes", "yes"],
                       ["$ echo $?", "0", "$ (exit 7)", "$ echo $?", "7"],
                       ["$ '%s' \"'\" 2>/dev/null; echo $?", "127"]):
-            self.assertEqual(self.shown(*lines).split("\n"), [*lines, ""])
+            shown = on_a_terminal(["sh", "-c", script_of(lines)])
+            self.assertEqual(shown.split("\n"), [*lines, ""])
+        # prose is not run
+        self.assertEqual(on_a_terminal(["sh", "-c", script_of(["echo a", "b"])]), "")
 
-    def test_prose_is_not_run(self):
-        self.assertEqual(self.shown("echo a", "b"), "")
-
-    def test_anchors(self):
+    def test_anchors_and_links(self):
         lines = ["# A `b_c`, d!", "## [E-f](g) / h", "```", "# i", "```", "## A b_c d", "##### É. 1"]
         self.assertEqual(anchors_of(lines), {"a-b_c-d", "e-f--h", "a-b_c-d-1", "é-1"})
-
-    def test_links(self):
         lines = ["[a](b) and [`[c](d)`](e#f)", "`[g](h)` [i", "j](k)", "```", "[l](m)", "```", "(n)"]
         self.assertEqual(links_of(lines), ["b", "e#f", "k"])
 
@@ -251,28 +242,22 @@ class Names(unittest.TestCase):
     def test_crates(self):
         rows = table("docs/ARCHITECTURE.md", "Crate", "What it does", "Uses")
         self.assertEqual({code_of(it[0])[0]: code_of(it[2]) for it in rows}, USES)
-
-    def test_a_crate_that_uses_the_library(self):
+        # those of a crate that uses the library
         lines = [it for _, _, inner in blocks_of(lines_of("docs/LIBRARY.md")) for it in inner]
         for name in ("chess_rules", "chess_text", "pgn_layout", "pgn_lexer", "pgn_game"):
             self.assertIn(" ".join([name + ":", *USES[name]]), lines)
 
     def test_the_first_line_of_a_file_says_what_it_has(self):
-        """ARCHITECTURE lists no files for that reason."""
-        paths = glob.glob("crates/*/src/**/*.rt", root_dir=ROOT, recursive=True)
-        self.assertGreater(len(paths), 100)
-        for path in paths:
-            with self.subTest(path):
-                self.assertRegex(lines_of(path)[0], r"^//!? [A-Z]\w*\W+\w")
-
-    def test_a_file_of_specs_is_a_definition_or_bookkeeping(self):
-        paths = glob.glob(ROOT + "/crates/*/specs/**/*.antt", recursive=True)
-        self.assertGreater(len(paths), 50)
-        for path in paths:
-            first = lines_of(path)[0]
-            if os.path.basename(path) != "Lib.antt":
-                with self.subTest(os.path.relpath(path, ROOT)):
-                    self.assertRegex(first, r"^-- \*\*(Definition|Bookkeeping)\*\*")
+        """ARCHITECTURE lists no files for that reason. Specs are definitions or bookkeeping."""
+        for files, least, form in (
+                ("crates/*/src/**/*.rt", 100, r"^//!? [A-Z]\w*\W+\w"),
+                ("crates/*/specs/**/*.antt", 50, r"^-- \*\*(Definition|Bookkeeping)\*\*")):
+            paths = glob.glob(files, root_dir=ROOT, recursive=True)
+            self.assertGreater(len(paths), least)
+            for path in paths:
+                if os.path.basename(path) != "Lib.antt":
+                    with self.subTest(path):
+                        self.assertRegex(lines_of(path)[0], form)
 
 
 class Way(unittest.TestCase):
@@ -316,16 +301,11 @@ class Way(unittest.TestCase):
 
 
 class Written(unittest.TestCase):
-    """What a script writes is what its sources give."""
-
-    def test_each(self):
+    def test_what_a_script_writes_is_what_its_sources_give(self):
         for script in ("bin/write_tables", "bin/write_vectors"):
             with self.subTest(script):
                 output_of(run([script, "--check"]))
 
-
-class Length(unittest.TestCase):
-    def test_lines(self):
-        for document, most in MOST_LINES.items():
-            self.assertLessEqual(len(lines_of(document)) - 1, most, "lines of " + document)
+    def test_the_first_page_is_short(self):
+        self.assertLessEqual(len(lines_of("README.md")) - 1, 200)
 

@@ -24,16 +24,10 @@ FILES = [
 PAGES = ("pgn_tool", "gillspoon")
 
 
-def files(folder):
-    """The files and links below a folder."""
-    return sorted(os.path.relpath(os.path.join(at, it), folder) for at, _,
-                  names in os.walk(folder) for it in names)
-
-
-def folders(folder):
-    """The folders below a folder."""
-    return sorted(os.path.relpath(os.path.join(at, it), folder) for at, names, _ in os.walk(folder)
-                  for it in names)
+def below(folder, are_folders=False):
+    """The files and links below a folder, or the folders."""
+    return sorted(os.path.relpath(os.path.join(at, it), folder) for at, *names in os.walk(folder)
+                  for it in names[0 if are_folders else 1])
 
 
 class Small(unittest.TestCase):
@@ -53,38 +47,38 @@ class Small(unittest.TestCase):
         self.assertTrue(status == 0 or out == "")
         return told
 
-    def is_built(self):
-        return self.here.call("--built", script="bin/build_program").returncode == 0
+    def program(self):
+        """What the installed program says."""
+        return run([self.prefix + "/bin/pgn_tool", "x"]).stdout
+
+    def check_not_built(self):
+        self.assertNotEqual(self.here.call("--built", script="bin/build_program").returncode, 0)
+
+    def check_not_installed(self):
+        self.assertFalse(os.path.exists(self.prefix))
 
     def test_everything_in_place(self):
         for _ in range(2):
             status, out, told = self.call(self.prefix)
             self.assertEqual(status, 0, told)
-            self.assertEqual(files(self.prefix), FILES)
+            self.assertEqual(below(self.prefix), FILES)
             listed = text_of(self.prefix + "/" + LIST).splitlines()
             self.assertEqual(sorted(listed), FILES)
             self.assertEqual(out.splitlines(), [self.prefix + "/" + it for it in listed])
-        self.assertEqual(run([self.prefix + "/bin/pgn_tool", "x"]).stdout,
-                         b"cargo built one, called with x\n")
+        self.assertEqual(self.program(), b"cargo built one, called with x\n")
 
-    def test_what_is_installed_is_said(self):
-        for options, first, kind in (
+    def test_what_is_installed_is_said_and_the_library_is_built_as_the_program(self):
+        by_cargo = (b"cargo", "cargo built static", "cargo built shared", "-lpthread")
+        for options, first, kind, (program, static, shared, needs) in (
                 ([], "Cargo builds it, which takes about half a minute",
-                 "built by Cargo from the proved sources; not proved itself"),
+                 "built by Cargo from the proved sources; not proved itself\n", by_cargo),
                 (["--proved"], "rt proves and builds it, which takes 12 to 25 minutes",
-                 "proved and built by rt")):
+                 "proved and built by rt\n", (b"rt", "rt built static", "cc built shared", "")),
+                (["--cargo"], "", "built by Cargo", by_cargo)):
             told = self.said(*options, self.prefix)
             self.assertIn(first, told)
-            self.assertRegex(told, "is installed under %s: %s\n" % (self.prefix, kind))
-            ran = run([self.prefix + "/bin/pgn_tool", "x"])
-            self.assertEqual(ran.stdout.split()[0], b"rt" if options else b"cargo")
-
-    def test_the_library_is_built_as_the_program(self):
-        for options, static, shared, needs in (
-                ([], "cargo built static", "cargo built shared", "-lpthread"),
-                (["--proved"], "rt built static", "cc built shared", ""),
-                (["--cargo"], "cargo built static", "cargo built shared", "-lpthread")):
-            told = self.said(*options, self.prefix)
+            self.assertRegex(told, "is installed under %s: %s" % (self.prefix, kind))
+            self.assertEqual(self.program().split()[0], program)
             built = [text_of(self.prefix + "/lib/libpgn_c" + it).strip() for it in (".a", ".so")]
             self.assertEqual(built, [static, shared], options)
             self.assertEqual(os.readlink(self.prefix + "/lib/libpgn_c.so"), "libpgn_c.so.1.2")
@@ -116,7 +110,7 @@ class Small(unittest.TestCase):
         self.here.write("crates/pgn_c/src/lib.rt", "broken")
         for options in ([], ["--proved"]):
             self.assertIn("the library was not built", self.said(*options, self.prefix, status=127))
-            self.assertFalse(os.path.exists(self.prefix))
+            self.check_not_installed()
 
     def test_the_proved_library_needs_a_c_compiler(self):
         os.unlink(self.here.root + "/path/cc")
@@ -137,47 +131,44 @@ class Small(unittest.TestCase):
             self.assertTrue(ran.stderr.endswith(b": run bin/install again\n"), ran.stderr)
 
     def test_package(self):
-        env = {"DESTDIR": self.here.root + "/package"}
+        package = self.here.root + "/package"
+        env = {"DESTDIR": package}
         told = self.said("/usr", env=env)
-        self.assertIn("prefix=/usr\n", text_of(env["DESTDIR"] + "/usr/lib/pkgconfig/pgn_c.pc"))
-        self.assertEqual(files(self.here.root + "/package/usr"), FILES)
+        self.assertIn("prefix=/usr\n", text_of(package + "/usr/lib/pkgconfig/pgn_c.pc"))
+        self.assertEqual(below(package + "/usr"), FILES)
         # where the package goes, no shell looks
         self.assertNotIn("completes", told)
         self.assertEqual(self.said("/usr", script=UNINSTALL, env=env), "")
-        self.assertEqual(files(self.here.root + "/package"), [])
-        self.assertEqual(folders(self.here.root + "/package"), ["usr"])
+        self.assertEqual((below(package), below(package, True)), ([], ["usr"]))
 
     def test_uninstall_removes_exactly_what_was_installed(self):
         own = ["bin/mine", "share/man/man1/mine.1", "share/pgn_tool/mine"]
         for name in own:
             self.here.write(os.path.join(self.prefix, name), "mine")
         self.call(self.prefix)
-        self.assertEqual(files(self.prefix), sorted(FILES + own))
+        self.assertEqual(below(self.prefix), sorted(FILES + own))
         status, out, told = self.call(self.prefix, script=UNINSTALL)
         self.assertEqual((status, told), (0, ""))
         self.assertEqual(sorted(out.splitlines()), [self.prefix + "/" + it for it in FILES])
-        self.assertEqual(files(self.prefix), own)
-        self.assertEqual(folders(self.prefix),
+        self.assertEqual(below(self.prefix), own)
+        self.assertEqual(below(self.prefix, True),
                          ["bin", "share", "share/man", "share/man/man1", "share/pgn_tool"])
         self.assertIn("so bin/install put nothing there",
                       self.said(self.prefix, script=UNINSTALL, status=1))
 
-    def test_uninstall_stays_below_the_prefix(self):
-        self.here.write("other", "mine")
+    def test_the_list_of_an_older_installation(self):
+        """A file in it goes, and one that is not below the prefix stays."""
         self.call(self.prefix)
+        for name in ("share/pgn_tool/old", "share/pgn_tool/mine", "../other"):
+            self.here.write(os.path.join(self.prefix, name), "text")
+        self.here.write(self.prefix + "/" + LIST, "share/pgn_tool/old\n", "a")
+        self.assertEqual(self.call(self.prefix)[0], 0)
+        self.assertEqual(below(self.prefix), sorted(FILES + ["share/pgn_tool/mine"]))
         self.here.write(self.prefix + "/" + LIST, "../other\n", "a")
         status, _, told = self.call(self.prefix, script=UNINSTALL)
         self.assertEqual(status, 1)
         self.assertIn("names ../other, which bin/install does not write", told)
         self.assertTrue(os.path.exists(self.here.root + "/other"))
-
-    def test_a_file_of_an_older_installation_goes(self):
-        self.call(self.prefix)
-        for name in ("share/pgn_tool/old", "share/pgn_tool/mine"):
-            self.here.write(os.path.join(self.prefix, name), "text")
-        self.here.write(self.prefix + "/" + LIST, "share/pgn_tool/old\n", "a")
-        self.assertEqual(self.call(self.prefix)[0], 0)
-        self.assertEqual(files(self.prefix), sorted(FILES + ["share/pgn_tool/mine"]))
 
     def test_a_folder_that_cannot_be_written_is_refused_before_any_build(self):
         self.here.write("file", "text")
@@ -188,7 +179,7 @@ class Small(unittest.TestCase):
             self.assertRegex(told, "%s is not a folder that you can write to\n" % at)
             self.assertIn('bin/install "$HOME/.local"', told)
             self.assertIn('or as root: bin/install "%s"\n' % prefix, told)
-            self.assertFalse(self.is_built())
+            self.check_not_built()
         self.assertIn('bin/install --cargo --deps "$HOME/.local"',
                       self.call("--cargo", "--deps", "/dev/null/x")[2])
 
@@ -206,21 +197,19 @@ class Small(unittest.TestCase):
         ran = run(words, env={"PATH": self.here.root + "/path", "HOME": self.here.root})
         self.assertEqual((ran.returncode, ran.stdout), (1, b""))
         self.assertIn(b"is not a folder that you can write to", ran.stderr)
-        self.assertFalse(self.is_built())
+        self.check_not_built()
 
     def test_a_build_that_fails(self):
         self.here.write("crates/pgn_tool/src/main.rt", "broken")
         self.assertIn("the program was not built", self.said(self.prefix, status=127))
-        self.assertFalse(os.path.exists(self.prefix))
+        self.check_not_installed()
 
     def test_neither_cargo_nor_rt(self):
-        here = Repository(self, ())
-        ran = here.call(self.prefix, script=INSTALL)
-        self.assertEqual((ran.returncode, ran.stdout), (127, b""))
-        self.assertIn(b"cargo is not on the PATH", ran.stderr)
-        said = 'on Debian, as root: bin/install --deps "%s"\n' % self.prefix
-        self.assertIn(said, ran.stderr.decode())
-        self.assertFalse(os.path.exists(self.prefix))
+        status, out, told = Repository(self, ()).told(self.prefix, script=INSTALL)
+        self.assertEqual((status, out), (127, ""))
+        self.assertIn("cargo is not on the PATH", told)
+        self.assertIn('on Debian, as root: bin/install --deps "%s"\n' % self.prefix, told)
+        self.check_not_installed()
 
     def test_an_old_cargo(self):
         env = {"CARGO_VERSION": "1.65.0", "RUSTC_VERSION": "1.63.0"}
@@ -236,8 +225,7 @@ class Small(unittest.TestCase):
         self.here.command("apt-get", "#!/bin/sh\n[ $1 = update ] && exit\n"
                           "cp %s/cargo-of-debian %s/path/cargo\nchmod 755 %s/path/cargo\n"
                           % ((self.here.root,) * 3))
-        told = self.said("--deps", self.prefix)
-        self.assertIn("built by Cargo", told)
+        self.assertIn("built by Cargo", self.said("--deps", self.prefix))
 
     def test_advice(self):
         _, _, told = self.call(self.prefix)

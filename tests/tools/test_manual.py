@@ -4,7 +4,6 @@ import glob
 import os
 import pty
 import re
-import shutil
 import subprocess
 import unittest
 
@@ -12,12 +11,12 @@ import programs
 import test_library
 from programs import ROOT, Folder, output_of, run, text_of, write_file
 
-PAGES = ROOT + "/share/man/man1/"
-PAGE = PAGES + "pgn_tool.1"
-LIBRARY_PAGE = ROOT + "/share/man/man3/pgn_c.3"
-COMMAND_PAGE = PAGES + "gillspoon.1"
-COMMANDS = ("pgn_tool", "gillspoon")
+PAGE, COMMAND_PAGE, LIBRARY_PAGE = (ROOT + "/share/man/man%s" % it for it in (
+    "1/pgn_tool.1", "1/gillspoon.1", "3/pgn_c.3"))
+COMMAND_PAGES = {"pgn_tool": PAGE, "gillspoon": COMMAND_PAGE}
 SUBCOMMANDS = ("lint", "fmt", "where", "sieve")
+# Each command of gillspoon, and itself.
+CALLS = ([], *([it] for it in SUBCOMMANDS))
 # What has completions beside pgn_tool; pgn_conform is not installed, so it has no page.
 COMPLETED = (("gillspoon",), *(("gillspoon", it) for it in SUBCOMMANDS), ("pgn_conform",))
 COMPLETIONS = ROOT + "/share/completions/"
@@ -34,6 +33,8 @@ compadd() {
     builtin compadd "$@"
 }
 """
+# Prints games, as a script of a shell.
+GAMES = "for n in $(seq 9000); do echo '1. e4 *'; done"
 # What a shell says of a process that a signal ended: 11, or 6, which Rust sends itself.
 KILLED = (-11, 128 + 11, -6, 128 + 6)
 
@@ -45,7 +46,8 @@ def reasons():
 
 
 def section(page, name):
-    return re.search(r"^\.Sh %s\n(.*?)(?=^\.Sh |\Z)" % name, page, re.MULTILINE | re.DOTALL)[1]
+    """A section of a page, by its path."""
+    return re.search(r"^\.Sh %s\n(.*?)(?=^\.Sh |\Z)" % name, text_of(page), re.M | re.S)[1]
 
 
 def help_of(*words):
@@ -53,14 +55,22 @@ def help_of(*words):
     return ran.stdout.decode()
 
 
+def rows_of(text, head):
+    """The rows of the help below a head."""
+    return re.search(r"^%s:\n((?:  .*\n?)+)" % head, text, re.M)[1]
+
+
 def commands():
-    rows = re.search(r"Commands:\n((?:  .*\n)+)", help_of())[1]
-    return re.findall(r"^  (\w+)", rows, re.MULTILINE)
+    return re.findall(r"^  (\w+)", rows_of(help_of(), "Commands"), re.M)
 
 
 def options(*words):
-    rows = help_of(*words).split("Options:\n")[1].split("\n\n")[0]
-    return sorted(it for it in re.findall(r"--[\w-]+", rows) if it != "--help")
+    """The options that the help lists, `--help` too."""
+    return sorted(re.findall(r"--[\w-]+", rows_of(help_of(*words), "Options")))
+
+
+def blocks_of(text):
+    return re.findall(r"^\.Bd -literal.*?\n(.*?)^\.Ed", text, re.M | re.S)
 
 
 class Shell(Folder, unittest.TestCase):
@@ -72,31 +82,25 @@ class Shell(Folder, unittest.TestCase):
 
 class Page(Shell):
     def test_every_fault_is_there(self):
-        rows = re.findall(r"^\.It (\d+) Em (.*)$", section(text_of(PAGE), "DIAGNOSTICS"), re.M)
+        rows = re.findall(r"^\.It (\d+) Em (.*)$", section(PAGE, "DIAGNOSTICS"), re.M)
         found = {int(number): words for number, words in rows}
         wanted = dict(reasons())
         wanted[26] = wanted[26] + "N"
         self.assertEqual(found, wanted)
         self.assertEqual([int(number) for number, _ in rows], sorted(found))
 
-    def test_every_command_and_option_is_there(self):
-        page = text_of(PAGE)
-        names = section(page, "SYNOPSIS")
-        self.assertEqual(re.findall(r"^\.Cm (\w+)", names, re.M), commands())
-        for command in commands():
-            row = re.search(r"^\.It Cm %s (.*)$" % command, page, re.M)[1]
-            said = ["-" + it for it in re.findall(r"Fl (-[\w-]+)", row)]
-            self.assertEqual(sorted(said), options(command), command)
-
-    def test_what_the_help_says_of_each_command(self):
+    def test_every_command_and_option_is_there_and_what_the_help_says_of_it(self):
         page = text_of(PAGE)
         words = re.sub(r"\s+", " ", re.sub(r"^\.(?:Nm|Pa) ?", "", page, flags=re.M))
-        listed = help_of().split("Commands:\n")[1].split("\n\n")[0]
-        rows = dict(re.findall(r"^  (\w+) +(.*)$", listed, re.M))
-        self.assertEqual(list(rows), commands())
-        for command in commands():
-            self.assertIn(rows[command], words)
-            self.assertEqual(help_of(command).split("\n")[0], rows[command])
+        helped = dict(re.findall(r"^  (\w+) +(.*)$", rows_of(help_of(), "Commands"), re.M))
+        self.assertEqual(list(helped), commands())
+        self.assertEqual(re.findall(r"^\.Cm (\w+)", section(PAGE, "SYNOPSIS"), re.M), commands())
+        for command, about in helped.items():
+            row = re.search(r"^\.It Cm %s (.*)$" % command, page, re.M)[1]
+            said = ["-" + it for it in re.findall(r"Fl (-[\w-]+)", row)]
+            self.assertEqual(sorted([*said, "--help"]), options(command), command)
+            self.assertIn(about, words)
+            self.assertEqual(help_of(command).split("\n")[0], about)
         about = help_of().split("\n")[0]
         self.assertIn(about[0].lower() + about[1:] + ".", words)
 
@@ -107,7 +111,7 @@ class Page(Shell):
 
     def test_no_warnings_of_mandoc(self):
         programs.need("mandoc")
-        for path in (*(PAGES + it + ".1" for it in COMMANDS), LIBRARY_PAGE):
+        for path in (PAGE, COMMAND_PAGE, LIBRARY_PAGE):
             ran = run(["mandoc", "-Tlint", path])
             lines = (ran.stdout + ran.stderr).decode().splitlines()
             # What is installed on this machine, and its index, are no matter of this page.
@@ -118,32 +122,27 @@ class Page(Shell):
         programs.need("groff")
         if b"DIAGNOSTICS" not in run(["groff", "-P-cbu", "-mandoc", "-Tascii", PAGE]).stdout:
             programs.not_tried("groff has no mdoc macros")
-        for path in (*(PAGES + it + ".1" for it in COMMANDS), LIBRARY_PAGE):
+        for path in (PAGE, COMMAND_PAGE, LIBRARY_PAGE):
             for device in ("ascii", "utf8"):
                 output_of(run(["groff", "-ww", "-mandoc", "-T" + device, path]))
 
     def test_man_shows_each_page(self):
         programs.need("man")
-        for name in COMMANDS:
-            self.assertIn(b"EXIT STATUS", output_of(run(["man", "-l", PAGES + name + ".1"])))
+        for page in COMMAND_PAGES.values():
+            self.assertIn(b"EXIT STATUS", output_of(run(["man", "-l", page])))
 
-    def test_the_pages_name_one_another(self):
-        for name in COMMANDS:
-            named = re.findall(r"^\.Xr (pgn_tool|gillspoon) 1", section(text_of(PAGES + name + ".1"),
-                                                            "SEE ALSO"), re.M)
-            self.assertEqual(named, sorted({*COMMANDS} - {name}))
-
-    def test_no_file_is_cited_that_is_not_installed(self):
-        for name in COMMANDS:
-            page = re.sub(r'^\.\\".*', "", text_of(PAGES + name + ".1"), flags=re.M)
-            self.assertNotRegex(page, r"\b(?:bin|docs|examples|vectors|crates)(?:/|\n)")
+    def test_the_pages_name_one_another_and_no_file_that_is_not_installed(self):
+        for name, page in COMMAND_PAGES.items():
+            named = re.findall(r"^\.Xr (pgn_tool|gillspoon) 1", section(page, "SEE ALSO"), re.M)
+            self.assertEqual(named, sorted({*COMMAND_PAGES} - {name}))
+            text = re.sub(r'^\.\\".*', "", text_of(page), flags=re.M)
+            self.assertNotRegex(text, r"\b(?:bin|docs|examples|vectors|crates)(?:/|\n)")
 
     def test_the_examples_are_real(self):
         """Each block is run as a script, and shows what a terminal would."""
         tried = 0
-        for name in COMMANDS:
-            page = section(text_of(PAGES + name + ".1"), "EXAMPLES")
-            for block in re.findall(r"^\.Bd -literal.*?\n(.*?)^\.Ed", page, re.M | re.S):
+        for page in COMMAND_PAGES.values():
+            for block in blocks_of(section(page, "EXAMPLES")):
                 block = block.replace("\\e", "\\").replace("\\(en", "\u2013")
                 if block.startswith("$ parallel"):
                     continue
@@ -156,17 +155,14 @@ class Page(Shell):
     def test_the_example_of_a_compressed_archive(self):
         programs.need("zstd")
         self.shell("zstd -q %s/examples/two-games.pgn -o games.pgn.zst" % ROOT)
-        command = re.search(r"^\.Dl \$ (zstd .*)$", text_of(PAGE), re.M)[1]
-        ran = self.shell(command)
+        ran = self.shell(re.search(r"^\.Dl \$ (zstd .*)$", text_of(PAGE), re.M)[1])
         self.assertRegex(ran.stdout, rb"\A(\S+ [wb] \S+ \S+ \d+ \d+\n){2}\Z")
 
     def test_the_example_of_parallel(self):
         programs.need("parallel")
         block = re.search(r"^\$ (parallel .*?)^\.Ed", text_of(PAGE), re.M | re.S)[1]
-        game = '[Event "x"]\n\n1. e4 {a word} e5 *\n\n'
-        write_file(self.folder + "/games.pgn", game * 2000)
-        command = block.replace("\\e", "\\").replace("10M", "10k")
-        ran = self.shell(command)
+        self.put("games.pgn", '[Event "x"]\n\n1. e4 {a word} e5 *\n\n' * 2000)
+        ran = self.shell(block.replace("\\e", "\\").replace("10M", "10k"))
         self.assertEqual((ran.returncode, ran.stdout), (0, b""), ran.stderr)
         output_of(self.shell("pgn_tool export games.pgn | cmp - export.pgn"))
         self.assertGreater(os.path.getsize(self.folder + "/export.pgn"), 100000)
@@ -175,31 +171,25 @@ class Page(Shell):
 class LibraryPage(Folder, unittest.TestCase):
     """The page of the library for C, against its header."""
 
-    def section(self, name):
-        return section(text_of(LIBRARY_PAGE), name)
-
-    def test_every_call_is_there(self):
+    def test_every_call_and_every_status_is_there(self):
         calls, declared = {}, test_library.declared()
         for result, text in re.findall(r"^\.Ft (\w+)\n(.*(?:\n\.Fa .*|\n\.Fc)*)",
-                                       self.section("SYNOPSIS"), re.M):
+                                       section(LIBRARY_PAGE, "SYNOPSIS"), re.M):
             name = re.match(r"\.F[no] (\w+)", text)[1]
             types = [re.sub(r"\w+$", "", it).strip() for it in re.findall('"(.*?)"', text)
                      if it != "void"]
             calls[name] = (result, types)
         self.assertEqual(calls, declared)
-        self.assertEqual(list(calls), re.findall(r"^\.Nm (\w+)", self.section("NAME"), re.M))
-        rows = re.findall(r"^\.It Fn (\w+)", self.section("DESCRIPTION"), re.M)
-        self.assertEqual(list(calls), rows)
-
-    def test_every_status_is_there(self):
         enum = re.search(r"enum \{\s*(PGN_OK.*?)\}", test_library.bare_header(), re.S)[1]
-        self.assertEqual(re.findall(r"^\.It Dv (\w+)", self.section("RETURN VALUES"), re.M),
-                         re.findall(r"PGN_\w+", enum))
+        for form, part, names in ((r"^\.Nm (\w+)", "NAME", calls),
+                                  (r"^\.It Fn (\w+)", "DESCRIPTION", calls),
+                                  (r"^\.It Dv (\w+)", "RETURN VALUES",
+                                   re.findall(r"PGN_\w+", enum))):
+            self.assertEqual(re.findall(form, section(LIBRARY_PAGE, part), re.M), list(names), part)
 
     def test_the_example(self):
         programs.need("cc")
-        text, said = re.findall(r"^\.Bd -literal.*?\n(.*?)^\.Ed", self.section("EXAMPLES"),
-                                re.M | re.S)
+        text, said = blocks_of(section(LIBRARY_PAGE, "EXAMPLES"))
         write_file(self.folder + "/example.c", text)
         words = ["cc", "-std=c99", "-Wall", "-Wextra", "-Werror", "example.c", "-o", "example"]
         output_of(run([*words, "-I%s/crates/pgn_c" % ROOT, programs.need_library("--cargo")],
@@ -214,18 +204,16 @@ class Command(Folder, unittest.TestCase):
         return output_of(run(["bin/gillspoon", *words, "--help"])).decode()
 
     def test_options(self):
-        page = text_of(COMMAND_PAGE)
-        parts = re.split(r"^\.Ss (\w+)\n", section(page, "DESCRIPTION"), flags=re.M)
+        parts = re.split(r"^\.Ss (\w+)\n", section(COMMAND_PAGE, "DESCRIPTION"), flags=re.M)
         described = dict(zip(parts[1::2], parts[2::2]))
         self.assertEqual(list(described), list(SUBCOMMANDS))
-        synopsis = re.split(r"^\.Nm\n", section(page, "SYNOPSIS"), flags=re.M)
+        synopsis = re.split(r"^\.Nm\n", section(COMMAND_PAGE, "SYNOPSIS"), flags=re.M)
         shared = self.rows(parts[0])
         for name in SUBCOMMANDS:
             text = self.help_of(name)
-            listed = re.search(r"^options:\n((?:  .*\n)+)", text, re.M)[1]
-            helped = {re.split(r"  +", it)[0] for it in re.findall(r"^  (-.*)$", listed, re.M)}
-            # one row of the page can have two options
-            helped = {word for it in helped for word in it.split(", ")}
+            listed = re.findall(r"^  (-.*?)(?:  .*)?$", rows_of(text, "options"), re.M)
+            # one row can have two options
+            helped = {word for it in listed for word in it.split(", ")}
             own = self.rows(described[name])
             self.assertTrue(own <= helped, (name, own - helped))
             self.assertEqual(helped - own - shared, set(), name)
@@ -248,17 +236,16 @@ class Command(Folder, unittest.TestCase):
 
     def test_versions(self):
         wanted = run([programs.need_program(), "--version"]).stdout.split()[1]
-        for words in ([], *([it] for it in SUBCOMMANDS)):
+        for words in CALLS:
             self.check(run(["bin/gillspoon", *words, "--version"]), 0, b"gillspoon %s\n" % wanted)
 
     def test_statuses_and_environment(self):
-        page = text_of(COMMAND_PAGE)
-        for name, row, text in (("status", r"^\.It (\d+)$", section(page, "EXIT STATUS")),
-                                ("environment", r"^\.It Ev (\w+)$", page)):
-            for words in ([], *([it] for it in SUBCOMMANDS)):
-                helped = re.search(r"^%s:\n((?:  .*\n?)+)" % name, self.help_of(*words), re.M)[1]
-                self.assertEqual(re.findall(row, text, re.M),
-                                 re.findall(r"^  (\w+)  ", helped, re.M), words)
+        for name, row, text in (
+                ("status", r"^\.It (\d+)$", section(COMMAND_PAGE, "EXIT STATUS")),
+                ("environment", r"^\.It Ev (\w+)$", text_of(COMMAND_PAGE))):
+            for words in CALLS:
+                helped = re.findall(r"^  (\w+)  ", rows_of(self.help_of(*words), name), re.M)
+                self.assertEqual(re.findall(row, text, re.M), helped, words)
 
     def test_words(self):
         for words in ([], ["lnt"], ["--none"], ["lint", "--none"], ["fmt", "--none"],
@@ -269,14 +256,11 @@ class Command(Folder, unittest.TestCase):
 
 
 class Statuses(Shell):
-    def status(self, script):
-        return self.shell(script).returncode
-
     def test_statuses(self):
         for script, status in (("pgn_tool --help", 0), ("pgn_tool --version", 0),
                                ("echo '*' | pgn_tool check", 0), ("echo 'e9' | pgn_tool check", 1),
                                ("pgn_tool check --reduced", 2)):
-            self.assertEqual(self.status(script), status, script)
+            self.assertEqual(self.shell(script).returncode, status, script)
         self.check(self.shell("pgn_tool export $'\\xff'"), 2, b"", b"arguments cannot be read\n")
         for words in ("export missing", "check .", "check - <games"):
             ran = self.shell("echo '*' >games; pgn_tool " + words)
@@ -284,25 +268,24 @@ class Statuses(Shell):
         self.check(self.shell("cp games ./-; pgn_tool check -"), 0, b"games: 1, plies: 0\n")
 
     def test_caveats_of_the_file_that_is_read(self):
-        self.assertEqual(self.status("echo '1. e4 *' > F; pgn_tool export F > F"), 0)
+        ran = self.shell("echo '1. e4 *' > F; pgn_tool export F > F")
+        self.assertEqual(ran.returncode, 0)
         self.assertEqual(os.path.getsize(self.folder + "/F"), 0)
-        grown = self.shell("for n in $(seq 9000); do echo '1. e4 *'; done > F; ulimit -f 20000;"
-                           " trap '' XFSZ; pgn_tool export F >> F")
+        grown = self.shell(GAMES + " > F; ulimit -f 20000; trap '' XFSZ; pgn_tool export F >> F")
         self.assertEqual(grown.returncode, 1)
         self.assertIn(b"output cannot be written", grown.stderr)
         # One export of these games has less than a megabyte.
         self.assertGreater(os.path.getsize(self.folder + "/F"), 19000 * 1024)
 
     def test_caveats_of_output(self):
-        game = "for n in $(seq 9000); do echo '1. e4 *'; done | pgn_tool export"
-        ran = self.shell(game + " > /dev/full")
+        ran = self.shell(GAMES + " | pgn_tool export > /dev/full")
         self.assertEqual(ran.returncode, 1)
         # The first block of 64 KiB of output is that of some 700 games, 8 bytes of input each.
         place = int(re.fullmatch(rb"byte (\d+): output cannot be written\n", ran.stderr)[1])
         self.assertTrue(600 * 8 < place < 800 * 8, place)
         self.check(self.shell("echo '*' | pgn_tool export > /dev/full"), 1, b"",
                    b"output cannot be written\n")
-        ran = self.shell("set -o pipefail; (%s) | head -n 1" % game)
+        ran = self.shell("set -o pipefail; (%s | pgn_tool export) | head -n 1" % GAMES)
         self.assertEqual(ran.returncode, 1)
         self.assertIn(b"output cannot be written", ran.stderr)
 
@@ -314,8 +297,8 @@ class Statuses(Shell):
             " for words in export 'export --checked' check list; do" \
             " pgn_tool $words $file >/dev/null 2>&1; [ $? -le 1 ] || failed=1; done; done;" \
             " exit $failed"
-        self.assertEqual(self.status(script % size), 0)
-        self.assertIn(self.status("ulimit -s 24; echo '*' | pgn_tool export"), KILLED)
+        self.assertEqual(self.shell(script % size).returncode, 0)
+        self.assertIn(self.shell("ulimit -s 24; echo '*' | pgn_tool export").returncode, KILLED)
 
     def test_the_memory(self):
         programs.need("time")
@@ -329,8 +312,7 @@ class Statuses(Shell):
 class Completions(Shell):
     def words(self, *line):
         """What bash completes as the last word of a line."""
-        if shutil.which("bash") is None:
-            programs.not_tried("bash is missing")
+        programs.need("bash")
         script = 'source %s%s.bash; COMP_WORDS=("$@"); COMP_CWORD=$(($# - 1)); _%s;' \
             ' printf "%%s\\n" "${COMPREPLY[@]}"' % (COMPLETIONS, line[0], line[0])
         ran = run(["bash", "-c", script, "sh", *line], cwd=self.folder)
@@ -339,21 +321,18 @@ class Completions(Shell):
 
     def test_bash(self):
         self.assertEqual(self.words("pgn_tool", ""), sorted(commands()))
-        for command in commands():
-            wanted = sorted(["--help"] + options(command))
-            self.assertEqual(self.words("pgn_tool", command, "--"), wanted)
-        self.assertEqual(self.words("pgn_tool", "--"), sorted(["--help"] + options()))
-        open(self.folder + "/some games.pgn", "wb").close()
-        self.assertEqual(self.words("pgn_tool", "check", "some"), ["some games.pgn"])
-        self.assertEqual(self.words("pgn_tool", "export", "--reduced", "s"), ["some games.pgn"])
+        for words in ([], *([it] for it in commands())):
+            self.assertEqual(self.words("pgn_tool", *words, "--"), options(*words), words)
+        self.put("some games.pgn", "")
+        for words in (["check", "some"], ["export", "--reduced", "s"]):
+            self.assertEqual(self.words("pgn_tool", *words), ["some games.pgn"])
 
     def test_fish(self):
         programs.need("fish")
         self.put("games.pgn", "")
         self.assertEqual(self.fish_words("pgn_tool "), sorted(commands()))
         for command in commands():
-            self.assertEqual(self.fish_words("pgn_tool %s --" % command),
-                             sorted(["--help"] + options(command)))
+            self.assertEqual(self.fish_words("pgn_tool %s --" % command), options(command))
         self.assertEqual(self.fish_words("gillspoon "), sorted(SUBCOMMANDS))
         for words in COMPLETED:
             self.assertEqual(self.fish_words(" ".join(words) + " -"), self.script_options(*words))
@@ -365,18 +344,17 @@ class Completions(Shell):
         output_of(run(["zsh", "-n", COMPLETIONS + "_pgn_tool"]))
         text = text_of(COMPLETIONS + "_pgn_tool")
         self.assertEqual(re.findall(r"^ +'([a-z]+):[a-z]", text, re.M), commands())
-        for option in options() + options("export"):
+        for option in {*options(), *options("export")} - {"--help"}:
             self.assertIn(option, text)
 
     def script_options(self, *words):
         """The options that the help of a script lists."""
         text = run(["bin/" + words[0], *words[1:], "--help"]).stdout.decode()
-        rows = re.search(r"^options:\n((?:  .*\n)+)", text, re.M)[1]
-        return sorted(re.findall(r"(?<![\w-])--?[\w-]+", "\n".join(
-            it.split("  ")[1] for it in rows.splitlines() if it.startswith("  -"))))
+        listed = re.findall(r"^  (-.*?)(?:  .*)?$", rows_of(text, "options"), re.M)
+        return sorted(re.findall(r"(?<![\w-])--?[\w-]+", "\n".join(listed)))
 
     def test_bash_for_the_scripts(self):
-        open(self.folder + "/some games.pgn", "wb").close()
+        self.put("some games.pgn", "")
         self.assertEqual(self.words("gillspoon", ""), sorted(SUBCOMMANDS))
         for words in COMPLETED:
             self.assertIn("--version", self.script_options(*words))
@@ -384,17 +362,18 @@ class Completions(Shell):
             if words != ("gillspoon",):
                 self.assertEqual(self.words(*words, "some"), ["some games.pgn"], words)
         self.assertIn("--sarif", self.script_options("gillspoon", "lint"))
-        self.assertEqual(self.words("gillspoon", "lint", "--board", "some"), ["some games.pgn"])
-        for words in (["fmt", "--output"], ["sieve", "--good"], ["sieve", "a", "--bad"]):
-            self.assertEqual(self.words("gillspoon", *words, "s"), ["some games.pgn"], words)
-        for words in (["lint", "--max"], ["fmt", "--stdin-name"], ["sieve", "-j"],
-                      ["fmt", "--exclude"]):
-            self.assertEqual(self.words("gillspoon", *words, "s"), [], words)
-        self.assertEqual(self.words("gillspoon", "where", "--color", "a"), ["always", "auto"])
-        for words in (["--files"], ["cat"], ["--theme", "x", "--list", "cat"], ["cat", "-"]):
-            self.assertEqual(self.words("pgn_conform", *words, "s"), ["some games.pgn"], words)
-        for words in (["--full", "s"], ["--list", "--theme", ""], ["cat", "--th"]):
-            self.assertEqual(self.words("pgn_conform", *words), [], words)
+        for lines, wanted in (
+                (["lint --board some", "fmt --output s", "sieve --good s", "sieve a --bad s"],
+                 ["some games.pgn"]),
+                (["lint --max s", "fmt --stdin-name s", "sieve -j s", "fmt --exclude s"], []),
+                (["where --color a"], ["always", "auto"])):
+            for line in lines:
+                self.assertEqual(self.words("gillspoon", *line.split()), wanted, line)
+        for lines, wanted in (
+                (["--files s", "cat s", "--theme x --list cat s", "cat - s"], ["some games.pgn"]),
+                (["--full s", "--list --theme ", "cat --th"], [])):
+            for line in lines:
+                self.assertEqual(self.words("pgn_conform", *line.split(" ")), wanted, line)
 
     def fish_words(self, line):
         """What fish completes as the last word of a line."""
@@ -406,7 +385,7 @@ class Completions(Shell):
     def zsh_words(self, line):
         """What zsh completes as the last word of a line: it runs on a terminal."""
         folder = programs.new_folder(self)
-        open(folder + "/some games.pgn", "wb").close()
+        write_file(folder + "/some games.pgn", "")
         write_file(folder + "/.zshrc", ZSHRC % COMPLETIONS)
         env = dict(os.environ, ZDOTDIR=folder, TERM="xterm")
         ours, its = pty.openpty()

@@ -73,12 +73,12 @@ class Debian(unittest.TestCase):
 
     def test_the_program(self):
         ran = run(["pgn_tool", "export"], input=LOOSE, env=self.env(), cwd=self.folder)
-        self.assertEqual((ran.returncode, ran.stdout, ran.stderr), (0, TIDY, b""))
+        self.assertEqual(output_of(ran), TIDY)
 
     def test_the_command(self):
         env = self.env(PYTHONPATH=self.root + "/usr/lib/python3/dist-packages")
         ran = run([self.root + "/usr/bin/gillspoon", "fmt"], input=LOOSE, env=env, cwd=self.folder)
-        self.assertEqual((ran.returncode, ran.stdout, ran.stderr), (0, TIDY, b""))
+        self.assertEqual(output_of(ran), TIDY)
         script = "import gillspoon; print(gillspoon._library.path(), gillspoon.__version__)"
         ran = run(["/usr/bin/python3", "-c", script], env=env, cwd=self.folder)
         path, version = ran.stdout.decode().split()
@@ -141,21 +141,20 @@ class Lacking(Folder, unittest.TestCase):
         return ran.returncode, ran.stdout.decode(), ran.stderr.decode()
 
     def test_a_part_that_was_asked_for(self):
-        for part, why in (("cargo", "cargo is missing"), ("debian", "of Debian's package dpkg-dev"),
-                          ("proved", "rt is not on the PATH")):
+        # the scripts on the PATH, the part, and what is missing
+        old_cargo = "echo '      --no-verify  Do not verify the contents'\n"  # as Debian 12's
+        for scripts, part, why in (
+                ({}, "cargo", r"cargo is missing\n\Z"),
+                ({}, "debian", r"of Debian's package dpkg-dev\n\Z"),
+                ({}, "proved", r"rt is not on the PATH\n\Z"),
+                (dict.fromkeys(("dpkg-buildpackage", "dh"), "exit 9\n"), "debian",
+                 r"of Debian's package dh-python\n"),
+                ({"cargo": old_cargo}, "cargo", "this cargo is too old to write packages")):
+            for name, text in scripts.items():
+                self.put_script("bin/" + name, text)
             status, out, told = self.dist(part)
-            self.assertEqual((status, out), (127, ""))
-            self.assertRegex(told, r"\Abin/dist: .*%s\n\Z" % why)
-        self.put_script("bin/dpkg-buildpackage", "exit 9\n")
-        self.put_script("bin/dh", "exit 9\n")
-        self.assertIn("of Debian's package dh-python\n", self.dist("debian")[2])
-
-    def test_a_cargo_that_is_too_old(self):
-        """As that of Debian 12 is."""
-        self.put_script("bin/cargo", "echo '      --no-verify  Do not verify the contents'\n")
-        status, out, told = self.dist("cargo")
-        self.assertEqual((status, out), (127, ""))
-        self.assertIn("this cargo is too old to write packages", told)
+            self.assertEqual((status, out), (127, ""), why)
+            self.assertRegex(told, r"\Abin/dist: .*" + why)
 
 
 class Others(Folder, unittest.TestCase):

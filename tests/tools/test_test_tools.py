@@ -59,6 +59,11 @@ class TestToolsTest(Folder, unittest.TestCase):
         shown = ran.stdout.decode()
         return ran.returncode, shown, re.sub("^=+ | in .*", "", shown.splitlines()[-1])
 
+    def check_failed(self, why, *words):
+        status, shown, _ = self.call(*words)
+        self.assertNotEqual(status, 0)
+        self.assertIn(why, shown)
+
     def test_counts(self):
         self.write("test_mixed.py", MIXED)
         status, shown, counts = self.call("-n2")
@@ -73,12 +78,9 @@ class TestToolsTest(Folder, unittest.TestCase):
 
     def test_a_skipped_test_is_no_success(self):
         self.write("test_skipped.py", SKIPPED)
-        status, shown, counts = self.call("-n0")
-        self.assertEqual((status, counts), (0, "1 passed, 1 skipped"))
-        self.assertRegex(shown, r"SKIPPED .*: server is missing")
-        for words in (["-n0"], ["-n2", "skipped"]):
-            status, shown, counts = self.call("--all", *words)
-            self.assertEqual((status, counts), (1, "1 passed, 1 skipped"))
+        for words, wanted in ((["-n0"], 0), (["--all", "-n0"], 1), (["--all", "-n2", "skipped"], 1)):
+            status, shown, counts = self.call(*words)
+            self.assertEqual((status, counts), (wanted, "1 passed, 1 skipped"))
             self.assertRegex(shown, r"\nSKIPPED .*: server is missing\n.*\n$")
         self.write("test_skipped.py", "import unittest\nraise unittest.SkipTest('it is missing')\n")
         status, shown, counts = self.call("--all", "-n0")
@@ -91,17 +93,13 @@ class TestToolsTest(Folder, unittest.TestCase):
         self.write("test_three.py", MODULE)
         self.assertEqual(self.call("--all", "two", "three", "-n0")[::2], (0, "2 passed"))
         for words in ([], ["-n2", "two", "one"]):
-            status, shown, _ = self.call(*words)
-            self.assertNotEqual(status, 0)
-            self.assertIn("cannot be loaded", shown)
+            self.check_failed("cannot be loaded", *words)
         self.check(run([self.folder + "/bin/test_tools", "two", "four"]),
                    2, b"", b"bin/test_tools: there is no tests/tools/test_four.py\n")
 
     def test_nothing_that_passes(self):
-        self.assertNotEqual(self.call("-n0")[0], 0)
+        self.check_failed("", "-n0")
         self.write("test_two.py", MODULE)
         self.write("test_none.py", "import unittest\n")
-        for words in (["-n0"], ["-n2"]):
-            status, shown, _ = self.call(*words)
-            self.assertNotEqual(status, 0)
-            self.assertIn("it has no test", shown)
+        for word in ("-n0", "-n2"):
+            self.check_failed("it has no test", word)

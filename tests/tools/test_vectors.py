@@ -11,8 +11,7 @@ import programs
 from programs import ROOT, Folder, run, text_of, write_file
 
 DATA = ("vectors", "crates/pgn_vectors/src", "crates/pgn_game/src/reason.rt", "bin/write_vectors",
-        "bin/pgn_conform", "bin/build_program", "python/gillspoon",
-        "bench/tables.py")
+        "bin/pgn_conform", "bin/build_program", "python/gillspoon", "bench/tables.py")
 # PGN 3.2.4: the export of the game of the standard, as its printed text has it.
 SAMPLE_END = "40. Rd6 Kc5 41. Ra6 Nf2 42. g4 Bd3 43. Re6 1/2-1/2\n\n"
 HEAD = programs.HEAD.decode()[:-1]
@@ -31,30 +30,26 @@ def of_theme(*themes):
 
 
 class Copy:
-    """A copy of the data and of what is written from it, to be changed."""
+    """A copy of the data and of what is written from it, in which a text is another one."""
 
-    def __init__(self, test):
+    def __init__(self, test, *change):
         self.root = programs.new_folder(test)
         for path in DATA:
             to = os.path.join(self.root, path)
             os.makedirs(os.path.dirname(to), exist_ok=True)
             copy = shutil.copytree if os.path.isdir(os.path.join(ROOT, path)) else shutil.copy
             copy(os.path.join(ROOT, path), to)
+        for file, old, new in [change] if change else []:
+            text = self.text(file)
+            assert old in text, (file, old)
+            write_file(os.path.join(self.root, file), text.replace(old, new, 1))
 
     def text(self, file):
         return text_of(os.path.join(self.root, file))
 
-    def change(self, file, old, new):
-        text = self.text(file)
-        assert old in text, (file, old)
-        write_file(os.path.join(self.root, file), text.replace(old, new, 1))
-
     def run(self, *words):
         ran = run([sys.executable, self.root + "/bin/write_vectors", *words], cwd=self.root)
         return ran.returncode, (ran.stdout + ran.stderr).decode()
-
-    def check(self):
-        return self.run("--check")
 
     def vectors(self):
         return {it["file"]: it for it in json.loads(self.text("vectors/vectors.json"))["vectors"]}
@@ -63,10 +58,7 @@ class Copy:
 class Files(unittest.TestCase):
     def test_what_is_written_is_what_the_data_gives(self):
         ran = run(["bin/write_vectors", "--check"])
-        wanted = b"%d vectors\n" % len(programs.vectors())
-        self.assertEqual((ran.returncode, ran.stdout, ran.stderr), (0, wanted, b""))
-
-    def test_each_row_of_the_data_is_there(self):
+        self.assertEqual(programs.output_of(ran), b"%d vectors\n" % len(programs.vectors()))
         rows = []
         for file in glob.glob(ROOT + "/vectors/*.toml"):
             theme = os.path.basename(file)[:-5]
@@ -78,8 +70,7 @@ class Files(unittest.TestCase):
         rows = re.findall(r"(?m)^\| (\d+) \|.*?\|.*?\| `([^`]+)` \|", text_of("docs/PROFILE.md"))
         words = {int(number): text for number, text in rows}
         self.assertGreater(len(words), 35)
-        faults = [it["fault"] for it in programs.vectors() if "fault" in it]
-        for fault in faults:
+        for fault in [it["fault"] for it in programs.vectors() if "fault" in it]:
             text = re.sub("N$", str(fault.get("field", "")), words[fault["number"]])
             self.assertEqual(fault["message"], "byte %d: %s" % (fault["place"], text))
 
@@ -129,11 +120,10 @@ class Files(unittest.TestCase):
 
 class Writer(unittest.TestCase):
     def test_one_row_is_added_in_one_place(self):
-        copy = Copy(self)
+        copy = Copy(self, "vectors/main_lines.toml", MARKER, MARKER + "\n" + ONE_MORE)
         before = copy.vectors()
-        copy.change("vectors/main_lines.toml", MARKER, MARKER + "\n" + ONE_MORE)
         self.assertEqual(copy.run(), (0, "%d vectors\n" % (len(before) + 1)))
-        self.assertEqual(copy.check()[0], 0)
+        self.assertEqual(copy.run("--check")[0], 0)
         more = copy.vectors()
         row = more.pop("main_lines.one-more")
         self.assertEqual(more, before)
@@ -154,7 +144,7 @@ class Writer(unittest.TestCase):
         self.assertIn("pub fn tables() -> [&'static [Vector]; %d] {" % wanted, themes)
         os.remove(copy.root + "/vectors/more.toml")
         file = "crates/pgn_vectors/src/themes/more.rt"
-        self.assertIn(file + ": not what the data gives\n", copy.check()[1])
+        self.assertIn(file + ": not what the data gives\n", copy.run("--check")[1])
         self.assertEqual(copy.run()[0], 0)
         self.assertFalse(os.path.exists(os.path.join(copy.root, file)))
 
@@ -174,24 +164,20 @@ class Writer(unittest.TestCase):
         ]
         count = len(programs.vectors())
         for file, old, new, differ in changes:
-            copy = Copy(self)
-            copy.change(file, old, new)
+            copy = Copy(self, file, old, new)
             lines = ["%s: not what the data gives\n" % it for it in differ]
-            self.assertEqual(copy.check(), (1, "".join(lines) + "%d vectors\n" % count))
+            self.assertEqual(copy.run("--check"), (1, "".join(lines) + "%d vectors\n" % count))
             self.assertEqual(copy.run()[0], 0)
-            self.assertEqual(copy.check()[0], 0)
+            self.assertEqual(copy.run("--check")[0], 0)
 
     def test_a_row_that_is_not_understood_stops_it(self):
         more = MARKER.replace("marker-alone", "one more")
         changes = [
-            (more.replace("plies = 0\n", ""), "no 'plies'"),
-            (more.replace('input = "*"\n', ""), "no 'input'"),
-            (more.replace('name = "one more"\n', ""), "no 'name'"),
+            *((more.replace(it, ""), "no '%s'" % it.split()[0])
+              for it in ("plies = 0\n", 'input = "*"\n', 'name = "one more"\n')),
             (more.replace("plies", "moves"), "no 'plies'"),
-            (more + "moves = 1\n", "not expected here: moves"),
-            (more + "at = 1\n", "not expected here: at"),
-            (more + "games = 1\n", "not expected here: games"),
-            (more + "lines = []\n", "not expected here: lines"),
+            *((more + it, "not expected here: " + it.split()[0])
+              for it in ("moves = 1\n", "at = 1\n", "games = 1\n", "lines = []\n")),
             (more + 'output = "*"\ngames = 1\n', "not expected here: movetext"),
             (more.replace("movetext", "output"), "no 'games'"),
             (more.replace("movetext", "games = 1\noutput").replace(
@@ -213,8 +199,7 @@ class Writer(unittest.TestCase):
             ("[[few_tokens.rows]\n", "main_lines.toml"),
         ]
         for new, why in changes:
-            copy = Copy(self)
-            copy.change("vectors/main_lines.toml", MARKER, MARKER + "\n" + new)
+            copy = Copy(self, "vectors/main_lines.toml", MARKER, MARKER + "\n" + new)
             before = copy.text("vectors/vectors.json")
             status, said = copy.run()
             self.assertEqual(status, 1, (new, said))
@@ -225,9 +210,7 @@ class Writer(unittest.TestCase):
     def test_reasons_that_are_not_understood_stop_it(self):
         for old, new in (("Reason::TooDeep => 38", "Reason::TooDeep => deep()"),
                          ('Reason::TooDeep => b"', 'Reason::TooDeep => "')):
-            copy = Copy(self)
-            copy.change("crates/pgn_game/src/reason.rt", old, new)
-            status, said = copy.check()
+            status, said = Copy(self, "crates/pgn_game/src/reason.rt", old, new).run("--check")
             self.assertEqual(status, 1)
             self.assertIn("not each reason has a number and words", said)
 
@@ -241,8 +224,7 @@ class Conform(Folder, unittest.TestCase):
         return ran.returncode, totals, ran
 
     def test_our_program_passes(self):
-        words = ["--counts", self.program + " check", self.program, "export"]
-        status, totals, ran = self.conform(*words)
+        status, totals, ran = self.conform("--counts", self.program + " check", self.program, "export")
         self.assertEqual(status, 0, ran.stdout)
         count = len(programs.vectors())
         self.assertEqual(totals[0], (count, count, 0, 0, 0))
@@ -346,9 +328,9 @@ class Conform(Folder, unittest.TestCase):
 
     def test_a_dash_is_a_word_of_the_converter(self):
         for words in (["cat", "-"], ["--", "cat", "-"], ["--full", "cat -"]):
-            found = self.conform("--theme", "main_lines", "--reduced", "", *words)
-            self.assertEqual(found[:2], self.conform(
-                "--theme", "main_lines", "--reduced", "", "cat")[:2])
+            found, plain = (self.conform("--theme", "main_lines", "--reduced", "", *it)[:2]
+                            for it in (words, ["cat"]))
+            self.assertEqual(found, plain)
 
     def test_the_version(self):
         wanted = run([programs.need_program(), "--version"]).stdout.split()[1]
@@ -365,8 +347,7 @@ class Conform(Folder, unittest.TestCase):
 
     def test_a_table_that_has_no_place_changes_nothing(self):
         """The status is 3 too if the vectors cannot be read."""
-        copy = Copy(self)
-        copy.change("vectors/README.md", "<!-- bin/pgn_conform --record: end -->", "")
+        copy = Copy(self, "vectors/README.md", "<!-- bin/pgn_conform --record: end -->", "")
         before = copy.text("vectors/README.md")
         words = [copy.root + "/bin/pgn_conform", "--record", "--theme", "limits", "cat"]
         ran = run(words)

@@ -60,11 +60,7 @@ fn another_way_to_a_position_makes_no_other() {
     let mate = after("f2f3 e7e5 g2g4 d8h4");
     let fen = "rnb1kbnr/pppp1ppp/8/4p3/6Pq/5P2/PPPPP2P/RNBQKBNR w KQkq - 1 3";
     assert!(are_equal(&mate, &read(fen)));
-}
-
-#[test]
-fn the_counters_count() {
-    // The same position by the rule of repetition. (FIDE Laws 9.2.3)
+    // The counters count. This is the same position by the rule of repetition. (FIDE Laws 9.2.3)
     let repeated = after("g1f3 g8f6 f3g1 f6g8");
     assert!(!are_equal(&repeated, &Position::initial()));
 }
