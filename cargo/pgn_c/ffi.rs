@@ -52,12 +52,13 @@ extern "C" fn pgn_version() -> u32 {
 }
 
 /// Exports functions. C passes perhaps a `*struct`, texts, each as a pointer with its `[length]`,
-/// then words, then a buffer behind `=>`, and perhaps a last word. If a slice or the reference cannot
-/// be made, `else` is returned.
+/// then words, then a buffer behind `=>`, and perhaps a last word. If the reference or a slice
+/// cannot be made, `else` is returned.
 macro_rules! exports {
     ($(
         $name:ident(
-            $(*$struct:ident: $struct_type:ty,)? $($text:ident[$length:ident]),* $(; $($word:ident: $type:ty),*)?
+            $(*$struct:ident: $struct_type:ty,)?
+            $($text:ident[$length:ident]),* $(; $($word:ident: $type:ty),*)?
             $(=> $buffer:ident[$capacity:ident] $(, $last:ident: $last_type:ty)?)?
         ) -> $result:ty, else $otherwise:expr;
     )*) => {$(

@@ -326,34 +326,37 @@ class Built(CargoTest):
         rows = table("docs/PROFILE.md", "No", "Rejected", "Place", "In words", "Name")
         reasons = [code_of(row[4])[0] for row in rows]
         self.assertEqual(len(rows), 38)
-        arms = []
-        for row, name in zip(rows, reasons):
-            value = "Lexical(LexReason::%s)" % name if int(row[0]) < 20 else name
-            arms.append(value + "(_)" * (name == "BadFen"))
         # The table has each reason of the source, in its order.
-        lexical, others = (self.cases_of(*it) for it in (("pgn_lexer/src/token.rt", "LexReason"),
-                                                         ("pgn_game/src/reason.rt", "Reason")))
+        cases = []
+        for file in ("pgn_lexer/src/token.rt", "pgn_game/src/reason.rt"):
+            enum = re.search(r"(?s)\npub enum \w*Reason \{\n(.*?)\n\}", text_of("crates", file))
+            cases.append(re.findall(r"(?m)^    (\w+)(?:\(\w+\))?,$", enum[1]))
+        lexical, others = cases
         self.assertEqual(others[0], "Lexical")
         self.assertEqual(reasons, lexical + others[1:])
+        self.assertEqual([int(row[0]) < 20 for row in rows], [it in lexical for it in reasons])
+        arms = ["Lexical(LexReason::%s)" % it for it in lexical]
+        arms += [it + "(_)" * (it == "BadFen") for it in others[1:]]
         values = "".join("Reason::%s, " % it.replace("(_)", "(3)") for it in arms)
         cases = "".join("Reason::%s => %d, " % (it, at) for at, it in enumerate(arms))
         text = {"values": values, "cases": cases, "others": "_ => 255"}
         self.build_libraries()
         # More reasons may come: a match that has all of them needs a wildcard all the same.
-        ran = self.compiled(SAMPLE_OF_REASONS % {**text, "others": ""})
-        self.assertIn("error[E0004]: non-exhaustive patterns: `_` not covered", ran.stderr.decode())
-        self.assertEqual(ran.stderr.decode().count("error["), 1)
+        said = self.compiled(SAMPLE_OF_REASONS % {**text, "others": ""}).stderr.decode()
+        self.assertIn("error[E0004]: non-exhaustive patterns: `_` not covered", said)
+        self.assertEqual(said.count("error["), 1)
         ran = self.run_sample(SAMPLE_OF_REASONS % text)
-        shown = [it.split(": ", 2) for it in ran.stdout.decode().splitlines()]
         words = [row[3].strip("`").replace("field N", "field 3") for row in rows]
-        wanted = [[row[0], "byte 7", it] for row, it in zip(rows, words)]
-        self.assertEqual(shown, wanted)
+        wanted = ["%s: byte 7: %s" % (row[0], it) for row, it in zip(rows, words)]
+        self.assertEqual(ran.stdout.decode().splitlines(), wanted)
 
-    def test_the_program_converts_each_vector(self):
+    def test_the_program_converts_each_vector_and_passes_the_tests_of_devices(self):
         program = built()
         ran = run(["bin/pgn_conform", "--counts", program + " check", program, "export"])
         row = b"| all | %d | %d | 0 | 0 | 0 |\n" % (2 * (len(programs.vectors()),))
         self.assertIn(row, output_of(ran, err=None))
+        env = dict(os.environ, PGN_TOOL=program)
+        output_of(run(["bin/test_tools", *DEVICES], env=env, timeout=500), err=None)
 
     def test_the_program_does_what_the_proved_one_does(self):
         proved, program = programs.need_proved_program(), built()
@@ -375,13 +378,7 @@ class Built(CargoTest):
         """What `split` answers and leaves."""
         to = tempfile.mkdtemp(dir=folder)
         ran = run([program, "split", to, file])
-        left = {os.path.basename(it): text_of(it) for it in glob.glob(to + "/*")}
-        return shown(ran), left
-
-    def cases_of(self, file, name):
-        """The names of the cases of an enum."""
-        found = re.search(r"(?s)\npub enum %s \{\n(.*?)\n\}" % name, text_of("crates", file))
-        return re.findall(r"(?m)^    (\w+)(?:\(\w+\))?,$", found[1])
+        return shown(ran), {os.path.basename(it): text_of(it) for it in glob.glob(to + "/*")}
 
     def compiled(self, text):
         """What rustc says of a program with the libraries."""
@@ -400,8 +397,7 @@ class Built(CargoTest):
             text += READS.replace("NAME", reader[1])
         elif "fn main(" not in text:
             text = "fn main() {\n%s}\n" % text
-        ran = self.compiled(text)
-        self.assertEqual(ran.returncode, 0, ran.stderr.decode())
+        output_of(self.compiled(text), err=None)
         return run([OUT + "/target/sample"])
 
     def test_samples_of_the_documents(self):
@@ -429,10 +425,6 @@ class Built(CargoTest):
         ran = cargo("run", "--quiet", "--", bad, **call)
         said = b"%s: byte 77: move is not legal\n" % os.fsencode(bad)
         self.assertEqual(shown(ran), (0, b"", said))
-
-    def test_the_program_passes_the_tests_of_devices(self):
-        env = dict(os.environ, PGN_TOOL=built())
-        output_of(run(["bin/test_tools", *DEVICES], env=env, timeout=500), err=None)
 
 
 class Memory(unittest.TestCase):

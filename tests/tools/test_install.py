@@ -89,7 +89,7 @@ class Small(unittest.TestCase):
             self.assertNotIn("libpgn_c is", told)
 
     def test_each_build_is_said_where_they_differ(self):
-        self.assertEqual(self.here.call("--proved", script="bin/build_program").returncode, 0)
+        self.assertEqual(self.here.told("--proved", script="bin/build_program")[0], 0)
         told = self.said(self.prefix)
         self.assertIn("is installed under %s: proved and built by rt\n" % self.prefix, told)
         self.assertIn("libpgn_c is built by Cargo from the proved sources; not proved itself", told)
@@ -105,12 +105,6 @@ class Small(unittest.TestCase):
             self.here.change(source)
             self.assertIn("newer than the library", self.call(self.prefix)[2])
             self.assertNotEqual(os.stat(path).st_ino, before)
-
-    def test_a_library_that_is_not_built(self):
-        self.here.write("crates/pgn_c/src/lib.rt", "broken")
-        for options in ([], ["--proved"]):
-            self.assertIn("the library was not built", self.said(*options, self.prefix, status=127))
-            self.check_not_installed()
 
     def test_the_proved_library_needs_a_c_compiler(self):
         os.unlink(self.here.root + "/path/cc")
@@ -200,9 +194,13 @@ class Small(unittest.TestCase):
         self.check_not_built()
 
     def test_a_build_that_fails(self):
-        self.here.write("crates/pgn_tool/src/main.rt", "broken")
-        self.assertIn("the program was not built", self.said(self.prefix, status=127))
-        self.check_not_installed()
+        for source, what, options in (("crates/pgn_c/src/lib.rt", "library", []),
+                                      ("crates/pgn_c/src/lib.rt", "library", ["--proved"]),
+                                      ("crates/pgn_tool/src/main.rt", "program", [])):
+            self.here.write(source, "broken")
+            told = self.said(*options, self.prefix, status=127)
+            self.assertIn("the %s was not built" % what, told)
+            self.check_not_installed()
 
     def test_neither_cargo_nor_rt(self):
         status, out, told = Repository(self, ()).told(self.prefix, script=INSTALL)
@@ -228,13 +226,12 @@ class Small(unittest.TestCase):
         self.assertIn("built by Cargo", self.said("--deps", self.prefix))
 
     def test_advice(self):
-        _, _, told = self.call(self.prefix)
+        told = self.said(self.prefix)
         self.assertIn('export PATH="%s/bin:$PATH"' % self.prefix, told)
         self.assertIn("bash completes them with this line in ~/.bashrc: . '%s" % self.prefix, told)
         env = {"PATH": "%s/bin:%s/path" % (self.prefix, self.here.root),
                "XDG_DATA_HOME": self.prefix + "/share"}
-        _, _, told = self.call(self.prefix, env=env)
-        self.assertEqual(told.count("\n"), 1, told)
+        self.assertEqual(self.said(self.prefix, env=env).count("\n"), 1)
 
     def test_ldconfig(self):
         """It is asked for where the loader knows the folder, and not yet the library there."""
@@ -304,9 +301,8 @@ class Installed(unittest.TestCase):
     def test_the_manual_is_found(self):
         programs.need("man")
         for page in PAGES:
-            ran = self.shell("man -w " + page)
-            self.assertEqual(ran.stdout.decode().strip(),
-                             "%s/share/man/man1/%s.1" % (self.prefix, page))
+            wanted = "%s/share/man/man1/%s.1\n" % (self.prefix, page)
+            self.assertEqual(self.shell("man -w " + page).stdout.decode(), wanted)
 
     def test_bash_completes(self):
         """By the line that is advised."""

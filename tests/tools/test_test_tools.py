@@ -78,7 +78,8 @@ class TestToolsTest(Folder, unittest.TestCase):
 
     def test_a_skipped_test_is_no_success(self):
         self.write("test_skipped.py", SKIPPED)
-        for words, wanted in ((["-n0"], 0), (["--all", "-n0"], 1), (["--all", "-n2", "skipped"], 1)):
+        for words, wanted in ((["-n0"], 0), (["--all", "-n0"], 1),
+                              (["--all", "-n2", "skipped"], 1)):
             status, shown, counts = self.call(*words)
             self.assertEqual((status, counts), (wanted, "1 passed, 1 skipped"))
             self.assertRegex(shown, r"\nSKIPPED .*: server is missing\n.*\n$")

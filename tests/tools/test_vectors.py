@@ -224,7 +224,8 @@ class Conform(Folder, unittest.TestCase):
         return ran.returncode, totals, ran
 
     def test_our_program_passes(self):
-        status, totals, ran = self.conform("--counts", self.program + " check", self.program, "export")
+        words = ["--counts", self.program + " check", self.program, "export"]
+        status, totals, ran = self.conform(*words)
         self.assertEqual(status, 0, ran.stdout)
         count = len(programs.vectors())
         self.assertEqual(totals[0], (count, count, 0, 0, 0))
@@ -266,10 +267,8 @@ class Conform(Folder, unittest.TestCase):
 
     def test_the_files(self):
         self.check(run(["bin/pgn_conform", "--files", self.folder]), 0, b"")
-        wanted = {}
-        for vector in programs.vectors():
-            wanted[vector["file"] + ".in"] = vector["input"].encode()
-            wanted[vector["file"] + ".out"] = vector["output"].encode()
+        wanted = {"%s.%s" % (it["file"], end): it[field].encode() for it in programs.vectors()
+                  for end, field in (("in", "input"), ("out", "output"))}
         found = {it: self.get(it) for it in os.listdir(self.folder)}
         self.assertEqual(found, wanted)
         self.assertEqual(found["faults.2-in-movetext.in"], b"e4 \x01")
@@ -298,15 +297,13 @@ class Conform(Folder, unittest.TestCase):
             before.split(begin)[0] + begin + "\n\n" + ran.stdout.decode() + "\n" + end
             + before.split(end)[1])
 
-    def test_one_vector_is_shown(self):
+    def test_one_vector_is_shown_if_it_is_there(self):
         vector = by_file()["main_lines.two-games"]
+        given, wanted = vector["input"].encode(), vector["output"].encode()
         for words in (["cat"], ["--theme", "main_lines", "cat"]):
             said = self.conform("--show", vector["file"], *words)[2].stdout.decode()
             self.assertIn("%s: fails\n  input %r\n  wanted %r\n  output %r\n" % (
-                vector["file"], vector["input"].encode(), vector["output"].encode(),
-                vector["input"].encode()), said)
-
-    def test_a_vector_that_is_not_there(self):
+                vector["file"], given, wanted, given), said)
         for name, words in (("main_lines.x", []), ("main-lines.two-games", []), ("", []),
                             ("main_lines.two-games", ["--theme", "faults"])):
             self.check(self.conform("--show", name, *words, "cat")[2], 2, b"",
