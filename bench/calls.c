@@ -45,6 +45,9 @@ static size_t put_plies(size_t length, size_t used, int in_one_call) {
 
 int main(int count, char **words) {
     const char *way = count == 2 ? words[1] : "whole";
+    const int is_items = !strcmp(way, "items"), is_sections = !strcmp(way, "sections");
+    const int is_lines = !strcmp(way, "lines"), is_moves = !strcmp(way, "moves");
+    const int result = strcmp(way, "from-marker") ? PGN_RESULT_UNKNOWN : PGN_RESULT_FROM_MARKER;
     size_t length = fread(text, 1, sizeof text, stdin), used = 0;
     pgn_game game = {0};
 
@@ -55,34 +58,26 @@ int main(int count, char **words) {
     }
     if (!strcmp(way, "check"))
         return pgn_check(text, length).status != PGN_OK;
-    if (!strcmp(way, "lines") || !strcmp(way, "moves")) {
-        do {
-            game = pgn_next_game(text, length, game.end, PGN_REDUCED_FORMAT, PGN_RESULT_UNKNOWN,
-                                 export, sizeof export - 1);
-            if (game.status == PGN_OK)
-                used += put_plies(game.written, used, !strcmp(way, "lines"));
-        } while (game.status == PGN_OK);
-        fwrite(buffer, 1, used, stdout);
-        return game.status != PGN_NO_GAME;
-    }
-    if (!strcmp(way, "items")) {
-        pgn_item_lines lines = {0};
-        do {
-            lines = pgn_items(text, length, lines.end, 0,
-                              PGN_ITEM_SAN | PGN_ITEM_UCI | PGN_ITEM_FEN,
-                              buffer + used, sizeof buffer - used);
-            used += lines.written;
-        } while (lines.status == PGN_OK);
-        fwrite(buffer, 1, used, stdout);
-        return lines.status != PGN_NO_GAME;
-    }
     do {
-        if (!strcmp(way, "sections"))
-            game = pgn_read_game(text, length, game.end, PGN_FULL_FORMAT, PGN_RESULT_UNKNOWN,
-                                 buffer + used, sizeof buffer - used);
-        else
-            game = pgn_next_game(text, length, game.end, PGN_FULL_FORMAT,
-                                 !strcmp(way, "from-marker"), buffer + used, sizeof buffer - used);
+        uint8_t *to = buffer + used;
+        size_t room = sizeof buffer - used;
+
+        if (is_items) {
+            pgn_item_lines lines = pgn_items(text, length, game.end, 0,
+                                             PGN_ITEM_SAN | PGN_ITEM_UCI | PGN_ITEM_FEN, to, room);
+            game.status = lines.status;
+            game.end = lines.end;
+            game.written = lines.written;
+        } else if (is_sections) {
+            game = pgn_read_game(text, length, game.end, PGN_FULL_FORMAT, result, to, room);
+        } else if (is_lines || is_moves) {
+            game = pgn_next_game(text, length, game.end, PGN_REDUCED_FORMAT, result, export,
+                                 sizeof export - 1);
+            if (game.status == PGN_OK)
+                game.written = put_plies(game.written, used, is_lines);
+        } else {
+            game = pgn_next_game(text, length, game.end, PGN_FULL_FORMAT, result, to, room);
+        }
         used += game.written;
     } while (game.status == PGN_OK);
     fwrite(buffer, 1, used, stdout);

@@ -12,38 +12,32 @@ TURNS = 15
 
 def workloads(folder):
     """The name, the crate and the words of each line of workloads.txt that is no comment."""
-    with open(os.path.join(folder, "bench", "workloads.txt"), encoding="ascii") as file:
+    with open(folder + "/bench/workloads.txt", encoding="ascii") as file:
         rows = [line.split() for line in file if line.strip() and not line.startswith("#")]
-    return [(row[0], row[1], row[2:]) for row in rows]
-
-
-def program(folder, crate):
-    path = os.path.join(folder, "crates", crate, "out", crate)
-    if not os.access(path, os.X_OK):
-        stop("there is no %s: call rt run in crates/%s there" % (path, crate))
-    return path
+    return [(name, crate, words) for name, crate, *words in rows]
 
 
 def timed(folder, crate, words):
-    """What one run prints, and its seconds."""
-    words, source, place = list(words), os.devnull, os.path.join(folder, "bench")
-    if words and words[-1].startswith("<"):
+    """What one run prints, and its seconds. It reads a file of bench if its last word is <FILE."""
+    place, program = folder + "/bench", "%s/crates/%s/out/%s" % (folder, crate, crate)
+    if not os.access(program, os.X_OK):
+        stop("there is no %s: call rt run in crates/%s there" % (program, crate))
+    words, source = [program, *words], os.devnull
+    if words[-1].startswith("<"):
         source = os.path.join(place, words.pop()[1:])
     with open(source, "rb") as data:
         begun = time.perf_counter()
-        ran = subprocess.run([program(folder, crate), *words], cwd=place, stdin=data,
-                             stdout=subprocess.PIPE, check=False)
+        ran = subprocess.run(words, cwd=place, stdin=data, stdout=subprocess.PIPE, check=False)
         seconds = time.perf_counter() - begun
     if ran.returncode:
-        stop("%s of %s ended with status %d" % (" ".join(words), folder, ran.returncode))
+        stop("%s of %s ended with status %d" % (" ".join(words[1:]), folder, ran.returncode))
     return ran.stdout, seconds
 
 
 def medians(name, crate, words, folders):
     """The medians of the folders' builds, which take turns and have to print the same."""
-    taken = {it: [] for it in folders}
+    taken, printed = {it: [] for it in folders}, set()
     for turn in range(TURNS):
-        printed = set()
         for folder in folders if turn % 2 == 0 else reversed(folders):
             text, seconds = timed(folder, crate, words)
             printed.add(text)
@@ -54,17 +48,17 @@ def medians(name, crate, words, folders):
 
 
 def main(words):
-    if len(words) not in (2, 3) or not (words[2:] or ["1"])[0].isdigit():
+    old, new, seed, *others = [*words, "1"] if len(words) == 2 else words
+    if others or not seed.isdigit():
         sys.exit("usage: bench/run OLD NEW [SEED]\nOLD and NEW are two folders with built checkouts, "
                  "SEED is a number below 2^32 (default: 1).")
-    folders = [os.path.abspath(it) for it in words[:2]]
-    seed = (words[2:] or ["1"])[0]
+    folders = [os.path.abspath(it) for it in (old, new)]
     if folders[0] == folders[1]:
         stop("OLD and NEW are the same folder")
     print("| NAME | seconds at the start | seconds now | start over now |")
     print("|---|---:|---:|---:|")
     for name, crate, row in workloads(folders[1]):
         row = [seed if it == "SEED" else it for it in row]
-        (old, new), text = medians(name, crate, row, folders)
-        print("| %s | %.3f | %.3f | %.2f |" % (name, old, new, old / new), flush=True)
-        print("%s" % text, file=sys.stderr)
+        (before, now), text = medians(name, crate, row, folders)
+        print("| %s | %.3f | %.3f | %.2f |" % (name, before, now, before / now), flush=True)
+        print(text, file=sys.stderr)

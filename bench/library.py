@@ -1,8 +1,4 @@
-"""The library through Python beside the program: one call in this process, and in one of its own.
-
-Each has to write the same bytes. The library is the one that GILLSPOON_LIBRARY names, or
-bin/build_program --library; --record builds the proved one.
-"""
+"""The library through Python beside the program: a call in this process, and in one of its own."""
 import importlib
 import os
 import sys
@@ -40,7 +36,7 @@ def figures(given):
         size = os.path.getsize(path) / 1e6
         rows.append(["%s, %.1f MB" % (style, size), "%.2f" % ours, "%.2f" % convert, "%.2f" % whole,
                      "%.1f" % (size / ours), "%.1f" % (size / convert), "%.2f" % (ours / convert)])
-    head = [format(given.games, ",") + " games", "program s", "`convert` s", "a process s",
+    head = [tables.whole(given.games) + " games", "program s", "`convert` s", "a process s",
             "program MB/s", "`convert` MB/s", "throughput, of the program's"]
     return {"table": tables.table(head, rows)}
 

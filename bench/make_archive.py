@@ -21,35 +21,33 @@ WORTH = {"P": 1, "N": 3, "B": 3, "R": 5, "Q": 9, "K": 0}
 BACK = "RNBQKBNR"
 
 
-def reach(steps, once):
-    """For each square, the ways of these steps: each is the squares met in turn."""
+def reach(steps, most=7):
+    """For each square, the ways of at most so many of these steps: each is the squares met."""
     table = []
     for square in range(64):
         ways = []
         for files, ranks in steps:
-            way, f, r = [], square % 8 + files, square // 8 + ranks
-            while 0 <= f < 8 and 0 <= r < 8:
-                way.append(8 * r + f)
-                if once:
-                    break
-                f, r = f + files, r + ranks
-            if way:
-                ways.append(way)
-        table.append(ways)
+            met = [(square % 8 + files * n, square // 8 + ranks * n) for n in range(1, most + 1)]
+            ways.append([8 * r + f for f, r in met if 0 <= f < 8 and 0 <= r < 8])
+        table.append([way for way in ways if way])
     return table
 
 
 STRAIGHT, SLANTED = [(1, 0), (-1, 0), (0, 1), (0, -1)], [(1, 1), (1, -1), (-1, 1), (-1, -1)]
 JUMPS = [(f, r) for f in (-2, -1, 1, 2) for r in (-2, -1, 1, 2) if abs(f) != abs(r)]
+# of a pawn the squares that it attacks
 WAYS = {
-    "N": reach(JUMPS, True),
-    "B": reach(SLANTED, False),
-    "R": reach(STRAIGHT, False),
-    "Q": reach(STRAIGHT + SLANTED, False),
-    "K": reach(STRAIGHT + SLANTED, True),
+    "P": reach([(1, 1), (-1, 1)], 1),
+    "p": reach([(1, -1), (-1, -1)], 1),
+    "N": reach(JUMPS, 1),
+    "B": reach(SLANTED),
+    "R": reach(STRAIGHT),
+    "Q": reach(STRAIGHT + SLANTED),
+    "K": reach(STRAIGHT + SLANTED, 1),
 }
-# the squares that a pawn of the side attacks
-PAWN = {True: reach([(1, 1), (-1, 1)], True), False: reach([(1, -1), (-1, -1)], True)}
+# by side the pieces that attack a square along the ways of a kind of piece from there
+ATTACKERS = {True: (("p", "P"), ("N", "N"), ("B", "BQ"), ("R", "RQ"), ("K", "K")),
+             False: (("P", "p"), ("N", "n"), ("B", "bq"), ("R", "rq"), ("K", "k"))}
 # the castlings that a move from or to the square ends
 ENDS = {0: "Q", 4: "KQ", 7: "K", 56: "q", 60: "kq", 63: "k"}
 
@@ -64,21 +62,21 @@ class Game:
     def own(self, piece):
         return piece != "." and piece.isupper() == self.white
 
+    def met(self, kind, square):
+        """The squares of the first piece on each way of a kind of piece."""
+        board = self.board
+        for way in WAYS[kind][square]:
+            for to in way:
+                if board[to] != ".":
+                    yield to
+                    break
+
     def attacked(self, square, white):
         """Whether a piece of the side attacks the square."""
-        board = self.board
-        case = str.upper if white else str.lower
-        for origin in (way[0] for way in PAWN[not white][square]):
-            if board[origin] == case("P"):
-                return True
-        for kind, kinds in (("N", "N"), ("B", "BQ"), ("R", "RQ"), ("K", "K")):
-            wanted = case(kinds)
-            for way in WAYS[kind][square]:
-                for origin in way:
-                    if board[origin] != ".":
-                        if board[origin] in wanted:
-                            return True
-                        break
+        for kind, pieces in ATTACKERS[white]:
+            for origin in self.met(kind, square):
+                if self.board[origin] in pieces:
+                    return True
         return False
 
     def checked(self):
@@ -96,9 +94,8 @@ class Game:
                 continue
             for way in WAYS[kind][origin]:
                 for to in way:
-                    if self.own(board[to]):
-                        break
-                    yield origin, to, ""
+                    if not self.own(board[to]):
+                        yield origin, to, ""
                     if board[to] != ".":
                         break
         yield from self.castlings()
@@ -110,10 +107,8 @@ class Game:
             targets.append(origin + ahead)
             if origin // 8 == (1 if self.white else 6) and board[origin + 2 * ahead] == ".":
                 targets.append(origin + 2 * ahead)
-        for way in PAWN[self.white][origin]:
-            to = way[0]
-            if to == self.target or board[to] != "." and not self.own(board[to]):
-                targets.append(to)
+        targets += [to for to, in WAYS[board[origin]][origin]
+                    if to == self.target or board[to] != "." and not self.own(board[to])]
         for to in targets:
             for promotion in "QRBN" if to // 8 in (0, 7) else ("",):
                 yield origin, to, promotion
@@ -122,11 +117,10 @@ class Game:
         king = 4 if self.white else 60
         for right, rook, empty, to in (("K", 3, (1, 2), 2), ("Q", -4, (-1, -2, -3), -2)):
             right = right if self.white else right.lower()
-            if right not in self.rights or any(self.board[king + it] != "." for it in empty):
-                continue
-            if self.board[king + rook].upper() != "R":
-                continue
-            if not any(self.attacked(king + it, not self.white) for it in (0, to // 2, to)):
+            if (right in self.rights and self.board[king + rook].upper() == "R"
+                    and all(self.board[king + it] == "." for it in empty)
+                    and not any(self.attacked(king + it, not self.white)
+                                for it in (0, to // 2, to))):
                 yield king, king + to, ""
 
     def after(self, move):
@@ -161,25 +155,18 @@ class Game:
         takes = self.board[to] != "." or kind == "P" and to == self.target
         if kind == "K" and abs(to - origin) == 2:
             text = "O-O" if to > origin else "O-O-O"
-        elif kind == "P":
-            text = (FILES[origin % 8] + "x" if takes else "") + NAMES[to] + ("=" + promotion if promotion else "")
         else:
-            text = kind + self.hint(kind, origin, to) + ("x" if takes else "") + NAMES[to]
+            front = kind + self.hint(kind, origin, to) if kind != "P" else FILES[origin % 8] * takes
+            text = front + "x" * takes + NAMES[to] + ("=" + promotion if promotion else "")
         if not after.checked():
             return text
         return text + ("+" if after.has_move() else "#")
 
     def hint(self, kind, origin, to):
         """What tells the piece from others of its kind that can go there."""
-        board, rivals = self.board, []
-        if kind == "K":
-            return ""
-        for way in WAYS[kind][to]:
-            for other in way:
-                if board[other] != ".":
-                    if other != origin and board[other] == board[origin] and self.after((other, to, "")):
-                        rivals.append(other)
-                    break
+        rivals = [it for it in self.met(kind, to)
+                  if it != origin and self.board[it] == self.board[origin]
+                  and self.after((it, to, ""))]
         if not rivals:
             return ""
         if all(it % 8 != origin % 8 for it in rivals):
@@ -266,48 +253,41 @@ def numbered(game, text, after_move):
     return [text] if after_move else ["%d..." % game.number, text]
 
 
-def notes(rng, game, move, depth, comments, variations):
-    """The words of a comment and of a variation behind a move, each at this chance."""
-    words = ["{%s}" % rng.choice(PHRASES)] if rng.random() < comments else []
-    if depth < 4 and rng.random() < variations:
-        words += variation(rng, game, (move,), depth)
-    return words
-
-
-def variation(rng, game, without, depth):
-    """The words of a variation in the place of these moves."""
+def annotated(rng, moves, depth=0):
+    """The words of a line, or of a variation so deep, with what an annotator adds to moves."""
     words, after_move = [], False
-    for game, move, after in game.played(rng, rng.randrange(1, 8), without):
-        words += numbered(game, game.san(move, after), after_move)
-        added = notes(rng, game, move, depth + 1, 0.1, 0.08)
-        words += added
-        after_move = not added
-    if not words:
-        return []
-    words[0] = "(" + words[0]
-    words[-1] += ")"
-    return words
-
-
-def annotated(rng, line):
-    words, after_move = [], False
-    for game, move, text in line.moves:
+    for game, move, text in moves:
         words += numbered(game, text, after_move)
-        chance, added = rng.random(), []
-        if chance < 0.06:
-            words[-1] += rng.choice(SUFFIXES)
-        elif chance < 0.12:
-            added.append(rng.choice(GLYPHS))
-        added += notes(rng, game, move, 1, 0.12, 0.09)
+        added = []
+        if not depth:
+            chance = rng.random()
+            if chance < 0.06:
+                words[-1] += rng.choice(SUFFIXES)
+            elif chance < 0.12:
+                added.append(rng.choice(GLYPHS))
+        if rng.random() < (0.1 if depth else 0.12):
+            added.append("{%s}" % rng.choice(PHRASES))
+        if depth < 3 and rng.random() < (0.08 if depth else 0.09):
+            added += variation(rng, game, move, depth + 1)
         words += added
         after_move = not added
+    return words
+
+
+def variation(rng, game, move, depth):
+    """The words of a variation in the place of a move."""
+    others = game.played(rng, rng.randrange(1, 8), (move,))
+    words = annotated(rng, ((at, it, at.san(it, after)) for at, it, after in others), depth)
+    if words:
+        words[0] = "(" + words[0]
+        words[-1] += ")"
     return words
 
 
 def words_of(rng, line, style):
     """The words of a line: plain, with a clock time behind each ply, or annotated."""
     if style == "annotated":
-        return annotated(rng, line)
+        return annotated(rng, line.moves)
     clock = ["{ [%clk 0:03:00] }"] * (style == "server")
     return [word for game, _, text in line.moves for word in (*numbered(game, text, True), *clock)]
 
@@ -318,24 +298,22 @@ def filled(words):
 
 # ---- tag pairs
 
-PLAYERS = "Abreu Berger Costa Dahl Endo Farkas Gomez Hale Ito Jensen Kaya Lund Meyer Nagy Okoro Perez Quinn Roth Silva".split()
+PLAYERS = ("Abreu", "Berger", "Costa", "Dahl", "Endo", "Farkas", "Gomez", "Hale", "Ito", "Jensen",
+           "Kaya", "Lund", "Meyer", "Nagy", "Okoro", "Perez", "Quinn", "Roth", "Silva")
 PLACES = ("Lisbon POR", "Oslo NOR", "Porto Alegre BRA", "Graz AUT", "Kyoto JPN", "Leeds ENG", "?")
-EVENTS = ("City Championship", "Autumn Open", "League, second division", "Memorial", "Club Evening", "Rapid Cup")
+EVENTS = ("City Championship", "Autumn Open", "League, second division", "Memorial", "Club Evening",
+          "Rapid Cup")
+ROUNDS = ("?", "1", "2", "3", "4.1", "7")
 
 
 def tag_pairs(rng, style, result):
     player = lambda: "%s, %s" % (rng.choice(PLAYERS), rng.choice("ABCDEFGHIJKLM"))
-    pairs = [
-        ("Event", rng.choice(EVENTS)),
-        ("Site", rng.choice(PLACES)),
-        ("Date", "%d.%02d.%02d" % (rng.randrange(1950, 2026), rng.randrange(1, 13), rng.randrange(1, 29))),
-        ("Round", rng.choice(("?", "1", "2", "3", "4.1", "7"))),
-        ("White", player()),
-        ("Black", player()),
-        ("Result", result),
-    ]
+    date = lambda: (rng.randrange(1950, 2026), rng.randrange(1, 13), rng.randrange(1, 29))
+    pairs = [("Event", rng.choice(EVENTS)), ("Site", rng.choice(PLACES)),
+             ("Date", "%d.%02d.%02d" % date()), ("Round", rng.choice(ROUNDS)),
+             ("White", player()), ("Black", player()), ("Result", result)]
     if rng.random() < 0.5 or style == "annotated":
-        pairs += [("WhiteElo", str(rng.randrange(1500, 2800))), ("BlackElo", str(rng.randrange(1500, 2800)))]
+        pairs += [(it, str(rng.randrange(1500, 2800))) for it in ("WhiteElo", "BlackElo")]
     if rng.random() < 0.7:
         pairs.append(("ECO", "%s%02d" % (rng.choice("ABCDE"), rng.randrange(100))))
     if style == "annotated":
@@ -350,7 +328,8 @@ def game_of(rng, style, result, movetext):
 
 
 def main():
-    parser = argparse.ArgumentParser(description=__doc__, formatter_class=argparse.RawDescriptionHelpFormatter)
+    form = argparse.RawDescriptionHelpFormatter
+    parser = argparse.ArgumentParser(description=__doc__, formatter_class=form)
     parser.add_argument("--games", type=int, default=20000)
     parser.add_argument("--style", choices=("plain", "annotated", "server"), default="plain")
     parser.add_argument("--lines", type=int, default=250)

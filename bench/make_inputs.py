@@ -47,18 +47,15 @@ def puzzles(rng, line):
 
 
 def queens(rng):
-    """A game that begins with many queens a side."""
-    while True:
-        game = Game()
-        board = ["."] * 64
-        squares = rng.sample(range(64), 20)
-        for square, piece in zip(squares, "Kk" + "Q" * 9 + "q" * 9):
-            board[square] = piece
-        game.board, game.rights = board, ""
-        if not (game.attacked(board.index("k"), True) or game.attacked(board.index("K"), False)):
-            break
-    moves = [at.san(move, after) for at, move, after in game.played(rng, rng.randrange(4, 12))]
-    return game, moves
+    """A game that begins with many queens a side, and with no king in check."""
+    game, is_check = Game(), True
+    game.rights = ""
+    while is_check:
+        game.board = ["."] * 64
+        for square, piece in zip(rng.sample(range(64), 20), "Kk" + "Q" * 9 + "q" * 9):
+            game.board[square] = piece
+        is_check = any(game.attacked(game.board.index(king), king == "k") for king in "Kk")
+    return game, [at.san(move, after) for at, move, after in game.played(rng, rng.randrange(4, 12))]
 
 
 def write(name, lines):
@@ -71,9 +68,9 @@ def main():
     lines = [Line(rng) for _ in range(GAMES)]
     write("games.txt", ([it.result, *(text for _, _, text in it.moves)] for it in lines))
     found = [it for line in lines for it in puzzles(rng, line)]
-    write("puzzles.txt", ([fen(start), *moves] for start, moves in found))
     played = [queens(rng) for _ in range(QUEENS)]
-    write("queens.txt", ([fen(start), *moves] for start, moves in played))
+    for name, games in (("puzzles.txt", found), ("queens.txt", played)):
+        write(name, ([fen(start), *moves] for start, moves in games))
 
 
 if __name__ == "__main__":

@@ -1,56 +1,43 @@
-"""What bench/run measures of one call of a program: time, memory, instructions, stack, and more."""
-import glob
+"""What bench/run measures of one call of a program: time, memory, instructions, system calls."""
 import json
 import os
 import platform
 import re
-import resource
 import shlex
 import shutil
 import subprocess
 import sys
-import tempfile
 import time
 
 HERE = os.path.dirname(os.path.realpath(__file__))
 ROOT = os.path.dirname(HERE)
 OUT = HERE + "/out"
-IN_MEMORY = "/dev/shm"
-# the script that measures, as messages name it
-SCRIPT = "bench/" + os.path.basename(sys.argv[0])
 # The parts of the program, and the beginnings of the names of the functions that belong to each.
 # The first beginning that fits decides. Functions with no part (chess_rules, core, std, memcpy)
-# belong to the part that calls them: so legality is a cost of find and of write_san.
+# belong to the part that calls them: so legality is a cost of find and of write_san. Behind them
+# are the main functions of a part: if the compiler inlines one, its caller's part has its cost.
 PARTS = (
-    ("lexer", ("pgn_lexer::",)),
-    ("find", ("pgn_game::find::", "chess_text::form::", "chess_text::resolution::")),
-    ("write_san", ("chess_text::san::",)),
-    ("layout and sinks", ("pgn_layout::", "pgn_game::number::", "std::io::buffered::")),
-    ("converter's loop", ("pgn_game::converter::", "pgn_game::conversion::", "pgn_tool::stream::")),
-    ("reader and levels", ("pgn_game::", "chess_text::")),
+    ("lexer", ("pgn_lexer::",), ("pgn_lexer::lexer::Lexer::whole_token",)),
+    ("find", ("pgn_game::find::", "chess_text::form::", "chess_text::resolution::"),
+     ("pgn_game::find::named_move",)),
+    ("write_san", ("chess_text::san::",), ("chess_text::san::write_san",)),
+    ("layout and sinks", ("pgn_layout::", "pgn_game::number::", "std::io::buffered::"),
+     ("pgn_layout::current_line::CurrentLine::put", "pgn_layout::sink::write_all")),
+    ("converter's loop", ("pgn_game::converter::", "pgn_game::conversion::", "pgn_tool::stream::"),
+     ()),
+    ("reader and levels", ("pgn_game::", "chess_text::"),
+     ("pgn_game::reader::Reader::accept", "pgn_game::game::Game::take")),
 )
-# The main functions of the parts. If the compiler inlines one, its caller's part has its cost.
-MAIN_FUNCTIONS = {
-    "lexer": ("pgn_lexer::lexer::Lexer::whole_token",),
-    "find": ("pgn_game::find::named_move",),
-    "write_san": ("chess_text::san::write_san",),
-    "layout and sinks": ("pgn_layout::current_line::CurrentLine::put", "pgn_layout::sink::write_all"),
-    "reader and levels": ("pgn_game::reader::Reader::accept", "pgn_game::game::Game::take"),
-}
 # Other work is more than so many processors that other processes keep busy, on average.
 QUIET = 0.2
 # how long is waited to see whether there is other work
 SECONDS = 5
-STACK_STEP = 4
-TASKS = ("export", "export --checked", "check", "list")
-# what a small file takes in memory, and more than that
-BLOCK = 8192
 # The games of two archives. What a game costs is their difference, without the start of a program.
 SMALL, LARGE = 100, 300
 
 
 def stop(why):
-    sys.exit("%s: %s" % (SCRIPT, why))
+    sys.exit("bench/run: " + why)
 
 
 def found(name):
@@ -63,14 +50,12 @@ def check_tools(needed, others=()):
     The figures of the others are left out without them.
     """
     lacking = [it for it in (*needed, *others) if not found(it)]
-    if not lacking:
-        return
-    said = "%s missing; to install: apt-get install --no-install-recommends %s" % (
-        "%s %s" % (", ".join(lacking), "is" if len(lacking) == 1 else "are"),
-        " ".join(lacking))
+    said = "%s %s missing; to install: apt-get install --no-install-recommends %s" % (
+        ", ".join(lacking), "is" if len(lacking) == 1 else "are", " ".join(lacking))
     if set(lacking) & set(needed):
         stop(said)
-    print("%s: %s; goes on without these figures" % (SCRIPT, said), file=sys.stderr)
+    if lacking:
+        print("bench/run: %s; goes on without these figures" % said, file=sys.stderr)
 
 
 def work():
@@ -197,9 +182,9 @@ def instructions(calls, styles):
 
 def callgrind(words, file="/dev/null"):
     """What callgrind counts in a call, as read_callgrind returns it."""
-    with tempfile.NamedTemporaryFile("r", encoding="utf-8", errors="replace") as counts:
-        call([found("valgrind"), "--tool=callgrind", "--branch-sim=yes",
-              "--callgrind-out-file=" + counts.name, *words], file=file)
+    call([found("valgrind"), "--tool=callgrind", "--branch-sim=yes",
+          "--callgrind-out-file=" + OUT + "/callgrind", *words], file=file)
+    with open(OUT + "/callgrind", encoding="utf-8", errors="replace") as counts:
         return read_callgrind(counts)
 
 
@@ -232,7 +217,7 @@ def read_callgrind(lines):
 
 
 def part_of(function):
-    for part, beginnings in PARTS:
+    for part, beginnings, _ in PARTS:
         if function.startswith(beginnings):
             return part
     # the rest of the program is a part too, so that its calls do not count as another's
@@ -242,7 +227,7 @@ def part_of(function):
 def by_part(costs):
     """The instructions of each part, with those of the functions of no part that it calls."""
     totals, own, by_call = costs
-    spent = {part: 0 for part, _ in PARTS}
+    spent = {part: 0 for part, _, _ in PARTS}
     for function, instructions in own.items():
         if part_of(function) in spent:
             spent[part_of(function)] += instructions
@@ -255,11 +240,10 @@ def by_part(costs):
 
 def inlined(costs):
     """By part, the main functions that are no functions of their own in the built program."""
-    functions = list(costs[1])
-    missing = {part: [name for name in names if not any(it.startswith(name) for it in functions)]
-               for part, names in MAIN_FUNCTIONS.items()}
-    return {part: ["::".join(name.split("::")[-2:]) for name in names]
-            for part, names in missing.items() if names}
+    missing = {part: ["::".join(name.split("::")[-2:]) for name in names
+                      if not any(it.startswith(name) for it in costs[1])]
+               for part, _, names in PARTS}
+    return {part: names for part, names in missing.items() if names}
 
 
 def difference(small, large, games=LARGE - SMALL):
@@ -270,9 +254,8 @@ def difference(small, large, games=LARGE - SMALL):
 
 def system_calls(words):
     """The number of system calls."""
-    with tempfile.NamedTemporaryFile("r") as file:
-        call([found("strace"), "-f", "-c", "-o", file.name, *words])
-        return read_strace(file)
+    call([found("strace"), "-f", "-c", "-o", OUT + "/strace", *words])
+    return read_strace(read(OUT + "/strace").decode().splitlines())
 
 
 def read_strace(lines):
@@ -281,86 +264,6 @@ def read_strace(lines):
         if line.split()[-1:] == ["total"]:
             return int(line.split()[3])
     return stop("strace has no total")
-
-
-def limit_stack(kib):
-    resource.setrlimit(resource.RLIMIT_CORE, (0, 0))
-    resource.setrlimit(resource.RLIMIT_STACK, (kib * 1024, kib * 1024))
-
-
-def fits(program, task, folder, kib, times):
-    """Whether the program ends by itself on each input of a folder, with a stack of so many KiB."""
-    files = sorted(glob.glob("*.in", root_dir=folder))
-    quiet = {"stdin": subprocess.DEVNULL, "stdout": subprocess.DEVNULL, "stderr": subprocess.DEVNULL}
-    for file in times * files:
-        try:
-            ran = subprocess.run([program, *task.split(), file], cwd=folder, env={}, check=False,
-                                 **quiet, preexec_fn=lambda: limit_stack(kib))
-        except OSError:
-            return False
-        if ran.returncode not in (0, 1):
-            return False
-    return True
-
-
-def least_stack(program, task):
-    """The least ulimit -s that is enough for each vector, in KiB, with an empty environment.
-
-    Each call has another place of the stack, so near the least some calls fail and some do not.
-    """
-    low, high = 0, 8192
-    with tempfile.TemporaryDirectory() as folder:
-        subprocess.run([ROOT + "/bin/pgn_conform", "--files", folder], check=True)
-        while high - low > STACK_STEP:
-            middle = (low + high) // (2 * STACK_STEP) * STACK_STEP
-            low, high = (low, middle) if fits(program, task, folder, middle, 1) else (middle, high)
-        while not fits(program, task, folder, high, 3):
-            high += STACK_STEP
-    return high
-
-
-def has_room(file, games):
-    """Whether there is a file system in memory with room for the outputs of export and split."""
-    if not os.path.isdir(IN_MEMORY):
-        return False
-    return shutil.disk_usage(IN_MEMORY).free > 4 * os.path.getsize(file) + games * BLOCK
-
-
-def split_figures(program, file, games, rounds):
-    """The least wall time of export and split on files in memory, or None without room there."""
-    if not has_room(file, games):
-        return None
-    with tempfile.TemporaryDirectory(dir=IN_MEMORY) as folder:
-        shutil.copy(file, folder + "/in.pgn")
-        made = folder + "/games"
-        calls = {"export": [program, "export", folder + "/in.pgn"],
-                 "split": [program, "split", made, folder + "/in.pgn"]}
-        prepare = ["sh", "-c", "rm -rf %s && mkdir %s" % (made, made)]
-        took = times(calls, rounds, folder=folder, prepare=prepare)
-    return {task: wall for task, (wall, _) in took.items()}
-
-
-def split_calls(program, small, large):
-    """System calls a game of export and split, or None without strace."""
-    if not found("strace"):
-        return None
-    spent = {"export": [], "split": []}
-    for file in (small, large):
-        with tempfile.TemporaryDirectory() as folder:
-            for task, words in (("export", [file]), ("split", [folder, file])):
-                spent[task].append(system_calls([program, task, *words]))
-    return {task: (b - a) / (LARGE - SMALL) for task, (a, b) in spent.items()}
-
-
-def checked_figures(program, file, small, large, rounds):
-    """The least wall time and the instructions of a game, of export and of the tasks beside it."""
-    calls = {it: [program, *it.split()] for it in TASKS}
-    took = times({task: [*words, file] for task, words in calls.items()}, rounds)
-    figures = {}
-    for task, words in calls.items():
-        spent = difference(*(callgrind([*words, it]) for it in (small, large)))
-        figures[task] = {"wall": took[task][0], "instructions": spent["Ir"]}
-    return figures
 
 
 def built(*options):

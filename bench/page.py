@@ -1,8 +1,7 @@
 """The page of bin/build_page beside the program, on an archive of annotated games.
 
 Headless Chromium opens the archive on the page, which is loaded anew: from the file's choice to the
-end of the conversion, by the page's own clock. The page's export has to be the program's. It needs
-selenium, which Debian's Python has: /usr/bin/python3 bench/run page.
+end of the conversion, by the page's own clock.
 """
 import contextlib
 import hashlib
@@ -54,11 +53,11 @@ def figures(given):
     import test_page
     file = archive("annotated", given.games)
     program = measure.times({"program": [given.program, "export", file]}, given.rounds)["program"][0]
-    digest = hashlib.sha256(read(output_of("program"))).hexdigest()
     try:
         with Resources() as resources:
             browser = test_page.Browser(resources)
             page = min(seconds_of_page(test_page, browser, file) for _ in range(given.rounds))
+            digest = hashlib.sha256(read(output_of("program"))).hexdigest()
             if browser.await_script(DIGEST).get("value") != digest:
                 stop("the page's export is not the program's")
     except (unittest.SkipTest, AssertionError) as error:
@@ -66,7 +65,7 @@ def figures(given):
     size = os.path.getsize(file) / 1e6
     rows = [[name, "%.2f" % took, "%.1f" % (size / took), "%.2f" % (program / took)]
             for name, took in (("program", program), ("page", page))]
-    head = ["%s annotated games, %.1f MB" % (format(given.games, ","), size), "s", "MB/s",
+    head = ["%s annotated games, %.1f MB" % (tables.whole(given.games), size), "s", "MB/s",
             "of the program's MB/s"]
     return {"table": tables.table(head, rows)}
 

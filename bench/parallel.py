@@ -1,8 +1,7 @@
 """The recipe for all processors (docs/PARALLEL.md) on 1, 2 and 4 processes, beside one run.
 
-An archive of annotated games, ten times over, is exported by GNU parallel from a plain file
-(--pipepart) and from a pipe (--pipe). Each output has to be the same bytes. Processor time is that
-of all processes. Memory is the most of parallel, and of one pgn_tool, that was resident.
+Processor time is that of all processes. Memory is the most of parallel, and of one pgn_tool, that
+was resident.
 """
 import filecmp
 import os
@@ -18,12 +17,11 @@ CUT = ["--recend", r"\n\n", "--recstart", '[Event "']
 
 def calls_of(program, file):
     """The words of each call, by its name and its number of processes, with the program's last."""
-    calls = {("one run", 1): [program, "export", file]}
-    for way, source in (("file", ["--pipepart", "-a", file]), ("pipe", ["--pipe"])):
-        for processes in PROCESSES:
-            calls[way, processes] = ["parallel", "-k", "-j", str(processes), "--block", BLOCK, *CUT,
-                                     *source, program, "export"]
-    return calls
+    return {("one run", 1): [program, "export", file],
+            **{(way, processes): ["parallel", "-k", "-j", str(processes), "--block", BLOCK, *CUT,
+                                  *source, program, "export"]
+               for way, source in (("file", ["--pipepart", "-a", file]), ("pipe", ["--pipe"]))
+               for processes in PROCESSES}}
 
 
 def memory(name, words, file):
@@ -48,13 +46,9 @@ def figures(given):
     head = ["", "processes", "wall s", "MB/s", "speed-up", "processor s", "memory MB"]
     said = ("Processor time shows what the cut costs. On %d processes it is %.0f %% more from a "
             "file, and %.0f %% more from a pipe." % (most, *extra))
-    return {"input": "- Input: %s games, %.0f MB, in blocks of %s"
-                     % (format(COPIES * given.games, ","), size, BLOCK),
-            "table": [*tables.table(head, rows), *tables.prose(said)]}
+    return {"input": "%s games, %.0f MB, in blocks of %s"
+                     % (tables.whole(COPIES * given.games), size, BLOCK),
+            "table": [*tables.table(head, rows), *tables.prose(said), ""]}
 
 
-def lines(result):
-    return [result["input"], *tables.machine(result), *result["table"]]
-
-
-RECORDS = ((ROOT + "/docs/PARALLEL.md", lines),)
+RECORDS = ((ROOT + "/docs/PARALLEL.md", tables.measured_table),)

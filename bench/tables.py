@@ -21,8 +21,17 @@ BY_CARGO = "pgn_tool by Cargo"
 
 def table(head, rows, side="---:"):
     """The lines of a table. Its first column is at the left, and the others at the side."""
-    lines = ["| %s |" % " | ".join(str(it) for it in row) for row in [head, *rows]]
+    lines = ["| %s |" % " | ".join(map(str, row)) for row in [head, *rows]]
     return [lines[0], "|---|" + (len(head) - 1) * (side + "|"), *lines[1:], ""]
+
+
+def whole(number):
+    """A number without its fraction, with commas."""
+    return format(round(number), ",")
+
+
+def size_of(archive):
+    return "%s games, %.1f MB" % (whole(archive["games"]), archive["bytes"] / 1e6)
 
 
 def prose(text):
@@ -53,36 +62,34 @@ def measured(result):
 
 
 def goals(result):
-    found, rows, missed = measured(result), [], []
-    for what, most, form, shown_form in GOALS:
-        for of, goal in most.items():
-            if (what, of) not in found:
-                continue
-            at_most, shown = form % goal, shown_form % found[what, of]
-            is_met = found[what, of] <= goal
-            rows.append([what, of, at_most, shown, "met" if is_met else "NOT MET"])
-            if not is_met:
-                missed.append("- %s, %s: %s instead of %s" % (what, of, shown, at_most))
+    found = measured(result)
+    rows = [[what, of, form % most, shown % found[what, of],
+             "met" if found[what, of] <= most else "NOT MET"]
+            for what, goal, form, shown in GOALS for of, most in goal.items()
+            if (what, of) in found]
     if not rows:
         return []
-    said = ["**Not met:**", "", *missed] if missed else ["All goals are met."]
+    missed = ["- %s, %s: %s instead of %s" % (what, of, shown, most)
+              for what, of, most, shown, said in rows if said != "met"]
     return [*prose("Goals. Wall time and instructions are parts of pgn-extract's. Those of Cargo's "
                    "program and of the dependent one are parts of the proved program's "
                    "instructions:"), "",
-            *table(["", "of", "at most", "measured", "goal"], rows, "---"), *said, ""]
+            *table(["", "of", "at most", "measured", "goal"], rows, "---"),
+            *(["**Not met:**", "", *missed] if missed else ["All goals are met."]), ""]
 
 
 def machine(result):
-    """The date, the program, the machine, the versions, and how much other work ran."""
+    """The input, the date, the program, the machine, the versions, and how much other work ran."""
     it = result["machine"]
-    versions = ", ".join("%s %s" % pair for pair in it["versions"].items())
-    items = ["- Date: %s; the least of %d rounds" % (result["date"], result["rounds"]),
-             "- Program: %s" % result["program"],
-             "- Machine: %d processors, %s; Debian %s" % (it["processors"], it["model"], it["debian"]),
-             "- Versions: %s" % versions,
-             "- Other work: kept %.2f of %d processors busy, on average"
-             % (result["other"], it["processors"])]
-    return [line for item in items for line in prose(item)] + [""]
+    count = it["processors"]
+    items = {"Input": result.get("input"),
+             "Date": "%s; the least of %d rounds" % (result["date"], result["rounds"]),
+             "Program": result["program"],
+             "Machine": "%d processors, %s; Debian %s" % (count, it["model"], it["debian"]),
+             "Versions": ", ".join("%s %s" % pair for pair in it["versions"].items()),
+             "Other work": "kept %.2f of %d processors busy, on average" % (result["other"], count)}
+    return [line for name, said in items.items() if said
+            for line in prose("- %s: %s" % (name, said))] + [""]
 
 
 def measured_table(result):
@@ -91,59 +98,51 @@ def measured_table(result):
 
 
 def converters(archive):
-    rows = []
-    for name, it in archive["converters"].items():
-        rows.append([name, "%.2f" % it["wall"], "%d" % (archive["games"] / it["wall"]),
-                     "%.1f" % (archive["bytes"] / 1e6 / it["wall"]), "%.1f" % it["memory"],
-                     format(round(it["instructions"]), ","),
-                     format(round(it["mispredictions"]), ",")])
-    for name in ("pgn_tool", BY_CARGO):
-        if name in archive["converters"]:
-            rows.append([name + " to pgn-extract", "%.3f" % ratio(archive, "wall", name), "", "",
-                         "%.2f" % ratio(archive, "memory", name),
-                         "%.3f" % ratio(archive, "instructions", name),
-                         "%.3f" % ratio(archive, "mispredictions", name)])
-    head = ["", "wall s", "games/s", "MB/s", "memory MiB", "instructions a game",
-            "branch mispredictions a game"]
-    return table(head, rows)
+    games, size = archive["games"], archive["bytes"] / 1e6
+    rows = [[name, "%.2f" % it["wall"], "%d" % (games / it["wall"]), "%.1f" % (size / it["wall"]),
+             "%.1f" % it["memory"], whole(it["instructions"]), whole(it["mispredictions"])]
+            for name, it in archive["converters"].items()]
+    for name in archive["converters"]:
+        if name != "pgn-extract":
+            part = lambda what, form: form % ratio(archive, what, name)
+            rows.append([name + " to pgn-extract", part("wall", "%.3f"), "", "",
+                         part("memory", "%.2f"), part("instructions", "%.3f"),
+                         part("mispredictions", "%.3f")])
+    return table(["", "wall s", "games/s", "MB/s", "memory MiB", "instructions a game",
+                  "branch mispredictions a game"], rows)
 
 
 def parts(archive):
     """The share of each part; a function that is inlined elsewhere is named as left out."""
-    spent = archive["parts"]
-    whole = sum(spent.values())
-    rows = []
-    for part, it in spent.items():
-        without = ["`%s`" % name for name in archive["inlined"].get(part, [])]
-        name = part + (", without " + " and ".join(without) if without else "")
-        rows.append([name, format(round(it), ","), "%.1f %%" % (100 * it / whole)])
+    it = archive["converters"]["pgn_tool"]
+    all_parts, rows = sum(it["parts"].values()), []
+    for part, spent in it["parts"].items():
+        without = " and ".join("`%s`" % name for name in it["inlined"].get(part, []))
+        rows.append([part + (", without " + without if without else ""), whole(spent),
+                     "%.1f %%" % (100 * spent / all_parts)])
     return ["Where the instructions of a game go:", "",
             *table(["part", "instructions a game", "share"], rows)]
 
 
 def sizes(archive):
-    if not archive["sizes"]:
-        return []
     rows = [["%.1f" % (it["bytes"] / 1e6), "%.2f" % it["wall"],
              "%.1f" % (it["wall"] / it["bytes"] * 1e9),
              "%.1f" % (it["instructions"] / it["bytes"]), "%.1f" % it["memory"]]
             for it in archive["sizes"]]
-    return ["Cost against size, by repeating the games:", "",
-            *table(["MB", "wall s", "ns a byte", "instructions a byte", "memory MiB"], rows)]
+    return rows and ["Cost against size, by repeating the games:", "", *table(
+        ["MB", "wall s", "ns a byte", "instructions a byte", "memory MiB"], rows)]
 
 
 def split(archive):
-    if not archive["split"]:
-        return []
-    calls = archive["split"]["calls"]
-    rows = [[task, "%d" % (archive["games"] / took), "%.2f" % calls[task] if calls else ""]
-            for task, took in archive["split"]["wall"].items()]
-    return ["`split` beside `export`, files in memory:", "",
-            *table(["", "games/s", "system calls a game"], rows)]
+    rows = [[task, "%d" % (archive["games"] / it["wall"]),
+             "" if it["calls"] is None else "%.2f" % it["calls"]]
+            for task, it in archive["split"].items()]
+    return rows and ["`split` beside `export`, files in memory:", "",
+                     *table(["", "games/s", "system calls a game"], rows)]
 
 
 def checked(archive):
-    rows = [[task, "%d" % (archive["games"] / it["wall"]), format(round(it["instructions"]), ",")]
+    rows = [[task, "%d" % (archive["games"] / it["wall"]), whole(it["instructions"])]
             for task, it in archive["checked"].items()]
     return ["The other tasks beside `export`, output to nowhere:", "",
             *table(["", "games/s", "instructions a game"], rows)]
@@ -152,42 +151,36 @@ def checked(archive):
 def instructions(spent):
     """The instructions by call and archive, and their ratio to those of the first call."""
     names, archives = (list(dict.fromkeys(it)) for it in zip(*spent))
-    rows = [[name] for name in names]
-    for row, name in zip(rows, names):
-        for it in archives:
-            row += [format(round(spent[name, it]), ","),
-                    "%.3f" % (spent[name, it] / spent[names[0], it])]
-    return table(["instructions a game"] + [it for name in archives for it in (name, "ratio")], rows)
-
-
-def builds(result):
-    none = ["The builds are not compared, without a cargo that builds them.", ""]
-    return ["### The builds", "", *(instructions(result["builds"]) if result["builds"] else none)]
+    head, rows = ["instructions a game"], [[name] for name in names]
+    for it in archives:
+        head += [it, "ratio"]
+        for row, name in zip(rows, names):
+            row += [whole(spent[name, it]), "%.3f" % (spent[name, it] / spent[names[0], it])]
+    return table(head, rows)
 
 
 def report(result):
     """All tables, as bench/README.md has them."""
     lines = machine(result) + goals(result)
     for it in result["archives"]:
-        lines += ["### %s: %s games, %.1f MB"
-                  % (it["name"].capitalize(), format(it["games"], ","), it["bytes"] / 1e6), ""]
+        lines += ["### %s: %s" % (it["name"].capitalize(), size_of(it)), ""]
         lines += converters(it) + parts(it) + split(it) + checked(it) + sizes(it)
-    return (lines + builds(result))[:-1]
+    none = ["The builds are not compared, without a cargo that builds them.", ""]
+    by_build = instructions(result["builds"]) if result["builds"] else none
+    return [*lines, "### The builds", "", *by_build][:-1]
 
 
 def summary(result):
     """The table of the README."""
-    rows = []
+    head, rows = ["", "games a second", "wall time", "instructions", "memory"], []
     for it in result["archives"]:
         ours = it["converters"]["pgn_tool"]
-        rows.append(["%s, %s games, %.1f MB"
-                     % (it["name"], format(it["games"], ","), it["bytes"] / 1e6),
+        rows.append(["%s, %s" % (it["name"], size_of(it)),
                      format(round(it["games"] / ours["wall"], -2), ",.0f"),
                      "%.2f" % ratio(it, "wall"), "%.2f" % ratio(it, "instructions"),
                      "%.1f MiB" % ours["memory"]])
         if BY_CARGO in it["converters"]:
             rows[-1].append("%.2f" % ratio(it, "wall", BY_CARGO))
-    head = ["", "games a second", "wall time", "instructions", "memory"]
     if len(rows[0]) > len(head):
         head.append("wall time, by Cargo")
     version = result["machine"]["versions"].get("pgn-extract", "of unknown version")

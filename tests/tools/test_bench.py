@@ -1,6 +1,7 @@
 """Tests of bench/run: its words, its readers of other tools' output, and its tables. No timing."""
 import contextlib
 import copy
+import glob
 import io
 import os
 import re
@@ -14,8 +15,8 @@ from programs import ROOT, Folder, load, need, new_folder, not_tried, output_of,
 
 sys.dont_write_bytecode = True
 sys.path.insert(0, ROOT + "/bench")
-import builds
 import measure
+import program
 import tables
 
 # The loop has 100 instructions of its own, 30 in memcpy, and calls named_move, which has 50 of its
@@ -81,7 +82,6 @@ STRACE = """% time     seconds  usecs/call     calls    errors syscall
 # What bench/run does first, where no other folder than the given one has programs.
 MISSING = """
 import shutil, sys
-sys.argv = ["run", *sys.argv[1:]]
 sys.path.insert(0, sys.argv[1] + "/bench")
 import measure
 measure.found = lambda name: shutil.which(name, path=sys.argv[1])
@@ -90,22 +90,20 @@ measure.check_tools(("time", "strace"), ("hyperfine",))
 """
 
 
-def converter(wall, memory, instructions, mispredictions):
+def figures(wall, instructions, memory=0, mispredictions=0):
     return {"wall": wall, "memory": memory, "instructions": instructions,
-            "mispredictions": mispredictions}
+            "mispredictions": mispredictions, "parts": {"lexer": 50, "find": 150},
+            "inlined": {"lexer": ["Lexer::whole_token"]}}
 
 
 def archive(name, wall):
     """A made-up result: ours beside figures of 1 s, 4 MiB and 1,000 instructions."""
     return {"name": name, "games": 2000, "bytes": 3_000_000,
-            "converters": {"pgn_tool": converter(wall, 1.5, 200, 30),
-                           "pgn-extract": converter(1, 4, 1000, 60)},
-            "parts": {"lexer": 50, "find": 150}, "inlined": {"lexer": ["Lexer::whole_token"]},
-            "split": {"wall": {"export": 0.5, "split": 4}, "calls": {"export": 0.25, "split": 20}},
-            "checked": {"export": {"wall": 0.5, "instructions": 200},
-                        "export --checked": {"wall": 1, "instructions": 390},
-                        "check": {"wall": 0.4, "instructions": 150},
-                        "list": {"wall": 0.8, "instructions": 160}},
+            "converters": {"pgn_tool": figures(wall, 200, 1.5, 30),
+                           "pgn-extract": figures(1, 1000, 4, 60)},
+            "split": {"export": {"wall": 0.5, "calls": 0.25}, "split": {"wall": 4, "calls": 20}},
+            "checked": {"export": figures(0.5, 200), "export --checked": figures(1, 390),
+                        "check": figures(0.4, 150), "list": figures(0.8, 160)},
             "sizes": [{"bytes": 1_000_000, "wall": 0.05, "instructions": 2_000_000, "memory": 1.5}]}
 
 
@@ -118,16 +116,43 @@ RESULT = {
                ("proved", "server"): 1000, ("Cargo", "server"): 1009, ("dependent", "server"): 1081},
     "stack": {"export": 128, "export --checked": 180, "check": 124, "list": 132},
 }
-
-
+# Lines of the report of this result, its goals among them.
+REPORT = """\
+- Date: 2001-02-03; the least of 4 rounds
+- Program: pgn_tool 1.2
+- Machine: 8 processors, a processor; Debian 99.1
+- Versions: pgn-extract 1.2-3, valgrind 4.5
+- Other work: kept 0.03 of 8 processors busy, on average
+| wall time | plain | 0.20 | 0.150 | met |
+| wall time | annotated | 0.20 | 0.250 | NOT MET |
+| instructions | plain | 0.19 | 0.200 | NOT MET |
+| instructions | annotated | 0.22 | 0.200 | met |
+| least stack | export | 128 KiB | 128 KiB | met |
+| least stack | list | 128 KiB | 132 KiB | NOT MET |
+| least stack | export --checked | 192 KiB | 180 KiB | met |
+| --checked to export | plain | 2.2 | 2.00 | met |
+| Cargo to proved | server | 1.01 | 1.009 | met |
+| dependent to proved | plain | 1.08 | 1.050 | met |
+### Plain: 2,000 games, 3.0 MB
+| pgn_tool | 0.15 | 13333 | 20.0 | 1.5 | 200 | 30 |
+| lexer, without `Lexer::whole_token` | 50 | 25.0 % |
+| split | 500 | 20.00 |
+| export --checked | 2000 | 390 |
+| check | 5000 | 150 |
+| 1.0 | 0.05 | 50.0 | 2.0 | 1.5 |
+### The builds
+| instructions a game | plain | ratio | server | ratio |
+| proved | 2,000 | 1.000 | 1,000 | 1.000 |
+| Cargo | 2,300 | 1.150 | 1,009 | 1.009 |
+| dependent | 2,100 | 1.050 | 1,081 | 1.081 |
+"""
 # A crate of crates.txt: its name, what kind of crate it is, and what it uses.
 CRATE = re.compile(r"(?m)^(\w+)(?: \w+)?:(.*)$")
 
 
 def imported(text):
     """What a source file takes from other crates: pairs of a crate and a name."""
-    text = re.sub(r"//.*", "", text)
-    for crate, names in re.findall(r"\b(\w+)::(\w+|\{[^}]*\}|\*)", text):
+    for crate, names in re.findall(r"\b(\w+)::(\w+|\{[^}]*\}|\*)", re.sub(r"//.*", "", text)):
         for name in names.strip("{}").split(","):
             if name.strip():
                 yield crate, name.split()[0]
@@ -151,7 +176,7 @@ class TheStart(unittest.TestCase):
             not_tried("this is no repository of git")
         lines = documents.lines_of("docs/PERF.md")
         cls.block = next(inner for _, _, inner in documents.blocks_of(lines)
-                         if any(it.startswith("bench/run ") for it in inner))
+                         if inner[-1].startswith("bench/run "))
         cls.build = next(at for at, it in enumerate(cls.block) if "rt run" in it)
         cls.start = re.search(r"\b[0-9a-f]{40}\b", lines[0])[0]
         if run(["git", "cat-file", "-e", cls.start + "^{commit}"]).returncode:
@@ -168,9 +193,8 @@ class TheStart(unittest.TestCase):
     def test_it_is_the_start(self):
         ran = run(["git", "rev-parse", "HEAD"], cwd=self.old)
         self.assertEqual(ran.stdout.decode().strip(), self.start)
-        for name in ("run", "workloads.txt"):
-            path = "%s/bench/" + name
-            self.assertEqual(text_of(path % self.old), text_of(path % self.new))
+        for name in ("/bench/run", "/bench/workloads.txt"):
+            self.assertEqual(text_of(self.old + name), text_of(self.new + name))
 
     def test_each_crate_of_its_list_is_there(self):
         listed = dict(CRATE.findall(text_of(self.old + "/crates.txt")))
@@ -190,9 +214,8 @@ class TheStart(unittest.TestCase):
     def test_the_jobs_call_nothing_that_it_lacks(self):
         uses = dict(CRATE.findall(text_of("crates.txt")))["workloads"].split()
         libraries = [it for it in uses if os.path.isdir("%s/crates/%s" % (ROOT, it))]
-        folder = ROOT + "/crates/workloads/src"
-        names = sorted({it for file in os.listdir(folder)
-                        for it in imported(text_of(os.path.join(folder, file)))
+        files = glob.glob(ROOT + "/crates/workloads/src/*")
+        names = sorted({it for file in files for it in imported(text_of(file))
                         if it[0] in libraries})
         self.assertGreater(len(names), 15)
         self.assertEqual({crate for crate, _ in names}, set(libraries))
@@ -290,8 +313,8 @@ class Readers(unittest.TestCase):
         folder = new_folder(self)
         for place, games, has_room in ((folder, 1, True), (folder, 10 ** 15, False),
                                        (folder + "/none", 1, False)):
-            with mock.patch.object(measure, "IN_MEMORY", place):
-                self.assertEqual(measure.has_room(__file__, games), has_room)
+            with mock.patch.object(program, "IN_MEMORY", place):
+                self.assertEqual(program.has_room(__file__, games), has_room)
 
     def test_strace(self):
         self.assertEqual(measure.read_strace(STRACE.splitlines(True)), 84)
@@ -314,42 +337,28 @@ class OtherWork(unittest.TestCase):
         self.assertTrue(all(a <= b for a, b in zip(before, after)), (before, after))
 
     def test_when_it_stops(self):
-        for other, allowed, stops in ((0, False, False), (0.19, False, False), (0.21, False, True),
-                                      (3, False, True), (0, True, False), (0.21, True, False),
-                                      (3, True, False)):
-            with self.subTest((other, allowed)):
-                if not stops:
-                    measure.check_quiet(other, allowed)
+        for other in (0, 0.19, 0.21, 3):
+            with self.subTest(other):
+                measure.check_quiet(other, True)
+                if other < 0.2:
+                    measure.check_quiet(other, False)
                     continue
                 said = "other work keeps %.1f processors busy.*--busy" % other
-                self.assertRaisesRegex(SystemExit, said, measure.check_quiet, other, allowed)
+                self.assertRaisesRegex(SystemExit, said, measure.check_quiet, other, False)
 
     @mock.patch.object(measure, "SECONDS", 0)
     def test_before_it_begins(self):
-        for busy in (1.9, 2.1):
+        for busy, expected in ((1.9, contextlib.nullcontext()),
+                               (2.1, self.assertRaises(SystemExit))):
             answers = [(0, 10, 1), (10, 10 + busy, 1)]
-            with mock.patch.object(measure, "work", side_effect=answers) as work:
-                if busy < 2:
-                    measure.wait_for_quiet(False)
-                else:
-                    self.assertRaises(SystemExit, measure.wait_for_quiet, False)
+            with mock.patch.object(measure, "work", side_effect=answers) as work, expected:
+                measure.wait_for_quiet(False)
             self.assertEqual(work.call_count, 2)
 
 
 class Tables(unittest.TestCase):
-    def test_goals(self):
-        lines = tables.goals(RESULT)
-        for line in ("| wall time | plain | 0.20 | 0.150 | met |",
-                     "| wall time | annotated | 0.20 | 0.250 | NOT MET |",
-                     "| instructions | plain | 0.19 | 0.200 | NOT MET |",
-                     "| instructions | annotated | 0.22 | 0.200 | met |",
-                     "| least stack | export | 128 KiB | 128 KiB | met |",
-                     "| least stack | export --checked | 192 KiB | 180 KiB | met |",
-                     "| --checked to export | plain | 2.2 | 2.00 | met |",
-                     "| Cargo to proved | server | 1.01 | 1.009 | met |",
-                     "| dependent to proved | plain | 1.08 | 1.050 | met |"):
-            self.assertIn(line, lines)
-        missed = [it[2:] for it in lines if it.startswith("- ")]
+    def test_goals_not_met(self):
+        missed = [it[2:] for it in tables.goals(RESULT) if it.startswith("- ")]
         self.assertEqual(missed, ["wall time, annotated: 0.250 instead of 0.20",
                                   "instructions, plain: 0.200 instead of 0.19",
                                   "least stack, list: 132 KiB instead of 128 KiB",
@@ -357,43 +366,25 @@ class Tables(unittest.TestCase):
                                   "dependent to proved, server: 1.081 instead of 1.08"])
 
     def test_all_goals_met(self):
-        result = copy.deepcopy(RESULT)
-        result["archives"], result["stack"] = [archive("annotated", 0.2)], {"check": 96}
-        result["builds"] = {("Cargo", "plain"): 9, ("dependent", "plain"): 9}
+        builds = {("Cargo", "plain"): 9, ("dependent", "plain"): 9}
+        result = {**RESULT, "archives": [archive("annotated", 0.2)], "stack": {"check": 96},
+                  "builds": builds}
         self.assertIn("All goals are met.", tables.goals(result))
-        result["archives"], result["stack"] = [archive("archive", 0.9)], {}
+        result = {**result, "archives": [archive("archive", 0.9)], "stack": {}}
         self.assertEqual(tables.goals(result), [])
 
     def test_the_report(self):
         lines = tables.report(RESULT)
-        for line in ("- Date: 2001-02-03; the least of 4 rounds",
-                     "- Program: pgn_tool 1.2",
-                     "- Machine: 8 processors, a processor; Debian 99.1",
-                     "- Versions: pgn-extract 1.2-3, valgrind 4.5",
-                     "- Other work: kept 0.03 of 8 processors busy, on average",
-                     "### Plain: 2,000 games, 3.0 MB",
-                     "| pgn_tool | 0.15 | 13333 | 20.0 | 1.5 | 200 | 30 |",
-                     "| lexer, without `Lexer::whole_token` | 50 | 25.0 % |",
-                     "| split | 500 | 20.00 |",
-                     "| export --checked | 2000 | 390 |",
-                     "| check | 5000 | 150 |",
-                     "| 1.0 | 0.05 | 50.0 | 2.0 | 1.5 |",
-                     "| least stack | list | 128 KiB | 132 KiB | NOT MET |",
-                     "### The builds",
-                     "| instructions a game | plain | ratio | server | ratio |",
-                     "| proved | 2,000 | 1.000 | 1,000 | 1.000 |",
-                     "| Cargo | 2,300 | 1.150 | 1,009 | 1.009 |",
-                     "| dependent | 2,100 | 1.050 | 1,081 | 1.081 |"):
+        for line in REPORT.splitlines():
             self.assertIn(line, lines)
         self.assertEqual([line for line in lines if len(line) > 100 and line[0] != "|"], [])
 
     def test_what_could_not_be_measured(self):
-        result = copy.deepcopy(RESULT)
-        result["builds"] = {}
+        result = {**copy.deepcopy(RESULT), "builds": {}}
         for it in result["archives"]:
             it["sizes"] = []
-        result["archives"][0]["split"] = None
-        result["archives"][1]["split"]["calls"] = None
+        result["archives"][0]["split"] = {}
+        result["archives"][1]["split"]["split"]["calls"] = None
         text = "\n".join(tables.report(result))
         self.assertNotIn("Cost against size", text)
         self.assertEqual(text.count("| split |"), 1)
@@ -412,7 +403,7 @@ class Tables(unittest.TestCase):
     def test_cargo_s_program_beside_the_proved_one(self):
         result = copy.deepcopy(RESULT)
         for it in result["archives"]:
-            it["converters"][tables.BY_CARGO] = converter(0.3, 2, 210, 30)
+            it["converters"][tables.BY_CARGO] = figures(0.3, 210, 2, 30)
         row = "| pgn_tool by Cargo to pgn-extract | 0.300 |  |  | 0.50 | 0.210 | 0.500 |"
         self.assertEqual(tables.report(result).count(row), 2)
         lines = tables.summary(result)
@@ -421,8 +412,8 @@ class Tables(unittest.TestCase):
         self.assertTrue(lines[-1].endswith("| 0.25 | 0.20 | 1.5 MiB | 0.30 |"), lines[-1])
 
     def test_the_sentence_of_the_manual(self):
-        line = tables.least_stack(RESULT)[0]
-        self.assertEqual(line, "The least that was measured is 132 KiB, and 180 KiB with --checked,")
+        self.assertEqual(tables.least_stack(RESULT)[0],
+                         "The least that was measured is 132 KiB, and 180 KiB with --checked,")
 
 
 class Builds(Folder, unittest.TestCase):
@@ -431,7 +422,7 @@ class Builds(Folder, unittest.TestCase):
     def setUp(self):
         super().setUp()
         patched = mock.patch.multiple(
-            measure, found=lambda name: None, archive=self.archive,
+            measure, archive=self.archive,
             callgrind=lambda words, file: ({"Ir": os.path.getsize(file)}, {}, {}),
             output_of=lambda name: "%s/%s" % (self.folder, name))
         patched.start()
@@ -442,39 +433,37 @@ class Builds(Folder, unittest.TestCase):
 
     def test_the_instructions_of_a_game(self):
         """What a call must write is a part of what the first one writes."""
-        one, calls = (["cat"], measure.same, measure.same), ["head", "-c", "7"]
-        two = (calls, measure.same, lambda text: text[:7])
-        spent = measure.instructions({"one": one, "two": two}, ("plain", "server"))
+        calls = lambda part: {"one": (["cat"], measure.same, measure.same),
+                              "two": (["head", "-c", "7"], measure.same, part)}
+        spent = measure.instructions(calls(lambda text: text[:7]), ("plain", "server"))
         self.assertEqual(spent, {(name, style): 10 for name in ("one", "two")
                                  for style in ("plain", "server")})
-        two = (calls, measure.same, measure.same)
-        self.assertRaisesRegex(SystemExit, "two does not write what it should",
-                               measure.instructions, {"one": one, "two": two}, ("plain",))
+        with self.assertRaisesRegex(SystemExit, "two does not write what it should"):
+            measure.instructions(calls(measure.same), ("plain",))
 
     def test_without_a_cargo(self):
-        self.assertEqual(builds.built(), {})
+        with mock.patch.object(program, "found", lambda name: None):
+            self.assertEqual(program.calls_of_builds(), {})
 
     def test_a_cargo_that_fails(self):
-        with mock.patch.object(builds, "WORKSPACE", self.folder + "/workspace"), \
-                mock.patch.object(measure, "found", lambda name: "/bin/false"), \
+        with mock.patch.multiple(program, WORKSPACE=self.folder + "/workspace",
+                                 found=lambda name: "/bin/false"), \
                 contextlib.redirect_stderr(io.StringIO()) as said:
-            self.assertEqual(builds.built(), {})
+            self.assertEqual(program.calls_of_builds(), {})
         self.assertIn("cargo failed; goes on without", said.getvalue())
 
 
 class Records(Folder, unittest.TestCase):
     def record(self, name, text, lines, script="bench/run"):
         """The text of the file afterwards, or None if it was rejected and left as it was."""
-        path = self.put(name, text)
+        path, is_rejected = self.put(name, text), False
         try:
             tables.record(path, lines, script)
         except ValueError:
-            lines = None
-        after = text_of(path)
+            is_rejected = True
+            self.assertEqual(text_of(path), text)
         self.assertEqual(os.listdir(self.folder), [name])
-        if lines is None:
-            self.assertEqual(after, text)
-        return lines and after
+        return None if is_rejected else text_of(path)
 
     def test_a_document(self):
         form = "Before.\n\n<!-- bench/run --record: begin -->\n%s<!-- bench/run --record: end -->\nAfter.\n"
@@ -485,25 +474,19 @@ class Records(Folder, unittest.TestCase):
         form = '.It stack\n.\\" bench/run --record: begin\n%s\n.\\" bench/run --record: end\n.El\n'
         self.assertEqual(self.record("a.1", form % "old", ["new", "lines"]), form % "new\nlines")
 
-    def test_each_table_has_its_own_markers(self):
-        marked = "".join("<!-- bench/run calls --record: %s -->\n" % it for it in ("begin", "end"))
-        self.assertIn("\nb\n", self.record("A.md", marked, ["b"], "bench/run calls"))
-        self.assertIsNone(self.record("A.md", marked, ["b"]))
-
     def test_markers_that_do_not_fit(self):
         begin, end = ("<!-- bench/run --record: %s -->\n" % it for it in ("begin", "end"))
-        for text in ("", begin, end, end + begin, begin + begin + end, begin + end + end):
+        # each table has its own
+        others = (begin + end).replace("run", "run calls")
+        self.assertIn("\nb\n", self.record("A.md", others, ["b"], "bench/run calls"))
+        for text in ("", begin, end, end + begin, begin + begin + end, begin + end + end, others):
             self.assertIsNone(self.record("A.md", text, ["b"]), text)
-
-    def expect_markers(self, name, script):
-        text = text_of(name)
-        shutil.rmtree(self.folder)
-        os.mkdir(self.folder)
-        after = self.record(os.path.basename(name), text, ["one new line"], script)
-        self.assertIn("\none new line\n", after)
 
     def test_the_documents_have_their_markers(self):
         script = load("bench/run")
         for name, table in script.TABLES.items():
             for path, _ in table.RECORDS:
-                self.expect_markers(os.path.relpath(path, ROOT), script.marker_of(name))
+                self.folder = new_folder(self)
+                after = self.record(os.path.basename(path), text_of(path), ["one new line"],
+                                    script.marker_of(name))
+                self.assertIn("\none new line\n", after)
