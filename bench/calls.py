@@ -14,8 +14,7 @@
                              FEN after it, and for each NAG, comment and variation
 
 The calls of pgn_next_game must write what pgn_convert writes, and pgn_read_game the tag sections
-of that. pgn_line and pgn_items must write what pgn_san says of each move. The library is the one
-that bin/build_program --library names, or Cargo's.
+of that. pgn_line and pgn_items must write what pgn_san says of each move.
 
 The C library clears and copies much memory by string instructions. Callgrind counts one of these
 once for each byte, and a processor once. So the C library is told here to do without them.

@@ -1,8 +1,4 @@
-"""The page of bin/build_page beside the program, on an archive of annotated games.
-
-Headless Chromium opens the archive on the page, which is loaded anew: from the file's choice to the
-end of the conversion, by the page's own clock.
-"""
+"""The page of bin/build_page in headless Chromium, by its own clock, beside the program."""
 import contextlib
 import hashlib
 import os

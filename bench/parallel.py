@@ -1,8 +1,4 @@
-"""The recipe for all processors (docs/PARALLEL.md) on 1, 2 and 4 processes, beside one run.
-
-Processor time is that of all processes. Memory is the most of parallel, and of one pgn_tool, that
-was resident.
-"""
+"""The recipe for all processors (docs/PARALLEL.md) on 1, 2 and 4 processes, beside one run."""
 import filecmp
 import os
 

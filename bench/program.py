@@ -2,14 +2,8 @@
 
 pgn-extract and the program convert the same files. Instructions, branch mispredictions and the
 share of each part are callgrind's, and system calls strace's. They are for a game: the difference
-of two small archives, which leaves out the start of the program.
-
-The instructions of three builds of the one source are counted beside each other:
-
-    proved       the program that rt built, if it is there
-    Cargo        the program of the workspace of bin/to_cargo, by the profile of that
-    dependent    bench/dependent, which depends on that workspace by path, by Cargo's own release
-                 profile: without LTO, in 16 units, without overflow checks
+of two small archives, which leaves out the start of the program. bench/README.md says which builds
+are compared.
 """
 import filecmp
 import glob
@@ -47,9 +41,6 @@ RECORDS = (
 )
 
 
-# ---- the builds
-
-
 def is_built(target, *words):
     """Whether cargo builds it. It finds its source of crates from the workspace."""
     words = [found("cargo"), "build", "--release", "--quiet", *words]
@@ -73,9 +64,6 @@ def calls_of_builds():
     calls = {"proved": [PROVED, "export"]} if os.access(PROVED, os.X_OK) else {}
     return {**calls, "Cargo": [WORKSPACE + "/target/release/pgn_tool", "export"],
             "dependent": [OUT + "/target/release/dependent"]}
-
-
-# ---- the archives
 
 
 def check_output(peer, program, file):
@@ -170,9 +158,6 @@ def archive_figures(given, calls, name):
             "split": split_figures(given.program, files, games, given.rounds),
             "checked": call_figures(tasks, files, given.rounds),
             "sizes": size_figures(given.program, files[0], given.rounds) if given.sizes else []}
-
-
-# ---- the least stack
 
 
 def fits(program, task, folder, kib, times):
