@@ -21,6 +21,9 @@ MARKERS = {1: b"1-0", 2: b"0-1", 3: b"1/2-1/2", 4: b"*"}
 # As 1. e4 e5 leave it.
 OPEN_GAME = b"rnbqkbnr/pppp1ppp/8/4p3/4P3/8/PPPP1PPP/RNBQKBNR w KQkq e6 0 2"
 INITIAL = b"rnbqkbnr/pppppppp/8/8/8/8/PPPPPPPP/RNBQKBNR w KQkq - 0 1"
+# As 1. Nf3 and Nf6 leave it.
+KNIGHTS = (b"rnbqkbnr/pppppppp/8/8/8/5N2/PPPPPPPP/RNBQKB1R b KQkq - 1 1\n"
+           b"rnbqkb1r/pppppppp/5n2/8/8/5N2/PPPPPPPP/RNBQKB1R w KQkq - 2 2\n")
 TEXT = b'[White "A \\"B\\""] [Result "1-0"] e4 (d4 d5) e5 {a word} 1-0\n% a line\n[A "b"] Nf3 *'
 EXAMPLES = sorted(glob.glob(ROOT + "/examples/*.pgn"))
 KINDS = {"uint32_t": c_uint32, "uint64_t": c_uint64, "size_t": c_size_t}
@@ -59,6 +62,12 @@ class Library:
             function.restype = {**STRUCTS, **KINDS}[result]
             function.argtypes = [KINDS.get(it, c_void_p) for it in words]
 
+    def call(self, name, *words):
+        """The result of a call. A text is handed over as its address and its length, or as none."""
+        parts = [(it, len(it or b"")) if isinstance(it, (bytes, type(None))) else (it,)
+                 for it in words]
+        return getattr(self.calls, name)(*itertools.chain(*parts))
+
     def filled(self, capacity, call):
         """The result of a call that gets a buffer, and what it wrote there. All behind it stays."""
         buffer = ctypes.create_string_buffer(b"\xAA" * (capacity + 8), capacity + 8)
@@ -69,27 +78,22 @@ class Library:
     def convert(self, data, mode=0, capacity=None):
         """The result for the whole text, and what was written."""
         capacity = 64 * len(data) + 65536 if capacity is None else capacity
-        return self.filled(
-            capacity, lambda *room: self.calls.pgn_convert(data, len(data), *room, mode))
+        return self.filled(capacity, lambda *room: self.call("pgn_convert", data, *room, mode))
 
-    def next_game(self, data, at=0, mode=0, missing=0, capacity=None):
+    def next_game(self, data, at=0, mode=0, missing=0, capacity=None, name="pgn_next_game"):
         """The result for the game behind a place, and what was written."""
-        return self.game_by(self.calls.pgn_next_game, data, at, mode, missing, capacity)
-
-    def read_game(self, data, at=0, mode=0, missing=0, capacity=None):
-        """The same, but the tag section alone was written."""
-        return self.game_by(self.calls.pgn_read_game, data, at, mode, missing, capacity)
-
-    def game_by(self, call, data, at, mode, missing, capacity):
-        """What a call finds behind a place, and what was written."""
         capacity = 64 * len(data) + 65536 if capacity is None else capacity
-        return self.filled(capacity, lambda *room: call(data, len(data), at, mode, missing, *room))
+        return self.filled(capacity, lambda *room: self.call(name, data, at, mode, missing, *room))
+
+    def read_game(self, *words):
+        """The same, but the tag section alone was written."""
+        return self.next_game(*words, name="pgn_read_game")
 
     def line(self, fen, data, line_format=0, capacity=None):
         """The result for a line of play, and the lines that were written."""
         capacity = 108 * (len(data) + 1) if capacity is None else capacity
-        result, text = self.filled(capacity, lambda *room: self.calls.pgn_line(
-            fen, len(fen), data, len(data), line_format, *room))
+        result, text = self.filled(
+            capacity, lambda *room: self.call("pgn_line", fen, data, line_format, *room))
         assert text.count(b"\n") == result.plies
         return result, text
 
@@ -97,10 +101,15 @@ class Library:
         """The result for the items of the game behind a place, and the lines that were written."""
         capacity = 999 * (len(data) + 1) if capacity is None else capacity
         buffer = ctypes.create_string_buffer(b"\xAA" * (capacity + 8), capacity + 8)
-        result = self.calls.pgn_items(data, len(data), at, first, fields, buffer, capacity)
+        result = self.call("pgn_items", data, at, first, fields, buffer, capacity)
         assert buffer.raw[capacity:] == b"\xAA" * 8
         assert result.written <= capacity
         return result, buffer.raw[: result.written]
+
+    def fen_by(self, name, fen, capacity=96):
+        """The result of a call that writes a form of a FEN, and what it wrote."""
+        buffer = ctypes.create_string_buffer(b"\xAA" * 96, 96)
+        return self.call(name, fen, buffer, capacity), buffer.raw.rstrip(b"\xAA")
 
     def games(self, data, mode=0, missing=0):
         """The results for the games of a text in turn, each with what was written."""
@@ -125,11 +134,16 @@ def fields(game):
     return tuple(getattr(game, name) for name, _ in game._fields_)
 
 
+def chosen(result, *names):
+    """Some fields of a result."""
+    return {it: getattr(result, it) for it in names}
+
+
 def tag_section(library, text):
     """The tag pairs of an export text, as they are written, and the place behind them."""
     at, pairs = 0, []
     while True:
-        tag = library.calls.pgn_tag_at(text, len(text), at)
+        tag = library.call("pgn_tag_at", text, at)
         if tag.status != OK:
             return pairs, at
         pairs.append((text[tag.name_at : tag.name_at + tag.name_length],
@@ -158,29 +172,22 @@ class Replay:
     """The items of an export text, by a call of pgn_san for each of its moves."""
 
     def __init__(self, library):
-        self.library, self.calls, self.moves = library, library.calls, {}
-
-    def first_fen(self, pairs):
-        """The canonical text of the position that a game begins from, by its tag pairs."""
-        fen, room = dict(pairs).get(b"FEN", INITIAL), ctypes.create_string_buffer(96)
-        found = self.calls.pgn_fen_normalize(fen, len(fen), room, 96)
-        return room.raw[: found.length]
+        self.library, self.moves = library, {}
 
     def move(self, fen, word):
         """The UCI of the move that a SAN names, the position after it, and its key."""
         if (fen, word) not in self.moves:
-            move = self.calls.pgn_san(fen, len(fen), word, len(word), SAN)
+            move = self.library.call("pgn_san", fen, word, SAN)
             assert (move.status, move.san) == (OK, word), (fen, word)
-            room = ctypes.create_string_buffer(96)
-            key = self.calls.pgn_key(move.fen, len(move.fen), room, 96)
-            self.moves[fen, word] = move.uci, move.fen, room.raw[: key.length]
+            _, key = self.library.fen_by("pgn_key", move.fen)
+            self.moves[fen, word] = move.uci, move.fen, key
         return self.moves[fen, word]
 
     def texts(self, export, fields=ALL_FIELDS):
         """The texts of the items in turn. The first one is that of the tags."""
         pairs, behind = tag_section(self.library, export)
-        fen = before = self.first_fen(pairs)
-        texts, opened, words = [b""], [], iter(export[behind:].split())
+        _, fen = self.library.fen_by("pgn_fen_normalize", dict(pairs).get(b"FEN", INITIAL))
+        before, texts, opened, words = fen, [b""], [], iter(export[behind:].split())
         for word in words:
             if word == b"(":
                 opened.append((before, fen))
@@ -222,33 +229,39 @@ class Installed:
         assert ran.returncode == 0, ran.stderr.decode()
         cls.library = Library(cls.prefix + "/lib/libpgn_c.so")
 
-    def written(self, name, data):
-        """The path of a new file."""
-        path = os.path.join(self.folder, name)
-        write_file(path, data)
-        return path
+    def check(self, result, about=None, **wanted):
+        """These fields of a result."""
+        self.assertEqual(chosen(result, *wanted), wanted, about)
+
+    def check_nothing(self, found, status):
+        """The status, and nothing else."""
+        result, text = found
+        self.assertEqual((fields(result), text), ((status, *fields(type(result)())[1:]), b""))
 
     # ---- a program in C
 
-    def compiled(self, words, **env):
-        """The program of LIBRARY that loops over the games, compiled with these words."""
-        text = next(it for _, it, _ in samples("c") if "pgn_next_game" in it)
-        source = self.written("loop.c", text.encode())
-        program = self.folder + "/loop"
+    def compiled(self, source, *words):
+        """The path of a program in C, compiled with these words."""
+        program = self.folder + "/program"
         output_of(run(["cc", "-std=c99", "-Wall", "-Wextra", "-Werror", "-O2", source, *words, "-o",
                        program]))
-        return lambda data: run([program], input=data, env=dict(os.environ, **env))
+        return program
 
-    def check_loop(self, loop):
-        program = need_program()
+    def check_loop(self, words, **env):
+        """The program of LIBRARY that loops over the games. Gives what ldd says of it."""
+        program, env = need_program(), dict(os.environ, **env)
+        text = next(it for _, it, _ in samples("c") if "pgn_next_game" in it)
+        write_file(self.folder + "/loop.c", text)
+        loop = self.compiled(self.folder + "/loop.c", *words)
         texts = [archive(30, style, 30) for style in ("plain", "annotated")]
         texts += map(bytes_of, EXAMPLES)
         self.assertGreater(len(texts), 7)
         for text in [*texts, b"", b"\n\n; nothing\n"]:
-            ours, theirs = loop(text), run([program, "export"], input=text)
-            self.assertEqual(ours.stdout, theirs.stdout)
-            self.assertEqual(ours.stderr, theirs.stderr)
-            self.assertEqual(ours.returncode, theirs.returncode)
+            ours, theirs = run([loop], input=text, env=env), run([program, "export"], input=text)
+            self.assertEqual((ours.stdout, ours.stderr, ours.returncode),
+                             (theirs.stdout, theirs.stderr, theirs.returncode))
+        ran = run(["ldd", loop])
+        return ran.stdout + ran.stderr
 
     def flags(self, *words):
         """What pkg-config says of the library that is installed."""
@@ -257,22 +270,27 @@ class Installed:
         out = output_of(run(["pkg-config", "--cflags", "--libs", *words, "pgn_c"], env=env))
         return out.decode().split()
 
+    @property
+    def static(self):
+        """The words for the static library."""
+        return ["-I%s/include" % self.prefix, self.prefix + "/lib/libpgn_c.a"]
+
     def test_a_program_with_the_shared_library(self):
         words = self.flags()
         self.assertEqual(words, ["-I%s/include" % self.prefix, "-L%s/lib" % self.prefix, "-lpgn_c"])
-        self.check_loop(self.compiled(words, LD_LIBRARY_PATH=self.prefix + "/lib"))
-        used = run(["ldd", self.folder + "/loop"]).stdout
-        self.assertIn(b"libpgn_c.so", used)
+        said = self.check_loop(words, LD_LIBRARY_PATH=self.prefix + "/lib")
+        self.assertIn(b"libpgn_c.so", said)
 
     def test_a_program_with_the_static_library(self):
-        words = ["-I%s/include" % self.prefix, self.prefix + "/lib/libpgn_c.a"]
-        self.check_loop(self.compiled(words))
-        self.assertNotIn(b"libpgn_c", run(["ldd", self.folder + "/loop"]).stdout)
+        self.assertNotIn(b"libpgn_c", self.check_loop(self.static))
 
     def test_what_the_static_library_needs_is_said(self):
-        static = self.prefix + "/lib/libpgn_c.a"
-        self.check_loop(self.compiled([static if it == "-lpgn_c" else it
-                                       for it in self.flags("--static")]))
+        words = [self.static[1] if it == "-lpgn_c" else it for it in self.flags("--static")]
+        self.check_loop(words)
+
+    def test_a_program_that_is_all_static(self):
+        said = self.check_loop([*self.flags("--static"), "-static"])
+        self.assertIn(b"not a dynamic executable", said)
 
     def test_version(self):
         """That of the header, which is in the name of the shared library too."""
@@ -281,17 +299,9 @@ class Installed:
         self.assertEqual(self.library.calls.pgn_version(), int(number))
         self.assertEqual(os.readlink(self.prefix + "/lib/libpgn_c.so"), "libpgn_c.so." + minor)
 
-    def test_a_program_that_is_all_static(self):
-        self.check_loop(self.compiled([*self.flags("--static"), "-static"]))
-        said = run(["ldd", self.folder + "/loop"])
-        self.assertIn(b"not a dynamic executable", said.stdout + said.stderr)
-
     def test_a_small_stack(self):
         """Half of what is asked for, for each way to convert: bench/calls.c has them."""
-        program = self.folder + "/calls"
-        ran = run(["cc", "-std=c99", "-Wall", "-Wextra", "-Werror", "-O2", ROOT + "/bench/calls.c",
-                   "-I%s/include" % self.prefix, self.prefix + "/lib/libpgn_c.a", "-o", program])
-        self.assertEqual((ran.returncode, ran.stderr), (0, b""))
+        program = self.compiled(ROOT + "/bench/calls.c", *self.static)
         data = archive(10, "annotated")
         _, wanted = self.library.convert(data)
         items = b"".join(it for _, it in self.items_of_games(data, ITEM_SAN + ITEM_UCI + ITEM_FEN))
@@ -303,72 +313,62 @@ class Installed:
     # ---- the worked inputs
 
     def check_verdict(self, vector, last, games):
-        if "fault" in vector:
-            told = vector["fault"]
-            self.assertEqual((last.fault, last.place, last.message),
-                             (told["number"], told["place"], told["message"].encode()))
+        told = vector.get("fault")
+        if told:
+            message = told["message"].encode()
+            self.check(last, fault=told["number"], place=told["place"], message=message)
             self.assertIn(last.status, (FAULT, MORE))
-            words = told["message"].split(": ", 1)[1].encode()
-            self.assertEqual(last.message[last.reason_at :], words)
+            self.assertEqual(message[last.reason_at :], message.split(b": ", 1)[1])
         else:
             self.assertEqual(last.status, NO_GAME)
             self.assertEqual((len(games), sum(it.plies for it in games)),
                              (vector["games"], vector["plies"]))
 
     def test_each_vector(self):
-        """The games one by one are the export, and their end is the verdict."""
-        for vector in vectors():
-            with self.subTest(vector["file"]):
-                data = vector["input"].encode()
-                found = list(self.library.games(data, 1 if vector["mode"] == "reduced" else 0))
-                self.assertEqual(b"".join(text for _, text in found), vector["output"].encode())
-                self.check_verdict(vector, found[-1][0], [it for it, _ in found[:-1]])
-
-    def test_each_vector_in_both_modes(self):
-        """As the call for the whole text has it."""
-        for vector in vectors():
-            for mode in (0, 1):
+        """The games one by one are the export, in both modes, and their end is the verdict."""
+        for vector, (mode, name) in itertools.product(vectors(), enumerate(("full", "reduced"))):
+            with self.subTest((vector["file"], name)):
                 data = vector["input"].encode()
                 whole, text = self.library.convert(data, mode)
                 found = list(self.library.games(data, mode))
                 last = found[-1][0]
-                self.assertEqual(b"".join(it for _, it in found), text, vector["file"])
-                self.assertEqual((last.fault, last.place, last.message),
-                                 (whole.fault, whole.place, whole.message), vector["file"])
+                self.assertEqual(b"".join(it for _, it in found), text)
+                self.check(last, **chosen(whole, "fault", "place", "message"))
                 if whole.status == OK:
                     self.assertEqual(len(found) - 1, whole.games)
+                if vector["mode"] == name:
+                    self.assertEqual(text, vector["output"].encode())
+                    self.check_verdict(vector, last, [it for it, _ in found[:-1]])
 
     def test_each_vector_as_checked(self):
         """As `export --checked` has the same file."""
-        program = need_program()
+        program, path = need_program(), self.folder + "/checked.pgn"
         for vector in vectors():
             data = vector["input"].encode()
-            path = self.written("checked.pgn", data)
+            write_file(path, data)
             for mode, option in ((0, []), (1, ["--reduced"])):
                 ran = run([program, "export", "--checked", *option, path])
                 found = list(self.library.games(data, mode, 1))
-                message = found[-1][0].message
+                message, status = found[-1][0].message, found[-1][0].status
                 self.assertEqual(b"".join(it for _, it in found), ran.stdout, vector["file"])
-                self.assertEqual(message + b"\n" * bool(message), ran.stderr, vector["file"])
-                self.assertEqual(found[-1][0].status == NO_GAME, ran.returncode == 0)
+                self.assertEqual((message + b"\n" * bool(message), status == NO_GAME),
+                                 (ran.stderr, ran.returncode == 0), vector["file"])
 
     def test_what_is_said_of_a_game(self):
         """Where it ends, which marker it has, and where that is."""
         count = 0
-        for vector in vectors():
+        for vector, missing in itertools.product(vectors(), (0, 1)):
             data = vector["input"].encode()
-            for missing in (0, 1):
-                for game, text in self.library.games(data, 0, missing):
-                    if game.status != OK:
-                        self.assertEqual((game.end, game.marker_at, game.plies, game.marker),
-                                         (0, 0, 0, 0))
-                        continue
-                    self.assertEqual(data[game.marker_at : game.end], MARKERS[game.marker])
-                    self.assertEqual((game.fault, game.place, game.message), (0, 0, b""))
-                    self.assertTrue(text.endswith(MARKERS[game.marker] + b"\n\n"), text)
-                    self.assertEqual(dict(tag_section(self.library, text)[0])[b"Result"],
-                                     MARKERS[game.marker])
-                    count += 1
+            for game, text in self.library.games(data, 0, missing):
+                if game.status != OK:
+                    self.check(game, end=0, marker_at=0, plies=0, marker=0)
+                    continue
+                marker = MARKERS[game.marker]
+                self.assertEqual(data[game.marker_at : game.end], marker)
+                self.check(game, fault=0, place=0, message=b"")
+                self.assertTrue(text.endswith(marker + b"\n\n"), text)
+                self.assertEqual(dict(tag_section(self.library, text)[0])[b"Result"], marker)
+                count += 1
         self.assertGreater(count, 100)
 
     def test_games_of_archives(self):
@@ -380,57 +380,56 @@ class Installed:
             found = list(self.library.games(data))
             self.assertEqual((found[-1][0].status, len(found)), (NO_GAME, 41))
             for row, (game, _) in zip(rows, found):
-                result, plies, fen = row.split(b"\t")[-3:]
-                self.assertEqual((MARKERS[game.marker], b"%d" % game.plies, game.fen),
-                                 (result, plies, fen))
+                self.assertEqual([MARKERS[game.marker], b"%d" % game.plies, game.fen],
+                                 row.split(b"\t")[-3:])
 
     def test_a_text_in_chunks(self):
         """Chunks of each size give the same games and the same end."""
-        for vector in vectors():
+        for vector, missing in itertools.product(vectors(), (0, 1)):
             data = vector["input"].encode()
-            sizes = (1, 7) if len(data) < 400 else (97,)
-            for missing in (0, 1):
-                whole = list(self.library.games(data, 0, missing))
-                for size in sizes:
-                    found = list(self.library.games_in_chunks(data, size, 0, missing))
-                    self.assertEqual([(fields(game), text) for game, text in found],
-                                     [(fields(game), text) for game, text in whole],
-                                     (vector["file"], size, missing))
+            whole = [(fields(game), text) for game, text in self.library.games(data, 0, missing)]
+            for size in (1, 7) if len(data) < 400 else (97,):
+                found = self.library.games_in_chunks(data, size, 0, missing)
+                self.assertEqual([(fields(game), text) for game, text in found], whole,
+                                 (vector["file"], size, missing))
 
     # ---- places, modes, buffers
 
-    def check_nothing(self, found, status):
-        """The status, and nothing else."""
-        result, text = found
-        self.assertEqual((fields(result), text), ((status, *fields(type(result)())[1:]), b""))
-
     def test_places(self):
+        """All bytes before the place count as white space."""
         length = len(TEXT)
-        self.check_nothing(self.library.next_game(TEXT, length), NO_GAME)
-        self.check_nothing(self.library.next_game(b"", 0), NO_GAME)
-        for place in (length + 1, 1 << 62, (1 << 62) + 1, (1 << 64) - 1):
-            self.check_nothing(self.library.next_game(TEXT, place), BAD_PLACE)
+        for call in (self.library.next_game, self.library.read_game, self.library.items):
+            for text, place in ((TEXT, length), (b"", 0), (b" {a} ; b\n", 0)):
+                self.check_nothing(call(text, place), NO_GAME)
+            for place in (length + 1, 1 << 62, (1 << 62) + 1, (1 << 64) - 1):
+                self.check_nothing(call(TEXT, place), BAD_PLACE)
         first, second = [game for game, _ in self.library.games(TEXT)][:2]
         self.assertEqual((first.plies, second.plies, second.end), (2, 1, length))
         # any place between the two games
         for place in range(first.end, TEXT.index(b"% a")):
             self.assertEqual(fields(self.library.next_game(TEXT, place)[0]), fields(second))
+        for place in range(length + 1):
+            game, export = self.library.next_game(TEXT, place)
+            lines, text = self.library.items(TEXT, place)
+            self.check(lines, place, **chosen(game, "fault", "place", "message", "end"))
+            if game.status == OK:
+                self.assertEqual(text, b"".join(Replay(self.library).texts(export)))
 
     def test_unknown_modes(self):
-        for mode, missing in ((2, 0), (0, 2), (1 << 31, 1), (1, (1 << 32) - 1), (2, 2)):
-            self.check_nothing(self.library.next_game(TEXT, 0, mode, missing), NO_MODE)
-        # before the place
-        self.check_nothing(self.library.next_game(TEXT, len(TEXT) + 1, 2), NO_MODE)
+        for call in (self.library.next_game, self.library.read_game):
+            for mode, missing in ((2, 0), (0, 2), (1 << 31, 1), (1, (1 << 32) - 1), (2, 2)):
+                self.check_nothing(call(TEXT, 0, mode, missing), NO_MODE)
+            # before the place
+            self.check_nothing(call(TEXT, len(TEXT) + 1, 2), NO_MODE)
 
     def test_conversions_into_buffers_of_each_size(self):
         """A front is written, and nothing behind it."""
         all_games, whole = self.library.convert(TEXT)
-        self.assertEqual((all_games.status, all_games.games, all_games.plies, all_games.message),
-                         (OK, 2, 3, b""))
+        self.check(all_games, status=OK, games=2, plies=3, message=b"")
         for capacity in range(len(whole)):
             part, text = self.library.convert(TEXT, 0, capacity)
-            self.assertEqual((part.status, part.fault, part.games, text),
-                             (FULL, 51, 0, whole[:capacity]))
+            self.check(part, status=FULL, fault=51, games=0)
+            self.assertEqual(text, whole[:capacity])
             self.assertLessEqual(part.place, len(TEXT))
         for capacity in range(len(whole), len(whole) + 3):
             same, text = self.library.convert(TEXT, 0, capacity)
@@ -449,10 +448,9 @@ class Installed:
             self.assertEqual((game.status, game.written), (OK, len(whole)))
             for capacity in range(len(whole)):
                 short, text = call(TEXT, 0, 0, missing, capacity)
-                self.assertEqual((short.status, short.fault), (FULL, 51))
+                self.check(short, status=FULL, fault=51, end=0, marker=0, plies=0, fen=b"",
+                           message=b"byte %d: output cannot be written" % short.place)
                 self.assertEqual(text, whole[:capacity])
-                self.assertEqual((short.end, short.marker, short.plies, short.fen), (0, 0, 0, b""))
-                self.assertEqual(short.message, b"byte %d: output cannot be written" % short.place)
                 self.assertLessEqual(short.place, game.end)
                 if call == self.library.read_game:
                     self.assertEqual(short.place, game.marker_at)
@@ -462,29 +460,31 @@ class Installed:
 
     def test_tag_sections_alone(self):
         """The result is that of the conversion, and the section its text up to the empty line."""
-        for data in (TEXT, b"e4 1-0", b"[Result \"0-1\"] e4 1-0", b"e4 e5 Bd4 *", b"e4", b"d4 0-1 ",
-                     b"e4 1/2-1/2", b"", b"[Black \"B\"]", b"% *"):
-            for mode, missing in ((0, 0), (0, 1), (1, 0), (1, 1)):
-                game, text = self.library.next_game(data, 0, mode, missing)
-                read, tags = self.library.read_game(data, 0, mode, missing)
-                section = text[: text.index(b"]\n\n") + 3] if game.status == OK else b""
-                self.assertEqual(tags, section, (data, mode, missing))
-                game.written = len(section)
-                self.assertEqual(fields(read), fields(game), (data, mode, missing))
-        self.check_nothing(self.library.read_game(TEXT, len(TEXT) + 1), BAD_PLACE)
-        self.check_nothing(self.library.read_game(TEXT, 0, 2), NO_MODE)
-        self.check_nothing(self.library.read_game(TEXT, 0, 0, 2), NO_MODE)
+        for data, mode, missing in itertools.product(
+                (TEXT, b"e4 1-0", b"[Result \"0-1\"] e4 1-0", b"e4 e5 Bd4 *", b"e4", b"d4 0-1 ",
+                 b"e4 1/2-1/2", b"", b"[Black \"B\"]", b"% *"), (0, 1), (0, 1)):
+            game, text = self.library.next_game(data, 0, mode, missing)
+            read, tags = self.library.read_game(data, 0, mode, missing)
+            section = text[: text.index(b"]\n\n") + 3] if game.status == OK else b""
+            game.written = len(section)
+            self.assertEqual((fields(read), tags), (fields(game), section), (data, mode, missing))
 
     def test_escape_lines(self):
         """`%` begins one in the first column of the text, whatever the place of the call."""
         for before in (b"*\n", b"*\r", b"*\r\n", b"", b"\xEF\xBB\xBF", b"\n\n"):
-            game, _ = self.library.next_game(before + b"% 1-0\n*", len(before))
-            self.assertEqual((game.status, game.marker), (OK, 4), before)
-            self.assertEqual(game.end, len(before) + 7)
+            text, at = before + b"% 1-0\n*", len(before)
+            game, _ = self.library.next_game(text, at)
+            self.check(game, before, status=OK, marker=4, end=at + 7)
+            lines, written = self.library.items(text, at)
+            self.assertEqual((lines.status, written), (OK, b"R\t*\n"), before)
         for before in (b"* ", b"*", b"*\n ", b"\xBB\xBF", b"*\xEF\xBB\xBF", b"\n\xEF\xBB\xBF"):
-            game, _ = self.library.next_game(before + b"% 1-0\n*", len(before))
-            self.assertEqual((game.status, game.fault, game.place), (FAULT, 1, len(before)), before)
-            self.assertEqual(game.message, b"byte %d: stray byte" % len(before))
+            text, at = before + b"% 1-0\n*", len(before)
+            game, _ = self.library.next_game(text, at)
+            self.check(game, before, status=FAULT, fault=1, place=at,
+                       message=b"byte %d: stray byte" % at)
+            lines, written = self.library.items(text, at)
+            self.check(lines, before, status=FAULT, fault=1, place=at, written=0)
+            self.assertEqual(written, b"")
 
     # ---- what else is said
 
@@ -501,10 +501,10 @@ class Installed:
                 (b"e4 e5 Bd9 *", 33, b""), (b"e4 e5 ) *", 39, b""), (b"(e4) *", 37, b"")):
             for missing in (0, 1):
                 game, _ = self.library.next_game(text, 0, 0, missing)
-                self.assertEqual((game.status, game.fault, game.fen), (FAULT, fault, fen), text)
+                self.check(game, text, status=FAULT, fault=fault, fen=fen)
         # at the end of the text more bytes could make another move of it
         game, _ = self.library.next_game(b"e4 e5 Bd4", 0)
-        self.assertEqual((game.status, game.fault, game.fen), (MORE, 34, OPEN_GAME))
+        self.check(game, status=MORE, fault=34, fen=OPEN_GAME)
 
     def test_tag_pairs(self):
         _, text = self.library.next_game(TEXT, 0)
@@ -514,28 +514,29 @@ class Installed:
         self.assertEqual(dict(pairs)[b"White"], rb"A \"B\"")
         self.assertTrue(text[behind:].startswith(b"\n1. e4"), text)
         for at in (behind, 1, len(text), len(text) + 1, (1 << 64) - 1):
-            tag = self.library.calls.pgn_tag_at(text, len(text), at)
+            tag = self.library.call("pgn_tag_at", text, at)
             self.assertEqual(fields(tag), (FAULT, 0, 0, 0, 0, 0))
 
     def test_move_numbers(self):
         """The first number that does not run, with its place; and what is no such number."""
-        for text, wanted in (
-                (b"1. e4 e5 2. Nf3 Nc6 1. d4 *", (20, 1, 2)), (b"1. e4 e5 4. Nf3 5. d4 9. c4 *", (9, 4, 1)),
-                (b"1. e4 e5 3. Nf3 Nc6 3. d4 *", (9, 3, 1)), (b"30. Kd2 Kd7 29. Kd3 *", (12, 29, 30)),
-                (b"1. e4 (1. d4 9. c4) e5 {9. a} 3. Nf3 *", (30, 3, 1)),
-                (b'[White "2. a"]\n\n1. e4 e5 ; 2. Nf3\n\n3 . Nf3 *', (35, 3, 1)),
-                (b"\xef\xbb\xbf%9.\n1. e4 5. Nf3 *", (13, 5, 1)),
-                (b"1. e4 5000000000. e5 *", (6, (1 << 32) - 1, 1)),
-                (b"", None), (b"e4 e5 Nf3 *", None), (b"1 e4 e5 9 Nf3 *", None),
-                (b"1. e4 1... e5 2. Nf3 2... Nc6 *", None), (b"1. e4 e5 Nf3 Nc6 3. d4 *", None),
-                (b"1. e4 2. e5 3. Nf3 4. Nc6 *", None), (b"30. Kd2 Kd7 31. Kd3 *", None),
-                (b"1. e4 (1. d4 (9. a)) e5 $9 {7. ( 8.} ! 2. Nf3 ; 9.\n%9.\nNc6 3. d4 *", None)):
-            found = self.library.calls.pgn_check_numbers(text, len(text))
-            self.assertEqual((found.status, found.place, found.number, found.before),
-                             (FAULT, *wanted) if wanted else (OK, 0, 0, 0), text)
+        for text, *wanted in (
+                (b"1. e4 e5 2. Nf3 Nc6 1. d4 *", 20, 1, 2),
+                (b"1. e4 e5 4. Nf3 5. d4 9. c4 *", 9, 4, 1),
+                (b"1. e4 e5 3. Nf3 Nc6 3. d4 *", 9, 3, 1), (b"30. Kd2 Kd7 29. Kd3 *", 12, 29, 30),
+                (b"1. e4 (1. d4 9. c4) e5 {9. a} 3. Nf3 *", 30, 3, 1),
+                (b'[White "2. a"]\n\n1. e4 e5 ; 2. Nf3\n\n3 . Nf3 *', 35, 3, 1),
+                (b"\xef\xbb\xbf%9.\n1. e4 5. Nf3 *", 13, 5, 1),
+                (b"1. e4 5000000000. e5 *", 6, (1 << 32) - 1, 1)):
+            found = self.library.call("pgn_check_numbers", text)
             # a number that does not run is unusual
-            if wanted:
-                self.assertEqual(found.unusual, 1, text)
+            self.assertEqual([found.status, found.place, found.number, found.before, found.unusual],
+                             [FAULT, *wanted, 1], text)
+        for text in (b"", b"e4 e5 Nf3 *", b"1 e4 e5 9 Nf3 *", b"1. e4 1... e5 2. Nf3 2... Nc6 *",
+                     b"1. e4 e5 Nf3 Nc6 3. d4 *", b"1. e4 2. e5 3. Nf3 4. Nc6 *",
+                     b"30. Kd2 Kd7 31. Kd3 *",
+                     b"1. e4 (1. d4 (9. a)) e5 $9 {7. ( 8.} ! 2. Nf3 ; 9.\n%9.\nNc6 3. d4 *"):
+            self.check(self.library.call("pgn_check_numbers", text), text, status=OK, place=0,
+                       number=0, before=0)
 
     def test_unusual_parts_of_a_game(self):
         """Whether a closer look pays: outside comments, strings and escape lines."""
@@ -549,13 +550,18 @@ class Installed:
                      b"1. e4 (", b"1. e4 ({!}) *", b'[White "P ; % (! 0000 \\" ;"] 1. e4 *',
                      b"\xef\xbb\xbf1. e4 *", b"1. e4 $1 ! (1. d4) *"))):
             for text in texts:
-                found = self.library.calls.pgn_check_numbers(text, len(text))
-                self.assertEqual(found.unusual, unusual, text)
+                self.check(self.library.call("pgn_check_numbers", text), text, unusual=unusual)
 
     # ---- moves, and lines of play
 
     def san(self, fen, text, notation=0):
-        return self.library.calls.pgn_san(fen, len(fen), text, len(text), notation)
+        return self.library.call("pgn_san", fen, text, notation)
+
+    def check_line(self, wanted, *words):
+        """The lines of a line of play that has no fault."""
+        result, text = self.library.line(*words)
+        self.assertEqual((fields(result), text),
+                         ((OK, 0, 0, 0, len(wanted), wanted.count(b"\n")), wanted), words)
 
     def test_notations(self):
         castles = b"r3k3/6P1/8/8/8/8/8/4K2R w Kq - 0 1"
@@ -565,97 +571,78 @@ class Installed:
                 (castles, b"O-O", SAN, b"O-O", b"e1g1"), (castles, b"e1g1", UCI, b"O-O", b"e1g1"),
                 (castles, b"g8=Q+", SAN, b"g8=Q+", b"g7g8q"),
                 (castles, b"g7g8n", UCI, b"g8=N", b"g7g8n")):
-            move = self.san(fen, text, notation)
-            self.assertEqual((move.status, move.fault, move.san, move.uci), (OK, 0, san, uci), text)
+            self.check(self.san(fen, text, notation), text, status=OK, fault=0, san=san, uci=uci)
         for fen, text, notation, fault in (
-                (INITIAL, b"Nf3", UCI, 33), (INITIAL, b"G1F3", UCI, 33), (INITIAL, b"0000", UCI, 33),
-                (INITIAL, b"g1f3", SAN, 34), (INITIAL, b"g1g3", UCI, 34),
-                (castles, b"g7g8", UCI, 34), (b"x", b"g1f3", UCI, 26),
+                (INITIAL, b"Nf3", UCI, 33), (INITIAL, b"G1F3", UCI, 33),
+                (INITIAL, b"0000", UCI, 33), (INITIAL, b"g1f3", SAN, 34),
+                (INITIAL, b"g1g3", UCI, 34), (castles, b"g7g8", UCI, 34), (b"x", b"g1f3", UCI, 26),
                 (b"7k/8/8/8/8/8/8/R4R1K b - - 0 99999", b"h8g7", UCI, 36)):
-            move = self.san(fen, text, notation)
-            self.assertEqual((move.status, move.fault), (FAULT, fault), text)
-            self.assertEqual((move.san, move.uci, move.fen), (b"", b"", b""))
+            self.check(self.san(fen, text, notation), text, status=FAULT, fault=fault, san=b"",
+                       uci=b"", fen=b"")
         for notation in (2, (1 << 32) - 1):
-            self.assertEqual(fields(self.san(INITIAL, b"e4", notation)),
-                             (NO_MODE, 0, 0, b"", b"", b""))
-
-    def check_plies(self, fen, words, text):
-        """The lines are what pgn_san says of each word in turn."""
-        lines = text.splitlines()
-        self.assertEqual(len(lines), len(words))
-        for word, line in zip(words, lines):
-            move = self.san(fen, word)
-            self.assertEqual(line.split(b"\t"), [move.san, move.uci, move.fen])
-            fen = move.fen
+            self.check_nothing((self.san(INITIAL, b"e4", notation), b""), NO_MODE)
 
     def test_lines_of_archives(self):
-        """The plies of each game end in its last position, in SAN and in UCI."""
+        """They are what pgn_san says of each move, and end in the last position of the game."""
         for game, export in self.library.games(archive(40, "plain", 30)):
             if game.status != OK:
                 break
             movetext = export.partition(b"\n\n")[2][: -len(MARKERS[game.marker]) - 2]
-            result, text = self.library.line(INITIAL, movetext)
-            self.assertEqual(fields(result), (OK, 0, 0, 0, len(text), game.plies))
             words = [it for it in movetext.split() if not it.endswith(b".")]
-            self.check_plies(INITIAL, words, text)
-            self.assertEqual(text.splitlines()[-1].split(b"\t")[2], game.fen)
-            moves = b" ".join(it.split(b"\t")[1] for it in text.splitlines())
-            again, same = self.library.line(INITIAL, moves, UCI)
-            self.assertEqual((fields(again), same), (fields(result), text))
-            fens = b"".join(it.split(b"\t")[2] + b"\n" for it in text.splitlines())
-            for data, line_format in ((movetext, SAN_FEN), (moves, UCI_FEN)):
-                again, same = self.library.line(INITIAL, data, line_format)
-                self.assertEqual((fields(again), same),
-                                 ((OK, 0, 0, 0, len(fens), game.plies), fens))
+            _, text = self.library.line(INITIAL, movetext)
+            rows, fen = [it.split(b"\t") for it in text.splitlines()], INITIAL
+            self.assertEqual(len(rows), len(words))
+            for word, row in zip(words, rows):
+                move = self.san(fen, word)
+                self.assertEqual(row, [move.san, move.uci, move.fen])
+                fen = move.fen
+            self.assertEqual((fen, len(rows)), (game.fen, game.plies))
+            moves = b" ".join(it[1] for it in rows)
+            fens = b"".join(it[2] + b"\n" for it in rows)
+            for wanted, data, line_format in ((text, movetext, SAN), (text, moves, UCI),
+                                              (fens, movetext, SAN_FEN), (fens, moves, UCI_FEN)):
+                self.check_line(wanted, INITIAL, data, line_format)
 
     def test_lines_of_play(self):
-        for fen, data, notation, plies, fault, place in (
-                (INITIAL, b"1. e4 e5 2. Ke3 Nc6", SAN, 2, 34, 12),
-                (INITIAL, b"1. e4 {best} e5", SAN, 1, 33, 6), (INITIAL, b"e4 1-0", SAN, 1, 33, 3),
-                (INITIAL, b"e2e4 Nf6", UCI, 1, 33, 5), (INITIAL, b" 1.e4", SAN, 0, 33, 1),
-                (b"7k/8/8/8/8/8/8/R4R1K w - - 0 1", b"Kg2 Kg8\nRc1", SAN, 2, 35, 8),
-                (b"4k3/8/8/8/8/8/8/4K3 w - - 0 99999", b"Kd1 Kd8", SAN, 1, 36, 4)):
-            result, text = self.library.line(fen, data, notation)
-            self.assertEqual(fields(result), (FAULT, fault, 0, place, len(text), plies), data)
-        for data in (b"", b" \t\r\n", b"1. 2. ... 12"):
-            self.assertEqual(fields(self.library.line(INITIAL, data)[0]), (OK, 0, 0, 0, 0, 0))
-        for fen, field in ((b"x", 1), (INITIAL[:-2], 6)):
-            self.assertEqual(fields(self.library.line(fen, b"e4")[0]), (FAULT, 26, field, 0, 0, 0))
-        for line_format in (6, (1 << 32) - 1):
-            self.assertEqual(fields(self.library.line(b"x", b"e4", line_format)[0]),
-                             (NO_MODE, 0, 0, 0, 0, 0))
-
-    def test_fens_of_plies(self):
-        """With two formats the line of a ply is the FEN alone."""
-        knights = (b"rnbqkbnr/pppppppp/8/8/8/5N2/PPPPPPPP/RNBQKB1R b KQkq - 1 1\n"
-                   b"rnbqkb1r/pppppppp/5n2/8/8/5N2/PPPPPPPP/RNBQKB1R w KQkq - 2 2\n")
-        castles = b"r3k3/6P1/8/8/8/8/8/4K2R w Kq - 7 30"
-        castled = (b"r3k3/6P1/8/8/8/8/8/5RK1 b q - 8 30\n2kr4/6P1/8/8/8/8/8/5RK1 w - - 9 31\n"
-                   b"2kr2Q1/8/8/8/8/8/8/5RK1 b - - 0 31\n")
-        for fen, data, line_format, wanted in (
-                (INITIAL, b"1. Ng1f3 Nf6", SAN_FEN, knights),
-                (INITIAL, b"g1f3\ng8f6 ", UCI_FEN, knights),
-                (castles, b"30. O-O O-O-O 31. g8=Q", SAN_FEN, castled),
-                (castles, b"e1g1 e8c8 g7g8q", UCI_FEN, castled),
-                (INITIAL, b"1.", SAN_FEN, b""), (INITIAL, b"", UCI_FEN, b"")):
-            result, text = self.library.line(fen, data, line_format)
-            self.assertEqual((fields(result), text),
-                             ((OK, 0, 0, 0, len(wanted), wanted.count(b"\n")), wanted))
         for fen, data, line_format, plies, fault, field, place in (
+                (INITIAL, b"1. e4 e5 2. Ke3 Nc6", SAN, 2, 34, 0, 12),
+                (INITIAL, b"1. e4 {best} e5", SAN, 1, 33, 0, 6),
+                (INITIAL, b"e4 1-0", SAN, 1, 33, 0, 3), (INITIAL, b"e2e4 Nf6", UCI, 1, 33, 0, 5),
+                (INITIAL, b" 1.e4", SAN, 0, 33, 0, 1),
+                (b"7k/8/8/8/8/8/8/R4R1K w - - 0 1", b"Kg2 Kg8\nRc1", SAN, 2, 35, 0, 8),
+                (b"4k3/8/8/8/8/8/8/4K3 w - - 0 99999", b"Kd1 Kd8", SAN, 1, 36, 0, 4),
+                (b"x", b"e4", SAN, 0, 26, 1, 0), (INITIAL[:-2], b"e4", SAN, 0, 26, 6, 0),
                 (INITIAL, b"Nf3 Nf6 Nf4", SAN_FEN, 2, 34, 0, 8),
                 (INITIAL, b"g1f3 Nf6", UCI_FEN, 1, 33, 0, 5),
                 (INITIAL, b"Nf3 g8f6", SAN_FEN, 1, 34, 0, 4),
                 (b"x", b"Nf3", SAN_FEN, 0, 26, 1, 0), (INITIAL[:-2], b"", UCI_FEN, 0, 26, 6, 0)):
             result, text = self.library.line(fen, data, line_format)
-            self.assertEqual(text, b"".join(knights.splitlines(keepends=True)[:plies]), data)
             self.assertEqual(fields(result), (FAULT, fault, field, place, len(text), plies), data)
+            if line_format in (SAN_FEN, UCI_FEN):
+                self.assertEqual(text, b"".join(KNIGHTS.splitlines(keepends=True)[:plies]), data)
+        for data in (b"", b" \t\r\n", b"1. 2. ... 12"):
+            self.check_line(b"", INITIAL, data, SAN)
+        for line_format in (6, (1 << 32) - 1):
+            self.check_nothing(self.library.line(b"x", b"e4", line_format), NO_MODE)
 
-    def key(self, fen, capacity=81):
-        """The result for a key, and what was written."""
-        buffer = ctypes.create_string_buffer(b"\xAA" * 96, 96)
-        result = self.library.calls.pgn_key(fen, len(fen), buffer, capacity)
-        written = buffer.raw.rstrip(b"\xAA")
-        return (result.status, result.field, result.length), written
+    def test_fens_and_keys_of_plies(self):
+        """With four formats the line of a ply is the FEN alone, or the key."""
+        castles = b"r3k3/6P1/8/8/8/8/8/4K2R w Kq - 7 30"
+        castled = (b"r3k3/6P1/8/8/8/8/8/5RK1 b q - 8 30\n2kr4/6P1/8/8/8/8/8/5RK1 w - - 9 31\n"
+                   b"2kr2Q1/8/8/8/8/8/8/5RK1 b - - 0 31\n")
+        keys = (b"rnbqkbnr/pppppppp/8/8/4P3/8/PPPP1PPP/RNBQKBNR b KQkq -\n"
+                b"rnbqkbnr/1ppppppp/p7/8/4P3/8/PPPP1PPP/RNBQKBNR w KQkq -\n"
+                b"rnbqkbnr/1ppppppp/p7/4P3/8/8/PPPP1PPP/RNBQKBNR b KQkq -\n"
+                b"rnbqkbnr/1pp1pppp/p7/3pP3/8/8/PPPP1PPP/RNBQKBNR w KQkq d6\n")
+        for row in (
+                (KNIGHTS, INITIAL, b"1. Ng1f3 Nf6", SAN_FEN),
+                (KNIGHTS, INITIAL, b"g1f3\ng8f6 ", UCI_FEN),
+                (castled, castles, b"30. O-O O-O-O 31. g8=Q", SAN_FEN),
+                (castled, castles, b"e1g1 e8c8 g7g8q", UCI_FEN),
+                (b"", INITIAL, b"1.", SAN_FEN), (b"", INITIAL, b"", UCI_FEN),
+                (keys, INITIAL, b"1. e4 a6 2. e5 d5", SAN_KEY),
+                (keys, INITIAL, b"e2e4 a7a6 e4e5 d7d5", UCI_KEY)):
+            self.check_line(*row)
 
     def test_keys(self):
         """A target only if a pawn may take there, and rights only with king and rook at home."""
@@ -666,19 +653,11 @@ class Installed:
                 (b"8/8/8/8/k2Pp2Q/8/8/3K4 b - d3 0 1", b"8/8/8/8/k2Pp2Q/8/8/3K4 b - -"),
                 (b"r3k2r/8/8/8/8/8/8/1R2K2R w KQkq - 3 20", b"r3k2r/8/8/8/8/8/8/1R2K2R w Kkq -"),
                 (long + b" - 0 1", long + b" -")):
-            self.assertEqual(self.key(fen), ((OK, 0, len(key)), key))
-            self.assertEqual(self.key(fen, len(key) - 1), ((FULL, 0, len(key)), b""))
-        self.assertEqual(self.key(b"x"), ((FAULT, 1, 0), b""))
-
-    def test_keys_of_plies(self):
-        """With two formats the line of a ply is the key alone."""
-        keys = (b"rnbqkbnr/pppppppp/8/8/4P3/8/PPPP1PPP/RNBQKBNR b KQkq -\n"
-                b"rnbqkbnr/1ppppppp/p7/8/4P3/8/PPPP1PPP/RNBQKBNR w KQkq -\n"
-                b"rnbqkbnr/1ppppppp/p7/4P3/8/8/PPPP1PPP/RNBQKBNR b KQkq -\n"
-                b"rnbqkbnr/1pp1pppp/p7/3pP3/8/8/PPPP1PPP/RNBQKBNR w KQkq d6\n")
-        for data, line_format in ((b"1. e4 a6 2. e5 d5", SAN_KEY), (b"e2e4 a7a6 e4e5 d7d5", UCI_KEY)):
-            result, text = self.library.line(INITIAL, data, line_format)
-            self.assertEqual((fields(result), text), ((OK, 0, 0, 0, len(keys), 4), keys))
+            for capacity, status, written in ((81, OK, key), (len(key) - 1, FULL, b"")):
+                result, text = self.library.fen_by("pgn_key", fen, capacity)
+                self.assertEqual((fields(result), text), ((status, 0, len(key)), written))
+        result, text = self.library.fen_by("pgn_key", b"x", 81)
+        self.assertEqual((fields(result), text), ((FAULT, 1, 0), b""))
 
     def test_lines_in_buffers_of_each_size(self):
         """Whole lines are written, and reading goes on behind them."""
@@ -697,8 +676,7 @@ class Installed:
                     _, rest = self.library.line(fen, data[result.place :], line_format)
                     self.assertEqual(text + rest, whole)
             for capacity in (len(whole), len(whole) + 1):
-                result, text = self.library.line(INITIAL, data, line_format, capacity)
-                self.assertEqual((fields(result), text), ((OK, 0, 0, 0, len(whole), 3), whole))
+                self.check_line(whole, INITIAL, data, line_format, capacity)
 
     # ---- items
 
@@ -708,12 +686,9 @@ class Installed:
 
     def texts_with_items(self):
         """Inputs of vectors and examples, archives, and games from positions."""
-        for vector in vectors():
-            yield vector["file"], vector["input"].encode()
-        for style in ("plain", "annotated"):
-            yield style, archive(20, style)
-        for path in EXAMPLES:
-            yield os.path.basename(path), bytes_of(path)
+        yield from ((it["file"], it["input"].encode()) for it in vectors())
+        yield from ((style, archive(20, style)) for style in ("plain", "annotated"))
+        yield from ((os.path.basename(path), bytes_of(path)) for path in EXAMPLES)
         for name in ("puzzles", "queens"):
             rows = [it.split(b" ", 4) for it in bytes_of("bench/%s.txt" % name).splitlines()[:100]]
             yield name, b"\n".join(b'[FEN "%s 0 1"]\n%s *' % (b" ".join(it[:4]), it[4])
@@ -726,10 +701,9 @@ class Installed:
             with self.subTest(name):
                 exports = self.library.games(data)
                 for (lines, text), (game, export) in zip(self.items_of_games(data, 15), exports):
-                    self.assertEqual((lines.fault, lines.place, lines.message, lines.reason_at),
-                                     (game.fault, game.place, game.message, game.reason_at))
-                    self.assertEqual(lines.status, FAULT if game.status == MORE else game.status)
-                    self.assertEqual((lines.end, lines.written), (game.end, len(text)))
+                    self.check(lines, end=game.end, written=len(text),
+                               status=FAULT if game.status == MORE else game.status,
+                               **chosen(game, "fault", "place", "message", "reason_at"))
                     texts = self.wanted(replay, data, game, export)
                     self.assertEqual(text, b"".join(texts))
                     # tags without movetext may be an item or not
@@ -816,12 +790,10 @@ class Installed:
                     self.assertEqual((text, part.next_item), (wanted, next_item))
                     joined, first = joined + text, next_item
                     if part.status != FULL:
-                        self.assertEqual((part.status, part.fault, part.place, part.end),
-                                         (result.status, result.fault, result.place, result.end))
+                        self.check(part, **chosen(result, "status", "fault", "place", "end"))
                         self.assertEqual(joined, whole)
                         break
-                    self.assertEqual((part.fault, part.place, part.end, part.message),
-                                     (51, 0, 0, b""))
+                    self.check(part, fault=51, place=0, end=0, message=b"")
                 else:
                     self.assertLess(capacity, max(map(len, whole.splitlines(keepends=True))))
 
@@ -837,28 +809,6 @@ class Installed:
                 self.assertEqual(fields(same), fields(result))
             self.assertEqual(b"".join(texts), whole)
 
-    def test_places_of_items(self):
-        """As for pgn_next_game: all bytes before the place count as white space."""
-        length = len(TEXT)
-        for text, place in ((TEXT, length), (b"", 0), (b" {a} ; b\n", 0)):
-            self.check_nothing(self.library.items(text, place), NO_GAME)
-        for place in (length + 1, 1 << 62, (1 << 62) + 1, (1 << 64) - 1):
-            self.check_nothing(self.library.items(TEXT, place), BAD_PLACE)
-        for place in range(length + 1):
-            game, export = self.library.next_game(TEXT, place)
-            lines, text = self.library.items(TEXT, place)
-            self.assertEqual((lines.fault, lines.place, lines.message, lines.end),
-                             (game.fault, game.place, game.message, game.end), place)
-            if game.status == OK:
-                self.assertEqual(text, b"".join(Replay(self.library).texts(export)))
-        for before in (b"*\n", b"*\r", b"*\r\n", b"", b"\xEF\xBB\xBF", b"\n\n"):
-            lines, text = self.library.items(before + b"% 1-0\n*", len(before))
-            self.assertEqual((lines.status, text), (OK, b"R\t*\n"), before)
-        for before in (b"* ", b"*", b"*\n ", b"\xBB\xBF", b"*\xEF\xBB\xBF"):
-            lines, text = self.library.items(before + b"% 1-0\n*", len(before))
-            self.assertEqual((lines.status, lines.fault, lines.place, text),
-                             (FAULT, 1, len(before), b""), before)
-
     def test_items_before_a_fault(self):
         """The lines before it, and where it is. A comment that is open has no line feed."""
         e4 = b"M\t1.\te4\n"
@@ -872,16 +822,11 @@ class Installed:
                 (b'[White "a"] [White "b"] e4 *', 22, 13, b""),
                 (b'[FEN "x"] e4 *', 26, 5, b""), (b"e4 [White \"a\"] *", 32, 3, e4)):
             lines, written = self.library.items(data, 0, 0, ITEM_SAN)
-            self.assertEqual((lines.status, lines.fault, lines.place, written),
-                             (FAULT, fault, place, text), data)
+            self.check(lines, data, status=FAULT, fault=fault, place=place, end=0,
+                       written=len(text))
+            self.assertEqual(written, text, data)
             game, _ = self.library.next_game(data)
-            self.assertEqual((game.fault, game.place, game.message, game.reason_at),
-                             (fault, place, lines.message, lines.reason_at), data)
-            self.assertEqual((lines.end, lines.written), (0, len(text)))
-
-    def explained(self, fen, text):
-        result = self.library.calls.pgn_explain(fen, len(fen), text, len(text))
-        return result, {at: it for at, it in enumerate(result.origins) if it}
+            self.check(game, data, **chosen(lines, "fault", "place", "message", "reason_at"))
 
     def test_explanations(self):
         pinned = b"4r2k/8/8/8/8/8/N3N3/4K3 w - - 0 1"
@@ -890,45 +835,44 @@ class Installed:
         for fen, text, form, piece, target, origins in (
                 (INITIAL, b"Nf3", 1, b"N", 21, {6: 2}), (INITIAL, b"e4", 1, b"P", 28, {12: 2}),
                 (INITIAL, b"Bd4", 1, b"B", 27, {}), (OPEN_GAME, b"Nge2", 1, b"N", 12, {6: 2}),
-                (pinned, b"Nc3", 1, b"N", 18, {8: 2, 12: 1}), (pinned, b"Nac3", 1, b"N", 18, {8: 2}),
-                (pinned, b"Nec3", 1, b"N", 18, {12: 1}),
+                (pinned, b"Nc3", 1, b"N", 18, {8: 2, 12: 1}),
+                (pinned, b"Nac3", 1, b"N", 18, {8: 2}), (pinned, b"Nec3", 1, b"N", 18, {12: 1}),
                 (castles, b"O-O", 2, b"K", 6, {4: 2}), (castles, b"O-O-O", 3, b"K", 2, {4: 2}),
                 # castling to an attacked square is no step (FIDE Laws 3.8.2)
                 (attacked, b"O-O", 2, b"K", 6, {}), (castles, b"Kf1", 1, b"K", 5, {4: 2})):
-            result, found = self.explained(fen, text)
-            self.assertEqual((result.status, result.fault, result.field), (OK, 0, 0), text)
-            self.assertEqual((result.form, result.piece, result.target, found),
-                             (form, ord(piece), target, origins), text)
+            self.check_explanation(fen, text, origins, status=OK, fault=0, field=0, form=form,
+                                   piece=ord(piece), target=target)
         for fen, text, fault, field in ((b"x", b"e4", 26, 1), (INITIAL[:-2], b"e4", 26, 6),
                                         (INITIAL, b"--", 33, 0), (INITIAL, b"", 33, 0)):
-            result, found = self.explained(fen, text)
-            self.assertEqual((result.status, result.fault, result.field), (FAULT, fault, field))
-            self.assertEqual((result.form, result.piece, result.target, found), (0, 0, 0, {}))
+            self.check_explanation(fen, text, {}, status=FAULT, fault=fault, field=field, form=0,
+                                   piece=0, target=0)
+
+    def check_explanation(self, fen, text, origins, **wanted):
+        result = self.library.call("pgn_explain", fen, text)
+        self.check(result, text, **wanted)
+        self.assertEqual({at: it for at, it in enumerate(result.origins) if it}, origins, text)
 
 
 class InstalledByCargo(Installed, unittest.TestCase):
     build = "--cargo"
 
     def test_null_pointers_with_no_length(self):
-        calls = self.library.calls
-        self.assertEqual(calls.pgn_check(None, 0).status, OK)
-        self.assertEqual(calls.pgn_convert(None, 0, None, 0, 0).status, OK)
-        self.assertEqual(calls.pgn_next_game(None, 0, 0, 0, 0, None, 0).status, NO_GAME)
-        self.assertEqual(calls.pgn_next_game(b"*", 1, 0, 0, 0, None, 0).status, FULL)
-        self.assertEqual(calls.pgn_items(None, 0, 0, 0, 0, None, 0).status, NO_GAME)
-        self.assertEqual(calls.pgn_items(b"*", 1, 0, 0, 0, None, 0).status, FULL)
-        self.assertEqual(calls.pgn_tag_at(None, 0, 0).status, FAULT)
-        self.assertEqual(calls.pgn_check_numbers(None, 0).status, OK)
-        self.assertEqual(calls.pgn_san(None, 0, None, 0, 0).fault, 26)
-        self.assertEqual(calls.pgn_line(None, 0, None, 0, 0, None, 0).fault, 26)
-        self.assertEqual(calls.pgn_line(INITIAL, len(INITIAL), None, 0, 0, None, 0).status, OK)
-        self.assertEqual(calls.pgn_explain(None, 0, None, 0).fault, 26)
-        self.assertEqual(calls.pgn_fen_normalize(None, 0, None, 0).field, 1)
-        self.assertEqual(calls.pgn_fen_normalize(INITIAL, len(INITIAL), None, 0).status, FULL)
-        self.assertEqual(calls.pgn_key(None, 0, None, 0).field, 1)
-        self.assertEqual(calls.pgn_key(INITIAL, len(INITIAL), None, 0).status, FULL)
         bad = STRUCTS["pgn_bad_game"]()
-        self.assertEqual(calls.pgn_next_section(ctypes.addressof(bad), None, 0, 1).status, NO_GAME)
+        for field, wanted, rows in (
+                ("status", OK, (("check", None), ("convert", None, None, 0),
+                                ("check_numbers", None), ("line", INITIAL, None, 0, None))),
+                ("status", NO_GAME, (("next_game", None, 0, 0, 0, None),
+                                     ("items", None, 0, 0, 0, None),
+                                     ("next_section", ctypes.addressof(bad), None, 1))),
+                ("status", FULL, (("next_game", b"*", 0, 0, 0, None),
+                                  ("items", b"*", 0, 0, 0, None),
+                                  ("fen_normalize", INITIAL, None), ("key", INITIAL, None))),
+                ("status", FAULT, (("tag_at", None, 0),)),
+                ("fault", 26, (("san", None, None, 0), ("line", None, None, 0, None),
+                               ("explain", None, None))),
+                ("field", 1, (("fen_normalize", None, None), ("key", None, None)))):
+            for name, *words in rows:
+                self.check(self.library.call("pgn_" + name, *words), name, **{field: wanted})
 
     def test_null_pointers_with_a_length(self):
         """Each pointer of each call in turn: `PGN_NO_MODE`, and nothing is written."""
@@ -938,25 +882,22 @@ class InstalledByCargo(Installed, unittest.TestCase):
         bad = STRUCTS["pgn_bad_game"](fault=9)
         room, game, text = (ctypes.addressof(buffer), 999), ctypes.addressof(bad), (text, len(text))
         pointers = (INITIAL, move[0], text[0], room[0], game)
-        calls = {"pgn_check": text, "pgn_convert": (*text, *room, 0),
+        calls = {"pgn_check": text, "pgn_check_numbers": text, "pgn_convert": (*text, *room, 0),
                  "pgn_fen_normalize": (*fen, *room), "pgn_key": (*fen, *room),
-                 "pgn_san": (*fen, *move, 0),
-                 "pgn_line": (*fen, *move, 0, *room), "pgn_next_game": (*text, 0, 0, 0, *room),
-                 "pgn_read_game": (*text, 0, 0, 0, *room), "pgn_tag_at": (*text, 0),
-                 "pgn_check_numbers": text,
-                 "pgn_items": (*text, 0, 0, 1, *room),
+                 "pgn_san": (*fen, *move, 0), "pgn_line": (*fen, *move, 0, *room),
+                 "pgn_next_game": (*text, 0, 0, 0, *room), "pgn_tag_at": (*text, 0),
+                 "pgn_read_game": (*text, 0, 0, 0, *room), "pgn_items": (*text, 0, 0, 1, *room),
                  "pgn_explain": fen + move, "pgn_next_section": (game, *text, 1)}
         self.assertEqual({*calls, "pgn_version"}, set(test_library.declared()))
         before, tried = (buffer.raw, bytes(bad)), 0
         for name, words in calls.items():
             call = getattr(self.library.calls, name)
             for at in (it for it, word in enumerate(words) if word in pointers):
-                result = call(*words[:at], None, *words[at + 1:])
-                status, *others = fields(result)
+                status, *others = fields(call(*words[:at], None, *words[at + 1:]))
                 self.assertEqual(status, NO_MODE, (name, at))
                 # an array of numbers is bytes here
-                self.assertFalse(any(it if isinstance(it, int) else any(bytes(it)) for it in others),
-                                 (name, at, others))
+                filled = [it for it in others if (it if isinstance(it, int) else any(bytes(it)))]
+                self.assertEqual(filled, [], (name, at))
                 tried += 1
         self.assertEqual((buffer.raw, bytes(bad)), before)
         self.assertEqual(tried, 24)
