@@ -1,4 +1,5 @@
 """Tests of the library for C (crates/pgn_c): its header, and the example in C."""
+import functools
 import glob
 import os
 import re
@@ -12,28 +13,20 @@ from programs import ROOT, need, need_library, need_program, output_of, run, tex
 from small_repository import Repository
 
 CRATE = ROOT + "/crates/pgn_c"
-NO_SUCH_MOVE = ROOT + "/examples/no-such-move.pgn"
 
 
 def source(name):
     return text_of(CRATE, name)
 
 
-class Built:
-    """What examples/build makes of each build of the library, once for all tests."""
-
-    folders = {}
-
-    @classmethod
-    def path(cls, build, name):
-        need_library(build)
-        if build not in cls.folders:
-            cls.folders[build] = tempfile.mkdtemp()
-            unittest.addModuleCleanup(shutil.rmtree, cls.folders[build])
-            ran = run(["examples/build", build, cls.folders[build]])
-            if ran.returncode != 0:
-                raise AssertionError(ran.stderr.decode())
-        return cls.folders[build] + "/" + name
+@functools.lru_cache(maxsize=None)
+def folder_of(build):
+    """What examples/build makes of a build of the library, once for all tests."""
+    need_library(build)
+    folder = tempfile.mkdtemp()
+    unittest.addModuleCleanup(shutil.rmtree, folder)
+    output_of(run(["examples/build", build, folder]), err=None)
+    return folder
 
 
 class Builder(unittest.TestCase):
@@ -199,7 +192,7 @@ class HeaderTest(unittest.TestCase):
         # what it calls neither allocates nor reads or writes a file
         self.assertLessEqual(wanted, {"memcpy", "memmove", "memset"})
 
-    def test_strings_and_bytes_are_texts(self):
+    def test_compiles_as_c_and_as_cpp(self):
         """A text needs no cast, whatever it points to."""
         need("cc", "c++")
         text = ('#include "pgn.h"\n'
@@ -208,15 +201,9 @@ class HeaderTest(unittest.TestCase):
                 '        + pgn_check(other, 1).games + pgn_check("*", 1).games;\n'
                 "}\n")
         for words in (["cc", "-std=c99", "-x", "c"], ["c++", "-std=c++11", "-x", "c++"]):
-            output_of(run([*words, "-pedantic", "-Wall", "-Wextra", "-Werror", "-fsyntax-only",
-                           "-I" + CRATE, "-"], input=text.encode()))
-
-    def test_compiles_as_c_and_as_cpp(self):
-        need("cc", "c++")
-        for words in (["-std=c99", "-x", "c"], ["-std=c++11", "-x", "c++"]):
-            compiler = "c++" if "c++" in words else "cc"
-            output_of(run([compiler, "-pedantic", "-Wall", "-Wextra", "-Werror", "-fsyntax-only",
-                           *words, CRATE + "/pgn.h"]))
+            words += ["-pedantic", "-Wall", "-Wextra", "-Werror", "-fsyntax-only", "-I" + CRATE]
+            output_of(run([*words, CRATE + "/pgn.h"]))
+            output_of(run([*words, "-"], input=text.encode()))
 
 
 # ---- the example in C
@@ -237,7 +224,7 @@ class CExample:
     build = None
 
     def path(self, name):
-        return Built.path(self.build, name)
+        return folder_of(self.build) + "/" + name
 
     def run_sample(self, text):
         write_file(self.path("sample.c"), c_program(text))
@@ -252,25 +239,23 @@ class CExample:
         moves = rb"(?m)^1\. e4 e5 2\. Bc4 Nc6 3\. Qh5 Nf6 .*4\. Qxf7# (\*|1-0)$"
         self.assertRegex(printed_by(self, "c", self.run_sample), moves)
 
-    def test_fault(self):
-        out = output_of(run([self.path("pgn_check"), NO_SUCH_MOVE]), 1)
-        self.assertEqual(out, b"fault 34 at byte 77: move is not legal\n")
-
-    def test_counts(self):
-        ran = run([self.path("pgn_check"), "examples/annotated.pgn"])
-        self.assertEqual((ran.returncode, ran.stdout), (0, b"games: 1, plies: 7\n"))
+    def test_what_it_prints(self):
+        for name, status, said in (("no-such-move", 1, b"fault 34 at byte 77: move is not legal\n"),
+                                   ("annotated", 0, b"games: 1, plies: 7\n")):
+            ran = run([self.path("pgn_check"), "examples/%s.pgn" % name])
+            self.assertEqual(output_of(ran, status), said)
 
     def test_exports_as_the_program(self):
         program = need_program()
         for file in sorted(glob.glob(ROOT + "/examples/*.pgn")):
-            ours = run([self.path("pgn_check"), "--export", file])
             theirs = run([program, "export", file])
-            self.assertEqual(ours.returncode, theirs.returncode, file)
-            self.assertEqual(ours.stdout, theirs.stdout, file)
+            ours = run([self.path("pgn_check"), "--export", file])
+            self.assertEqual((ours.returncode, ours.stdout), (theirs.returncode, theirs.stdout),
+                             file)
 
     def test_small_stack(self):
-        words = ["sh", "-c", "ulimit -s 256 && exec \"$@\"", "sh"]
-        output_of(run([*words, self.path("pgn_check"), "--export", "examples/from-a-position.pgn"]))
+        output_of(run(["sh", "-c", "ulimit -s 256 && exec \"$@\"", "sh", self.path("pgn_check"),
+                       "--export", "examples/from-a-position.pgn"]))
 
     def test_valgrind(self):
         need_library(self.build)
