@@ -15,6 +15,9 @@ except ImportError:
 CHROMIUM, DRIVER = "chromium", "chromedriver"
 # how long a page may take for one answer, in seconds
 PATIENCE = 120
+# what every script can call
+FUNCTIONS = ("const element = (id) => document.getElementById(id), "
+             "elements = (selector) => [...document.querySelectorAll(selector)];")
 
 
 class Browser(webdriver.Chrome):
@@ -36,7 +39,7 @@ class Browser(webdriver.Chrome):
 
     def run(self, script, *values):
         """What a script returns: the body of a function of the values."""
-        return self.execute_script(script, *values)
+        return self.execute_script(FUNCTIONS + script, *values)
 
     def wait_for(self, script, *values):
         """Waits until a script returns something true, and gives that."""
@@ -47,8 +50,8 @@ class Browser(webdriver.Chrome):
         """What the promise of a script resolves to: the body of an async function."""
         return self.execute_async_script(
             "const answer = arguments[arguments.length - 1];"
-            "(async (...values) => {%s})(...arguments).then("
-            "it => answer({value: it}), error => answer({error: String(error)}))" % script, *values)
+            "(async (...values) => {%s})(...arguments).then(it => answer({value: it}),"
+            " error => answer({error: String(error)}))" % (FUNCTIONS + script), *values)
 
     def open_file(self, path):
         """Opens a file by its path, as a person does by a dialog."""
