@@ -37,6 +37,7 @@ PYTHON = "/usr/bin/python3" if os.path.exists("/usr/bin/python3") else sys.execu
 INITIAL = "rnbqkbnr/pppppppp/8/8/8/8/PPPPPPPP/RNBQKBNR w KQkq - 0 1"
 REAL = "/usr/share/pychess/learn/**/*.pgn"
 RANDOM_GAMES = 100000
+COPIES = copies.copy, copies.deepcopy
 DAMAGED_FILES = 60
 
 
@@ -51,19 +52,28 @@ def environment(**more):
                 **more)
 
 
+def values(it, *names):
+    """These attributes of a value."""
+    return tuple(getattr(it, name) for name in names)
+
+
 def seen(source, **options):
     """The games and the faults of a source, in the order in which they come: 7 values and 13."""
     found = []
     for game in gillspoon.games(source, **options, on_fault=lambda it: found.append(
-            it.args + (it.end, it.text, it.move, it.white, it.black))):
-        found.append(tuple(getattr(game, it) for it in (
-            "number", "offset", "end", "result", "plies", "fen", "text")))
+            it.args + values(it, "end", "text", "move", "white", "black"))):
+        found.append(values(game, "number", "offset", "end", "result", "plies", "fen", "text"))
     return found
 
 
 def texts_of(games):
     """The export text of each game."""
     return [it.text for it in games]
+
+
+def pairs_of(texts):
+    """The tag pairs of each export text."""
+    return [re.findall(r'(?m)^\[(\w+) "(.*)"\]$', it.decode()) for it in texts]
 
 
 def first_game(data, **options):
@@ -74,6 +84,11 @@ def first_game(data, **options):
 def first_line(data):
     """The moves of the first game of a source."""
     return first_game(data).moves()
+
+
+def last_fen(line):
+    """The position after a line."""
+    return line.plies[-1].fen if line.plies else line.fen
 
 
 def built(moves):
@@ -110,6 +125,11 @@ def pickled(value):
     return pickle.loads(pickle.dumps(value))
 
 
+def watched(module, name):
+    """A patch that counts the calls of a function."""
+    return mock.patch.object(module, name, wraps=getattr(module, name))
+
+
 def in_threads(call, values):
     """Calls a function of each value, in threads side by side."""
     threads = [threading.Thread(target=call, args=(it,)) for it in values]
@@ -117,6 +137,13 @@ def in_threads(call, values):
         it.start()
     for it in threads:
         it.join()
+
+
+def short_vectors():
+    """The texts of the shorter worked inputs, with the options of their modes."""
+    for vector in vectors():
+        if len(vector["input"]) < 5000:
+            yield vector["input"].encode(), {"reduced": vector["mode"] == "reduced"}
 
 
 def cut(data, sizes):
@@ -143,6 +170,16 @@ def noted_in(line):
             yield from noted_in(variation)
 
 
+def steps(line):
+    """The plies of a line and of its variations, each with the FEN before it."""
+    fen = line.fen
+    for ply in line:
+        yield fen, ply
+        for variation in ply.variations:
+            yield from steps(variation)
+        fen = ply.fen
+
+
 def notes_of(noted):
     """The notes of a line or a ply, with trees in place of lines."""
     return [tree(it) if isinstance(it, gillspoon.Line) else it for it in noted.notes]
@@ -159,7 +196,19 @@ def damaged(source, data):
     return bytes(data)
 
 
-class Folder(programs.Folder, unittest.TestCase):
+class Test(unittest.TestCase):
+    """What several tests check."""
+
+    def has(self, it, message=None, **wanted):
+        """The attributes of a value are these."""
+        self.assertEqual({name: getattr(it, name) for name in wanted}, wanted, message)
+
+    def fails(self, error, call, *words, options=None, **wanted):
+        """A call ends with an error of this type, whose attributes are these."""
+        self.has(fault_of(error, call, *words, **options or {}), words, **wanted)
+
+
+class Folder(programs.Folder, Test):
     """A test with a folder of its own."""
 
     def sources_of(self, data):
@@ -178,34 +227,29 @@ class Folder(programs.Folder, unittest.TestCase):
                 yield source(child.stdout)
 
 
-# ---- games and their parts
-
-
-class Games(unittest.TestCase):
+class Games(Test):
     TEXT = (b'{a word} [White "M\xc3\xbcller \\"x\\""] [Black "a\\\\b"] [Result "1-0"] [A "1"]\n'
             b"{first} $3 1. e4! e5 (1... c5 2. Nf3 {good} (2. c3) $14 {}) (1... e6) 2. Ke2 1-0\n"
             b'[FEN "4k3/8/8/8/8/8/4P3/4K3 w - - 5 9"] e4 Kd7 *')
 
     def test_values(self):
         one, other = gillspoon.games(self.TEXT)
-        self.assertEqual(
-            (one.number, one.offset, one.end, one.result, one.plies, one.fen, one.encoding),
-            (1, 0, self.TEXT.index(b"1-0\n") + 3, "1-0", 3,
-             "rnbqkbnr/pppp1ppp/8/4p3/4P3/8/PPPPKPPP/RNBQ1BNR b kq - 1 2", "utf-8"))
+        self.has(one, number=1, offset=0, end=self.TEXT.index(b"1-0\n") + 3, result="1-0", plies=3,
+                 fen="rnbqkbnr/pppp1ppp/8/4p3/4P3/8/PPPPKPPP/RNBQ1BNR b kq - 1 2", encoding="utf-8")
         self.assertEqual(list(one.tags.items()), [
             ("Event", "?"), ("Site", "?"), ("Date", "????.??.??"), ("Round", "?"),
             ("White", 'M\xfcller "x"'), ("Black", "a\\b"), ("Result", "1-0"), ("A", "1")])
-        self.assertEqual((other.number, other.offset, other.end, other.result, other.plies),
-                         (2, self.TEXT.index(b"[FEN"), len(self.TEXT), "*", 2))
-        self.assertEqual(other.position_at(0), "4k3/8/8/8/8/8/4P3/4K3 w - - 5 9")
-        self.assertEqual([it.fen for it in other.mainline()], [
-            "4k3/8/8/8/4P3/8/8/4K3 b - e3 0 9", "8/3k4/8/8/4P3/8/8/4K3 w - - 1 10"])
-        self.assertTrue(other.text.endswith(b'[SetUp "1"]\n\n9. e4 Kd7 *\n\n'))
         self.assertEqual([it.san for it in one.mainline()], ["e4", "e5", "Ke2"])
         self.assertEqual([one.position_at(it) for it in (0, 1, 3)], [
             INITIAL, "rnbqkbnr/pppppppp/8/8/4P3/8/PPPP1PPP/RNBQKBNR b KQkq e3 0 1", one.fen])
         for ply in (-1, 4):
             self.assertRaises(IndexError, one.position_at, ply)
+        self.has(other, number=2, offset=self.TEXT.index(b"[FEN"), end=len(self.TEXT), result="*",
+                 plies=2)
+        self.assertEqual([other.position_at(0), *(it.fen for it in other.mainline())], [
+            "4k3/8/8/8/8/8/4P3/4K3 w - - 5 9", "4k3/8/8/8/4P3/8/8/4K3 b - e3 0 9",
+            "8/3k4/8/8/4P3/8/8/4K3 w - - 1 10"])
+        self.assertTrue(other.text.endswith(b'[SetUp "1"]\n\n9. e4 Kd7 *\n\n'))
 
     def test_tree(self):
         line = first_line(self.TEXT)
@@ -219,11 +263,10 @@ class Games(unittest.TestCase):
         knight = sicilian.plies[1]
         self.assertEqual((knight.comments, knight.nags), (["good", ""], [14]))
         self.assertEqual([type(it) for it in knight.notes], [str, gillspoon.Line, int, str])
-        self.assertEqual(
-            knight.variations[0].plies[0].fen,
-            "rnbqkbnr/pp1ppppp/8/2p5/4P3/2P5/PP1P1PPP/RNBQKBNR b KQkq - 0 2")
-        self.assertEqual(knight.variations[0].fen,
-                         "rnbqkbnr/pp1ppppp/8/2p5/4P3/8/PPPP1PPP/RNBQKBNR w KQkq c6 0 2")
+        inner = knight.variations[0]
+        self.assertEqual((inner.plies[0].fen, inner.fen), (
+            "rnbqkbnr/pp1ppppp/8/2p5/4P3/2P5/PP1P1PPP/RNBQKBNR b KQkq - 0 2",
+            "rnbqkbnr/pp1ppppp/8/2p5/4P3/8/PPPP1PPP/RNBQKBNR w KQkq c6 0 2"))
 
     def test_a_changed_game(self):
         game = first_game(self.TEXT)
@@ -242,14 +285,12 @@ class Games(unittest.TestCase):
         self.assertRaises(gillspoon.PgnFault, gillspoon.write_game, tags, line)
 
     def test_a_game_is_read_again_by_its_place(self):
-        """What is between `offset` and `end` is the game, and nothing else."""
         data = b"\xef\xbb\xbf% a\n" + self.TEXT + b"\n% b\n{c} * ;d\n\n" + archive(30, "annotated")
         games = list(gillspoon.games(data))
         self.assertEqual(len(games), 33)
         for game in games:
             again, = gillspoon.games(data[game.offset:game.end])
-            self.assertEqual((again.offset, again.end), (0, game.end - game.offset))
-            self.assertEqual((again.text, again.fen), (game.text, game.fen))
+            self.has(again, offset=0, end=game.end - game.offset, text=game.text, fen=game.fen)
 
     def test_latin_1_and_odd_spaces(self):
         data = '[White "M\xfcller"] 1. e4 {a\xa0b\x85c d} e5 *'.encode("latin-1")
@@ -279,20 +320,14 @@ class Games(unittest.TestCase):
 
     def test_options(self):
         data = b"1. e4 (1. d4) e5 1-0"
-        self.assertEqual(fault_of(gillspoon.PgnFault, list, gillspoon.games(data)).number, 41)
+        self.fails(gillspoon.PgnFault, list, gillspoon.games(data), number=41)
         game = first_game(data, checked=True, reduced=True)
         self.assertEqual((game.result, game.tags["Result"]), ("1-0", "1-0"))
         self.assertTrue(game.text.endswith(b"\n\n1. e4 e5 1-0\n\n"))
         self.assertEqual(gillspoon.convert(data, checked=True, reduced=True), game.text)
         self.assertEqual(gillspoon.check(data, checked=True), (1, 2))
-        fault = fault_of(gillspoon.PgnFault, gillspoon.convert,
-                         b'[FEN "%s"] *' % INITIAL.encode(), reduced=True)
-        self.assertEqual(fault.number, 31)
-
-    def test_pickle(self):
-        game = first_game(self.TEXT)
-        copy = pickled(game)
-        self.assertEqual((copy.text, copy.fen, copy.tags), (game.text, game.fen, game.tags))
+        self.fails(gillspoon.PgnFault, gillspoon.convert, b'[FEN "%s"] *' % INITIAL.encode(),
+                   options={"reduced": True}, number=31)
 
     def test_long_game(self):
         """It is longer than a chunk, and its export than the first buffer."""
@@ -351,33 +386,30 @@ class LateTexts(Folder):
         yield from (Pieces(data, size) for size in (1, 3, 50))
 
     def test_archives(self):
-        for name, data in self.ARCHIVES.items():
-            for options in ({}, {"checked": True}, {"reduced": True}):
-                if options.get("reduced") and name == "positions":
-                    continue
-                answers = self.answers(data, **options)
-                wanted = [text for text, _ in answers]
-                if "checked" not in options:
-                    self.assertEqual(b"".join(wanted), gillspoon.convert(data, **options), name)
-                for source in self.sources(data):
-                    held = list(gillspoon.games(source, **options))
-                    self.assertEqual([list(it.tags.items()) for it in held], [
-                        re.findall(r'(?m)^\[(\w+) "(.*)"\]$', it.decode()) for it in wanted], name)
-                    self.assertEqual(texts_of(reversed(held)), wanted[::-1], name)
-                    self.assertEqual(
-                        [(it.end, it.plies, it.fen, it.result) for it in held],
-                        [(it.end, it.plies, it.fen.decode(), text.split()[-1].decode())
-                         for text, it in answers], name)
+        options = ({}, {"checked": True}, {"reduced": True})
+        for (name, data), options in itertools.product(self.ARCHIVES.items(), options):
+            if (name, options) == ("positions", {"reduced": True}):
+                continue
+            answers = self.answers(data, **options)
+            wanted = [text for text, _ in answers]
+            if "checked" not in options:
+                self.assertEqual(b"".join(wanted), gillspoon.convert(data, **options), name)
+            for source in self.sources(data):
+                held = list(gillspoon.games(source, **options))
+                self.assertEqual([list(it.tags.items()) for it in held], pairs_of(wanted), name)
+                self.assertEqual(texts_of(reversed(held)), wanted[::-1], name)
+                self.assertEqual([values(it, "end", "plies", "fen", "result") for it in held], [
+                    (it.end, it.plies, it.fen.decode(), text.split()[-1].decode())
+                    for text, it in answers], name)
 
     def test_small_buffers(self):
         """Sections and texts that do not fit are written to a larger buffer."""
-        for name, data in self.ARCHIVES.items():
+        for (name, data), size in itertools.product(self.ARCHIVES.items(), (1, 100, 400)):
             wanted = self.texts(data, checked=True)
-            for size in (1, 100, 400):
-                with mock.patch.object(gillspoon._games, "_CAPACITY", size):
-                    held = list(gillspoon.games(data, checked=True))
-                    self.assertEqual(texts_of(held), wanted, name)
-                    self.assertEqual(texts_of(gillspoon.games(data, checked=True)), wanted, name)
+            with mock.patch.object(gillspoon._games, "_CAPACITY", size):
+                held = list(gillspoon.games(data, checked=True))
+                self.assertEqual(texts_of(held), wanted, name)
+                self.assertEqual(texts_of(gillspoon.games(data, checked=True)), wanted, name)
 
     def test_literal_texts(self):
         star = self.ONE % (b"?", b"*", b"*")
@@ -390,28 +422,25 @@ class LateTexts(Folder):
                 self.assertEqual(texts_of(list(gillspoon.games(source))), wanted)
         # a missing result from the marker, and one that is there
         data = b'e4 1-0 [White "a"] e4 0-1\n[Result "1/2-1/2"] e4 1/2-1/2 e4 *'
-        wanted = [self.ONE % it for it in (
-            (b"?", b"1-0", b"1-0"), (b"a", b"0-1", b"0-1"), (b"?", b"1/2-1/2", b"1/2-1/2"),
-            (b"?", b"*", b"*"))]
+        players, results = (b"?", b"a", b"?", b"?"), (b"1-0", b"0-1", b"1/2-1/2", b"*")
+        wanted = [self.ONE % (name, it, it) for name, it in zip(players, results)]
         for source in self.sources(data):
             held = list(gillspoon.games(source, checked=True))
-            self.assertEqual([it.tags["Result"] for it in held], ["1-0", "0-1", "1/2-1/2", "*"])
+            self.assertEqual([it.tags["Result"].encode() for it in held], list(results))
             self.assertEqual(texts_of(held), wanted)
 
     def test_faults_between_games(self):
         """The sound games have the texts that they have by themselves."""
-        good = archive(3, "annotated")
-        for name, text, _, _ in BAD:
-            for end in (b"\n", b"\r\n"):
-                bad = text.replace(b"\n", end)
-                data = b"\xef\xbb\xbf" + sound(b"a") + bad + sound(b"b") + bad + sound(b"c") + good
-                wanted = [gillspoon.convert(sound(it)) for it in (b"a", b"b", b"c")]
-                for source in (data, Pieces(data, 50)):
-                    faults = []
-                    texts = texts_of(list(gillspoon.games(source, on_fault=faults.append)))
-                    self.assertTrue(faults, name)
-                    self.assertEqual([it for it in texts if it in wanted], wanted, name)
-                    self.assertEqual(b"".join(texts[-3:]), gillspoon.convert(good), name)
+        good, parts = archive(3, "annotated"), [sound(it) for it in (b"a", b"b", b"c")]
+        wanted = [gillspoon.convert(it) for it in parts]
+        for (name, text, _, _), end in itertools.product(BAD, (b"\n", b"\r\n")):
+            data = b"\xef\xbb\xbf" + text.replace(b"\n", end).join(parts) + good
+            for source in (data, Pieces(data, 50)):
+                faults = []
+                texts = texts_of(list(gillspoon.games(source, on_fault=faults.append)))
+                self.assertTrue(faults, name)
+                self.assertEqual([it for it in texts if it in wanted], wanted, name)
+                self.assertEqual(b"".join(texts[-3:]), gillspoon.convert(good), name)
 
     def test_random_archives(self):
         """Whichever games are asked for their texts while others are read, all are the same."""
@@ -423,22 +452,19 @@ class LateTexts(Folder):
                 source, held = random.Random(seed), []
                 for game in gillspoon.games(Pieces(data, 700)):
                     held.append(game)
-                    for chosen in source.sample(held, source.choice((0, 0, 1))):
+                    asked = source.sample(held, source.choice((0, 0, 1)))
+                    for chosen in asked + [game] * (source.random() < 0.5):
                         self.assertEqual(chosen.text, wanted[chosen.number - 1])
-                    if source.random() < 0.5:
-                        self.assertEqual(game.text, wanted[game.number - 1])
                 tags = [dict(it.tags) for it in held]
                 self.assertEqual(texts_of(held), wanted)
-                self.assertEqual([list(it.items()) for it in tags], [
-                    re.findall(r'(?m)^\[(\w+) "(.*)"\]$', it.decode()) for it in wanted])
+                self.assertEqual([list(it.items()) for it in tags], pairs_of(wanted))
                 self.assertEqual([gillspoon.write_game(it.tags, it.moves()) for it in held], wanted)
 
     def test_when_the_source_is_closed(self):
         data = archive(20, "annotated")
-        path = self.put("a.pgn", data)
-        with open(path, "rb") as file:
+        with open(self.put("a.pgn", data), "rb") as file:
             held = list(gillspoon.games(file))
-        os.remove(path)
+        os.remove(file.name)
         self.assertTrue(b"".join(texts_of(held)) == gillspoon.convert(data))
         changed = bytearray(data)
         games = gillspoon.games(changed)
@@ -449,22 +475,21 @@ class LateTexts(Folder):
 
     def test_pickled_before_and_after(self):
         data = b'e4 (d4) e5 1-0 [FEN "4k3/8/8/8/8/8/4P3/4K3 w - - 5 9"] {a} e4 {b} Kd7 1/2-1/2'
-        wanted = self.texts(data, checked=True)
-        for make in (pickled, copies.copy, copies.deepcopy):
+        for make, data in itertools.product((pickled, *COPIES), (data, Games.TEXT)):
+            wanted = self.texts(data, checked=True)
             for game, text in zip(gillspoon.games(data, checked=True), wanted):
                 before = make(game)
                 self.assertEqual((before.text, game.text), (text, text))
-                after = make(game)
-                for it in (before, after):
+                for it in (before, make(game)):
                     self.assertIs(type(it), gillspoon.Game)
-                    self.assertEqual((it.text, it.tags, it.fen, it.number, it.offset, it.end),
-                                     (text, game.tags, game.fen, game.number, game.offset, game.end))
+                    self.assertEqual(values(it, *Views.GAME), values(game, *Views.GAME))
                     self.assertEqual((repr(it), [ply.fen for ply in it.mainline()]),
                                      (repr(game), [ply.fen for ply in game.mainline()]))
 
     def test_encodings(self):
         """The whole text decides on it, whatever is asked for first."""
         utf, latin = "M\xfcller", "M\xc3\xbcller"
+        get = operator.attrgetter
         for data, encoding, name in (
                 (b'[White "M\xc3\xbcller"] e4 *', "utf-8", utf),
                 (b'[White "M\xfcller"] e4 *', "latin-1", utf),
@@ -473,13 +498,11 @@ class LateTexts(Folder):
                 (b'[White "Muller"] e4 {\xfc} *', "latin-1", "Muller"),
                 (b'{\xfc} [White {\xfc} "M\xc3\xbcller"]\n%\xfc\ne4 *', "utf-8", utf),
                 (b'\xef\xbb\xbf[White "M\xc3\xbcller"] e4 {\xc3\xbc} *', "utf-8", utf)):
-            for before in (("tags",), ("encoding",), ("text",), ("encoding", "tags"), ("moves",)):
+            for before in (get("tags"), get("encoding"), get("text"), get("encoding", "tags"),
+                           gillspoon.Game.moves):
                 # the second one is read with its text, if that of the first was asked for
                 for game in gillspoon.games(data + b"\n" + data.replace(b"\xef\xbb\xbf", b"")):
-                    for it in before:
-                        getattr(game, it)
-                    if "moves" in before:
-                        game.moves()
+                    before(game)
                     self.assertEqual((game.encoding, game.tags["White"]), (encoding, name), data)
 
     def test_a_game_that_is_made(self):
@@ -488,59 +511,52 @@ class LateTexts(Folder):
 
     def test_calls(self):
         """An index makes no text, and who asks for every text has each made as its game is read."""
-        data, count = archive(20, "annotated"), 20
-        library, calls = gillspoon._library, {}
-
-        def counted(name):
-            real, calls[name] = getattr(library, name), 0
-
-            def call(*words):
-                calls[name] += 1
-                return real(*words)
-
-            return mock.patch.object(library, name, call)
-
-        with counted("read_game"), counted("next_game"):
+        data, count, library = archive(20, "annotated"), 20, gillspoon._library
+        with watched(library, "read_game") as read, watched(library, "next_game") as made:
             for game in gillspoon.games(data):
                 self.assertTrue(repr(game) and game.fen and game.position_at(0) and game.tags)
             self.assertEqual(gillspoon.check(data).games, count)
-            read, calls["read_game"] = calls["read_game"], 0
-            self.assertEqual(calls["next_game"], 0)
+            self.assertEqual(made.call_count, 0)
+            self.assertGreater(read.call_count, 2 * count - 1)
+            read.reset_mock()
             self.assertEqual(len(texts_of(gillspoon.games(data))), count)
             # one for each game, and those that found that more had to be read
-            self.assertLess(calls["read_game"], 4)
-            self.assertLess(calls["next_game"], count + 4)
-            calls["next_game"] = 0
+            self.assertLess(read.call_count, 4)
+            self.assertLess(made.call_count, count + 4)
+            made.reset_mock()
             for game in gillspoon.games(data):
                 if game.number % 10 == 5:
                     self.assertEqual(game.text, game.text)
-            self.assertEqual(calls["next_game"], 4)
-        self.assertGreater(read, 2 * count - 1)
+            self.assertEqual(made.call_count, 4)
 
 
 class Positions(unittest.TestCase):
     """The positions and the UCI of plies, which one call finds for each line."""
 
-    def check(self, line):
-        """Each ply is what `san` says of its move."""
-        fen, count = line.fen, 0
-        for ply in line:
+    def check_fens(self, line):
+        """Each position is that after the move."""
+        for fen, ply in steps(line):
+            self.assertEqual([it.fen for it in ply.variations], [fen] * len(ply.variations))
+            self.assertEqual(ply.fen, gillspoon.san(fen, ply.san).fen)
+
+    def check(self, game, line=None):
+        """Each ply of a game is what `san` says of its move. Gives the number of variations."""
+        line, count = line or game.moves(), 0
+        for fen, ply in steps(line):
             self.assertEqual((ply.san, ply.fen, ply.uci), gillspoon.san(fen, ply.san))
             self.assertEqual(gillspoon.san(fen, ply.uci, uci=True).san, ply.san)
-            for variation in ply.variations:
-                self.assertEqual(variation.fen, fen)
-                count += self.check(variation)
-            fen = ply.fen
-        return count + 1
+            count += len(ply.variations)
+        self.check_fens(line)
+        self.assertEqual(last_fen(line), game.fen)
+        return count
 
     def test_archives(self):
         for style, variations in (("plain", 0), ("annotated", 50)):
             count = 0
             for game in gillspoon.games(archive(30, style)):
-                line = game.moves()
-                self.assertEqual([it.number for it in line], list(range(1, game.plies + 1)))
-                count += self.check(line) - 1
-                self.assertEqual(line.plies[-1].fen if line.plies else line.fen, game.fen)
+                self.assertEqual([it.number for it in game.mainline()],
+                                 list(range(1, game.plies + 1)))
+                count += self.check(game)
             self.assertGreaterEqual(count, variations)
 
     def test_other_first_positions(self):
@@ -551,16 +567,15 @@ class Positions(unittest.TestCase):
             game = first_game(('[FEN "%s"] %s *' % (fen, text)).encode())
             line = game.moves()
             self.assertEqual((line.fen, [it.san for it in line]), (fen, sans))
-            self.check(line)
-            self.assertEqual(line.plies[-1].fen if sans else fen, game.fen)
+            self.check(game, line)
 
     def test_castling_and_promotion(self):
         game = first_game(b'[FEN "r3k3/6P1/8/8/8/8/8/4K2R w Kq - 0 1"] O-O O-O-O g8=N *')
         self.assertEqual([it.uci for it in game.mainline()], ["e1g1", "e8c8", "g7g8n"])
 
     def test_a_call_for_each_line(self):
-        calls, game = gillspoon._calls, first_game(b"e4 e5 (c5 Nf3 (c3) Nc6) Nf3 *")
-        with mock.patch.object(calls, "_line", wraps=calls._line) as line:
+        game = first_game(b"e4 e5 (c5 Nf3 (c3) Nc6) Nf3 *")
+        with watched(gillspoon._calls, "_line") as line:
             plies = list(game.mainline())
             self.assertEqual([it.san for it in plies], ["e4", "e5", "Nf3"])
             self.assertEqual(line.call_count, 0)
@@ -568,49 +583,47 @@ class Positions(unittest.TestCase):
             self.assertEqual((plies[2].fen, plies[0].fen), (game.fen, game.position_at(1)))
             self.assertEqual(line.call_count, 1)
             # where positions are asked for before the UCI, this is a second call, the first time
-            self.check(game.moves())
+            self.check(game)
             self.assertEqual(line.call_count, 4)
 
-    def formats(self, *, of):
+    def formats(self, of):
         """The formats of the calls of pgn_line in a function of a source of four games."""
-        calls = gillspoon._calls
-        with mock.patch.object(calls, "_line", wraps=calls._line) as line:
+        with watched(gillspoon._calls, "_line") as line:
             of(gillspoon.games(b"e4 e5 Nf3 * d4 {good} d5 * Nf3 Nf6 * c4 c5 b3 *"))
         return [it.args[4] for it in line.mock_calls]
 
     def test_a_call_for_positions_alone(self):
         """Who asks for positions first has no UCI made; that takes another call, the first time."""
         fens, both = gillspoon._library.SAN_FEN, gillspoon._library.SAN
-        for names, wanted in (
-                (["san", "number", "notes"], []), (["fen"], [fens] * 4),
-                (["uci", "fen"], [both] * 4), (["fen", "uci"], [fens, *[both] * 4])):
+        for names, wanted in ((["san", "number", "notes"], []), (["fen"], [fens] * 4),
+                              (["uci", "fen"], [both] * 4), (["fen", "uci"], [fens, *[both] * 4])):
             def read(games):
                 for game in games:
                     for ply in game.mainline():
                         for name in names:
                             self.assertTrue(getattr(ply, name) or name == "notes")
-            self.assertEqual(self.formats(of=read), wanted, names)
+            self.assertEqual(self.formats(read), wanted, names)
 
     def test_positions_that_are_foreseen(self):
         """Where positions were asked for, the next game has its plies made with theirs."""
-        archives = (archive(8, "plain"), archive(8, "annotated"),
-                    b'* [FEN "4k3/8/8/8/8/8/4P3/4K3 b - - 5 9"] Kd7 e4 Kd6 * e4 e5 * e4 * *')
-        for data in archives:
+        for data, is_foreseen in (
+                (archive(8, "plain"), True), (archive(8, "annotated"), False),
+                (b'* [FEN "4k3/8/8/8/8/8/4P3/4K3 b - - 5 9"] Kd7 e4 Kd6 * e4 e5 * e4 * *', True)):
             wanted = []
             for game in gillspoon.games(data):
                 game._habit = None
-                wanted.append([(it.number, it.san, it.fen, it.uci) for it in game.mainline()])
+                wanted.append([values(it, "number", "san", "fen", "uci") for it in game.mainline()])
             foreseen = 0
             for game, plies in zip(gillspoon.games(data), wanted):
                 line = game.moves()
                 foreseen += any(isinstance(it, gillspoon._moves._PlacedPly) for it in line)
                 self.assertEqual([it.fen for it in line], [it[2] for it in plies])
-                for make in (lambda it: it, copies.copy, copies.deepcopy, pickled):
+                for make in (lambda it: it, pickled, *COPIES):
                     self.assertEqual([it.fen for it in make(line)], [it[2] for it in plies])
-                    self.assertEqual([(it.number, it.san, it.fen) for it in map(make, line)],
+                    self.assertEqual([values(it, "number", "san", "fen") for it in map(make, line)],
                                      [it[:3] for it in plies])
                 self.assertEqual(game.position_at(game.plies), game.fen)
-            self.assertEqual(bool(foreseen), data != archives[1])
+            self.assertEqual(bool(foreseen), is_foreseen)
 
     def test_positions_are_foreseen_while_they_are_asked_for(self):
         def read(games):
@@ -619,27 +632,25 @@ class Positions(unittest.TestCase):
             for it in (other, last):
                 self.assertTrue([it.san for it in it.mainline()])
 
-        self.assertEqual(self.formats(of=read), [gillspoon._library.SAN_FEN] * 2)
+        self.assertEqual(self.formats(read), [gillspoon._library.SAN_FEN] * 2)
 
     def test_positions_in_variations_are_foreseen(self):
         """Where these were asked for, the next game with notes is read by its items."""
         one = ('{first} e4 {\xfc} $1 (e3 {a  b} (d3 d5 $2) e5) (c4) {} e5 *'.encode(encoding)
                for encoding in ("utf-8", "latin-1"))
         start = b'[FEN "4k3/8/8/8/8/8/4P3/4K3 w - - 5 99"] e4 (e3 Kd7 (Ke7)) Kd7 Kd2 *'
-        library = gillspoon._library
-        for data in (archive(20, "annotated"), b"\n".join([*one, start, start]), b"\n".join(
-                RandomGames(9).source(200))):
+        for data in (archive(20, "annotated"), b"\n".join([*one, start, start]),
+                     b"\n".join(RandomGames(9).source(200))):
             wanted = []
             for game in gillspoon.games(data):
                 game._habit = None
                 wanted.append((tree(game.moves()), game.text))
-            with mock.patch.object(library, "items", wraps=library.items) as items:
+            with watched(gillspoon._library, "items") as items:
                 for game, (its_tree, text) in zip(gillspoon.games(data), wanted):
                     line = game.moves()
-                    self.assertEqual(tree(line), its_tree)
-                    for make in (copies.copy, pickled):
+                    for make in (lambda it: it, copies.copy, pickled):
                         self.assertEqual(tree(make(line)), its_tree)
-                    self.assertEqual(line.plies[-1].fen if line.plies else line.fen, game.fen)
+                    self.assertEqual(last_fen(line), game.fen)
                     self.assertEqual(gillspoon.write_game(game.tags, line, encoding=game.encoding),
                                      text)
             self.assertGreater(items.call_count, 0)
@@ -647,78 +658,57 @@ class Positions(unittest.TestCase):
     def test_a_call_for_all_lines(self):
         """Of a game with notes, where positions in variations are asked for; else there is none."""
         data = b"e4 (d4 d5 (e5)) e5 * e4 (d4) e5 (c5 Nf3 (c3) Nc6) Nf3 * c4 c5 (e5) * Nf3 (d4 d5) *"
-        calls, library = gillspoon._calls, gillspoon._library
-        first, rest = [], gillspoon.games(data)
-        with mock.patch.object(calls, "_line", wraps=calls._line) as line, \
-                mock.patch.object(library, "items", wraps=library.items) as items:
-            self.check_fens(next(rest).moves())
-            self.assertEqual((line.call_count, items.call_count), (3, 0))
-            self.check_fens(next(rest).moves())
-            self.assertEqual((line.call_count, items.call_count), (3, 1))
-            # not asked for here, but found
-            first.append(next(rest).moves())
-            self.assertEqual((line.call_count, items.call_count), (3, 2))
-            first.append(next(rest).moves())
-            self.assertEqual((line.call_count, items.call_count), (3, 2))
+        found, rest = [], gillspoon.games(data)
+        with watched(gillspoon._calls, "_line") as line, \
+                watched(gillspoon._library, "items") as items:
+            # those of the last two are not asked for, but found
+            for ask, counts in ((self.check_fens, (3, 0)), (self.check_fens, (3, 1)),
+                                (found.append, (3, 2)), (found.append, (3, 2))):
+                game = next(rest)
+                ask(game.moves())
+                self.assertEqual((line.call_count, items.call_count), counts)
             for game in gillspoon.games(data):
                 self.assertTrue([it.fen for it in game.mainline()])
             self.assertEqual((line.call_count, items.call_count), (7, 2))
-        for it in first:
-            self.check(it)
+        for game, line in zip(list(gillspoon.games(data))[2:], found):
+            self.check(game, line)
 
     def test_no_text_for_positions_in_variations(self):
         """Where these are asked for, the items are those of the source, unless it is Latin-1."""
         text = '{first} e4 {\xfc} e5 (c5 {a  b} (d5! e5) Nf3) Nf3 *'
         # the second game is read with its text, which the first one was asked for
         for data, count in ((text.encode("utf-8"), 1), (text.encode("latin-1"), 2)):
-            games = gillspoon.games(b"\n".join([data] * 4))
-            with mock.patch.object(gillspoon._games, "_export_text",
-                                   wraps=gillspoon._games._export_text) as exported:
-                trees = [tree(it.moves()) for it in games]
+            with watched(gillspoon._games, "_export_text") as exported:
+                trees = [tree(it.moves()) for it in gillspoon.games(b"\n".join([data] * 4))]
             self.assertEqual((trees, exported.call_count), ([trees[0]] * 4, count))
             self.assertEqual(trees[0][2][0][3][0], "\xfc")
 
-    def check_fens(self, line):
-        """Each is that after the move."""
-        fen = line.fen
-        for ply in line:
-            for variation in ply.variations:
-                self.assertEqual(variation.fen, fen)
-                self.check_fens(variation)
-            self.assertEqual(ply.fen, gillspoon.san(fen, ply.san).fen)
-            fen = ply.fen
-
-    def test_long_games_by_their_items(self):
-        """They may be longer than the buffer that is kept."""
+    def test_lines_that_are_longer_than_the_buffer_that_is_kept(self):
         data = b"e4 (d4 {" + b"a word " * 3000 + b"}) " + b"e5 Nf3 Nf6 Ng1 Ng8 Nc3 Nc6 Nb1 Nb8 *"
         trees = [tree(it.moves()) for it in gillspoon.games(data * 2)]
         self.assertEqual(trees[0], trees[1])
         self.assertEqual(trees[0][2][0][3][0][2][0][3], [" ".join(["a word"] * 3000)])
+        data = b"Nf3 Nf6 Ng1 Ng8 " * 1000 + b"*"
+        game = first_game(data)
+        plies = list(game.mainline())
+        self.assertEqual((len(plies), plies[-1].fen), (4000, game.fen))
+        self.assertEqual({it.uci for it in plies}, {"g1f3", "g8f6", "f3g1", "f6g8"})
+        self.assertEqual([it.fen for it in first_game(data).mainline()], [it.fen for it in plies])
 
     def test_sans_beside_foreseen_positions(self):
         """They are found where one is asked for, and then for all games behind that."""
-        moves, calls = gillspoon._moves, []
-        with mock.patch.object(moves, "_sans_of", wraps=moves._sans_of) as sans_of:
+        counts = []
+        with watched(gillspoon._moves, "_sans_of") as sans_of:
             for game in gillspoon.games(b"e4 e5 * d4 d5 Nf3 * Nf3 Nf6 g3 * c4 c5 *"):
                 plies = list(game.mainline())
                 self.assertEqual([it.fen for it in plies][-1], game.fen)
                 if game.number == 3:
                     plies[1].san = "d5"
                     for these in (plies, copies.deepcopy(plies), pickled(plies)):
-                        self.assertEqual([it.san for it in these], ["Nf3", "d5", "g3"])
-                        self.assertEqual([it.uci for it in these], ["g1f3", "g8f6", "g2g3"])
-                calls.append(sans_of.call_count)
-        self.assertEqual(calls, [1, 1, 2, 3])
-
-    def test_long_lines(self):
-        """A line may be longer than the buffer that is kept."""
-        data = b"Nf3 Nf6 Ng1 Ng8 " * 1000 + b"*"
-        game = first_game(data)
-        plies = list(game.mainline())
-        self.assertEqual((len(plies), plies[-1].fen), (4000, game.fen))
-        self.assertEqual({it.uci for it in plies}, {"g1f3", "g8f6", "f3g1", "f6g8"})
-        again = first_game(data).mainline()
-        self.assertEqual([it.fen for it in again], [it.fen for it in plies])
+                        self.assertEqual([(it.san, it.uci) for it in these], [
+                            ("Nf3", "g1f3"), ("d5", "g8f6"), ("g3", "g2g3")])
+                counts.append(sans_of.call_count)
+        self.assertEqual(counts, [1, 1, 2, 3])
 
     def test_notes_are_of_one_ply(self):
         one, other = first_line(b"e4 e5 *")
@@ -732,12 +722,11 @@ class Positions(unittest.TestCase):
         line = game.moves()
         line.plies[1].san = "c5"
         for plies in (line.plies, copies.deepcopy(line).plies, copies.deepcopy(line.plies)):
-            self.assertEqual([it.san for it in plies], ["e4", "c5", "Nf3"])
-            self.assertEqual([it.uci for it in plies], ["e2e4", "e7e5", "g1f3"])
+            self.assertEqual([(it.san, it.uci) for it in plies], [
+                ("e4", "e2e4"), ("c5", "e7e5"), ("Nf3", "g1f3")])
             self.assertEqual(plies[2].fen, game.fen)
 
     def test_threads(self):
-        """Several threads ask for positions at once."""
         data = archive(30, "plain")
 
         def read(found):
@@ -750,7 +739,7 @@ class Positions(unittest.TestCase):
         self.assertEqual(found, [wanted] * 4)
 
 
-class Keys(unittest.TestCase):
+class Keys(Test):
     """A position has one key, however it was reached."""
 
     # of White and of Black, moves that may come in any order
@@ -784,29 +773,21 @@ class Keys(unittest.TestCase):
 
     def test_rights_and_targets(self):
         """A king that went and came back, and a pawn that may be taken, make another position."""
-        def last(moves):
-            return built(moves).plies[-1].key
-
-        still = "e4 e5 Nf3 Nf6 Ng1 Ng8"
-        self.assertEqual(last("e4 e5"), last(still))
-        self.assertNotEqual(last(still), last("e4 e5 Ke2 Ke7 Ke1 Ke8"))
-        taken, untaken = last("e4 a6 e5 d5"), last("e3 d6 e4 a6 e5 d5")
+        begun, still, kings, taken, untaken = (built(it).plies[-1].key for it in (
+            "e4 e5", "e4 e5 Nf3 Nf6 Ng1 Ng8", "e4 e5 Ke2 Ke7 Ke1 Ke8", "e4 a6 e5 d5",
+            "e3 d6 e4 a6 e5 d5"))
+        self.assertEqual(begun, still)
+        self.assertNotEqual(still, kings)
         self.assertEqual((taken[:-2], taken[-2:], untaken[-1:]), (untaken[:-1], "d6", "-"))
 
     def test_variations_and_functions(self):
-        game, = gillspoon.games(b"1. e4 e5 ( 1... c5 2. Nf3 ) 2. Nf3 *")
-        plies = game.moves().plies
-        replies = plies[1].variations[0].plies
-        for ply in (*plies, *replies):
+        line = first_line(b"1. e4 e5 ( 1... c5 2. Nf3 ) 2. Nf3 *")
+        for _, ply in steps(line):
             self.assertEqual(ply.key, gillspoon.position_key(ply.fen))
-        self.assertEqual(replies[0].key, "rnbqkbnr/pp1ppppp/8/2p5/4P3/8/PPPP1PPP/RNBQKBNR w KQkq -")
-        self.assertRaises(AttributeError, setattr, plies[0], "key", "")
-        self.assertEqual(fault_of(gillspoon.FenFault, gillspoon.position_key, "x").field, 1)
-
-
-def tree_plies(line):
-    """The plies of a line and of its variations."""
-    return [it for it in noted_in(line) if isinstance(it, gillspoon.Ply)]
+        self.assertEqual(line.plies[1].variations[0].plies[0].key,
+                         "rnbqkbnr/pp1ppppp/8/2p5/4P3/8/PPPP1PPP/RNBQKBNR w KQkq -")
+        self.assertRaises(AttributeError, setattr, line.plies[0], "key", "")
+        self.fails(gillspoon.FenFault, gillspoon.position_key, "x", field=1)
 
 
 class Views(unittest.TestCase):
@@ -816,32 +797,28 @@ class Views(unittest.TestCase):
     LISTS = ("nags", "comments", "variations", "arrows", "squares")
     PLY = ("number", "side", "move_number", "fen", "uci", "clock", "emt", "eval", *LISTS)
 
-    def check(self, it, names, advice):
-        """None of the names can be set, also not to its value, and all values stay."""
-        before = [getattr(it, name) for name in names]
-        for name in names:
-            with self.assertRaisesRegex(AttributeError, name + " cannot be set: " + advice):
-                setattr(it, name, getattr(it, name))
-        self.assertEqual([getattr(it, name) for name in names], before)
-
-    def test_a_game(self):
-        for game in gillspoon.games(b"e4 e5 1-0 d4 d5 1-0", checked=True):
-            self.check(game, self.GAME, "give write_")
-
-    def test_a_ply(self):
+    def test_attributes(self):
+        """None of them can be set, also not to its value, and all values stay."""
         line = first_line(b"e4 {[%clk 0:00:01]} (d4) $1 e5 *")
-        for ply in (*line, line.plies[0].variations[0].plies[0], gillspoon.Line().append("c4")):
-            self.check(ply, self.PLY, "change the no")
+        for it in (*gillspoon.games(b"e4 e5 1-0 d4 d5 1-0", checked=True), *line,
+                   line.plies[0].variations[0].plies[0], gillspoon.Line().append("c4")):
+            names, advice = (self.GAME, "give write_") if isinstance(it, gillspoon.Game) else (
+                self.PLY, "change the no")
+            before = values(it, *names)
+            for name in names:
+                with self.assertRaisesRegex(AttributeError, name + " cannot be set: " + advice):
+                    setattr(it, name, getattr(it, name))
+            self.assertEqual(values(it, *names), before)
+        self.assertRaisesRegex(TypeError, r'line\.append\("Nf3"\) makes one', gillspoon.Ply)
 
     def test_a_ply_with_its_position(self):
         """Where positions were asked for, the plies of the next game are made with theirs."""
         for text in (b"e4 e5 Nf3 * ", b"e4 (d4 d5 (c5)) e5 {best} Nf3 * "):
-            first, second = (tree_plies(it.moves()) for it in gillspoon.games(text * 2)
-                             if all(ply.fen for ply in tree_plies(it.moves())))
-            made = [it for it in second if hasattr(it, "_fen")]
-            self.assertGreater(len(made), 1)
+            first, second = ([ply for _, ply in steps(it.moves())]
+                             for it in gillspoon.games(text * 2))
+            self.assertGreater(sum(hasattr(it, "_fen") for it in second), 1)
             for ply, other in zip(first, second):
-                self.assertEqual(ply.fen, other.fen)
+                self.assertTrue(ply.fen and ply.fen == other.fen)
                 with self.assertRaisesRegex(AttributeError, "fen cannot be set: change the no"):
                     other.fen = ""
                 self.assertEqual(ply.fen, other.fen)
@@ -865,9 +842,6 @@ class Views(unittest.TestCase):
             copy.append("c")
             self.assertEqual((type(copy), copy), (list, [*comments, "c"]))
 
-    def test_a_ply_is_not_made_by_hand(self):
-        self.assertRaisesRegex(TypeError, r'line\.append\("Nf3"\) makes one', gillspoon.Ply)
-
 
 class Turns(unittest.TestCase):
     """The side of a ply, and its number in the movetext."""
@@ -890,28 +864,24 @@ class Turns(unittest.TestCase):
 
     def test_from_a_position(self):
         line = first_line(b'[FEN "4k3/8/8/8/8/8/4P3/4K3 b - - 5 99"] Kd7 (Kf7 e3) e4 *')
-        self.assertEqual(self.turns(line), [("Kd7", "black", 99), ("e4", "white", 100)])
-        self.assertEqual(self.turns(line.plies[0].variations[0]),
-                         [("Kf7", "black", 99), ("e3", "white", 100)])
+        self.assertEqual([self.turns(it) for it in (line, line.plies[0].variations[0])], [
+            [("Kd7", "black", 99), ("e4", "white", 100)],
+            [("Kf7", "black", 99), ("e3", "white", 100)]])
         self.assertEqual([it.number for it in line], [1, 2])
 
-    def check(self, line):
-        """Each is what the FEN before the ply says."""
-        before, count = line.fen, 0
-        for ply in line:
-            _, side, _, _, _, number = before.split()
-            self.assertEqual((ply.side[0], ply.move_number), (side, int(number)))
-            count += 1 + sum(map(self.check, ply.variations))
-            before = ply.fen
-        return count
-
     def test_archives(self):
+        """Each is what the FEN before the ply says."""
         for style in ("plain", "annotated"):
-            count = sum(self.check(it.moves()) for it in gillspoon.games(archive(30, style)))
+            count = 0
+            for game in gillspoon.games(archive(30, style)):
+                for fen, ply in steps(game.moves()):
+                    _, side, _, _, _, number = fen.split()
+                    self.assertEqual((ply.side[0], ply.move_number), (side, int(number)))
+                    count += 1
             self.assertGreater(count, 1000)
 
 
-class Built(unittest.TestCase):
+class Built(Test):
     """Lines that are built move by move: the library checks each move when it is put in."""
 
     def movetext(self, line, **tags):
@@ -923,10 +893,9 @@ class Built(unittest.TestCase):
         line.append("e7e5", uci=True)
         line.append("Ng1f3", comment="")
         line.notes.append("first")
-        self.assertEqual(
-            (e4.number, e4.san, e4.uci, e4.fen, e4.notes), (1, "e4", "e2e4",
-             "rnbqkbnr/pppppppp/8/8/4P3/8/PPPP1PPP/RNBQKBNR b KQkq e3 0 1", [1, 14, "best"]))
-        self.assertEqual([(it.number, it.san, it.uci) for it in line][1:],
+        self.has(e4, number=1, san="e4", uci="e2e4", notes=[1, 14, "best"],
+                 fen="rnbqkbnr/pppppppp/8/8/4P3/8/PPPP1PPP/RNBQKBNR b KQkq e3 0 1")
+        self.assertEqual([values(it, "number", "san", "uci") for it in line][1:],
                          [(2, "e5", "e7e5"), (3, "Nf3", "g1f3")])
         self.assertEqual((line.fen, len(line)), (INITIAL, 3))
         self.assertEqual(self.movetext(line, Result="1-0"), (
@@ -962,27 +931,24 @@ class Built(unittest.TestCase):
 
     def test_what_is_refused(self):
         """The line stays as it was."""
-        line = gillspoon.Line()
+        line, move = gillspoon.Line(), gillspoon.MoveFault
         ply = line.append("e4")
-        for call in (line.append, ply.add_variation):
-            for words, options, error, said in (
-                    (("Ke3",), {}, gillspoon.MoveFault, "move is not legal: Ke3"),
-                    (("e9",), {}, gillspoon.MoveFault, "not a move: e9"),
-                    (("Nf6 d4",), {}, gillspoon.MoveFault, "not a move"),
-                    (("",), {}, gillspoon.MoveFault, "not a move"),
-                    (("O-O",), {"uci": True}, gillspoon.MoveFault, "not a move"),
-                    ((7,), {}, TypeError, "a move is a str, not int"),
-                    ((b"e5",), {}, TypeError, "a move is a str, not bytes"),
-                    (("Nf6",), {"nags": "!"}, TypeError, "a NAG is an int such as 1, not str"),
-                    (("Nf6",), {"nags": [256]}, ValueError, "from 0 to 255, not 256"),
-                    (("Nf6",), {"nags": [-1]}, ValueError, "from 0 to 255, not -1"),
-                    (("Nf6",), {"comment": 7}, TypeError, "a comment is a str, not int"),
-                    (("Nf6",), {"comment": "a}"}, ValueError, "closing brace")):
-                self.assertRaisesRegex(error, said, call, *words, **options)
+        for word, options, error, said in (
+                ("Ke3", {}, move, "move is not legal: Ke3"), ("e9", {}, move, "not a move: e9"),
+                ("Nf6 d4", {}, move, "not a move"), ("", {}, move, "not a move"),
+                ("O-O", {"uci": True}, move, "not a move"),
+                (7, {}, TypeError, "a move is a str, not int"),
+                (b"e5", {}, TypeError, "a move is a str, not bytes"),
+                ("Nf6", {"nags": "!"}, TypeError, "a NAG is an int such as 1, not str"),
+                ("Nf6", {"nags": [256]}, ValueError, "from 0 to 255, not 256"),
+                ("Nf6", {"nags": [-1]}, ValueError, "from 0 to 255, not -1"),
+                ("Nf6", {"comment": 7}, TypeError, "a comment is a str, not int"),
+                ("Nf6", {"comment": "a}"}, ValueError, "closing brace")):
+            for call in (line.append, ply.add_variation):
+                self.assertRaisesRegex(error, said, call, word, **options)
         self.assertEqual((len(line), ply.notes), (1, []))
-        self.assertEqual(fault_of(gillspoon.MoveFault, line.append, "e4").fen, ply.fen)
-        fault = fault_of(gillspoon.MoveFault, ply.add_variation, "e5")
-        self.assertEqual(fault.fen, INITIAL)
+        self.fails(move, line.append, "e4", fen=ply.fen)
+        self.fails(move, ply.add_variation, "e5", fen=INITIAL)
         self.assertRaises(gillspoon.FenFault, gillspoon.Line, "4k3/8 w")
         self.assertRaisesRegex(TypeError, "a FEN is a str, not Ply", gillspoon.Line, ply)
 
@@ -1006,14 +972,14 @@ class Built(unittest.TestCase):
 
     def note(self, notes, ply):
         """Adds the same notes to a ply."""
-        for note in notes:
-            if isinstance(note, gillspoon.Line):
-                first, *others = note
-                variation = ply.add_variation(first.uci, uci=True)
-                self.note(first.notes, variation.plies[0])
-                self.build(others, variation)
-            else:
-                ply.notes.append(note)
+        for it in notes:
+            if not isinstance(it, gillspoon.Line):
+                ply.notes.append(it)
+                continue
+            first, *others = it
+            variation = ply.add_variation(first.uci, uci=True)
+            self.note(first.notes, variation.plies[0])
+            self.build(others, variation)
 
     def test_games_are_built_again(self):
         variations = 0
@@ -1026,7 +992,7 @@ class Built(unittest.TestCase):
         self.assertGreater(variations, 50)
 
 
-class Commands(unittest.TestCase):
+class Commands(Test):
     """Clocks, evaluations, arrows and marked squares in comments."""
 
     def ply(self, *comments):
@@ -1070,26 +1036,25 @@ class Commands(unittest.TestCase):
                 ("[%cal Ga1,Gb1b2,Gc1c1]", [("green", "b1", "b2")],
                  [("green", "a1"), ("green", "c1")]),
                 ("[%csl Gb1b2]", [("green", "b1", "b2")], []),
-                ("[%cal Ge2e4,Xd1h5]", [], []), ("[%cal Ge2e9]", [], []),
-                ("[%cal Ge2e4, Gd2d4]", [], []), ("[%cal]", [], []), ("[%csl ga1]", [], []), ("[%cal Ge2e4e5]", [], [])):
-            ply = self.ply(text)
-            self.assertEqual((ply.arrows, ply.squares), (arrows, squares), text)
+                *((it, [], []) for it in (
+                    "[%cal Ge2e4,Xd1h5]", "[%cal Ge2e9]", "[%cal Ge2e4, Gd2d4]", "[%cal]",
+                    "[%csl ga1]", "[%cal Ge2e4e5]"))):
+            self.has(self.ply(text), text, arrows=arrows, squares=squares)
         arrow, = self.ply("[%cal Ge2e4]").arrows
-        self.assertEqual((arrow.colour, arrow.origin, arrow.target), ("green", "e2", "e4"))
+        self.has(arrow, colour="green", origin="e2", target="e4")
         mark, = self.ply("[%csl Rh7]").squares
-        self.assertEqual((mark.colour, mark.square), ("red", "h7"))
+        self.has(mark, colour="red", square="h7")
 
     def test_where_they_are(self):
         """They are behind the move that they are about, also in a variation."""
         e4, e5 = first_game(b"{[%clk 0:00:09]} e4 (d4 {[%clk 0:00:03]}) {[%clk 0:00:02]} "
                             b"{[%csl Ga1]} e5 $1 *").mainline()
-        self.assertEqual((e4.clock, e4.squares), (2.0, [("green", "a1")]))
+        self.has(e4, clock=2.0, squares=[("green", "a1")])
         self.assertEqual(e4.variations[0].plies[0].clock, 3.0)
-        self.assertEqual((e5.clock, e5.emt, e5.eval, e5.arrows, e5.squares),
-                         (None, None, None, [], []))
+        self.has(e5, clock=None, emt=None, eval=None, arrows=[], squares=[])
 
 
-class Pickled(unittest.TestCase):
+class Pickled(Test):
     """Plies and lines that pickle and copy make again."""
 
     def same(self, one, other):
@@ -1104,9 +1069,9 @@ class Pickled(unittest.TestCase):
         last = game.moves().plies[-1]
         self.assertEqual((game.plies, last.number), (1600, 1600))
         self.assertGreater(1600, sys.getrecursionlimit())
-        for copy in (pickled(last), copies.copy(last), copies.deepcopy(last)):
-            self.assertEqual((copy.number, copy.san, copy.fen, copy.comments),
-                             (1600, "Ng8", game.fen, ["end"]))
+        for make in (pickled, *COPIES):
+            copy = make(last)
+            self.has(copy, number=1600, san="Ng8", fen=game.fen, comments=["end"])
             self.same(copy.variations[0], last.variations[0])
         for copy in (pickled(game.moves()), copies.deepcopy(game.moves()), pickled(game).moves()):
             self.same(copy, game.moves())
@@ -1114,20 +1079,18 @@ class Pickled(unittest.TestCase):
             self.assertIs(copy.plies[-1].variations[0].start, copy.plies[-2])
 
     def test_positions_that_were_not_asked_for(self):
-        game = first_game(b"e4 e5 (c5 Nf3 (c3)) Nf3 *")
-        copy = pickled(game.moves())
-        self.same(copy, game.moves())
-        inner, = copy.plies[1].variations[0].plies[1].variations
-        self.assertIs(inner.start, copy.plies[1].variations[0].plies[0])
-
-    def test_a_variation(self):
-        """By itself it has the position before it."""
-        game = first_game(b"e4 e5 (c5 {good} Nf3 (c3)) Nf3 *")
-        line = game.moves().plies[1].variations[0]
-        copy = pickled(line)
-        self.same(copy, line)
-        self.assertEqual(copy.start, game.position_at(1))
-        self.assertIs(copy.plies[1].variations[0].start, copy.plies[0])
+        """A variation by itself has the position before it."""
+        for text in (b"e4 e5 (c5 Nf3 (c3)) Nf3 *", b"e4 e5 (c5 {good} Nf3 (c3)) Nf3 *"):
+            copy = pickled(first_line(text))
+            self.same(copy, first_line(text))
+            inner, = copy.plies[1].variations[0].plies[1].variations
+            self.assertIs(inner.start, copy.plies[1].variations[0].plies[0])
+            game = first_game(text)
+            line = game.moves().plies[1].variations[0]
+            copy = pickled(line)
+            self.same(copy, line)
+            self.assertEqual(copy.start, game.position_at(1))
+            self.assertIs(copy.plies[1].variations[0].start, copy.plies[0])
 
     def test_a_changed_line(self):
         """A ply whose predecessor is in no list of plies keeps its position."""
@@ -1145,10 +1108,9 @@ class Pickled(unittest.TestCase):
             copy = pickled(game.moves())
             self.same(copy, game.moves())
             self.assertEqual(gillspoon.write_game(game.tags, copy), game.text)
-            for ply in game.mainline():
-                for line in ply.variations:
-                    count += 1
-                    self.same(pickled(line), line)
+            for line in itertools.chain.from_iterable(it.variations for it in game.mainline()):
+                count += 1
+                self.same(pickled(line), line)
         self.assertGreater(count, 100)
 
 
@@ -1158,13 +1120,11 @@ class Faults(Folder):
         fault = fault_of(gillspoon.PgnFault, list, gillspoon.games(data))
         self.assertEqual(str(fault), "line 4, column 37: move is not legal: Bd4 "
                                      "(game 1, Nowak, A. - Silva, J.)")
-        self.assertEqual(
-            (fault.number, fault.reason, fault.offset, fault.line, fault.column, fault.game,
-             fault.begin, fault.end), (34, "move is not legal", 77, 4, 37, 1, 0, None))
-        self.assertEqual((fault.move, fault.white, fault.black, fault.file, fault.text),
-                         ("Bd4", "Nowak, A.", "Silva, J.", None, None))
-        with self.assertRaises(gillspoon.MoveFault):
-            gillspoon.san(fault.fen, data[77:].split()[0].decode())
+        self.has(fault, number=34, reason="move is not legal", offset=77, line=4, column=37, game=1,
+                 begin=0, end=None, move="Bd4", white="Nowak, A.", black="Silva, J.", file=None,
+                 text=None)
+        move = data[77:].split()[0].decode()
+        self.assertRaises(gillspoon.MoveFault, gillspoon.san, fault.fen, move)
 
     def test_the_file(self):
         """Its name is the path that was given, or that of an open file."""
@@ -1172,13 +1132,14 @@ class Faults(Folder):
         said = "%s: line 1, column 7: not a move: e9 (game 1)" % path.replace("\n", "\\n")
         with open(path, "rb") as file, os.fdopen(os.open(path, os.O_RDONLY), "rb") as other:
             named = type("P", (), {"__fspath__": lambda self: path})()
-            for source, name in ((named, path), (file, path), (other, None)):
-                for call in (gillspoon.check, gillspoon.convert):
-                    file.seek(0)
-                    other.seek(0)
-                    fault = fault_of(gillspoon.PgnFault, call, source)
-                    self.assertEqual(fault.file, name, (source, call))
-                    self.assertEqual(str(fault), said if name else said[said.index("line 1"):])
+            sources = (named, path), (file, path), (other, None)
+            for call, (source, name) in itertools.product(
+                    (gillspoon.check, gillspoon.convert), sources):
+                file.seek(0)
+                other.seek(0)
+                fault = fault_of(gillspoon.PgnFault, call, source)
+                self.assertEqual(fault.file, name, (source, call))
+                self.assertEqual(str(fault), said if name else said[said.index("line 1"):])
 
     def test_the_move(self):
         """It is the text of what was rejected as a move, and of nothing else."""
@@ -1189,6 +1150,11 @@ class Faults(Folder):
             fault = fault_of(gillspoon.PgnFault, gillspoon.check, text)
             self.assertEqual(fault.move, move, text)
             self.assertEqual(": %s (game 1)" % move in str(fault), move is not None)
+        # its position is there for a move that is not legal
+        for text, fen in ((b"1. e4 e5 (1... e6 2. Ke3) *",
+                           "rnbqkbnr/pppp1ppp/4p3/8/4P3/8/PPPP1PPP/RNBQKBNR w KQkq - 0 2"),
+                          (b"1. e4 e9 *", None), (b"1. e4 & *", None)):
+            self.fails(gillspoon.PgnFault, gillspoon.convert, text, fen=fen)
 
     def test_the_players(self):
         white, black = '[White "M\xfcller \\"x\\""]\n', '[Black "\x9b2J"]\n'
@@ -1211,27 +1177,22 @@ class Faults(Folder):
         for name, text, _, _ in BAD:
             faults, data = [], sound(b"a") + text + sound(b"b") + text
             ends = [(it.offset, it.end) for it in gillspoon.games(data, on_fault=faults.append)]
-            for fault in faults:
-                self.assertEqual(fault.text, data[fault.begin:fault.end], name)
-                ends.append((fault.begin, fault.end))
             left = bytearray(data)
-            for begin, end in ends:
+            for begin, end in ends + [(it.begin, it.end) for it in faults]:
                 left[begin:end] = b" " * (end - begin)
+            self.assertEqual(texts_of(faults), [data[it.begin:it.end] for it in faults], name)
             self.assertEqual(left.strip(), b"", name)
 
     def test_pickle(self):
         faults = []
         path = self.put("a.pgn", b'[White "Ada"]\n1. e4 e9 *\n')
         self.assertEqual(list(gillspoon.games(path, on_fault=faults.append)), [])
-        copy = pickled(faults[0])
-        for name in gillspoon.PgnFault.__slots__:
-            self.assertEqual(getattr(copy, name), getattr(faults[0], name), name)
-        self.assertEqual((copy.args, str(copy)), (faults[0].args, str(faults[0])))
-        for call, error in ((lambda: gillspoon.san(INITIAL, "e5"), gillspoon.MoveFault),
-                            (lambda: gillspoon.san("x", "e5"), gillspoon.FenFault)):
-            fault = fault_of(error, call)
+        for fault, names in (
+                (faults[0], (*gillspoon.PgnFault.__slots__, "args")),
+                (fault_of(gillspoon.MoveFault, gillspoon.san, INITIAL, "e5"), ("fen",)),
+                (fault_of(gillspoon.FenFault, gillspoon.san, "x", "e5"), ("fen",))):
             copy = pickled(fault)
-            self.assertEqual((str(copy), copy.fen), (str(fault), fault.fen))
+            self.assertEqual((str(copy), values(copy, *names)), (str(fault), values(fault, *names)))
 
     def test_moves_before(self):
         """Those of games from a position, with a fault in notes, in variations, and between."""
@@ -1266,38 +1227,29 @@ class Faults(Folder):
 
     def test_moves_before_in_damaged_games(self):
         """They are those of the game that ends at the fault."""
-        source, count = random.Random(8), 0
+        source, count, bad = random.Random(8), 0, []
         for text in RandomGames(3).source(3000):
-            bad = []
             list(gillspoon.games(damaged(source, text), on_fault=bad.append))
-            for fault in bad:
-                game = self.ended_at(fault.text[:fault.offset - fault.begin])
-                line = game.moves() if game else None
-                if line is not None and (line.plies or line.notes):
-                    self.assertEqual(tree(fault.moves_before), tree(line), fault.text)
-                    count += 1
-                else:
-                    self.assertIsNone(fault.moves_before, fault.text)
+        for fault in bad:
+            game = self.ended_at(fault.text[:fault.offset - fault.begin])
+            line = game.moves() if game else None
+            if line is not None and (line.plies or line.notes):
+                self.assertEqual(tree(fault.moves_before), tree(line), fault.text)
+                count += 1
+            else:
+                self.assertIsNone(fault.moves_before, fault.text)
         self.assertGreater(count, 20)
 
     def ended_at(self, front):
         """The game that a text becomes where all that is open at its end is closed."""
-        for comment_end in (b"", b"}", b"\n"):
-            for depth in range(7):
-                for result in (b"*", b"1-0", b"0-1", b"1/2-1/2"):
-                    text = front + comment_end + b" " + b")" * depth + b" " + result
-                    try:
-                        game, = gillspoon.games(text)
-                    except ValueError:
-                        continue
-                    return game
+        for comment_end, depth, result in itertools.product(
+                (b"", b"}", b"\n"), range(7), (b"*", b"1-0", b"0-1", b"1/2-1/2")):
+            try:
+                game, = gillspoon.games(front + comment_end + b" " + b")" * depth + b" " + result)
+            except ValueError:
+                continue
+            return game
         return None
-
-    def test_position_only_of_a_refused_move(self):
-        for text, fen in ((b"1. e4 e5 (1... e6 2. Ke3) *",
-                           "rnbqkbnr/pppp1ppp/4p3/8/4P3/8/PPPP1PPP/RNBQKBNR w KQkq - 0 2"),
-                          (b"1. e4 e9 *", None), (b"1. e4 & *", None)):
-            self.assertEqual(fault_of(gillspoon.PgnFault, gillspoon.convert, text).fen, fen, text)
 
     def test_words_are_those_of_the_fault_table(self):
         rows = {int(row[0]): row[3].strip("`")
@@ -1309,27 +1261,26 @@ class Faults(Folder):
         """Each gives the games before its fault, and the fault."""
         faults = 0
         for vector in vectors():
-            data = vector["input"].encode()
-            options, fault, texts = {"reduced": vector["mode"] == "reduced"}, None, []
+            data, output = vector["input"].encode(), vector["output"].encode()
+            options, texts, fault = {"reduced": vector["mode"] == "reduced"}, [], None
             try:
                 for game in gillspoon.games(data, **options):
                     texts.append(game.text)
             except gillspoon.PgnFault as raised:
                 fault = raised
             with self.subTest(vector["file"]):
-                told = vector.get("fault")
+                told, text = vector.get("fault"), b"".join(texts)
                 if told:
                     faults += 1
-                    self.assertEqual((fault.number, fault.offset), (told["number"], told["place"]))
+                    self.has(fault, number=told["number"], offset=told["place"])
                     self.assertEqual("byte %d: %s" % (fault.offset, fault.reason), told["message"])
-                    self.assertEqual(vector["output"].encode()[:len(b"".join(texts))],
-                                     b"".join(texts))
-                else:
-                    self.assertIsNone(fault)
-                    self.assertEqual(b"".join(texts), vector["output"].encode())
-                    self.assertEqual(gillspoon.convert(data, **options), b"".join(texts))
-                    if not options["reduced"]:
-                        self.assertEqual(gillspoon.check(data), (vector["games"], vector["plies"]))
+                    self.assertEqual(output[:len(text)], text)
+                    continue
+                self.assertIsNone(fault)
+                self.assertEqual(text, output)
+                self.assertEqual(gillspoon.convert(data, **options), text)
+                if not options["reduced"]:
+                    self.assertEqual(gillspoon.check(data), (vector["games"], vector["plies"]))
         self.assertGreater(faults, 50)
 
 
@@ -1363,11 +1314,10 @@ class EachBuild(Folder):
         self.check("--proved")
 
 
-class Calls(unittest.TestCase):
+class Calls(Test):
     def test_threads(self):
-        text = archive(200, "plain")
+        text, got = archive(200, "plain"), [None] * 4
         wanted = [gillspoon.convert(text, reduced=it) for it in (False, True)]
-        got = [None] * 4
 
         def work(number):
             got[number] = gillspoon.convert(text, reduced=number % 2 == 1)
@@ -1379,25 +1329,21 @@ class Calls(unittest.TestCase):
         for count in (1, 40, 3000):
             self.assertEqual(gillspoon.convert(b"*" * count).count(b"[Event "), count)
 
-    def test_fields_of_a_fen(self):
-        for field, wrong in enumerate(("9/8", "x", "KK", "e5", "x", ""), 1):
-            fields = INITIAL.split(" ")
-            fields[field - 1] = wrong
-            fault = fault_of(gillspoon.FenFault, gillspoon.normalize_fen, " ".join(fields))
-            self.assertEqual(fault.field, field)
-        fault = fault_of(gillspoon.PgnFault, gillspoon.convert,
-                         b'[FEN "8/8/8/8/8/8/8/8 x - - 0 1"] *')
-        self.assertEqual((fault.number, fault.reason), (26, "bad FEN, field 2"))
-
     def test_fen(self):
         self.assertEqual(gillspoon.normalize_fen("4k3/44/8/8/8/8/8/4K3 w - - 00 01"),
                          "4k3/8/8/8/8/8/8/4K3 w - - 0 1")
-        for fen, field in (("x", 1), (INITIAL.replace(" w ", " x "), 2), ("\xfc", 1),
-                           ("8/8/8/8/8/8/8/8 w - - 0 1", 7)):
-            fault = fault_of(gillspoon.FenFault, gillspoon.normalize_fen, fen)
-            self.assertEqual((fault.field, fault.fen), (field, fen))
+        fens = [("x", 1), (INITIAL.replace(" w ", " x "), 2), ("\xfc", 1),
+                ("8/8/8/8/8/8/8/8 w - - 0 1", 7)]
+        for field, wrong in enumerate(("9/8", "x", "KK", "e5", "x", ""), 1):
+            fields = INITIAL.split(" ")
+            fields[field - 1] = wrong
+            fens.append((" ".join(fields), field))
+        for fen, field in fens:
+            self.fails(gillspoon.FenFault, gillspoon.normalize_fen, fen, field=field, fen=fen)
             for call in (gillspoon.san, gillspoon.explain):
                 self.assertRaises(gillspoon.FenFault, call, fen, "e4")
+        self.fails(gillspoon.PgnFault, gillspoon.convert, b'[FEN "8/8/8/8/8/8/8/8 x - - 0 1"] *',
+                   number=26, reason="bad FEN, field 2")
 
     def test_san(self):
         fen = "6k1/5ppp/8/8/8/8/8/R3K2R w KQ - 0 1"
@@ -1409,8 +1355,7 @@ class Calls(unittest.TestCase):
                 (fen, "", 33, "not a move"),
                 ("1k6/8/8/8/8/8/4K3/R6R w - - 0 1", "Rd1", 35, "move is ambiguous"),
                 ("7k/8/8/8/8/8/8/R4R1K b - - 0 99999", "Kg7", 36, "move number limit")):
-            fault = fault_of(gillspoon.MoveFault, gillspoon.san, fen, move)
-            self.assertEqual((fault.number, fault.reason), (number, reason))
+            self.fails(gillspoon.MoveFault, gillspoon.san, fen, move, number=number, reason=reason)
         for words in ((b"x", "e4"), (INITIAL, b"e4"), (INITIAL, None)):
             self.assertRaises(TypeError, gillspoon.san, *words)
 
@@ -1422,20 +1367,17 @@ class Calls(unittest.TestCase):
             self.assertEqual(gillspoon.san(fen, san), played)
         for move, number in (("O-O", 33), ("E1G1", 33), ("e1g1 ", 33), ("0000", 33), ("", 33),
                              ("g7g8", 34), ("e1c1", 34)):
-            fault = fault_of(gillspoon.MoveFault, gillspoon.san, fen, move, uci=True)
-            self.assertEqual((fault.number, fault.move), (number, move))
+            self.fails(gillspoon.MoveFault, gillspoon.san, fen, move, options={"uci": True},
+                       number=number, move=move)
 
     def test_explain(self):
         fen = "k3r3/8/8/8/8/8/N3N3/4K2R w K - 0 1"
-        said = gillspoon.explain(fen, "Nc3")
-        self.assertEqual(said, ("N", "c3", "", ("a2",), ("e2",)))
+        for move, said in (("Nc3", ("N", "c3", "", ("a2",), ("e2",))),
+                           ("Qd4", ("Q", "d4", "", (), ())),
+                           ("O-O", ("K", "g1", "O-O", ("e1",), ()))):
+            self.assertEqual(gillspoon.explain(fen, move), said)
         self.assertEqual(gillspoon.explain(fen, "Nec3")[3:], ((), ("e2",)))
-        self.assertEqual(gillspoon.explain(fen, "Qd4"), ("Q", "d4", "", (), ()))
-        self.assertEqual(gillspoon.explain(fen, "O-O"), ("K", "g1", "O-O", ("e1",), ()))
         self.assertRaises(gillspoon.MoveFault, gillspoon.explain, fen, "hello")
-
-
-# ---- sources
 
 
 class Sources(Folder):
@@ -1451,15 +1393,18 @@ class Sources(Folder):
         for source in (b"", bytearray(), self.put("empty.pgn", b"")):
             self.assertEqual(seen(source), [])
 
-    def test_a_game_comes_before_the_pipe_ends(self):
-        begin, end = os.pipe()
-        with os.fdopen(begin, "rb") as file:
-            os.write(end, b"1. e4 *\n1. d4 *\n1.")
-            games = gillspoon.games(file)
-            self.assertEqual([next(games).plies, next(games).plies], [1, 1])
-            os.write(end, b" c4 *\n")
-            os.close(end)
-            self.assertEqual(len(list(games)), 1)
+    def test_a_pipe(self):
+        """It is read when the first game is asked for, and a game comes before the pipe ends."""
+        for front, plies, rest, left in ((b"1. e4 *\n1. d4 *\n1.", [1, 1], b" c4 *\n", 1),
+                                         (b"*\n", [0], b"", 0)):
+            begin, end = os.pipe()
+            with os.fdopen(begin, "rb") as file:
+                games = gillspoon.games(file)
+                os.write(end, front)
+                self.assertEqual([next(games).plies for _ in plies], plies)
+                os.write(end, rest)
+                os.close(end)
+                self.assertEqual(len(list(games)), left)
 
     def compressed(self, name):
         """The data in two parts, one behind the other."""
@@ -1475,9 +1420,8 @@ class Sources(Folder):
             # it can be left at any time
             self.assertEqual(next(gillspoon.games(path)).number, 1)
             for damaged in (whole[:-7], whole[:200] + b"\0\0\0\0" + whole[204:], b"no"):
-                with self.assertRaises(OSError, msg=(name, len(damaged))) as raised:
-                    gillspoon.check(self.put("b.pgn." + name, damaged))
-                self.assertIn("b.pgn." + name, str(raised.exception))
+                fault = fault_of(OSError, gillspoon.check, self.put("b.pgn." + name, damaged))
+                self.assertIn("b.pgn." + name, str(fault))
 
     def test_compressed_files_are_known_by_their_first_bytes(self):
         whole = self.compressed("gz")
@@ -1490,26 +1434,23 @@ class Sources(Folder):
         self.assertEqual(gillspoon.check(path).games, 2)
         self.put("c.bin", zip_of(members[1]))
         for bad in (path, self.put("d.xz", PACKERS["xz"](text)[:-4]), self.put("e.zip", b"no")):
-            fault = fault_of(OSError, gillspoon.check, bad)
-            self.assertIn(bad, str(fault))
+            self.assertIn(bad, str(fault_of(OSError, gillspoon.check, bad)))
 
     def test_each_source_may_be_compressed(self):
         """It is known by its first bytes, whatever its name is, and by all calls that read it."""
-        wanted = gillspoon.convert(self.data)
         bad = b"[White \"Ada\"]\n\n1. e2-e4 *\n"
-        edits = list(gillspoon.fixes(bad))
+        edits, wanted = list(gillspoon.fixes(bad)), gillspoon.convert(self.data)
         self.assertEqual(len(edits), 1)
         need("zstd")
         for name, pack in PACKERS.items():
-            for source in self.sources_of(pack(self.data)):
-                self.assertEqual(seen(source), self.wanted, (name, type(source)))
-            for source in self.sources_of(pack(self.data)):
-                self.assertTrue(gillspoon.convert(source) == wanted, (name, type(source)))
-            for source in self.sources_of(pack(bad)):
-                self.assertEqual(list(gillspoon.fixes(source)), edits, (name, type(source)))
+            for data, call, found in ((self.data, seen, self.wanted),
+                                      (self.data, gillspoon.convert, wanted),
+                                      (bad, lambda it: list(gillspoon.fixes(it)), edits)):
+                for source in self.sources_of(pack(data)):
+                    self.assertTrue(call(source) == found, (name, type(source)))
             for source in self.sources_of(pack(self.data + bad)):
-                fault = fault_of(gillspoon.PgnFault, gillspoon.convert, source)
-                self.assertEqual(fault.offset, len(self.data) + bad.index(b"e2"))
+                self.fails(gillspoon.PgnFault, gillspoon.convert, source,
+                           offset=len(self.data) + bad.index(b"e2"))
 
     def test_compressed_data_that_is_cut_off(self):
         """The error names no temporary file, and none is left."""
@@ -1522,8 +1463,7 @@ class Sources(Folder):
                 half = data[:len(data) // 2]
                 for call in (gillspoon.check, gillspoon.convert):
                     for source in (half, Pieces([half])):
-                        fault = fault_of(OSError, call, source)
-                        self.assertNotIn("/", str(fault), name)
+                        self.assertNotIn("/", str(fault_of(OSError, call, source)), name)
                 # it can be left at any time
                 self.assertEqual(next(gillspoon.games(data)).number, 1)
             self.assertEqual(os.listdir(folder), [])
@@ -1535,18 +1475,8 @@ class Sources(Folder):
                 found = [len(it) for it in seen(source)]
                 self.assertEqual(found, [] if not data else [7] if data == b"*" else [13], data)
 
-    def test_a_pipe_is_read_when_the_first_game_is_asked_for(self):
-        begin, end = os.pipe()
-        with os.fdopen(begin, "rb") as file:
-            games = gillspoon.games(file)
-            os.write(end, b"*\n")
-            self.assertEqual(next(games).plies, 0)
-            os.close(end)
-            self.assertEqual(list(games), [])
-
     def test_zstandard_in_place_of_the_program(self):
-        ran = run([PYTHON, "-c", "import zstandard"])
-        if ran.returncode:
+        if run([PYTHON, "-c", "import zstandard"]).returncode:
             not_tried("python3-zstandard is missing")
         whole = self.compressed("zst")
         text = ("import gillspoon, sys\n"
@@ -1558,8 +1488,7 @@ class Sources(Folder):
             self.assertIn(said, ran.stdout.decode() + ran.stderr.decode())
 
     def test_what_is_no_source(self):
-        path = self.put("a.pgn", b"e4 *")
-        with open(path, encoding="ascii") as file:
+        with open(self.put("a.pgn", b"e4 *"), encoding="ascii") as file:
             for source in (file, io.StringIO("e4 *")):
                 self.assertRaisesRegex(TypeError, "binary mode", gillspoon.games, source)
         self.assertRaisesRegex(TypeError, "as bytes", gillspoon.check, '[White "x"]\n1. e4 *\n')
@@ -1584,12 +1513,11 @@ class InPieces(unittest.TestCase):
         return whole
 
     def test_vectors(self):
-        for vector in vectors():
-            if len(vector["input"]) < 5000:
-                self.check(vector["input"].encode(), reduced=vector["mode"] == "reduced")
+        for data, options in short_vectors():
+            self.check(data, **options)
 
     def test_bad_games(self):
-        for name, text, _, _ in BAD:
+        for _, text, _, _ in BAD:
             other = text.replace(b"\n", b"\r\n")
             self.check(sound(b"a") + text + sound(b"b") + other + sound(b"c"))
 
@@ -1632,12 +1560,12 @@ class InPieces(unittest.TestCase):
         window, sizes = gillspoon._sources.Window, [0]
         more = window.more
 
-        def watched(self, keep):
+        def measured(self, keep):
             got = more(self, keep)
             sizes.append(len(self.data))
             return got
 
-        with mock.patch.object(window, "more", watched):
+        with mock.patch.object(window, "more", measured):
             call()
         return max(sizes)
 
@@ -1680,12 +1608,9 @@ class Converted(Folder):
         return wanted
 
     def test_vectors(self):
-        for vector in vectors():
-            if len(vector["input"]) < 5000:
-                options = {"reduced": vector["mode"] == "reduced"}
-                data = vector["input"].encode()
-                self.check(data, **options)
-                self.check(sound(b"a") + data + b"\n" + sound(b"b"), **options)
+        for data, options in short_vectors():
+            self.check(data, **options)
+            self.check(sound(b"a") + data + b"\n" + sound(b"b"), **options)
 
     def test_random_damage(self):
         source, whole, faults = random.Random(9), archive(10, "annotated"), 0
@@ -1741,9 +1666,6 @@ class Converted(Folder):
                 self.assertEqual(self.either(gillspoon.convert, source), wanted, type(source))
 
 
-# ---- behind a bad game
-
-
 class Sieve(Folder):
     """A caller with on_fault gets the games that gillspoon sieve keeps."""
 
@@ -1775,16 +1697,14 @@ class Sieve(Folder):
                 _, faults = self.compare(sound(b"a") + text + sound(b"b") + sound(b"c"))
                 self.assertGreater(faults, 0)
 
-    def test_a_part_that_looks_compressed(self):
-        """What is behind a game is the text itself, whatever it begins with."""
-        for begin in (b"BZh9", b"PK\x03\x04", b"\x1f\x8b"):
-            data = sound(b"a").rstrip() + begin + b" e4 *\n" + sound(b"b")
-            self.assertEqual(self.compare(data), (2, 1))
-
-    def test_joined_files(self):
-        mark = b"\xef\xbb\xbf"
-        self.assertEqual(self.compare(mark + sound(b"a") + mark + sound(b"b") + mark), (2, 2))
-        self.assertEqual(self.compare(sound(b"a") + b"\x1a" + sound(b"b") + b"\x00"), (2, 2))
+    def test_parts_that_are_no_games(self):
+        """What is behind a game is the text itself, also if it begins as a compressed one."""
+        mark, a, b = b"\xef\xbb\xbf", sound(b"a"), sound(b"b")
+        for data, counts in (
+                *((a.rstrip() + begin + b" e4 *\n" + b, (2, 1))
+                  for begin in (b"BZh9", b"PK\x03\x04", b"\x1f\x8b")),
+                (mark + a + mark + b + mark, (2, 2)), (a + b"\x1a" + b + b"\x00", (2, 2))):
+            self.assertEqual(self.compare(data), counts)
 
     def test_escape_lines(self):
         """Those just before the next game are its own."""
@@ -1797,22 +1717,16 @@ class Sieve(Folder):
             self.assertEqual(fault[8], data.index(own + sound(b"b")))
 
     def test_numbers(self):
-        data = sound(b"a") + b'[Event "x"]\n\n1. e5 *\n\n' + sound(b"b") \
-            + b"\xef\xbb\xbf" + sound(b"c")
-        numbers, faults = [], []
-        for game in gillspoon.games(data, on_fault=faults.append):
-            numbers.append((game.number, game.tags["Event"]))
-        self.assertEqual(numbers, [(1, "a"), (3, "b"), (4, "c")])
+        faults, bad, mark = [], b'[Event "x"]\n\n1. e5 *\n\n', b"\xef\xbb\xbf"
+        data = sound(b"a") + bad + sound(b"b") + mark + sound(b"c")
+        self.assertEqual([(it.number, it.tags["Event"]) for it in gillspoon.games(
+            data, on_fault=faults.append)], [(1, "a"), (3, "b"), (4, "c")])
         self.assertEqual([it.game for it in faults], [2, 4])
 
     def test_random_damage(self):
-        source = random.Random(7)
-        whole = archive(30, "annotated") + archive(30, "plain")
-        games = faults = 0
-        for _ in range(DAMAGED_FILES):
-            counts = self.compare(damaged(source, whole))
-            games, faults = games + counts[0], faults + counts[1]
-        self.assertGreater(min(games, faults), 2 * DAMAGED_FILES)
+        source, whole = random.Random(7), archive(30, "annotated") + archive(30, "plain")
+        counts = [self.compare(damaged(source, whole)) for _ in range(DAMAGED_FILES)]
+        self.assertGreater(min(map(sum, zip(*counts))), 2 * DAMAGED_FILES)
 
 
 class Places(Folder):
@@ -1835,9 +1749,6 @@ class Places(Folder):
                 counter.feed(part)
             self.assertEqual(counter.place(data[offset:]), (int(line), int(column)),
                              (number, data, offset))
-
-
-# ---- what was parsed and is written again
 
 
 class RandomGames:
@@ -1863,8 +1774,7 @@ class RandomGames:
         if fen not in self.followers:
             found = {}
             for _ in range(200):
-                text = self.random.choice("PPNBRQK") + self.random.choice("abcdefgh") \
-                    + self.random.choice("12345678")
+                text = "".join(map(self.random.choice, ("PPNBRQK", "abcdefgh", "12345678")))
                 for origin in gillspoon.explain(fen, text).legal:
                     try:
                         played = gillspoon.san(fen, text[0] + origin + text[1:])
@@ -1894,11 +1804,9 @@ class RandomGames:
             words.append(self.random.choice((san, san + "+", "7. " + san, "..." + san)))
             words.extend(self.notes())
             while depth < 4 and self.random.random() < 0.12:
-                words.append("(")
-                words.extend(self.notes())
+                words.extend(["(", *self.notes()])
                 self.line(fen, depth + 1, words)
-                words.append(")")
-                words.extend(self.notes())
+                words.extend([")", *self.notes()])
             fen, is_begin = after, False
 
     def game(self):
@@ -1920,40 +1828,32 @@ class RandomGames:
                 self.random.choice(("utf-8", "utf-8", "cp1252")))
 
 
-class Written(unittest.TestCase):
+class Written(Test):
     """Games of tags and of the text of their moves."""
 
-    def check(self, moves, result, movetext, **tags):
-        text = gillspoon.write_game(tags, moves).decode()
-        self.assertEqual(text.count("[Event "), 1, moves)
-        self.assertEqual(text.partition("[Result ")[2], '"%s"]\n\n%s\n\n' % (result, movetext))
-
     def test_moves_as_text(self):
-        self.check("1. e4 e5", "*", "1. e4 e5 *")
-        self.check("e2e4 (d4) $1 {best} e5!", "*", "1. e4 ( 1. d4 ) $1 { best } 1... e5 $1 *")
-        self.check("1. e4\n1... e5", "1-0", "1. e4 e5 1-0", Result="1-0")
-        self.check("", "1/2-1/2", "1/2-1/2", Result="1/2-1/2")
-        self.check("e4 ; all * of it", "*", "1. e4 { all * of it } *")
-
-    def test_a_result_at_the_end(self):
-        self.check("1. e4 e5 0-1", "0-1", "1. e4 e5 0-1")
-        self.check("1. e4 e5 0-1 \n", "0-1", "1. e4 e5 0-1", Result="0-1")
-        self.check("*", "*", "*")
+        for moves, result, movetext, tags in (
+                ("1. e4 e5", "*", "1. e4 e5 *", {}),
+                ("e2e4 (d4) $1 {best} e5!", "*", "1. e4 ( 1. d4 ) $1 { best } 1... e5 $1 *", {}),
+                ("1. e4\n1... e5", "1-0", "1. e4 e5 1-0", {"Result": "1-0"}),
+                ("", "1/2-1/2", "1/2-1/2", {"Result": "1/2-1/2"}),
+                ("e4 ; all * of it", "*", "1. e4 { all * of it } *", {}),
+                ("1. e4 e5 0-1", "0-1", "1. e4 e5 0-1", {}), ("*", "*", "*", {}),
+                ("1. e4 e5 0-1 \n", "0-1", "1. e4 e5 0-1", {"Result": "0-1"})):
+            text = gillspoon.write_game(tags, moves).decode()
+            self.assertEqual(text.count("[Event "), 1, moves)
+            self.assertEqual(text.partition("[Result ")[2], '"%s"]\n\n%s\n\n' % (result, movetext))
         for moves, number in (("e4 1-0", 41), ("e4 {", 12), ("e4 Ke3", 34), ("e4 [A", 32)):
-            fault = fault_of(gillspoon.PgnFault, gillspoon.write_game,
-                             {"Result": "0-1", "White": "Ada"}, moves)
-            self.assertEqual((fault.number, fault.white), (number, "Ada"))
+            self.fails(gillspoon.PgnFault, gillspoon.write_game, {"Result": "0-1", "White": "Ada"},
+                       moves, number=number, white="Ada")
 
-    def test_one_game_alone(self):
-        line = first_line(b"e4 e5 *")
-        line.plies[1].san = "e5 * d4"
-        for moves in ("e4 * d4", "e4 * *", "e4 1-0 {end}", "* [White \"Bob\"]", line):
+    def test_what_is_refused(self):
+        """More than one game; and what is no text, where the TypeError says what to pass."""
+        line, noted, longer = (first_line(b"e4 e5 *") for _ in range(3))
+        longer.plies[1].san = "e5 * d4"
+        for moves in ("e4 * d4", "e4 * *", "e4 1-0 {end}", "* [White \"Bob\"]", longer):
             with self.assertRaisesRegex(ValueError, "more after the result|not a move|input"):
                 gillspoon.write_game({}, moves)
-
-    def test_what_is_no_text(self):
-        """The TypeError says what to pass."""
-        line, noted = (first_line(b"e4 e5 *") for _ in range(2))
         noted.plies[0].notes.append(3.5)
         line.plies[1].san = b"e5"
         for tags, moves, said in (
@@ -1975,18 +1875,13 @@ class WrittenFromPositions(unittest.TestCase):
 
     FEN = "4k3/8/8/8/8/8/4P3/4K3 w - - 5 9"
 
-    def variations(self, line):
-        for ply in line:
-            for variation in ply.variations:
-                yield variation
-                yield from self.variations(variation)
-
     def check(self, source):
         """Each variation becomes a game with its moves and positions."""
         count = 0
         for game in gillspoon.games(source):
             tags = {name: it for name, it in game.tags.items() if name not in ("FEN", "SetUp")}
-            for line in self.variations(game.moves()):
+            _, *noted = noted_in(game.moves())
+            for line in [it for it in noted if isinstance(it, gillspoon.Line)]:
                 count += 1
                 text = gillspoon.write_game(tags, line, encoding=game.encoding)
                 written, = gillspoon.games(text)
@@ -2036,15 +1931,12 @@ class WrittenFromPositions(unittest.TestCase):
         def line():
             return first_line(b"Nf3 (Nc3) Nf6 Ng1 (Nc3) Ng8 Nf3 *")
 
-        for count, said in ((1, "Nf6"), (2, "Ng1"), (4, "Nf3")):
+        for removed, said in ((slice(1), "Nf6"), (slice(2), "Ng1"), (slice(4), "Nf3"),
+                              (slice(1, 4), "Nf3")):
             shorter = line()
-            del shorter.plies[:count]
+            del shorter.plies[removed]
             self.assertRaisesRegex(ValueError, said + " was played in another position",
                                    gillspoon.write_game, {}, shorter)
-        joined = line()
-        del joined.plies[1:4]
-        self.assertRaisesRegex(ValueError, "Nf3 was played in another position",
-                               gillspoon.write_game, {}, joined)
         moved = line()
         moved.plies[4].notes.append(moved.plies[0].variations[0])
         self.assertRaisesRegex(ValueError, "a variation of Nf3 begins in another position",
@@ -2063,8 +1955,7 @@ class WrittenAgain(unittest.TestCase):
 
     def check(self, source, **options):
         count = 0
-        for game in gillspoon.games(source, **options):
-            count += 1
+        for count, game in enumerate(gillspoon.games(source, **options), 1):
             again = gillspoon.write_game(game.tags, game.moves(), encoding=game.encoding)
             if again != game.text:
                 self.assertEqual(again, game.text)
@@ -2088,18 +1979,13 @@ class WrittenAgain(unittest.TestCase):
         self.assertGreater(count, 1000)
 
     def test_last_positions(self):
-        """The chain of positions ends in the one that the library gives for the game."""
         for game in gillspoon.games(archive(50, "annotated")):
-            *_, last = game.mainline()
-            self.assertEqual(last.fen, game.fen)
+            self.assertEqual(last_fen(game.moves()), game.fen)
 
     def test_random_games(self):
         made = RandomGames(1)
         self.assertGreater(len(made.followers), 500)
         self.assertEqual(self.check(Pieces(made.source(RANDOM_GAMES))), RANDOM_GAMES)
-
-
-# ---- the binding, the wheel and what else is beside the code
 
 
 LAYOUT = """
@@ -2135,21 +2021,17 @@ class Binding(Folder):
         told = [int(it) for it in run([self.folder + "/layout"]).stdout.split()]
         self.assertEqual(told, wanted)
 
-    def module(self, to):
-        shutil.copytree(PACKAGE + "/gillspoon", to + "/gillspoon",
-                        ignore=shutil.ignore_patterns("__pycache__", "*.so"))
-        return to
-
     def imported(self, path, **more):
-        env = dict(os.environ, PYTHONPATH=path, **more)
-        for name in [it for it in ("GILLSPOON_LIBRARY",) if it not in more]:
-            env.pop(name)
-        return run([PYTHON, "-c", "import gillspoon; print(gillspoon._library.path())"], env=env)
+        env = {name: it for name, it in os.environ.items() if name != "GILLSPOON_LIBRARY"}
+        return run([PYTHON, "-c", "import gillspoon; print(gillspoon._library.path())"],
+                   env={**env, "PYTHONPATH": path, **more})
 
     def test_where_the_library_is(self):
         for module, place in (("a/here", "a/here/gillspoon"), ("b/share/pgn_tool", "b/lib"),
                               ("c/python", "c/crates/pgn_c/out"), ("d/python", "d/cargo/out")):
-            path = self.module(os.path.join(self.folder, module))
+            path = os.path.join(self.folder, module)
+            shutil.copytree(PACKAGE + "/gillspoon", path + "/gillspoon",
+                            ignore=shutil.ignore_patterns("__pycache__", "*.so"))
             ran = self.imported(path)
             self.assertNotEqual(ran.returncode, 0)
             said = (b"run bin/install again" if place == "b/lib" else b"in the repository run "
@@ -2181,27 +2063,34 @@ class Binding(Folder):
 class Wheel(Folder):
     """In a fresh virtual environment, without any index."""
 
+    # What shows where the package is, and what it is.
+    SHOWN = ("import gillspoon, os\n"
+             "print(gillspoon.__file__, gillspoon._library.path(), gillspoon.__version__)\n"
+             "print(gillspoon.check(%r))\n"
+             "print(*sorted(os.listdir(os.path.dirname(gillspoon.__file__))))\n"
+             % (ROOT + "/examples/annotated.pgn"))
+
+    def shown(self, programs_of):
+        """The places and the version of the package in a virtual environment, and its files."""
+        ran = run([programs_of + "/python", "-B", "-c", self.SHOWN], cwd=self.folder,
+                  env={"PATH": "/usr/bin:/bin", "HOME": self.folder})
+        places, counts, names = output_of(ran).decode().splitlines()
+        self.assertEqual(counts, "Totals(games=1, plies=7)")
+        return places, names
+
     def test_install(self):
         programs_of = self.fresh()
-        python, pip = programs_of + "/python", programs_of + "/pip"
         before = run(["git", "status", "--short"]).stdout
         for words in (["--no-build-isolation"], ["--no-index", "--force-reinstall"]):
-            output_of(run([pip, "install", *words, "./python"],
+            output_of(run([programs_of + "/pip", "install", *words, "./python"],
                           env=dict(os.environ, PIP_NO_INDEX="1", PATH=programs.PATH)), err=None)
         self.assertEqual(run(["git", "status", "--short"]).stdout, before)
-        env = {"PATH": "/usr/bin:/bin", "HOME": self.folder}
-        text = "import gillspoon; print(gillspoon.__file__, gillspoon._library.path())"
-        ran = run([python, "-c", text], env=env, cwd=self.folder)
-        folder = os.path.dirname(programs_of)
-        self.assertEqual(ran.stdout.decode().count(folder + "/lib/"), 2, ran.stderr)
+        places, _ = self.shown(programs_of)
+        self.assertEqual(places.count(os.path.dirname(programs_of) + "/lib/"), 2, places)
+        self.assertEqual(places.split()[2:], [gillspoon.__version__])
         self.assertIn("import gillspoon\nfor game in gillspoon.games(", text_of("README.md"))
-        text = "import gillspoon; print(gillspoon.__version__)"
-        ran = run([python, "-c", text], env=env, cwd=self.folder)
-        self.assertEqual(ran.stdout.decode(), gillspoon.__version__ + "\n", ran.stderr)
-        text = "import gillspoon; print(gillspoon.check('examples/annotated.pgn'))"
-        ran = run([python, "-c", text], env=env)
-        self.assertEqual(ran.stdout, b"Totals(games=1, plies=7)\n")
-        ran = run([programs_of + "/gillspoon", "lint", "-"], env=env, input=b"1. e4 *\n1. d4 *\n")
+        ran = run([programs_of + "/gillspoon", "lint", "-"], input=b"1. e4 *\n1. d4 *\n",
+                  env={"PATH": "/usr/bin:/bin", "HOME": self.folder})
         self.assertEqual(ran.stdout, b"1 file, 2 games, 0 faults\n", ran.stderr)
 
     def fresh(self):
@@ -2224,7 +2113,7 @@ class Wheel(Folder):
         """It has all that its build needs: Cargo builds it outside the repository."""
         programs.need_cargo()
         programs_of, path = self.fresh(), self.sdist(PACKAGE)
-        python, pip = programs_of + "/python", programs_of + "/pip"
+        pip = [programs_of + "/pip", "install"]
         self.assertEqual(os.path.basename(path), "gillspoon-%s.tar.gz" % gillspoon.__version__)
         with tarfile.open(path) as archive:
             archive.extractall(self.folder)
@@ -2232,21 +2121,15 @@ class Wheel(Folder):
         self.assertTrue(bytes_of(path) == bytes_of(self.sdist(unpacked)))
         env = dict(os.environ, PATH=programs.PATH, PIP_NO_INDEX="1", HOME=os.path.expanduser("~"))
         del env["GILLSPOON_LIBRARY"]
-        ran = run([pip, "install", path], env=dict(env, PATH="/nowhere"), cwd=self.folder)
+        ran = run([*pip, path], env=dict(env, PATH="/nowhere"), cwd=self.folder)
         self.assertNotEqual(ran.returncode, 0)
         self.assertIn(b"cargo is not on the PATH", ran.stdout + ran.stderr)
         for words in ([path], ["--force-reinstall", "--editable", unpacked]):
-            ran = run([pip, "install", *words], env=env, cwd=self.folder, timeout=500)
+            ran = run([*pip, *words], env=env, cwd=self.folder, timeout=500)
             self.assertEqual(ran.returncode, 0, ran.stderr)
-            text = ("import gillspoon, os\n"
-                    "print(gillspoon._library.path(), gillspoon.__version__)\n"
-                    "print(gillspoon.check(%r))\n"
-                    "print(*sorted(os.listdir(os.path.dirname(gillspoon.__file__))))\n"
-                    % (ROOT + "/examples/annotated.pgn"))
-            ran = run([python, "-B", "-c", text], env={"PATH": "/usr/bin:/bin"}, cwd=self.folder)
-            place, counts, names = ran.stdout.decode().splitlines()
-            self.assertRegex(place, "^%s/.*/libpgn_c.so %s$" % (self.folder, gillspoon.__version__))
-            self.assertEqual(counts, "Totals(games=1, plies=7)")
+            places, names = self.shown(programs_of)
+            self.assertRegex(places,
+                             " %s/.*/libpgn_c.so %s$" % (self.folder, gillspoon.__version__))
             ours = {it for it in os.listdir(PACKAGE + "/gillspoon") if "." in it}
             self.assertEqual(set(names.split()) - {"__pycache__"}, ours | {"VERSION", "libpgn_c.so"})
 
@@ -2256,6 +2139,24 @@ class Wheel(Folder):
         name, = os.listdir(self.folder)
         machine = os.uname().machine
         self.assertRegex(name, r"^gillspoon-[0-9.]+-py3-none-linux_%s\.whl$" % machine)
+
+
+CALLER = """\
+import gzip, io, mmap, pathlib, subprocess, sys
+import gillspoon
+from typing import Dict, List
+child = subprocess.Popen(['cat'], stdout=subprocess.PIPE)
+assert child.stdout
+def read(source: gillspoon.Source, on_fault: gillspoon.OnFault) -> List[bytes]:
+    return [it.text for it in gillspoon.games(source, on_fault=on_fault)]
+bad: List[gillspoon.PgnFault] = []
+path: str = gillspoon.__version__
+gillspoon.write_game({'White': 'Ada'}, '1. e4').decode()
+line = gillspoon.Line()
+ply = line.append('e4', nags=[1], comment='a', uci=False)
+ply.add_variation('d4').append('d5')
+side: str = line.plies[0].side
+number: int = line.plies[0].move_number"""
 
 
 class Typed(Folder):
@@ -2271,31 +2172,17 @@ class Typed(Folder):
                 "mmap.mmap(0, 0)", "io.BytesIO()", "open(path, 'rb')", "gzip.open(path)",
                 "sys.stdin.buffer", "child.stdout")
         bad = ("open(path)", "sys.stdin", "io.StringIO()", "7", "None", "['e4 *']")
-        lines = ["import gzip, io, mmap, pathlib, subprocess, sys",
-                 "import gillspoon",
-                 "from typing import Dict, List",
-                 "child = subprocess.Popen(['cat'], stdout=subprocess.PIPE)",
-                 "assert child.stdout",
-                 "def read(source: gillspoon.Source, on_fault: gillspoon.OnFault) -> List[bytes]:",
-                 "    return [it.text for it in gillspoon.games(source, on_fault=on_fault)]",
-                 "bad: List[gillspoon.PgnFault] = []",
-                 "path: str = gillspoon.__version__"]
-        lines += ["gillspoon.write_game({'White': 'Ada'}, '1. e4').decode()"]
-        lines += ["read(%s, bad.append)" % it for it in good]
-        lines += ["line = gillspoon.Line()",
-                  "ply = line.append('e4', nags=[1], comment='a', uci=False)",
-                  "ply.add_variation('d4').append('d5')",
-                  "side: str = line.plies[0].side",
-                  "number: int = line.plies[0].move_number"]
         changes = ("next(gillspoon.games(path)).tags['A'] = 'b'",
                    "next(gillspoon.games(path)).result = '1-0'", "line.plies[0].nags = [1]")
-        lines += [*changes, *("read(%s, bad.append)" % it for it in bad)]
-        caller = self.put("caller.py", "\n".join(lines) + "\n")
+        read = "read(%s, bad.append)"
+        lines = CALLER.split("\n") + [read % it for it in good]
+        refused = [*changes, *(read % it for it in bad)]
+        caller = self.put("caller.py", "\n".join([*lines, *refused]) + "\n")
         ran = run(["mypy", "--strict", "--cache-dir", self.folder + "/cache", caller],
                   env=dict(os.environ, PATH=programs.PATH, MYPYPATH=PACKAGE))
         told = re.findall(r"(?m)^.*caller\.py:(\d+): error", ran.stdout.decode())
-        refused = {len(lines) - it for it in range(len(bad) + len(changes))}
-        self.assertEqual({int(it) for it in told}, refused, ran.stdout)
+        self.assertEqual({int(it) - len(lines) for it in told}, set(range(1, len(refused) + 1)),
+                         ran.stdout)
 
     def test_examples_of_docstrings(self):
         names = ["gillspoon"] + ["gillspoon." + os.path.basename(it)[:-3]
@@ -2308,23 +2195,20 @@ class Typed(Folder):
         self.assertGreater(attempted, 15)
 
     def test_what_is_public_has_a_docstring(self):
-        for name in gillspoon.__all__:
-            if name in ("Note", "OnFault", "Source"):
-                self.assertRegex(gillspoon.__doc__, r"\n    %s +[a-z]" % name)
-            else:
-                self.assertTrue(getattr(gillspoon, name).__doc__, name)
-
-    def test_help_says_what_each_attribute_is(self):
+        """And help says what each attribute is."""
         count = 0
         for name in gillspoon.__all__:
             it = getattr(gillspoon, name)
-            if isinstance(it, type):
-                shown = pydoc.plain(pydoc.render_doc(it))
-                for attribute in vars(it):
-                    if not attribute.startswith("_"):
-                        count += 1
-                        said = r"(?m)^ \|  %s(\(.*)?\n \|      [A-Z`].*\.$" % attribute
-                        self.assertRegex(shown, said)
+            if name in ("Note", "OnFault", "Source"):
+                self.assertRegex(gillspoon.__doc__, r"\n    %s +[a-z]" % name)
+            else:
+                self.assertTrue(it.__doc__, name)
+            shown = pydoc.plain(pydoc.render_doc(it)) if isinstance(it, type) else ""
+            for attribute in vars(it) if shown else ():
+                if not attribute.startswith("_"):
+                    count += 1
+                    said = r"(?m)^ \|  %s(\(.*)?\n \|      [A-Z`].*\.$" % attribute
+                    self.assertRegex(shown, said)
         self.assertGreater(count, 50)
 
     def test_version(self):
@@ -2350,15 +2234,10 @@ class Documents(Folder):
 
     def setUp(self):
         super().setUp()
-        text = b""
-        for name in ("annotated", "one-bad-game"):
-            text += bytes_of("examples/%s.pgn" % name)
+        text = b"".join(bytes_of("examples/%s.pgn" % it) for it in ("annotated", "one-bad-game"))
         need("zstd")
         self.assertEqual(run(["zstd", "-q", self.put("games.pgn", text)]).returncode, 0)
         shutil.copytree(ROOT + "/examples", self.folder + "/examples")
-
-    def run_sample(self, text, *words):
-        return output_of(self.ran(text, *words)).decode()
 
     def ran(self, text, *words):
         path = self.put("sample.py", text.encode())
@@ -2370,7 +2249,8 @@ class Documents(Folder):
 
     def whole_sample(self, heading, *words):
         """All that it prints."""
-        return self.run_sample(self.text_of(heading), *words).replace("pgn.zst: ", "pgn: ")
+        shown = output_of(self.ran(self.text_of(heading), *words)).decode()
+        return shown.replace("pgn.zst: ", "pgn: ")
 
     def text_of(self, heading):
         """The sample below a heading."""
@@ -2386,21 +2266,18 @@ class Documents(Folder):
         self.assertEqual(shown.count("\n"), 3 + 12)
 
     def test_each_sample_of_other_documents(self):
-        count = 0
+        """And the one that prints the moves before a fault."""
+        places = []
         for place, text, said in samples("python"):
-            if not place.startswith("docs/PYTHON.md"):
-                count += 1
+            if not place.startswith("docs/PYTHON.md") or "moves_before" in text:
+                places.append(place)
                 with self.subTest(place):
-                    shown = self.run_sample(text)
+                    shown = output_of(self.ran(text)).decode()
                     self.assertTrue(shown)
-                    if said is not None:
+                    if said is not None or "moves_before" in text:
                         self.assertEqual(shown, said)
-        self.assertGreater(count, 1)
-
-    def test_moves_before_a_fault(self):
-        text, said = next((text, said) for _, text, said in samples("python")
-                          if "moves_before" in text)
-        self.assertEqual(self.run_sample(text), said)
+        ours = [it for it in places if it.startswith("docs/PYTHON.md")]
+        self.assertTrue(ours and len(places) - len(ours) > 1, places)
 
     def test_there_are_ten_recipes(self):
         lines = lines_of("docs/PYTHON.md")
@@ -2414,10 +2291,14 @@ class Documents(Folder):
             with self.subTest(heading):
                 self.assertEqual(self.sample(heading), printed)
 
-    def test_filter(self):
+    def test_what_samples_write(self):
         self.sample("Filter by player")
         text = self.get("chosen.pgn")
         self.assertEqual((text.count(b"[Event "), text.count(b'[White "Silva, J."]')), (3, 2))
+        self.sample("Take out comments and variations")
+        text = self.get("bare.pgn")
+        self.assertIn(b"\n\n1. e4 e5 2. Bc4 Nc6 3. Qh5 Nf6 $2 4. Qxf7# 1-0\n\n", text)
+        self.assertEqual(text.count(b'[Annotator "none"]'), 3)
 
     def test_an_older_output_is_kept(self):
         """Every sample that writes a file does so when its input was read."""
@@ -2427,16 +2308,15 @@ class Documents(Folder):
         self.assertGreater(len(writing), 2)
         damaged = gzip.compress(self.get("games.pgn") * 1000)[:-100]
         for head, names in writing.items():
-            for name in set(names) - {"games.pgn"}:
-                for data in (damaged, None):
-                    self.put(name, b"old")
-                    os.remove(self.put("games.pgn", b""))
-                    if data:
-                        self.put("games.pgn", data)
-                    ran = self.ran(self.text_of(head))
-                    self.assertNotEqual(ran.returncode, 0, head)
-                    self.assertIn(b"Error: ", ran.stderr)
-                    self.assertEqual(self.get(name), b"old", head)
+            for name, data in itertools.product(set(names) - {"games.pgn"}, (damaged, None)):
+                self.put(name, b"old")
+                os.remove(self.put("games.pgn", b""))
+                if data:
+                    self.put("games.pgn", data)
+                ran = self.ran(self.text_of(head))
+                self.assertNotEqual(ran.returncode, 0, head)
+                self.assertIn(b"Error: ", ran.stderr)
+                self.assertEqual(self.get(name), b"old", head)
 
     def test_build(self):
         lines = self.sample("Build a game of moves").splitlines()
@@ -2445,12 +2325,6 @@ class Documents(Folder):
             "1. e4 e5 2. Bc4 Nc6 3. Qh5 Nf6 4. Qxf7# 1-0", "",
             "1. e4 e5 2. Bc4 Nc6 3. Qh5 Nf6 $4 ( 3... g6 $1 { defends } 4. Qf3 ) 4. Qxf7#", "1-0",
             "4 white Qxf7# h5f7", "move is not legal: Kxf7"])
-
-    def test_comments(self):
-        self.sample("Take out comments and variations")
-        text = self.get("bare.pgn")
-        self.assertIn(b"\n\n1. e4 e5 2. Bc4 Nc6 3. Qh5 Nf6 $2 4. Qxf7# 1-0\n\n", text)
-        self.assertEqual(text.count(b'[Annotator "none"]'), 3)
 
     def test_report(self):
         self.assertEqual(
