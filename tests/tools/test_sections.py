@@ -56,23 +56,17 @@ def mutated(text, chance):
     return bytes(text)
 
 
-def whole(text, begin, fault, ends):
-    """What the call says of a text in one piece: the place or None, and the game then."""
+def answer(text, begin, fault, ends, chance=None):
+    """What the call says of a text: the place or None, and the game. A chance cuts it in pieces."""
     game = calls.BadGame(begin=begin, fault=fault, at=begin, ends=ends)
-    found = calls.next_section(game, text[begin:], len(text) - begin, True)
-    return {calls.OK: found.place, calls.NO_GAME: None}[found.status], game
-
-
-def in_pieces(text, begin, fault, chance):
-    """What the calls say of a text in pieces: the place or None, and the game then."""
-    game = calls.BadGame(begin=begin, fault=fault, at=begin)
     end, status = begin, calls.MORE
     while status == calls.MORE:
-        end = min(len(text), max(end, game.at) + chance.choice((1, 2, 3, 7, 40, 200)))
+        size = chance.choice((1, 2, 3, 7, 40, 200)) if chance else len(text)
+        end = min(len(text), max(end, game.at) + size)
         piece = text[game.at:end]
         found = calls.next_section(game, piece, len(piece), end == len(text))
         status = found.status
-    return {calls.OK: found.place, calls.NO_GAME: None}[status], game
+    return {calls.OK: found.place, calls.NO_GAME: None}[found.status], game
 
 
 class Rule(unittest.TestCase):
@@ -80,18 +74,16 @@ class Rule(unittest.TestCase):
         begin = chance.choice((0, chance.randint(0, len(text))))
         fault = chance.choice((begin, chance.randint(begin, len(text)), len(text)))
         wanted = section_rule.next_section(text, begin, fault)
-        place, game = whole(text, begin, fault, calls.ENDS_ANYWHERE)
-        self.assertEqual(place, wanted, (text, begin, fault))
+        place, game = answer(text, begin, fault, calls.ENDS_ANYWHERE)
+        again, same = answer(text, begin, fault, calls.ENDS_ANYWHERE, chance)
+        self.assertEqual((place, again), (wanted, wanted), (text, begin, fault))
         self.assertEqual(game.at, len(text) if wanted is None else wanted, (text, begin, fault))
-        place, same = in_pieces(text, begin, fault, chance)
-        self.assertEqual(place, wanted, (text, begin, fault))
         self.assertEqual(bytes(same), bytes(game), (text, begin, fault))
-        hidden, _ = whole(text, 0, len(text), calls.ENDS_IN_COMMENTS)
+        hidden, _ = answer(text, 0, len(text), calls.ENDS_IN_COMMENTS)
         self.assertEqual(hidden, section_rule.hidden_game(text), text)
-        none, game = whole(text, 0, 0, calls.ENDS_NOWHERE)
-        self.assertIsNone(none)
+        none, game = answer(text, 0, 0, calls.ENDS_NOWHERE)
         opened = game.comment_at if game.has_comment else None
-        self.assertEqual(opened, section_rule.open_comment(text), text)
+        self.assertEqual((none, opened), (None, section_rule.open_comment(text)), text)
         return wanted
 
     def test_texts_and_mutations(self):
@@ -110,17 +102,15 @@ class Rule(unittest.TestCase):
 
 
 class Statuses(unittest.TestCase):
-    def test_other_ends_are_refused(self):
-        game = calls.BadGame(ends=3)
-        found = calls.next_section(game, b"", 0, True)
-        self.assertEqual((found.status, found.place), (calls.NO_MODE, 0))
-
-    def test_a_piece_behind_the_last_place_is_refused(self):
+    def test_what_is_refused(self):
+        """Other ends, and a piece behind the last place."""
         last = 2 ** 64 - 1
-        for length, status in ((1, calls.BAD_PLACE), (0, calls.NO_GAME)):
-            game = calls.BadGame(begin=0, at=last)
-            found = calls.next_section(game, b"e" * length, length, True)
-            self.assertEqual((found.status, found.place, game.at), (status, 0, last))
+        for fields, piece, status in (({"ends": 3}, b"", calls.NO_MODE),
+                                      ({"at": last}, b"e", calls.BAD_PLACE),
+                                      ({"at": last}, b"", calls.NO_GAME)):
+            game = calls.BadGame(**fields)
+            found = calls.next_section(game, piece, len(piece), True)
+            self.assertEqual((found.status, found.place, game.at), (status, 0, fields.get("at", 0)))
 
     def test_fields_behind_a_piece(self):
         text = b'[White "a"x]\n% b\n1. e4 {c\nd'
