@@ -2063,34 +2063,27 @@ class Binding(Folder):
 class Wheel(Folder):
     """In a fresh virtual environment, without any index."""
 
-    # What shows where the package is, and what it is.
-    SHOWN = ("import gillspoon, os\n"
-             "print(gillspoon.__file__, gillspoon._library.path(), gillspoon.__version__)\n"
-             "print(gillspoon.check(%r))\n"
-             "print(*sorted(os.listdir(os.path.dirname(gillspoon.__file__))))\n"
-             % (ROOT + "/examples/annotated.pgn"))
-
-    def shown(self, programs_of):
-        """The places and the version of the package in a virtual environment, and its files."""
-        ran = run([programs_of + "/python", "-B", "-c", self.SHOWN], cwd=self.folder,
-                  env={"PATH": "/usr/bin:/bin", "HOME": self.folder})
-        places, counts, names = output_of(ran).decode().splitlines()
-        self.assertEqual(counts, "Totals(games=1, plies=7)")
-        return places, names
-
     def test_install(self):
         programs_of = self.fresh()
+        python, pip = programs_of + "/python", programs_of + "/pip"
         before = run(["git", "status", "--short"]).stdout
         for words in (["--no-build-isolation"], ["--no-index", "--force-reinstall"]):
-            output_of(run([programs_of + "/pip", "install", *words, "./python"],
+            output_of(run([pip, "install", *words, "./python"],
                           env=dict(os.environ, PIP_NO_INDEX="1", PATH=programs.PATH)), err=None)
         self.assertEqual(run(["git", "status", "--short"]).stdout, before)
-        places, _ = self.shown(programs_of)
-        self.assertEqual(places.count(os.path.dirname(programs_of) + "/lib/"), 2, places)
-        self.assertEqual(places.split()[2:], [gillspoon.__version__])
+        env = {"PATH": "/usr/bin:/bin", "HOME": self.folder}
+        text = "import gillspoon; print(gillspoon.__file__, gillspoon._library.path())"
+        ran = run([python, "-c", text], env=env, cwd=self.folder)
+        folder = os.path.dirname(programs_of)
+        self.assertEqual(ran.stdout.decode().count(folder + "/lib/"), 2, ran.stderr)
         self.assertIn("import gillspoon\nfor game in gillspoon.games(", text_of("README.md"))
-        ran = run([programs_of + "/gillspoon", "lint", "-"], input=b"1. e4 *\n1. d4 *\n",
-                  env={"PATH": "/usr/bin:/bin", "HOME": self.folder})
+        text = "import gillspoon; print(gillspoon.__version__)"
+        ran = run([python, "-c", text], env=env, cwd=self.folder)
+        self.assertEqual(ran.stdout.decode(), gillspoon.__version__ + "\n", ran.stderr)
+        text = "import gillspoon; print(gillspoon.check('examples/annotated.pgn'))"
+        ran = run([python, "-c", text], env=env)
+        self.assertEqual(ran.stdout, b"Totals(games=1, plies=7)\n")
+        ran = run([programs_of + "/gillspoon", "lint", "-"], env=env, input=b"1. e4 *\n1. d4 *\n")
         self.assertEqual(ran.stdout, b"1 file, 2 games, 0 faults\n", ran.stderr)
 
     def fresh(self):
@@ -2113,7 +2106,7 @@ class Wheel(Folder):
         """It has all that its build needs: Cargo builds it outside the repository."""
         programs.need_cargo()
         programs_of, path = self.fresh(), self.sdist(PACKAGE)
-        pip = [programs_of + "/pip", "install"]
+        python, pip = programs_of + "/python", programs_of + "/pip"
         self.assertEqual(os.path.basename(path), "gillspoon-%s.tar.gz" % gillspoon.__version__)
         with tarfile.open(path) as archive:
             archive.extractall(self.folder)
@@ -2121,15 +2114,21 @@ class Wheel(Folder):
         self.assertTrue(bytes_of(path) == bytes_of(self.sdist(unpacked)))
         env = dict(os.environ, PATH=programs.PATH, PIP_NO_INDEX="1", HOME=os.path.expanduser("~"))
         del env["GILLSPOON_LIBRARY"]
-        ran = run([*pip, path], env=dict(env, PATH="/nowhere"), cwd=self.folder)
+        ran = run([pip, "install", path], env=dict(env, PATH="/nowhere"), cwd=self.folder)
         self.assertNotEqual(ran.returncode, 0)
         self.assertIn(b"cargo is not on the PATH", ran.stdout + ran.stderr)
         for words in ([path], ["--force-reinstall", "--editable", unpacked]):
-            ran = run([*pip, *words], env=env, cwd=self.folder, timeout=500)
+            ran = run([pip, "install", *words], env=env, cwd=self.folder, timeout=500)
             self.assertEqual(ran.returncode, 0, ran.stderr)
-            places, names = self.shown(programs_of)
-            self.assertRegex(places,
-                             " %s/.*/libpgn_c.so %s$" % (self.folder, gillspoon.__version__))
+            text = ("import gillspoon, os\n"
+                    "print(gillspoon._library.path(), gillspoon.__version__)\n"
+                    "print(gillspoon.check(%r))\n"
+                    "print(*sorted(os.listdir(os.path.dirname(gillspoon.__file__))))\n"
+                    % (ROOT + "/examples/annotated.pgn"))
+            ran = run([python, "-B", "-c", text], env={"PATH": "/usr/bin:/bin"}, cwd=self.folder)
+            place, counts, names = ran.stdout.decode().splitlines()
+            self.assertRegex(place, "^%s/.*/libpgn_c.so %s$" % (self.folder, gillspoon.__version__))
+            self.assertEqual(counts, "Totals(games=1, plies=7)")
             ours = {it for it in os.listdir(PACKAGE + "/gillspoon") if "." in it}
             self.assertEqual(set(names.split()) - {"__pycache__"}, ours | {"VERSION", "libpgn_c.so"})
 
