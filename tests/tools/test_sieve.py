@@ -73,9 +73,16 @@ BRACKETS = (b'[Event "x"]\n\n1. e4 {[%clk 1:00]\n[%eval 0.1]\n[x]} e5 {a\n\nb}\n
             b"2. e9 {[%clk 1:00]\n[x]} *\n")
 NOTED, PROSE = b'{a note}\n[Event "x"]\n\n1. e9 *\n', b"Games of the club,\n"
 ILLEGAL, ESCAPE = b'[Event "x"]\n\n1. e9 *\n\n', b"% a line of the next one\n"
+MANY = b"".join(b'[T%02d "v"]\n' % n for n in range(64))
 # What is sieved, what is set aside of it, and its sound games, if they are compared; then what BAD
-# says too.
+# or the summary says too.
 ROWS = (
+    ("sound games", A + B, [], None, b"good.pgn: 2 games\n", b"bad.pgn: 0 bad games set aside"),
+    ("joined files with byte order marks", (b"\xef\xbb\xbf" + A) * 3, [], A * 3,
+     b"dropped between games: 2 byte order marks"),
+    # 64 tag pairs and the roster: 71 tag lines, more than the program reads
+    ("many tag pairs", A + MANY + b"\n*\n" + BAD[0][1] + b"\n" + B, [BAD[0][1]], None,
+     b"good.pgn: 1 game with more than 64 tag lines", b"first game 2"),
     ("no empty lines", BARE + BARE_BAD + BARE + BARE_BAD * 2 + BARE, [BARE_BAD] * 3, BARE * 3),
     # the comment ends with the file, or in a comment of the next game, or of a later one
     *(("open comment", A + OPEN + b"\n" + rest, [OPEN], A + rest,
@@ -135,120 +142,88 @@ class Sieved(programs.Folder):
 
 
 class SieveTest(programs.Folder, unittest.TestCase):
-    def check(self, done, bad, dropped=""):
-        """Nothing is lost: what is not in BAD is sound, and its export is GOOD."""
+    def sieved(self, text, bad, dropped="", good=None):
+        """A run, where nothing is lost: what is not in BAD is sound, and its export is GOOD."""
+        done = Sieved(self, text)
         told = done.ran.stderr.partition(b"good.pgn: dropped ")[2]
         self.assertEqual((told.decode().rstrip(), not told), (dropped, not done.ran.stderr))
-        self.assertEqual(done.ran.returncode, 1 if bad else 0)
+        self.assertEqual((done.ran.returncode, done.bad != b""), (1 if bad else 0, bad != []))
         self.assertEqual(done.good, export(done.left()))
         self.assertEqual([it.rstrip(b"\r\n") for it in done.pieces],
                          [it.rstrip(b"\r\n") for it in bad])
         for (at, _, line, begin, end), piece in zip(done.notes, done.pieces):
-            self.assertTrue(piece.startswith(done.text[begin:end]), piece)
-            self.assertEqual(line, len(re.findall(rb"\r\n?|\n", done.text[:at])) + 1)
+            self.assertTrue(piece.startswith(text[begin:end]), piece)
+            self.assertEqual(line, len(re.findall(rb"\r\n?|\n", text[:at])) + 1)
+        if good is not None:
+            self.assertEqual(done.good, export(good))
+        return done
 
-    def test_sound_archive(self):
-        done = Sieved(self, A + B)
-        self.check(done, [])
-        self.assertEqual(done.bad, b"")
-        self.assertIn(b"good.pgn: 2 games\n", done.ran.stdout)
-        self.assertIn(b"bad.pgn: 0 bad games set aside", done.ran.stdout)
+    def outputs(self, done, *paths):
+        """Another run wrote to these two what that one wrote."""
+        self.assertEqual([done.get(it) for it in paths], [done.good, done.bad])
 
     def test_each_way_to_be_bad(self):
         """Between sound games, and as the first and the last one."""
         for name, text, reason, place in BAD:
             with self.subTest(name):
-                done = Sieved(self, A + B + text + b"\n" + C)
-                self.check(done, [text])
+                done = self.sieved(A + B + text + b"\n" + C, [text], good=A + B + C)
                 self.assertEqual(done.notes[0][:2], (len(A + B) + text.index(place), reason))
-                self.assertEqual(done.good, export(A + B + C))
-                done = Sieved(self, text + b"\n" + A + text)
-                self.check(done, [text, text])
+                done = self.sieved(text + b"\n" + A + text, [text, text], good=A)
                 self.assertEqual([it[1] for it in done.notes], [reason, reason])
-                self.assertEqual(done.good, export(A))
 
     def test_all_ways_in_a_row(self):
         games = [it[1] for it in BAD if it[0] != "no tags"]
-        done = Sieved(self, b"\n".join(games))
-        self.check(done, games)
-        self.assertEqual(done.good, b"")
-        done = Sieved(self, b"".join(sound(b"%d" % n) + it + b"\n" for n, it in enumerate(games)))
-        self.check(done, games)
+        self.sieved(b"\n".join(games), games, good=b"")
+        self.sieved(b"".join(sound(b"%d" % n) + it + b"\n" for n, it in enumerate(games)), games)
 
     def test_line_ends(self):
+        games = [it[1] for it in BAD if it[0] not in ("no tags", "open string")]
+        text = b"".join(sound(b"%d" % n) + it + b"\n" for n, it in enumerate(games))
         for end in (b"\r\n", b"\r"):
-            games = [it[1].replace(b"\n",
-                                   end) for it in BAD if it[0] not in ("no tags", "open string")]
-            text = b"".join(sound(b"%d" % n).replace(b"\n", end) + it + end for n,
-                            it in enumerate(games))
-            done = Sieved(self, text)
-            self.check(done, games)
+            done = self.sieved(text.replace(b"\n", end), [it.replace(b"\n", end) for it in games])
             self.assertEqual(done.good.count(b"[Event"), len(games))
 
     def test_no_marker(self):
         for movetext in (b"1. e4 e5", b"1. e4 e5 {why}", b""):
             bad = b'[Event "x"]\n[Site "y"]\n\n%s\n' % movetext
-            done = Sieved(self, A + bad + b"\n" + B + bad)
-            self.check(done, [bad, bad])
-            self.assertEqual(done.good, export(A + B))
+            done = self.sieved(A + bad + b"\n" + B + bad, [bad, bad], good=A + B)
             self.assertEqual(done.notes[1][:2], (len(done.text), b"unexpected end of input"))
 
     def test_each_row(self):
         for name, text, bad, good, *said in ROWS:
             with self.subTest(name):
-                done = Sieved(self, text)
-                self.check(done, bad)
-                if good is not None:
-                    self.assertEqual(done.good, export(good))
+                done = self.sieved(text, bad, good=good)
                 for it in said:
-                    self.assertIn(it, done.bad)
+                    self.assertIn(it, done.bad + done.ran.stdout)
 
     def test_between_games(self):
         # junk alone is set aside, comments are dropped before a sound game
-        done = Sieved(self, A + b"\x1a" + B + b"{a note}\n" + C + b"\x1a")
-        self.check(done, [b"\x1a", b"\x1a"], "1 comment before a game or inside a tag pair")
-        self.assertEqual(done.good, export(A + B + C))
+        self.sieved(A + b"\x1a" + B + b"{a note}\n" + C + b"\x1a", [b"\x1a", b"\x1a"],
+                    "1 comment before a game or inside a tag pair", good=A + B + C)
 
     def test_what_is_dropped(self):
         """Comments and escape lines of valid games that the export has not are counted."""
         bad = b'{a}\n[Event {b} "x"]\n%c\n\n1. e9 *\n\n'
         kept = b'[Event "y"]\n\n1. e4 {c} ; d\n {\n%e\n} *\n\n'
-        one, many = ("%s before a game or inside a tag pair" % it
-                     for it in ("1 comment", "3 comments"))
+        where = " before a game or inside a tag pair"
         for text, told in (
                 (kept + bad, ""), (kept, ""),
-                (b'[Event {b} "x"]\n\n1. e4 *\n\n' + bad + kept, one),
+                (b'[Event {b} "x"]\n\n1. e4 *\n\n' + bad + kept, "1 comment" + where),
                 (kept + b"%c\n" + kept + bad, "1 line with '%'"),
                 (b'{a} ;b\n[Event {c} "x"]\n\n1. e4\n%c\n%d\n*\n' + bad,
-                 many + ", 2 lines with '%'"),
+                 "3 comments" + where + ", 2 lines with '%'"),
                 (kept + b"{end}\n", "5 bytes after the last game")):
-            done = Sieved(self, text)
-            self.check(done, [bad] if bad in text else [], told)
+            done = self.sieved(text, [bad] if bad in text else [], told)
             self.assertEqual(done.ran.stderr.count(b"\n"), bool(told), text)
-
-    def test_joined_files_with_byte_order_marks(self):
-        part = b"\xef\xbb\xbf" + A
-        done = Sieved(self, part * 3)
-        self.check(done, [])
-        self.assertEqual(done.good, export(A * 3))
-        self.assertIn(b"dropped between games: 2 byte order marks", done.ran.stdout)
 
     def test_repaired_pieces_are_sound(self):
         bad = b'[Event "x"]\n\n1. e4 e9 *\n'
         done = Sieved(self, (A + bad + b"\n") * 3)
-        again = Sieved(self, done.bad.replace(b"e9 *", b"e5 *"))
-        self.check(again, [])
-        self.assertEqual(again.good, export(bad.replace(b"e9", b"e5") * 3))
+        self.sieved(done.bad.replace(b"e9 *", b"e5 *"), [], good=bad.replace(b"e9", b"e5") * 3)
 
     def test_good_exports_to_itself(self):
-        many = b"".join(b'[T%02d "v"]\n' % n for n in range(64))
         done = Sieved(self, A + BAD[0][1] + b"\n" + B)
         self.assertEqual(export(done.good), done.good)
-        # 64 tag pairs and the roster: 71 tag lines, more than the program reads
-        done = Sieved(self, A + many + b"\n*\n" + BAD[0][1] + b"\n" + B)
-        self.check(done, [BAD[0][1]])
-        self.assertIn(b"good.pgn: 1 game with more than 64 tag lines", done.ran.stdout)
-        self.assertIn(b"first game 2", done.ran.stdout)
 
     def test_random_damage(self):
         rng = random.Random(7)
@@ -272,13 +247,11 @@ class SieveTest(programs.Folder, unittest.TestCase):
 
     def test_comment_and_string_across_blocks(self):
         # blocks are of 2^20 bytes; the shift moves the marks over the edge
+        bad = b'[Event "x"]\n\n1. e9 *\n'
         for shift in range(0, 30, 3):
             filler = b"{" + (b"w" * 70 + b" 1-0 ") * 14000 + b"w" * shift + b"}"
             text = sound(b"A", filler + b" 1. e4 *") + sound(b"B", b"1. e4 {1-0} *") * 4
-            text += b'[Event "x"]\n\n1. e9 *\n'
-            done = Sieved(self, text)
-            self.check(done, [b'[Event "x"]\n\n1. e9 *\n'])
-            self.assertIn(b": 5 games", done.ran.stdout)
+            self.assertIn(b": 5 games", self.sieved(text + bad, [bad]).ran.stdout)
 
     def test_refused_files(self):
         need_program()
@@ -288,40 +261,35 @@ class SieveTest(programs.Folder, unittest.TestCase):
         for words in ([file, file, other], [file, other, link], [file, other, other], [file],
                       [file, other, folder], [file, other, "-"], [file, "-", other],
                       [file, "/dev/zero", other]):
-            self.check_refused(call([*words]), 2)
+            self.check_refused(call(words), 2)
         for words in ([folder + "/none", other, other + "2"], [file, folder + "/none/g", other]):
-            self.check_refused(call([*words]), 3)
+            self.check_refused(call(words), 3)
         self.assertEqual(sorted(os.listdir(folder)), ["a.pgn", "link.pgn"])
         self.assertEqual(self.get("a.pgn"), A)
 
     def test_a_compressed_archive(self):
-        plain = Sieved(self, A + b"1. e9 *\n")
-        packed = Sieved(self, gzip.compress(A + b"1. e9 *\n"))
-        self.assertEqual((packed.good, packed.bad), (plain.good, plain.bad))
-        self.assertIn(b"1. e9 *", packed.bad)
-
-    def test_a_compressed_archive_on_standard_input(self):
         """Where it is cut off, the outputs stay as they are."""
         plain = Sieved(self, A + b"1. e9 *\n")
+        self.assertIn(b"1. e9 *", plain.bad)
         packed = gzip.compress(plain.text)
+        done = Sieved(self, packed)
+        self.assertEqual((done.good, done.bad), (plain.good, plain.bad))
         outputs = [plain.folder + "/g", plain.folder + "/b"]
         self.assertEqual(call(["-", *outputs], input=packed).returncode, 1)
-        self.assertEqual([plain.get(it) for it in outputs], [plain.good, plain.bad])
+        self.outputs(plain, *outputs)
         plain.put("in.pgn", packed[:-9])
         for name, more in (("-", {"input": packed[:-9]}), (plain.paths[0], {})):
-            ran = call([name, *outputs], **more)
             said = "<stdin>" if name == "-" else name
-            self.assertEqual((ran.returncode, ran.stdout, ran.stderr.decode()), (
-                3, b"", "gillspoon: %s: Compressed file ended before the end-of-stream marker was "
-                "reached\n" % said))
-            self.assertEqual([plain.get(it) for it in outputs], [plain.good, plain.bad])
+            self.check(call([name, *outputs], **more), 3, b"", (
+                "gillspoon: %s: Compressed file ended before the end-of-stream marker was "
+                "reached\n" % said).encode())
+            self.outputs(plain, *outputs)
 
     def test_a_pipe_is_read(self):
         done = Sieved(self, A + BAD[0][1])
-        script = 'cat "$1" | "$2" "$3" "$4" /dev/stdin "$5" "$6"'
-        output_of(run(["sh", "-c", script, "sh", done.paths[0], sys.executable, *SIEVE,
-                       done.folder + "/g", done.folder + "/b"]), 1)
-        self.assertEqual([done.get(done.folder + it) for it in ("/g", "/b")], [done.good, done.bad])
+        script = 'cat in.pgn | "$@" /dev/stdin g b'
+        output_of(run(["sh", "-c", script, "sh", sys.executable, *SIEVE], cwd=done.folder), 1)
+        self.outputs(done, "g", "b")
 
     def test_many_files(self):
         """Folders, zips and standard input too; BAD names the file of each bad game."""
@@ -332,26 +300,22 @@ class SieveTest(programs.Folder, unittest.TestCase):
                       "all/c.zip": programs.zip_of(("x.pgn", bad), ("y.pgn", sound(b"Y"))),
                       "all/left.pgn": b"<!DOCTYPE html>"})
         good = export(A + sound(b"Y") + B + sound(b"S"))
-        notes = [(it, begin, end) for it, begin, end in (
-            (folder + "/a.pgn", len(A), len(A + bad)),
-            (folder + "/c.zip:x.pgn", 0, len(bad)))]
-        wanted = b"".join(b"%% byte %d of %s: not a move; line %d\n%% bytes %d to %d, up to the end of "
-                          b"the file\n%s\n" % (begin + 20, name.encode(), line, begin, end, bad)
-                          for line, (name, begin, end) in zip((8, 3), notes))
+        wanted = b"".join(
+            b"%% byte %d of %s: not a move; line %d\n"
+            b"%% bytes %d to %d, up to the end of the file\n%s\n"
+            % (begin + 20, (folder + name).encode(), line, begin, begin + len(bad), bad)
+            for name, line, begin in (("/a.pgn", 8, len(A)), ("/c.zip:x.pgn", 3, 0)))
         outputs = ["--good", done.folder + "/g", "--bad", done.folder + "/b"]
         for jobs in "13":
             ran = call(["--exclude", "left*", "-j", jobs, *outputs, folder, "-"], input=sound(b"S"))
-            self.assertEqual((ran.returncode, ran.stderr), (1, b""))
-            self.assertEqual((done.get(done.folder + "/g"), done.get(done.folder + "/b")),
-                             (good, wanted))
             self.assertIn(b"/g: 4 games\n%s/b: 2 bad games set aside, 50 bytes" %
-                          done.folder.encode(), ran.stdout)
+                          done.folder.encode(), output_of(ran, 1))
+            self.assertEqual((done.get("g"), done.get("b")), (good, wanted))
             # one that is no text of games leaves the outputs as they are
-            ran = call(["-j", jobs, *outputs, folder])
-            self.assertEqual((ran.returncode, ran.stdout, ran.stderr.decode()), (
-                3, b"", "gillspoon: %s/left.pgn: is a page of HTML or XML, and no text of games; "
-                "nothing was written\n" % folder))
-            self.assertEqual(done.get(done.folder + "/g"), good)
+            self.check(call(["-j", jobs, *outputs, folder]), 3, b"", (
+                "gillspoon: %s/left.pgn: is a page of HTML or XML, and no text of games; "
+                "nothing was written\n" % folder).encode())
+            self.assertEqual(done.get("g"), good)
 
     def test_one_output_alone(self):
         done = Sieved(self, A + BAD[0][1])
@@ -360,28 +324,23 @@ class SieveTest(programs.Folder, unittest.TestCase):
             self.assertEqual(done.get(done.folder + "/it"), wanted)
 
     def test_standard_input(self):
-        text = A + BAD[0][1] + b"\n" + B + BAD[-1][1]
-        done = Sieved(self, text)
+        done = Sieved(self, A + BAD[0][1] + b"\n" + B + BAD[-1][1])
+        outputs = [done.folder + "/g", done.folder + "/b"]
         with open(done.paths[0], "rb") as file:
-            for more in ({"input": text}, {"stdin": file}):
-                output_of(call(["-", done.folder + "/g", done.folder + "/b"], **more), 1)
-                self.assertEqual(done.get(done.folder + "/g"), done.good)
-                self.assertEqual(done.get(done.folder + "/b"), done.bad)
+            for more in ({"input": done.text}, {"stdin": file}):
+                output_of(call(["-", *outputs], **more), 1)
+                self.outputs(done, *outputs)
         self.assertEqual(call(["-", *done.paths[1:]], input=A).returncode, 0)
 
     def test_dev_null_as_an_output(self):
-        text = A + BAD[0][1] + b"\n" + B + BAD[-1][1]
-        done, null = Sieved(self, text), "/dev/null"
+        done, null = Sieved(self, A + BAD[0][1] + b"\n" + B + BAD[-1][1]), "/dev/null"
         before = os.stat(null)
         for good, bad in ((null, done.folder + "/b"), (done.folder + "/g", null), (null, null)):
-            out = output_of(call([done.paths[0], good, bad]), 1)
-            said = done.ran.stdout.replace(done.paths[1].encode(), good.encode())
-            said = said.replace(done.paths[2].encode(), bad.encode())
+            said = done.ran.stdout.decode().replace(done.paths[1], good).replace(done.paths[2], bad)
             if bad == null:
-                said = said.replace(b"games set aside", b"games dropped")
-            self.assertEqual(out, said)
-        self.assertEqual(done.get(done.folder + "/g"), done.good)
-        self.assertEqual(done.get(done.folder + "/b"), done.bad)
+                said = said.replace("games set aside", "games dropped")
+            self.assertEqual(output_of(call([done.paths[0], good, bad]), 1).decode(), said)
+        self.outputs(done, "g", "b")
         after = os.stat(null)
         self.assertEqual((before.st_ino, before.st_rdev), (after.st_ino, after.st_rdev))
 
@@ -405,8 +364,7 @@ class SieveTest(programs.Folder, unittest.TestCase):
     def test_checked_finds_the_same_bad_games(self):
         """Where each result is that of its tag or `*`, it changes nothing."""
         text = b"".join(sound(b"%d" % n) + it[1] + b"\n" for n, it in enumerate(BAD))
-        one, other = Sieved(self, text), Sieved(self, text, "--checked")
-        self.check(one, [it[1] for it in BAD])
+        one, other = self.sieved(text, [it[1] for it in BAD]), Sieved(self, text, "--checked")
         self.assertEqual((one.good, one.bad, one.ran.returncode),
                          (other.good, other.bad, other.ran.returncode))
 
@@ -452,13 +410,13 @@ class StoppedTest(programs.Folder, unittest.TestCase):
     OUTPUTS = ["good.pgn", "bad.pgn"]
 
     def test_signals_leave_the_old_files(self):
-        self.put_all(dict.fromkeys(self.OUTPUTS, b"old"))
+        old = dict.fromkeys(self.OUTPUTS, b"old")
+        self.put_all(old)
         for number in (signal.SIGTERM, signal.SIGINT, signal.SIGHUP):
             ran = programs.signalled([*SIEVE, "-", *self.OUTPUTS], number, self.folder, files=2,
                                      stdin=subprocess.PIPE)
             self.assertEqual(ran[0], -number)
-            self.assertEqual({it: self.get(it) for it in os.listdir(self.folder)},
-                             dict.fromkeys(self.OUTPUTS, b"old"))
+            self.assertEqual({it: self.get(it) for it in os.listdir(self.folder)}, old)
 
     def test_an_ignored_signal_does_not_end_it(self):
         """As nohup has it."""
