@@ -231,9 +231,10 @@ class Folder:
         """The bytes of a file."""
         return bytes_of(self.folder, name)
 
-    def check(self, ran, status, out, err=b""):
-        """A program ended so."""
+    def check(self, ran, status, out=b"", err=b"", files=()):
+        """A program ended so, and these files have these texts."""
         self.assertEqual((ran.returncode, ran.stdout, ran.stderr), (status, out, err))
+        self.assertEqual({it: self.get(it) for it in files}, dict(files))
 
     def check_refused(self, ran, status):
         """A program wrote nothing, and ended so with a line on standard error."""

@@ -11,6 +11,9 @@ WHERE = [ROOT + "/bin/gillspoon", "where"]
 TAGS = b'[Event "Cup"]\n[White "Ann"]\n[Black "Bob"]\n\n'
 ANN = 'game 1: White "Ann", Black "Bob", Event "Cup"'
 GAME = ANN + "\n"
+KE3 = TAGS + b"1. e4 e5 2. Ke3 *\n"
+KE3_LINES = "1. e4 e5 2. Ke3 *\n            ^\n"
+NO_FILE = b"gillspoon: give FILE: this message names no file\n"
 NAME, LATIN = '[White "José Łódź"] x', '[White "José"] x'
 MARKED = b"\xef\xbb\xbfe9 *\n"
 # A text, the offset of a byte, its line and its column, and the line that is shown with the caret.
@@ -36,20 +39,21 @@ PLACES = (
 
 
 class WhereTest(Folder, unittest.TestCase):
+    """Calls are given as command lines, and names behind them."""
+
     def setUp(self):
         super().setUp()
-        self.file = self.folder + "/a.pgn"
-        self.env = dict(os.environ, LC_ALL="C.UTF-8", COLUMNS="80")
+        self.env = dict(os.environ, LC_ALL="C.UTF-8", PYTHONIOENCODING="utf-8", COLUMNS="80")
 
-    def call(self, words, **more):
-        env = dict(os.environ, PYTHONIOENCODING="utf-8", COLUMNS="80")
-        return run([sys.executable, *WHERE, *words], env=env, **more)
+    def call(self, line="", *names, command=WHERE, **more):
+        words = [sys.executable, *command, *line.split(), *names]
+        return run(words, **{"cwd": self.folder, "env": self.env, **more})
 
     def lines(self, text, offset):
         """The lines that are printed for a byte of a text, without the file's name."""
         self.put("a.pgn", text)
-        out = output_of(self.call([self.file, str(offset)]))
-        return out.decode("utf-8").replace(self.file + ": ", "", 1).split("\n")
+        out = output_of(self.call("a.pgn %d" % offset))
+        return out.decode("utf-8").replace("a.pgn: ", "", 1).split("\n")
 
     def place(self, text, offset, line, column, shown, caret):
         """The caret is below the character that the caller expects."""
@@ -60,8 +64,7 @@ class WhereTest(Folder, unittest.TestCase):
         return lines
 
     def test_example(self):
-        ran = run(["bin/gillspoon", "where", "examples/no-such-move.pgn", "77"])
-        lines = ran.stdout.decode().split("\n")
+        lines = run([*WHERE, "examples/no-such-move.pgn", "77"]).stdout.decode().split("\n")
         self.assertIn("line 4, column 37", lines[0])
         self.assertEqual(lines[1][lines[2].index("^"):][:3], "Bd4")
         self.assertEqual(lines[3], 'game 1: White "Nowak, A.", Black "Silva, J.", Event "?"')
@@ -78,8 +81,7 @@ class WhereTest(Folder, unittest.TestCase):
                 self.place(text, 2 + n, 1, 3 + n, "ab", "  ^")
             self.place(text, 2 + len(end), 2, 1, "", "^")
             self.place(text, len(text), 4, 1, "", "^")
-
-    def test_line_end_over_the_border_of_a_block(self):
+        # a line end over the border of a block
         block = 1 << 20  # CHUNK of gillspoon._sources
         for end, lines in ((b"\r\n", 2), (b"\r", 2), (b"\n", 2), (b"\r\r", 3), (b"\n\r", 3)):
             text = b"a" * (block - 1) + end + b"x"
@@ -111,8 +113,6 @@ class WhereTest(Folder, unittest.TestCase):
                              text[offset:offset + 3].decode()[:len(lines[1]) - caret])
             self.assertEqual(lines[1].startswith("..."), offset > 70)
             self.assertEqual(lines[1].endswith("..."), offset < len(text) - 70)
-
-    def test_very_long_line(self):
         text = "é".encode() * 1200000 + b" Kd9 *"
         lines = self.lines(text, 2400001)
         self.assertIn("line 1, column 1200002 ", lines[0])
@@ -123,8 +123,8 @@ class WhereTest(Folder, unittest.TestCase):
                  b'[Event "a"b"]\n{1/2-1/2} 1. e4 1-0\n')
         text = TAGS + b"1. e4 {1-0} 0-0-0 *\n" + other + TAGS
         at = text.index(b"1. e4 1-0")
-        first, second = 'game %d: White "Ann", Black "Bob", Event "Cup"', \
-            'game 2: White "C", Black "D"1", Event "a"'
+        first = ANN.replace("1", "%d")
+        second = 'game 2: White "C", Black "D"1", Event "a"'
         for offset, line in ((text.index(b"0-0-0"), first % 1), (at, second), (at + 6, second),
                              (len(text), first % 3)):
             self.assertEqual(self.lines(text, offset)[3], line)
@@ -144,8 +144,7 @@ class WhereTest(Folder, unittest.TestCase):
         self.assertEqual(self.lines(text, len(text))[3:5], [
             "in a comment that begins at line 5, column 7 (byte 49)", ANN])
         self.assertNotIn("comment", self.lines(b"{a}e9", 3)[3])
-
-    def test_a_comment_longer_than_what_is_kept_in_memory(self):
+        # one that is longer than what is kept in memory
         words = (b"w" * 70 + b" ") * 100 + b"\n"
         text = TAGS + b"1. e4 {" + words * ((1 << 24) // len(words) + 100)  # LONG of _where
         self.assertEqual(self.lines(text, len(text))[3:5], [
@@ -156,75 +155,66 @@ class WhereTest(Folder, unittest.TestCase):
         self.assertEqual(self.lines(text, text.index(b"e5"))[3], ANN)
 
     def test_message(self):
-        self.put("a.pgn", TAGS + b"1. e4 {byte 3: no} *\n\n" + TAGS + b"1. e4 e5 2. Ke3 *\n")
+        self.put("a.pgn", TAGS + b"1. e4 {byte 3: no} *\n\n" + KE3)
         for task in ("check", "export", "list"):
-            told = run([self.program, task, self.file], stderr=subprocess.STDOUT).stdout
-            before, _, message = told.rpartition(b"byte ")
+            told = run([self.program, task, "a.pgn"], cwd=self.folder, stderr=subprocess.STDOUT)
+            before, _, message = told.stdout.rpartition(b"byte ")
             self.assertEqual(message, b"120: move is not legal\n")
-            out = output_of(self.call([self.file], input=told), 1)
-            self.assertEqual(out.decode(), before.decode() + self.file +
-                             ": line 11, column 13 (byte 120): move is not legal\n"
-                             "1. e4 e5 2. Ke3 *\n            ^\n"
-                             'game 2: White "Ann", Black "Bob", Event "Cup"\n')
+            out = output_of(self.call("a.pgn", input=told.stdout), 1)
+            self.assertEqual(out.decode(), before.decode() + (
+                "a.pgn: line 11, column 13 (byte 120): move is not legal\n") + KE3_LINES
+                + GAME.replace("1", "2"))
 
     def test_other_lines_are_passed_on(self):
         """A sound file has no message. The status says whether a line names a failure."""
         self.put("a.pgn", TAGS + b"1. e4 *\n")
-        counts = run([self.program, "check", self.file], stderr=subprocess.STDOUT).stdout
+        counts = run([self.program, "check", self.folder + "/a.pgn"]).stdout
         self.assertEqual(counts, b"games: 1, plies: 1\n")
         for told in (counts, b"", b"a\xff\n\r\nb", b"x" * (1 << 21) + b"\n", b"byte 3:\n",
                      b"a byte 3: no\n", b'{"kind": "fault", "file": 1}\n',
                      b"a.pgn:3: move is not legal (game 1, A - B)\n", b"a.pgn\n",
                      b"gillspoonx: a\n", b'{"kind": "fault", \n'):
-            self.check(self.call([self.file], input=told), 0, told)
+            self.check(self.call("a.pgn", input=told), 0, told)
         for told in (b"byte 0: input cannot be read\n", b"byte 3: output cannot be written\n",
                      b"output cannot be written\n", b"out of memory\n",
                      b"arguments cannot be read\n", b"gillspoon: x: No such file or directory\n",
                      b"gillspoon lint: argument --max: x\n", b"pgn_tool: x\n",
                      b"error: unexpected argument 'x' found\n"):
-            self.check(self.call([self.file], input=told + b"more\n"), 1, told + b"more\n")
+            self.check(self.call("a.pgn", input=told + b"more\n"), 1, told + b"more\n")
 
     def test_each_message_is_shown(self):
         self.put("a.pgn", TAGS + b"1. e4 *\n")
-        ran = self.call([self.file], input=b"byte 1: no\ngames: 1\nbyte 46: not a move\n")
-        self.assertEqual((ran.returncode, ran.stderr), (1, b""))
-        self.assertEqual(ran.stdout.decode().split("\n"), [
-            self.file + ": line 1, column 2 (byte 1): no", '[Event "Cup"]', " ^", ANN, "games: 1",
-            self.file + ": line 5, column 4 (byte 46): not a move", "1. e4 *", "   ^", ANN, ""])
+        out = output_of(self.call("a.pgn", input=b"byte 1: no\ngames: 1\nbyte 46: not a move\n"), 1)
+        self.assertEqual(out.decode().split("\n"), [
+            "a.pgn: line 1, column 2 (byte 1): no", '[Event "Cup"]', " ^", ANN, "games: 1",
+            "a.pgn: line 5, column 4 (byte 46): not a move", "1. e4 *", "   ^", ANN, ""])
         many = b"1. e4 e5\n" * (1 << 17)  # more than is read of a line at once
-        ran = self.call([self.file], input=many + b"byte 46: not a move\n")
-        self.assertTrue(ran.stdout.startswith(many + self.file.encode() + b": line 5, column 4 ("))
+        ran = self.call("a.pgn", input=many + b"byte 46: not a move\n")
+        self.assertTrue(ran.stdout.startswith(many + b"a.pgn: line 5, column 4 ("))
 
-    def messages(self, words, *others):
-        """What is shown of the messages of a command that runs in the folder."""
-        more = {"cwd": self.folder, "env": self.env}
-        told = run([WHERE[0], *words], stderr=subprocess.STDOUT, **more).stdout
-        ran = run([sys.executable, *WHERE, *others], input=told, **more)
-        self.assertEqual((ran.returncode, ran.stderr), (1, b""), told)
-        return ran.stdout.decode()
+    def messages(self, line, *names):
+        """What is shown of the messages of a command."""
+        told = self.call(line, *names, command=WHERE[:1], stderr=subprocess.STDOUT).stdout
+        return output_of(self.call(input=told), 1).decode()
 
     def test_messages_of_lint(self):
-        bad = TAGS + b"1. e4 e5 2. Ke3 *\n\n"
         name = "a\n: 1:2 \u00fc.pgn"
-        self.put(name, bad + TAGS + b"1. e4 *\n\n" + bad)
+        self.put(name, KE3 + b"\n" + TAGS + b"1. e4 *\n\n" + KE3 + b"\n")
         shown = "a\\n: 1:2 \u00fc.pgn: line %d, column 13 (byte %d): move is not legal " \
-            "(game %d, Ann \u2013 Bob)\n1. e4 e5 2. Ke3 *\n            ^\n"
+            "(game %d, Ann \u2013 Bob)\n" + KE3_LINES
         wanted = shown % (5, 55, 1) + shown % (17, 169, 3)
         end = "1 file, 3 games, 2 faults in 1 file\n"
-        self.assertEqual(self.messages(["lint", name]), wanted + end)
-        self.assertEqual(self.messages(["lint", "--quiet", name, name]), 2 * wanted)
-        records = self.messages(["lint", "--json", name])
+        self.assertEqual(self.messages("lint", name), wanted + end)
+        self.assertEqual(self.messages("lint --quiet", name, name), 2 * wanted)
+        records = self.messages("lint --json", name)
         self.assertTrue(records.startswith(wanted + '{"kind": "summary", '), records)
-
-    def test_messages_of_lint_without_a_name(self):
+        # without a name
         self.put("a.pgn", b"1. e9 *\n")
         for told in (b"<stdin>:1:4: not a move (game 1, ? - ?)\n", b"byte 3: not a move\n",
                      b"gillspoon: <stdin>: byte 3: not a move\n"):
-            out = output_of(self.call([self.file], input=told), 1)
-            self.assertTrue(out.startswith(
-                self.file.encode() + b": line 1, column 4 (byte 3): not a move"), out)
-            self.check(self.call([], input=told + b"more\n"),
-                       2, told + b"more\n", b"gillspoon: give FILE: this message names no file\n")
+            out = output_of(self.call("a.pgn", input=told), 1)
+            self.assertTrue(out.startswith(b"a.pgn: line 1, column 4 (byte 3): not a move"), out)
+            self.check(self.call(input=told + b"more\n"), 2, told + b"more\n", NO_FILE)
 
     def test_places_of_lint(self):
         """A line and a column are found again, whatever the line ends and the encoding."""
@@ -240,56 +230,51 @@ class WhereTest(Folder, unittest.TestCase):
                 (b"\n" * (1 << 20) + utf, "1048577, column 12 (byte 1048590)"),
                 (b"1. e4\n", "2, column 1 (byte 6, the end of the file)")):
             self.put("a.pgn", text)
-            shown = self.messages(["lint", "--quiet", "a.pgn"])
+            shown = self.messages("lint --quiet a.pgn")
             self.assertTrue(shown.startswith("a.pgn: line %s: " % place), shown)
 
     def test_compressed_files(self):
         need("zstd")
-        text = TAGS + b"1. e4 e5 2. Ke3 *\n"
         for end in ("gz", "bz2", "zst", "GZ"):
-            self.put("a.pgn." + end, PACKERS[end.lower()](text))
-            shown = self.messages(["lint", "--quiet", "a.pgn." + end]).split("\n")
-            self.assertEqual(shown[1:3], ["1. e4 e5 2. Ke3 *", "            ^"])
-            ran = self.call([self.file + "." + end, "55"])
-            self.assertEqual(ran.stdout.decode().split("\n")[1:3], shown[1:3])
-        self.put("b.pgn.gz", PACKERS["gz"](text)[:-9])
-        self.assertEqual(self.call([self.folder + "/b.pgn.gz", "55"]).returncode, 3)
+            self.put("a.pgn." + end, PACKERS[end.lower()](KE3))
+            for text in (self.messages("lint --quiet a.pgn." + end),
+                         self.call("a.pgn.%s 55" % end).stdout.decode()):
+                self.assertEqual("".join(text.splitlines(True)[1:3]), KE3_LINES)
+        self.put("b.pgn.gz", PACKERS["gz"](KE3)[:-9])
+        self.assertEqual(self.call("b.pgn.gz 55").returncode, 3)
 
     def test_files_in_a_zip(self):
         """They are named by lint and fmt, and found by these names."""
-        bad = TAGS + b"1. e4 e5 2. Ke3 *\n"
-        self.put("a: 1.zip", zip_of(("x.pgn", TAGS + b"1. e4 *\n"), ("sub/y\n:1:2.pgn", bad)))
-        shown = "%s:sub/y\\n:1:2.pgn: line 5, column 13 (byte 55): move is not legal"
-        lines = "1. e4 e5 2. Ke3 *\n            ^\n"
-        name = shown % "a: 1.zip"
-        self.assertEqual(self.messages(["lint", "--quiet", "a: 1.zip"]),
-                         name + " (game 1, Ann \u2013 Bob)\n" + lines)
-        self.assertTrue(self.messages(["lint", "--json", "a: 1.zip"]).startswith(
-            name + " (game 1, Ann \u2013 Bob)\n" + lines))
-        ran = self.call([self.folder + "/a: 1.zip:sub/y\n:1:2.pgn", "55"])
-        self.assertEqual((ran.returncode, ran.stdout.decode().split("\n", 1)[1]), (0, lines + GAME))
-        with open(self.folder + "/a: 1.zip", "rb") as packed:
-            told = run([WHERE[0], "lint", "--quiet"], stdin=packed, env=self.env).stdout
-        ran = run([sys.executable, *WHERE, "a: 1.zip"], cwd=self.folder, input=told, env=self.env)
-        self.assertEqual((ran.returncode, ran.stdout.decode()),
-                         (1, name + " (game 1, Ann \u2013 Bob)\n" + lines))
-        self.check(self.call([], input=told),
-                   2, told, b"gillspoon: give FILE: this message names no file\n")
-        self.check_refused(self.call([self.folder + "/a: 1.zip:none.pgn", "3"]), 3)
+        self.put("a: 1.zip", zip_of(("x.pgn", TAGS + b"1. e4 *\n"), ("sub/y\n:1:2.pgn", KE3)))
+        shown = "a: 1.zip:sub/y\\n:1:2.pgn: line 5, column 13 (byte 55): move is not legal " \
+            "(game 1, Ann \u2013 Bob)\n" + KE3_LINES
+        self.assertEqual(self.messages("lint --quiet", "a: 1.zip"), shown)
+        self.assertTrue(self.messages("lint --json", "a: 1.zip").startswith(shown))
+        out = output_of(self.call("", "a: 1.zip:sub/y\n:1:2.pgn", "55"))
+        self.assertEqual(out.decode().split("\n", 1)[1], KE3_LINES + GAME)
+        told = self.call("lint --quiet", command=WHERE[:1], input=self.get("a: 1.zip")).stdout
+        ran = self.call("", "a: 1.zip", input=told)
+        self.assertEqual((ran.returncode, ran.stdout.decode()), (1, shown))
+        self.check(self.call(input=told), 2, told, NO_FILE)
+        self.check_refused(self.call("", "a: 1.zip:none.pgn", "3"), 3)
 
     def test_standard_input(self):
         for pack in (bytes, PACKERS["gz"], PACKERS["bz2"]):
-            ran = self.call(["-", str(len(TAGS) + 3)], input=pack(TAGS + b"1. Ke2 *"))
+            ran = self.call("- %d" % (len(TAGS) + 3), input=pack(TAGS + b"1. Ke2 *"))
             self.check(ran, 0, b"<stdin>: line 5, column 4 (byte %d)\n1. Ke2 *\n   ^\n%s" % (
                 len(TAGS) + 3, GAME.encode()))
-        self.check_refused(self.call(["-"], input=b"byte 3: move is not legal\n"), 2)
+        self.check_refused(self.call("-", input=b"byte 3: move is not legal\n"), 2)
+        # also by its name
+        self.put("a.pgn", TAGS + b"1. e4 e9 *\n")
+        script = 'cat a.pgn | "$@" /dev/stdin %d' % (len(TAGS) + 6)
+        ran = run(["sh", "-c", script, "sh", sys.executable, *WHERE], cwd=self.folder)
+        self.check(ran, 0, b"/dev/stdin: line 5, column 7 (byte %d)\n1. e4 e9 *\n      ^\n%s" % (
+            len(TAGS) + 6, GAME.encode()))
 
     def test_messages_of_fmt(self):
-        self.put_all({"a b.pgn": TAGS + b"1. e4 e5 2. Ke3 *\n", "c.pgn": TAGS + b"1. e9 *\n",
-                      "d.pgn": TAGS + b"1. e4 *\n"})
-        self.assertEqual(self.messages(["fmt", "--check", "a b.pgn", "c.pgn", "d.pgn"]), (
-            "a b.pgn: line 5, column 13 (byte 55): move is not legal\n"
-            "1. e4 e5 2. Ke3 *\n            ^\n" + GAME +
+        self.put_all({"a b.pgn": KE3, "c.pgn": TAGS + b"1. e9 *\n", "d.pgn": TAGS + b"1. e4 *\n"})
+        self.assertEqual(self.messages("fmt --check", "a b.pgn", "c.pgn", "d.pgn"), (
+            "a b.pgn: line 5, column 13 (byte 55): move is not legal\n" + KE3_LINES + GAME +
             "c.pgn: line 5, column 4 (byte 46): not a move\n1. e9 *\n   ^\n" + GAME + "d.pgn\n"))
 
     def test_a_file_of_a_message_that_cannot_be_read(self):
@@ -300,55 +285,40 @@ class WhereTest(Folder, unittest.TestCase):
             b"b.pgn:1:20: move is not legal (game 1, ? - ?)\n" \
             b"gillspoon: b.pgn: byte 99: not a move\n"
         shown = b"b.pgn:1:4: not a move (game 1, ? - ?)\n"
-        ran = run([sys.executable, *WHERE], cwd=self.folder, input=told + shown)
-        self.assertEqual((ran.returncode, ran.stderr), (
-            3, b"gillspoon: none.pgn: No such file or directory\ngillspoon: b.pgn: has no line 9\n"
+        self.check(self.call(input=told + shown), 3, told + (
+            b"b.pgn: line 1, column 4 (byte 3): not a move (game 1, ? - ?)\n1. e9 *\n   ^\n"),
+            b"gillspoon: none.pgn: No such file or directory\ngillspoon: b.pgn: has no line 9\n"
             b"gillspoon: b.pgn: has no line 1, column 20\n"
-            b"gillspoon: b.pgn: has 8 bytes, so there is no byte 99\n"))
-        self.assertEqual(ran.stdout, told + b"b.pgn: line 1, column 4 (byte 3): not a move "
-                         b"(game 1, ? - ?)\n1. e9 *\n   ^\n")
+            b"gillspoon: b.pgn: has 8 bytes, so there is no byte 99\n")
 
     def test_errors(self):
         self.put("a.pgn", b"*\n")
-        for words, status in (
-                ([self.file, "x"], 2), ([self.file, "-1"], 2), ([self.file, "1", "2"], 2),
-                ([self.file, "3"], 3), ([self.folder + "/none", "3"], 3), ([self.folder, "0"], 3),
-                ([self.folder + "/none"], 3), (["/dev/null", "1"], 3)):
-            self.check_refused(self.call(words, input=b""), status)
-        self.assertEqual(self.call(["--help"]).returncode, 0)
+        for line, status in (
+                ("a.pgn x", 2), ("a.pgn -1", 2), ("a.pgn 1 2", 2), ("a.pgn 3", 3), ("none 3", 3),
+                (". 0", 3), ("none", 3), ("/dev/null 1", 3)):
+            self.check_refused(self.call(line, input=b""), status)
+        self.assertEqual(self.call("--help").returncode, 0)
         self.check(run(["sh", "-c", '"$@" <&-', "sh", *WHERE]),
                    3, b"", b"gillspoon: standard input is closed\n")
-
-    def test_a_pipe_is_read(self):
-        self.put("a.pgn", TAGS + b"1. e4 e9 *\n")
-        script = 'cat a.pgn | "$@" /dev/stdin %d' % (len(TAGS) + 6)
-        ran = run(["sh", "-c", script, "sh", sys.executable, *WHERE], cwd=self.folder)
-        self.check(ran, 0, b"/dev/stdin: line 5, column 7 (byte %d)\n1. e4 e9 *\n      ^\n%s" % (
-            len(TAGS) + 6, GAME.encode()))
+        ran = self.call("a.pgn 0", env=dict(os.environ, GILLSPOON_LIBRARY=self.folder + "/none"))
+        self.check_refused(ran, 127)
+        self.assertIn(b"in the repository run bin/build_program --library", ran.stderr)
 
     def test_colours(self):
         self.put("a.pgn", b"1. e9 *\n")
-        for when, wanted in (("always", "\x1b[1m%s:\x1b[0m line 1, column 4 (byte 3): \x1b[31mno"
+        for when, wanted in (("always", "\x1b[1ma.pgn:\x1b[0m line 1, column 4 (byte 3): \x1b[31mno"
                               "\x1b[0m\n1. e9 *\n\x1b[32m   ^\x1b[0m\n"),
-                             ("auto", "%s: line 1, column 4 (byte 3): no\n1. e9 *\n   ^\n")):
-            ran = self.call(["--color", when, self.file], input=b"byte 3: no\n")
-            self.assertTrue(ran.stdout.decode().startswith(wanted % self.file), ran.stdout)
-
-    def test_without_the_library(self):
-        self.put("a.pgn", b"*\n")
-        env = dict(os.environ, GILLSPOON_LIBRARY=self.folder + "/none")
-        ran = run([sys.executable, *WHERE, self.file, "0"], env=env)
-        self.check_refused(ran, 127)
-        self.assertIn(b"in the repository run bin/build_program --library", ran.stderr)
+                             ("auto", "a.pgn: line 1, column 4 (byte 3): no\n1. e9 *\n   ^\n")):
+            ran = self.call("a.pgn --color " + when, input=b"byte 3: no\n")
+            self.assertTrue(ran.stdout.decode().startswith(wanted), ran.stdout)
 
     def test_closed_output(self):
         ran = run(["sh", "-c", '"$@" examples/two-games.pgn 3 >/dev/full', "sh", *WHERE])
         self.assertEqual((ran.returncode, ran.stderr.count(b"\n")), (3, 1), ran.stderr)
         ran = run(["sh", "-c", '"$@" examples/two-games.pgn 3 >&-', "sh", *WHERE])
         self.check(ran, 3, b"", b"gillspoon: standard output is closed\n")
-
-    def test_a_closed_pipe_ends_it_silently(self):
+        # a closed pipe ends it silently
         self.put("a.pgn", b"1. e9 *\n")
-        for words in ([self.file, "0"], [self.file]):
+        for line in ("a.pgn 0", "a.pgn"):
             with closed_pipe() as closed:
-                output_of(self.call(words, stdout=closed, input=b"byte 3: no\nmore\n"), 3)
+                output_of(self.call(line, stdout=closed, input=b"byte 3: no\nmore\n"), 3)
