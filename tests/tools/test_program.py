@@ -7,8 +7,6 @@ from programs import HEAD, need_program, output_of, run, text_of
 from small_repository import CARGO, Repository
 
 BUILD = "bin/build_program"
-
-
 FEN = b'[FEN "4k3/8/8/8/8/8/8/4K3 w - - 0 1"]'
 
 
@@ -25,6 +23,8 @@ class Examples(unittest.TestCase):
                  HEAD[:-1] + pairs + b"\n*\n\n", b"")):
             ran = run([need_program(), task], input=text)
             self.assertEqual([ran.returncode, ran.stdout, ran.stderr], answer)
+        self.assertEqual(run([need_program(), "check", "examples/two-games.pgn"]).stdout,
+                         b"games: 2, plies: 0\n")
 
 
 class EachBuild:
@@ -33,46 +33,49 @@ class EachBuild:
     def setUp(self):
         self.here = Repository(self, self.commands)
 
-    def check(self, ran, text, builds):
-        text = b"%s built %s\n" % (self.builder, text)
+    def check(self, ran, builds, words=b"", program=b"one"):
+        text = b"%s built %s, called with %s\n" % (self.builder, program, words)
         self.assertEqual((ran.returncode, ran.stdout), (0, text), ran.stderr)
-        self.assertEqual(b"%s builds" % self.builder in ran.stderr, builds)
-        self.assertEqual(bool(ran.stderr), builds)
+        self.assertEqual((b"%s builds" % self.builder in ran.stderr, bool(ran.stderr)),
+                         (builds, builds))
 
     def test_builds_once(self):
         ran = self.here.call("check", "a b")
-        self.check(ran, b"one, called with check a b", True)
+        self.check(ran, True, b"check a b")
         self.assertIn(b"the program is missing: ", ran.stderr)
-        self.check(self.here.call("list"), b"one, called with list", False)
+        self.check(self.here.call("list"), False, b"list")
 
     def test_builds_anew_when_a_source_is_newer(self):
         self.here.call()
-        changes = dict.fromkeys(("crates/pgn_game/src/lib.rt", "crates/pgn_game/src/new.rt",
-                                 "crates/pgn_tool/src/lib.rt", "crates.txt"), True)
-        changes.update(dict.fromkeys(("crates/pgn_vectors/src/lib.rt", "README.md",
-                                      "crates/pgn_tool/proofs/a.antt"), False))
-        for path, builds in {**changes, **self.own_changes}.items():
+        builders = dict.fromkeys(("crates/pgn_game/src/lib.rt", "crates/pgn_game/src/new.rt",
+                                  "crates/pgn_tool/src/lib.rt", "crates.txt"), (b"rt", b"cargo"))
+        builders.update({
+            "crates/pgn_tool/specs/a.antt": [b"rt"], "crates/pgn_tool/proofs/a.antt": [b"rt"],
+            "cargo/rattle_std/lib.rs": [b"cargo"], "cargo/README.md": [b"cargo"],
+            "bin/to_cargo": [b"cargo"], "crates/pgn_vectors/src/lib.rt": [], "README.md": []})
+        for path, of_path in builders.items():
+            builds = self.builder in of_path
             self.here.make_older()
             self.here.change(path)
             ran = self.here.call()
-            self.check(ran, b"one, called with ", builds)
+            self.check(ran, builds)
             self.assertEqual(b" is newer than the program" in ran.stderr, builds)
-            self.check(self.here.call(), b"one, called with ", False)
+            self.check(self.here.call(), False)
         self.here.make_older()
         os.unlink(self.here.root + "/crates/pgn_game/src/new.rt")
-        self.check(self.here.call(), b"one, called with ", True)
+        self.check(self.here.call(), True)
         self.here.make_older()
         self.here.write("crates/pgn_tool/src/main.rt", "two")
-        self.check(self.here.call(), b"two, called with ", True)
+        self.check(self.here.call(), True, program=b"two")
 
     def test_a_source_that_changes_during_a_build_is_newer(self):
         self.here.write("meanwhile", "")
-        self.check(self.here.call(), b"one, called with ", True)
+        self.check(self.here.call(), True)
         os.unlink(self.here.root + "/meanwhile")
         ran = self.here.call()
-        self.check(ran, b"one, called with ", True)
+        self.check(ran, True)
         self.assertIn(b"crates/pgn_tool/src/lib.rt is newer than the program", ran.stderr)
-        self.check(self.here.call(), b"one, called with ", False)
+        self.check(self.here.call(), False)
 
     def test_never_runs_a_stale_program(self):
         self.here.call()
@@ -83,32 +86,29 @@ class EachBuild:
             self.assertEqual((ran.returncode, ran.stdout), (127, b""))
             self.assertTrue(ran.stderr.endswith(b"bin/build_program: the program was not built\n"))
 
-    def test_symbolic_links(self):
+    def test_symbolic_links_and_a_folder_with_a_space(self):
         root = self.here.root
+        spaced = root + "/with a space"
+        os.rename(shutil.copytree(root, root + "-copy", symlinks=True), spaced)
+        self.check(self.here.call("x", script=spaced + "/bin/pgn_tool"), True, b"x")
         os.makedirs(root + "/far/er")
-        os.symlink("../../bin/pgn_tool", root + "/far/er/one")
-        os.symlink("er/one", root + "/far/two")
-        os.symlink(root + "/far/two", root + "/three")
-        os.symlink(root + "/bin", root + "/far/bin")
+        for script, target in (("far/er/one", "../../bin/pgn_tool"), ("far/two", "er/one"),
+                               ("three", root + "/far/two"), ("far/bin", root + "/bin")):
+            os.symlink(target, os.path.join(root, script))
         for script in ("far/er/one", "far/two", "three", "far/bin/pgn_tool"):
             ran = self.here.call("x", script=script, cwd="/")
-            self.check(ran, b"one, called with x", script == "far/er/one")
-
-    def test_folder_with_a_space(self):
-        root = self.here.root + "/with a space"
-        os.rename(shutil.copytree(self.here.root, self.here.root + "-copy", symlinks=True), root)
-        self.check(self.here.call("x", script=root + "/bin/pgn_tool"), b"one, called with x", True)
+            self.check(ran, script == "far/er/one", b"x")
 
     def test_long_build_says_so(self):
         self.here.write("slow", "")
         ran = self.here.call(timeout=100)
         self.assertIn(b"still building, for 30 seconds so far", ran.stderr)
-        self.check(ran, b"one, called with ", True)
+        self.check(ran, True)
 
     def test_no_file_is_left_behind(self):
         folder = self.here.root + "/temporary"
         os.mkdir(folder)
-        self.check(self.here.call(env={"TMPDIR": folder}), b"one, called with ", True)
+        self.check(self.here.call(env={"TMPDIR": folder}), True)
         self.here.write("crates/pgn_tool/src/main.rt", "broken")
         self.assertEqual(self.here.call(env={"TMPDIR": folder}).returncode, 127)
         self.assertEqual(os.listdir(folder), [])
@@ -116,16 +116,10 @@ class EachBuild:
 
 class ByRt(EachBuild, unittest.TestCase):
     commands, builder = ("rt",), b"rt"
-    own_changes = {"crates/pgn_tool/specs/a.antt": True, "crates/pgn_tool/proofs/a.antt": True,
-                   "cargo/rattle_std/lib.rs": False, "cargo/README.md": False,
-                   "bin/to_cargo": False}
 
 
 class ByCargo(EachBuild, unittest.TestCase):
     commands, builder = ("cargo", "rustc"), b"cargo"
-    own_changes = {"crates/pgn_tool/specs/a.antt": False, "crates/pgn_tool/proofs/a.antt": False,
-                   "cargo/rattle_std/lib.rs": True, "cargo/README.md": True,
-                   "bin/to_cargo": True}
 
 
 class Choice(unittest.TestCase):
@@ -155,13 +149,11 @@ class Choice(unittest.TestCase):
             os.unlink(self.here.root + "/path/" + name)
 
     def test_cargo_builds_where_both_are(self):
+        """What is proved is asked for, and taken from then on, until a source is newer."""
         self.check(self.build(), self.by_cargo, "Cargo builds it, which takes about half a minute")
         self.check(self.build("--built"), self.by_cargo)
         self.assertEqual(self.build("--built", "--proved"), (1, "", ""))
-
-    def test_proved(self):
         self.check(self.build("--proved"), self.by_rt, "rt proves and builds it")
-        # it is taken from now on, until a source is newer
         self.assertEqual(self.build(), (0, self.by_rt, ""))
         self.here.make_older()
         self.here.write("crates/pgn_tool/src/main.rt", "two")
@@ -185,6 +177,9 @@ class Choice(unittest.TestCase):
             self.check(self.build(env={"RUSTC_VERSION": version, "CARGO_VERSION": version}),
                        self.by_cargo)
             os.unlink(self.by_cargo.strip())
+        # one that does not run
+        self.here.command("rustc", "#!/bin/sh\necho 'no default toolchain' >&2; exit 1\n")
+        self.check(self.build(), self.by_rt, "/rustc does not say its version")
 
     def test_nothing_to_build_with(self):
         self.remove("rt", "cargo", "python3")
@@ -195,10 +190,6 @@ class Choice(unittest.TestCase):
         self.assertIn("bin/install --deps", lines[3])
         self.assertIn("Rust 1.74 or newer", lines[4])
         self.assertEqual(self.here.told("check"), (127, "", told))
-
-    def test_a_cargo_that_does_not_run(self):
-        self.here.command("rustc", "#!/bin/sh\necho 'no default toolchain' >&2; exit 1\n")
-        self.check(self.build(), self.by_rt, "/rustc does not say its version")
 
     def test_no_crates(self):
         self.here.write("no-registry", "")
@@ -289,13 +280,6 @@ class Choice(unittest.TestCase):
             status, out, told = self.build(*words)
             self.assertEqual((status, out, told.count("\n")), (2, "", 1))
         self.assertEqual(self.build("--help")[::2], (0, ""))
-
-
-class BuiltTest(unittest.TestCase):
-    def test_built_program(self):
-        program = need_program()
-        self.assertEqual(run([program, "check", "examples/two-games.pgn"]).stdout,
-                         b"games: 2, plies: 0\n")
 
 
 class Helps(unittest.TestCase):

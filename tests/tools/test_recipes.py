@@ -37,8 +37,14 @@ class Recipe(Folder, unittest.TestCase):
         env = dict(os.environ, PATH=path, PGN_TOOL=self.program)
         return run(["sh", "-c", script], cwd=self.folder, env=env)
 
-    def recipe(self, title, block=0):
+    def recipe(self, title, block=0, of=None):
+        """Runs a block, perhaps with these texts of games in games.pgn."""
+        if of is not None:
+            self.put("games.pgn", "".join(of))
         return self.shell(sections()[title][block])
+
+    def check_file(self, name, *games):
+        self.assertEqual(self.get(name).decode(), "".join(games))
 
     def mend(self, title, text, message, wanted):
         """The text is refused with the message; what the recipe makes of it has this export."""
@@ -56,29 +62,27 @@ class Whole(Recipe):
         for title, blocks in sections().items():
             for number in range(len(blocks)):
                 call = r'(recipe|mend)\(\s*"%s"' % re.escape(title)
-                call += r", %d\)" % number if number else ""
+                call += r", %d[,)]" % number if number else ""
                 self.assertTrue(re.search(call, text), (title, number))
 
     def test_see_where_a_fault_is(self):
-        self.put("games.pgn", "1. e4 e5\n2. Ke3 *\n")
-        out = output_of(self.recipe("See where a fault is"), 1)
+        out = output_of(self.recipe("See where a fault is", of="1. e4 e5\n2. Ke3 *\n"), 1)
         self.assertTrue(out.startswith(b"games.pgn:2:4: move is not legal (game 1, "))
         self.assertIn(b"Ke3", output_of(self.recipe("See where a fault is", 1), 1))
-        self.put("games.pgn", "1. e4 e5 *\n")
-        self.check(self.recipe("See where a fault is", 1), 0, b"games: 1, plies: 2\n")
+        self.check(self.recipe("See where a fault is", 1, of="1. e4 e5 *\n"), 0,
+                   b"games: 1, plies: 2\n")
 
     def test_set_bad_games_aside(self):
         bad = '[Event "bad"]\n\n1. e4 e5 2. Ke3 *\n\n'
-        self.put("games.pgn", game(Event="a") + bad + game(Event="b"))
-        self.recipe("Set bad games aside")
-        self.assertEqual(self.get("good.pgn").decode(), game(Event="a") + game(Event="b"))
+        self.recipe("Set bad games aside", of=[game(Event="a"), bad, game(Event="b")])
+        self.check_file("good.pgn", game(Event="a"), game(Event="b"))
         self.assertIn(bad.strip().encode(), self.get("bad.pgn"))
 
     def test_compare(self):
-        self.put_all({"a.pgn": "1.e4 e5 *", "b.pgn": "e4 {} *"})
-        self.assertEqual(self.recipe("Compare two collections").returncode, 1)
-        self.put("b.pgn", '[Event "?"] 1. e2e4 e7-e5 *')
-        self.assertEqual(self.recipe("Compare two collections").returncode, 1)
+        self.put("a.pgn", "1.e4 e5 *")
+        for text in ("e4 {} *", '[Event "?"] 1. e2e4 e7-e5 *'):
+            self.put("b.pgn", text)
+            self.assertEqual(self.recipe("Compare two collections").returncode, 1)
         self.put("b.pgn", '[Event "?"] 1. e2e4 e7e5 *')
         self.check(self.recipe("Compare two collections"), 0, b"same\n")
         self.put_all({"a.pgn": "1. e4 e9", "b.pgn": "1. e4 e9"})
@@ -87,11 +91,9 @@ class Whole(Recipe):
     def test_sort_by_date(self):
         dates = ["2001.05.04", "1999.12.31", "1999.12.31", "????.??.??"]
         games = [game(Date=it, Event=name) for it, name in zip(dates, ['x \\"y\\"', "b", "a", "c"])]
-        self.put("games.pgn", "".join(games))
-        ran = self.recipe("Sort by date")
+        ran = self.recipe("Sort by date", of=games)
         self.assertEqual(ran.stdout, b"games: 4, plies: 8\n" * 2)
-        wanted = games[1] + games[2] + games[0] + games[3]
-        self.assertEqual(self.get("sorted.pgn").decode(), wanted)
+        self.check_file("sorted.pgn", games[1], games[2], games[0], games[3])
 
     def test_sort_otherwise(self):
         """For a comparison, where the order of equal dates does not matter, and by another tag."""
@@ -105,45 +107,39 @@ class Whole(Recipe):
                             (other, by_event)):
             self.put("games.pgn", "".join(games))
             self.shell(call)
-            self.assertEqual(self.get("sorted.pgn").decode(), "".join(
-                sorted(games, key=lambda it: it.split("\n")[0])))
-
-    def test_sort_by_players(self):
+            self.check_file("sorted.pgn", *sorted(games, key=lambda it: it.split("\n")[0]))
+        # by players
         games = [game(White="B", Black="A"), game("1. d4 { a word } *", White="A", Black="B"),
                  game(White="A", Black="A")]
-        self.put("games.pgn", "".join(games))
-        ran = self.recipe("Sort by date", 1)
+        ran = self.recipe("Sort by date", 1, of=games)
         self.assertEqual(ran.stdout, b"games: 3, plies: 5\n" * 2)
-        self.assertEqual(self.get("sorted.pgn").decode(), games[2] + games[1] + games[0])
+        self.check_file("sorted.pgn", *games[::-1])
 
     def test_merge(self):
-        self.put_all({"a.pgn": "\ufeff1. e4 *", "b.pgn": "\ufeff1. d4 *"})
-        self.assertEqual(self.recipe("Merge collections").returncode, 0)
-        self.assertEqual(self.get("merged.pgn").decode(), game("1. e4 *") + game("1. d4 *"))
-        self.put("a.pgn", "1. e4 {")
-        self.assertEqual(self.recipe("Merge collections").returncode, 1)
-        self.assertEqual(self.get("merged.pgn").decode(), game("1. e4 *") + game("1. d4 *"))
+        self.put("b.pgn", "\ufeff1. d4 *")
+        for text, status in (("\ufeff1. e4 *", 0), ("1. e4 {", 1)):
+            self.put("a.pgn", text)
+            self.assertEqual(self.recipe("Merge collections").returncode, status)
+            self.check_file("merged.pgn", game("1. e4 *"), game("1. d4 *"))
 
     def test_leave_out(self):
         games = [game(Event=it) for it in ("a", "b")]
-        self.put("games.pgn", games[0] + games[1] + '[Event "a"] e4 e5 *' + games[1])
-        ran = self.recipe("Leave out games that are there twice")
+        ran = self.recipe("Leave out games that are there twice",
+                          of=[*games, '[Event "a"] e4 e5 *', games[1]])
         self.assertEqual(ran.stdout, b"games: 4, plies: 8\ngames: 2, plies: 4\n")
-        self.assertEqual(self.get("once.pgn").decode(), games[0] + games[1])
+        self.check_file("once.pgn", *games)
 
     def test_split(self):
         games = [game(Round=str(it)) for it in range(2500)]
-        self.put("games.pgn", "".join(games))
-        ran = self.recipe("Split a collection")
+        ran = self.recipe("Split a collection", of=games)
         self.assertEqual(ran.stdout, b"games: 2500, plies: 5000\n" * 2)
         parts = ["part/%06d.pgn" % it for it in (1, 2, 3)]
         self.assertEqual(sorted(os.listdir(self.folder + "/part")), [it[5:] for it in parts])
-        self.assertEqual(self.get(parts[0]).decode(), "".join(games[:1000]))
-        self.assertEqual(self.get(parts[2]).decode(), "".join(games[2000:]))
-        one = sections()["Split a collection"][0].replace("size=1000", "size=1")
+        self.check_file(parts[0], *games[:1000])
+        self.check_file(parts[2], *games[2000:])
         shutil.rmtree(self.folder + "/part")
         self.put("games.pgn", "".join(games[:3]))
-        self.shell(one)
+        self.shell(sections()["Split a collection"][0].replace("size=1000", "size=1"))
         self.assertEqual([self.get(it).decode() for it in parts], games[:3])
 
     def test_folder(self):
@@ -151,9 +147,8 @@ class Whole(Recipe):
                       "in/E.Pgn": "1. c4 *"})
         ran = self.recipe("Convert a whole folder")
         self.assertEqual(ran.stdout.decode(), "in/c.pgn: byte 3: not a move\n1 with a fault\n")
-        self.assertEqual(self.get("out/a b.pgn").decode(), game("1. e4 *"))
-        self.assertEqual(self.get("out/D.PGN").decode(), game("1. d4 *"))
-        self.assertEqual(self.get("out/E.Pgn").decode(), game("1. c4 *"))
+        for name, move in (("a b.pgn", "e4"), ("D.PGN", "d4"), ("E.Pgn", "c4")):
+            self.check_file("out/" + name, game("1. %s *" % move))
         self.assertEqual(sorted(os.listdir(self.folder + "/out")),
                          ["D.PGN", "E.Pgn", "a b.pgn", "c.pgn.fault"])
 
@@ -167,11 +162,9 @@ class Whole(Recipe):
 
     def test_how_far(self):
         programs.need("pv")
-        self.put("games.pgn", game() * 1000)
-        ran = self.recipe("See how far a long check is")
+        ran = self.recipe("See how far a long check is", of=game() * 1000)
         self.assertEqual((ran.returncode, ran.stdout), (0, b"games: 1000, plies: 2000\n"))
-        self.put("games.pgn", "e9")
-        self.assertEqual(self.recipe("See how far a long check is").returncode, 1)
+        self.assertEqual(self.recipe("See how far a long check is", of="e9").returncode, 1)
         os.remove(self.folder + "/games.pgn")
         ran = self.recipe("See how far a long check is")
         self.assertEqual((ran.returncode, ran.stdout), (0, b"games: 0, plies: 0\n"))
@@ -186,20 +179,19 @@ class Encodings(Recipe):
             self.put("games.pgn", text.encode(encoding))
             self.assertEqual(self.shell("pgn_tool check games.pgn").returncode, 1)
             self.assertEqual(self.recipe("Read files from DOS and Windows").returncode, 0)
-            self.assertEqual(self.get("export.pgn").decode(), wanted)
+            self.check_file("export.pgn", wanted)
         # Without the recipe the bytes are kept.
         self.put("games.pgn", text[:-1].encode("latin-1"))
         kept = self.shell("pgn_tool export games.pgn").stdout
         self.assertEqual(kept, wanted.encode("latin-1"))
-
-    def test_utf16(self):
+        # UTF-16
         for encoding in ("utf-16", "utf-16-be"):
             mark = "" if encoding == "utf-16" else "\ufeff"
             self.put("games.pgn", (mark + '[White "Müller"]\r\n1. e4 *').encode(encoding))
             refused = self.shell("pgn_tool check games.pgn")
             self.assertEqual(refused.stderr, b"byte 0: stray byte\n")
             self.assertEqual(self.recipe("Read files from DOS and Windows", 1).returncode, 0)
-            self.assertEqual(self.get("export.pgn").decode(), game("1. e4 *", White="Müller"))
+            self.check_file("export.pgn", game("1. e4 *", White="Müller"))
 
 
 class Mended(Recipe):
