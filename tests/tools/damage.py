@@ -115,38 +115,45 @@ def one_of(rng, matches):
     return rng.choice(found) if found else None
 
 
+def anywhere(rng, text):
+    return 0, len(text)
+
+
 def movetext_or_all(rng, text):
     """Where a damage may be: in three cases of four behind the first tag section."""
     begin = text.find(b"\n\n") if rng.random() < 0.75 else 0
     return max(begin, 0), len(text)
 
 
-def wrapped_move(rng, text):
-    move = one_of(rng, MOVE.finditer(text))
-    if not move:
-        return []
+def at_one(pattern, edits_of, place=anywhere):
+    """A damage whose edits a function gives for one match. Without a match it has none."""
+    def damage(rng, text):
+        found = one_of(rng, re.compile(pattern).finditer(text, *place(rng, text)))
+        return edits_of(rng, found) if found else []
+
+    return damage
+
+
+def quotes_of(pair):
+    """The places of the first and the last quote of a tag pair."""
+    return pair.start() + pair[0].index(b'"'), pair.start() + pair[0].rindex(b'"')
+
+
+def wrapped_move(rng, move):
     at = rng.randrange(move.start() + 1, move.end())
     return [(at, at, rng.choice((b"\n", b"\n", b"\r\n", b"\r")))]
 
 
-def replaced(pattern, *texts, is_anywhere=False):
+def replaced(pattern, *texts, place=movetext_or_all):
     """A damage by which one of some texts is in the place of a match."""
-    pattern = re.compile(pattern)
-
-    def damage(rng, text):
-        place = () if is_anywhere else movetext_or_all(rng, text)
-        found = one_of(rng, pattern.finditer(text, *place))
-        if not found:
-            return []
-        return [(found.start(), found.end(), rng.choice(texts) if texts[1:] else texts[0])]
-
-    return damage
+    return at_one(pattern, lambda rng, found: [
+        (*found.span(), rng.choice(texts) if texts[1:] else texts[0])], place)
 
 
 def zero_width(rng, text):
     if rng.random() < 0.5:
         move = one_of(rng, MOVE.finditer(text))
-        at = rng.randint(move.start(), move.end()) if move else 0
+        at = rng.randint(*move.span()) if move else 0
     else:
         at = rng.randrange(len(text))
     return [(at, at, rng.choice(ZERO_WIDTH))]
@@ -154,22 +161,14 @@ def zero_width(rng, text):
 
 def confused(*letters):
     """A damage by which one of some letters is read as another."""
-    pattern = re.compile(b"[%s]" % b"".join(letters))
-
-    def damage(rng, text):
-        found = one_of(rng, pattern.finditer(text, *movetext_or_all(rng, text)))
-        if not found:
-            return []
-        new = rng.choice([it for it in letters if it != found[0]])
-        return [(found.start(), found.end(), new)]
-
-    return damage
+    return at_one(b"[%s]" % b"".join(letters), lambda rng, found: [
+        (*found.span(), rng.choice([it for it in letters if it != found[0]]))], movetext_or_all)
 
 
 def byte_of_a_move(rng, text):
     """The place of a byte: in nine cases of ten in a move or a marker."""
     move = one_of(rng, MOVE.finditer(text)) if rng.random() < 0.9 else None
-    return rng.randrange(move.start(), move.end()) if move else rng.randrange(len(text))
+    return rng.randrange(*move.span()) if move else rng.randrange(len(text))
 
 
 def byte_dropped(rng, text):
@@ -186,12 +185,7 @@ def line_dropped(rng, text):
     """In three cases of four it has movetext: most tags are missed by nobody."""
     pattern = MOVE_LINE if rng.random() < 0.75 else LINE
     line = one_of(rng, pattern.finditer(text))
-    return [(line.start(), line.end(), b"")] if line else []
-
-
-def line_doubled(rng, text):
-    line = one_of(rng, LINE.finditer(text))
-    return [(line.end(), line.end(), line[0])] if line else []
+    return [(*line.span(), b"")] if line else []
 
 
 def tag_dropped(rng, text):
@@ -199,7 +193,7 @@ def tag_dropped(rng, text):
     pairs = list(PAIR_LINE.finditer(text))
     reading = [it for it in pairs if it[1] in (b"Result", b"FEN", b"SetUp")]
     pair = one_of(rng, reading if rng.random() < 0.9 else pairs)
-    return [(pair.start(), pair.end(), b"")] if pair else []
+    return [(*pair.span(), b"")] if pair else []
 
 
 def tag_doubled(rng, text):
@@ -231,55 +225,34 @@ def file_cut(rng, text):
 
 def other_quotes(*quotes):
     """A damage by which a value has other quotes at both ends, or at one."""
-    def damage(rng, text):
-        pair = one_of(rng, PAIR_LINE.finditer(text))
-        if not pair:
-            return []
-        first, last = pair[0].index(b'"') + pair.start(), pair[0].rindex(b'"') + pair.start()
-        left, right = rng.choice(quotes)
-        edits = [(first, first + 1, left), (last, last + 1, right)]
+    def edits_of(rng, pair):
+        edits = [(at, at + 1, new) for at, new in zip(quotes_of(pair), rng.choice(quotes))]
         return rng.choice((edits, edits, edits[:1], edits[1:]))
 
-    return damage
+    return at_one(PAIR_LINE, edits_of)
 
 
-def sign_behind_name(rng, text):
+def sign_behind_name(rng, pair):
     """In some pairs the quotes are curly too."""
-    pair = one_of(rng, PAIR_LINE.finditer(text))
-    if not pair:
-        return []
-    at = pair.end(1)
+    at, last = pair.end(1), quotes_of(pair)[1]
     edits = [(at, at + rng.choice((0, 1)), rng.choice((b":", b"=", b": ", b" = ")))]
-    if rng.random() < 0.4:
-        last = pair.start() + pair[0].rindex(b'"')
-        edits += [(at + 1, at + 2, QUOTES[0]), (last, last + 1, QUOTES[1])]
-    return edits
+    is_curly = rng.random() < 0.4
+    return edits + [(at + 1, at + 2, QUOTES[0]), (last, last + 1, QUOTES[1])] * is_curly
 
 
-def bracket_missing(rng, text):
-    pair = one_of(rng, PAIR_LINE.finditer(text))
-    at = pair.start() + pair[0].rindex(b"]") if pair else 0
-    return [(at, at + 1, b"")] if pair else []
+def bracket_missing(rng, pair):
+    at = pair.start() + pair[0].rindex(b"]")
+    return [(at, at + 1, b"")]
 
 
-def look_alike(rng, text):
+def look_alike(rng, move):
     """Up to three letters of a move."""
-    move = one_of(rng, MOVE.finditer(text))
-    places = [it for it in range(move.start(), move.end())
-              if chr(text[it]) in LOOK_ALIKES] if move else []
-    return [(at, at + 1, rng.choice(LOOK_ALIKES[chr(text[at])]).encode())
+    places = [it for it in range(*move.span()) if chr(move.string[it]) in LOOK_ALIKES]
+    return [(at, at + 1, rng.choice(LOOK_ALIKES[chr(move.string[at])]).encode())
             for at in rng.sample(places, min(len(places), rng.randint(1, 3)))]
 
 
-def moves_joined(rng, text):
-    pair = one_of(rng, PAIR_OF_MOVES.finditer(text))
-    return [(pair.start(1), pair.end(1), b"")] if pair else []
-
-
-def braces_in_a_comment(rng, text):
-    comment = one_of(rng, COMMENT.finditer(text))
-    if not comment:
-        return []
+def braces_in_a_comment(rng, comment):
     first, last = sorted(rng.randint(comment.start() + 1, comment.end() - 1) for _ in range(2))
     return [(first, first, b"{"), (last, last, b"}")] if first < last else [(first, first, b"{}")]
 
@@ -287,38 +260,35 @@ def braces_in_a_comment(rng, text):
 def capture_without_rank(rng, text):
     found = one_of(rng, PAWN_CAPTURE.finditer(text))
     sign = rng.choice((b"", b"x"))
-    return [(found.start(), found.end(), found[1] + sign + found[2])] if found else []
+    return [(*found.span(), found[1] + sign + found[2])] if found else []
 
 
 def king_for_castling(rng, text):
     found = one_of(rng, CASTLING.finditer(text))
     square = b"K%s%d" % (b"c" if found and found[1] else b"g", rng.choice((1, 8)))
-    return [(found.start(), found.end(), square)] if found else []
+    return [(*found.span(), square)] if found else []
 
 
-def time_of_a_move(rng, text):
-    move = one_of(rng, MOVE.finditer(text))
+def time_of_a_move(rng, move):
     time = b" (%d:%02d)" % (rng.randrange(60), rng.randrange(60))
-    return [(move.end(), move.end(), time)] if move else []
+    return [(move.end(), move.end(), time)]
 
 
 def soft_hyphen(rng, text):
     """In most cases it is beside a blank."""
     blank = one_of(rng, re.compile(rb"[ \n]").finditer(text, *movetext_or_all(rng, text)))
-    at = rng.choice((blank.start(), blank.end())) if blank and rng.random() < 0.8 \
-        else rng.randrange(len(text))
+    is_beside = blank and rng.random() < 0.8
+    at = rng.choice(blank.span()) if is_beside else rng.randrange(len(text))
     return [(at, at, SOFT_HYPHEN)]
 
 
-def result_misread(rng, text):
-    found = one_of(rng, RESULT.finditer(text))
-    if not found:
-        return []
+def result_misread(rng, found):
     old = found[0]
-    new = rng.choice((b"(%s)" % old, b"( %s )" % old, old.replace(b"0", b"O"), old.replace(b"1", b"l"),
-                      old.replace(b"1", b"I", 1), old.replace(b"-", b" - "), old.replace(b"-", b":"),
-                      old.replace(b"-", "\u2013".encode())))
-    return [(found.start(), found.end(), new)] if new != old else []
+    new = rng.choice((
+        b"(%s)" % old, b"( %s )" % old, old.replace(b"0", b"O"), old.replace(b"1", b"l"),
+        old.replace(b"1", b"I", 1), old.replace(b"-", b" - "), old.replace(b"-", b":"),
+        old.replace(b"-", "\u2013".encode())))
+    return [(*found.span(), new)] if new != old else []
 
 
 def space_put_in(rng, text):
@@ -327,36 +297,39 @@ def space_put_in(rng, text):
 
 
 def cr_for_lf(rng, text):
-    ends = [(it.start(), it.end(), b"\r") for it in re.finditer(rb"\n", text)]
+    ends = [(*it.span(), b"\r") for it in re.finditer(rb"\n", text)]
     return ends if rng.random() < 0.3 else [rng.choice(ends)] if ends else []
 
 
 # The kinds of damage, which are equally frequent, and in each its damages.
 KINDS = (
-    {"a line wrapped inside a move": wrapped_move, "CR for LF": cr_for_lf},
-    {"a no-break space": replaced(rb" ", *NO_BREAK),
-     "a zero-width character": zero_width},
+    {"a line wrapped inside a move": at_one(MOVE, wrapped_move), "CR for LF": cr_for_lf},
+    {"a no-break space": replaced(rb" ", *NO_BREAK), "a zero-width character": zero_width},
     {"8 and B": confused(b"8", b"B")},
     {"0 and O": confused(b"0", b"O")},
     {"1, l and I": confused(b"1", b"l", b"I")},
     {"a byte dropped": byte_dropped, "a byte doubled": byte_doubled,
-     "a line dropped": line_dropped, "a line doubled": line_doubled,
+     "a line dropped": line_dropped,
+     "a line doubled": at_one(LINE, lambda rng, line: [(line.end(), line.end(), line[0])]),
      "a tag dropped": tag_dropped, "a tag doubled": tag_doubled},
     {"files joined without an end": files_joined},
     {"a cut file": file_cut},
     {"curly quotes": other_quotes(QUOTES)},
     {"a space put in": space_put_in, "a space taken out": replaced(rb"[ \n]", b"")},
-    {"a look-alike letter": look_alike},
-    {"two moves joined": moves_joined, "a result misread": result_misread},
+    {"a look-alike letter": at_one(MOVE, look_alike)},
+    {"two moves joined": at_one(PAIR_OF_MOVES, lambda rng, pair: [(*pair.span(1), b"")]),
+     "a result misread": at_one(RESULT, result_misread)},
     {"quotes missing": other_quotes((b"", b"")), "single quotes": other_quotes((b"'", b"'")),
-     "a sign behind a name": sign_behind_name, "a bracket missing": bracket_missing},
+     "a sign behind a name": at_one(PAIR_LINE, sign_behind_name),
+     "a bracket missing": at_one(PAIR_LINE, bracket_missing)},
     {"a soft hyphen": soft_hyphen,
      "a line break of a page": replaced(rb"[ \n]", b"<br>", b"<BR/>", b"<br>\n"),
      # a mail program writes =3D for an =
-     "=3D": replaced(rb"(?<=[a-h][18])=(?=[QRBN])", b"=3D", is_anywhere=True)},
-    {"an ellipsis": replaced(rb"\.\.\.", ELLIPSIS, is_anywhere=True),
-     "braces in a comment": braces_in_a_comment},
-    {"a capture without a rank": capture_without_rank, "a time of a move": time_of_a_move,
+     "=3D": replaced(rb"(?<=[a-h][18])=(?=[QRBN])", b"=3D", place=anywhere)},
+    {"an ellipsis": replaced(rb"\.\.\.", ELLIPSIS, place=anywhere),
+     "braces in a comment": at_one(COMMENT, braces_in_a_comment)},
+    {"a capture without a rank": capture_without_rank,
+     "a time of a move": at_one(MOVE, time_of_a_move),
      "a king's move for castling": king_for_castling},
 )
 DAMAGES = [name for kind in KINDS for name in kind]
