@@ -255,8 +255,10 @@ class FmtTest(Folder, unittest.TestCase):
             os.chmod(os.path.join(self.folder, name), 0o444)
         self.says("--write loose.pgn tidy.pgn", 3, files={"loose.pgn": LOOSE},
                   told=b"gillspoon: loose.pgn: is read-only; it is left as it is\n")
-        # hard links keep the old text, and are counted
         os.chmod(self.folder + "/loose.pgn", 0o644)
+        self.says("--write loose.pgn", 0, b"loose.pgn\n")
+        # hard links keep the old text, and are counted
+        self.put("loose.pgn", LOOSE)
         os.link(self.folder + "/loose.pgn", self.folder + "/other.pgn")
         self.says("--write loose.pgn", 0, b"loose.pgn\n", (
             b"gillspoon: loose.pgn: had 2 hard links: those of other names keep the old text\n"),
