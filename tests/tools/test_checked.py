@@ -31,7 +31,7 @@ class CheckedTest(Folder, unittest.TestCase):
         self.check(run([self.program, "export", path]), 0, wanted)
         self.check(self.export(path), 0, wanted)
 
-    def test_result_that_differs(self):
+        # a result that differs
         self.check(self.export(self.write(b'[Result "1-0"] 0-1')), 1, b"",
                    b"byte 15: result differs from the Result tag\n")
 
@@ -69,19 +69,15 @@ class CheckedTest(Folder, unittest.TestCase):
                 self.assertTrue(plain.stdout.startswith(twice.stdout), vector["name"])
         self.assertGreater(tried, 100)
 
-    def test_without_a_file(self):
+    def test_what_is_refused(self):
+        """No file, another task, and a file that cannot be opened."""
         for words in ([], ["--reduced"]):
             self.check(self.export(*words, input=b"*"), 2, b"", b"--checked needs FILE\n")
-
-    def test_other_commands(self):
-        for command in ("check", "list", "split"):
-            ran = run([self.program, command, "--checked", "x"])
-            self.assertEqual((ran.returncode, ran.stdout), (2, b""), command)
-
-    def test_file_that_cannot_be_opened(self):
-        unread = b"byte 0: input cannot be read\n"
-        self.check(self.export(self.folder + "/missing"), 1, b"", unread)
-        self.check(self.export(self.folder), 1, b"", unread)
+        for task in ("check", "list", "split"):
+            ran = run([self.program, task, "--checked", "x"])
+            self.assertEqual((ran.returncode, ran.stdout), (2, b""), task)
+        for path in (self.folder + "/missing", self.folder):
+            self.check(self.export(path), 1, b"", b"byte 0: input cannot be read\n")
 
     def test_standard_input_by_its_name(self):
         if not os.path.exists("/dev/stdin"):
@@ -90,11 +86,14 @@ class CheckedTest(Folder, unittest.TestCase):
         for text in (b"1. e4 1-0", b"1-0 0-1"):
             self.check(self.export("/dev/stdin", input=text), 1, b"", DIFFERS % 0)
 
+    def running(self, path, **more):
+        return subprocess.Popen([self.program, "export", "--checked", path], stdout=subprocess.PIPE,
+                                stderr=subprocess.PIPE, **more)
+
     def test_named_pipe(self):
         path = os.path.join(self.folder, "pipe")
         os.mkfifo(path)
-        words = [self.program, "export", "--checked", path]
-        with subprocess.Popen(words, stdout=subprocess.PIPE, stderr=subprocess.PIPE) as process:
+        with self.running(path) as process:
             with open(path, "wb") as pipe:
                 self.wait_for_both(process, path)
                 pipe.write(b"1. e4 1-0 1. d4 0-1")
@@ -120,9 +119,7 @@ class CheckedTest(Folder, unittest.TestCase):
         text = b"1. e4 {" + b"word " * 100000 + b"} "
         path = self.write(text + b"1-0")
         whole = self.export(path).stdout
-        words = [self.program, "export", "--checked", path]
-        with subprocess.Popen(words, stdout=subprocess.PIPE, stderr=subprocess.PIPE,
-                              bufsize=0) as process:
+        with self.running(path, bufsize=0) as process:
             begun = process.stdout.read(1)
             with open(path, "r+b") as file:
                 file.seek(len(text))

@@ -49,21 +49,17 @@ static int opens(const char *name, const char *path, int flags, int mode) {
   return is_of_test && is_interrupted("open") ? -1 : next(path, flags, mode);
 }
 
-int open(const char *path, int flags, ...) {
-  va_list more;
-  va_start(more, flags);
-  int mode = va_arg(more, int);
-  va_end(more);
-  return opens("open", path, flags, mode);
-}
+#define OPEN(name)                              \
+  int name(const char *path, int flags, ...) {  \
+    va_list more;                               \
+    va_start(more, flags);                      \
+    int mode = va_arg(more, int);               \
+    va_end(more);                               \
+    return opens(#name, path, flags, mode);     \
+  }
 
-int open64(const char *path, int flags, ...) {
-  va_list more;
-  va_start(more, flags);
-  int mode = va_arg(more, int);
-  va_end(more);
-  return opens("open64", path, flags, mode);
-}
+OPEN(open)
+OPEN(open64)
 """
 
 UNKNOWN = HEAD + b"*\n\n"
@@ -76,17 +72,15 @@ class InterruptedTest(Folder, unittest.TestCase):
         need("cc")
         super().setUp()
         source = self.put("interrupt.c", SOURCE)
-        subprocess.run(["cc", "-shared", "-fPIC", "-o", self.folder + "/interrupt.so", source,
-                        "-ldl"], check=True)
-        self.met = self.folder + "/met"
+        self.library, self.met = self.folder + "/interrupt.so", self.folder + "/met"
+        subprocess.run(["cc", "-shared", "-fPIC", "-o", self.library, source, "-ldl"], check=True)
         self.file = self.put("games.pgn", b"* *")
 
     def call(self, call, at, *words, **more):
         """A run in which this call is interrupted; whether it came to that call is told too."""
         if os.path.exists(self.met):
             os.unlink(self.met)
-        env = dict(os.environ, CALL=call, AT=str(at), MET=self.met,
-                   LD_PRELOAD=self.folder + "/interrupt.so")
+        env = dict(os.environ, CALL=call, AT=str(at), MET=self.met, LD_PRELOAD=self.library)
         ran = run([self.program, *words], env=env, **more)
         return os.path.exists(self.met), (ran.returncode, ran.stdout, ran.stderr)
 
@@ -119,20 +113,16 @@ class InterruptedTest(Folder, unittest.TestCase):
         place = 2 * (len(out) // len(UNKNOWN))
         self.assertEqual((status, err), (1, b"byte %d: " % place + UNWRITTEN))
 
-    def test_a_write_of_split_is_not_tried_again(self):
+    def test_opening_and_making_a_file_is_tried_again(self):
+        """A write of split is not."""
         folder = self.folder + "/one"
         os.mkdir(folder)
-        is_met, answer = self.call("write", 1, "split", folder, self.file)
-        self.assertEqual((is_met, answer), (True, (1, b"", b"byte 0: " + UNWRITTEN)))
+        split = ("split", folder, self.file)
+        self.assertEqual(self.call("write", 1, *split), (True, (1, b"", b"byte 0: " + UNWRITTEN)))
         self.assertEqual(os.listdir(folder), ["000001.pgn"])
         self.assertEqual(os.path.getsize(folder + "/000001.pgn"), 0)
-
-    def test_opening_and_making_a_file_is_tried_again(self):
-        folder = self.folder + "/one"
-        os.mkdir(folder)
-        right = (0, b"", b"")
         for at in (1, 2, 3):  # the file that is read, then those that are made
-            self.assertEqual(self.call("open", at, "split", folder, self.file), (True, right))
+            self.assertEqual(self.call("open", at, *split), (True, (0, b"", b"")))
             self.assertEqual(sorted(os.listdir(folder)), ["000001.pgn", "000002.pgn"])
         for at in (1, 2):
             answer = self.call("open", at, "export", "--checked", self.file)

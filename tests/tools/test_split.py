@@ -38,24 +38,22 @@ class SplitTest(Folder, unittest.TestCase):
         self.addCleanup(os.remove, path)
         self.check(self.split(b"* * *", path), 0, b"", {"000001.pgn": HEAD + b"1. e4 e5 *\n\n"})
 
-    def test_input_that_cannot_be_read(self):
-        for path in (self.folder + "/missing", self.folder):
+    def test_nothing_is_written(self):
+        """The input cannot be read, it has no game, or there is no folder."""
+        missing = self.folder + "/missing"
+        for path in (missing, self.folder):
             self.check(self.split(b"*", path), 1, b"byte 0: input cannot be read\n", {})
-
-    def test_no_games(self):
-        for folder in (self.folder, self.folder + "/missing"):
+        for folder in (self.folder, missing):
             self.check(self.split(b"{nothing}\n", folder=folder), 0, b"", {})
+        with tempfile.NamedTemporaryFile() as other:
+            for folder, text in ((missing, b" *"), (other.name, b"*")):
+                self.check(self.split(text, folder=folder), 1, UNWRITTEN % (len(text) - 1), {})
 
     def test_old_files(self):
         old = b"old " * 100
         self.put_all(dict.fromkeys(("000001.pgn", "000003.pgn", "other"), old))
         self.check(self.split(b"* *"), 0, b"", {"000001.pgn": UNKNOWN, "000002.pgn": UNKNOWN,
                                                 "000003.pgn": old, "other": old})
-
-    def test_no_folder(self):
-        with tempfile.NamedTemporaryFile() as other:
-            for folder, text in ((self.folder + "/missing", b" *"), (other.name, b"*")):
-                self.check(self.split(text, folder=folder), 1, UNWRITTEN % (len(text) - 1), {})
 
     def test_folder_that_is_not_writable(self):
         os.chmod(self.folder, 0o555)
@@ -65,11 +63,10 @@ class SplitTest(Folder, unittest.TestCase):
 
     def test_second_file_is_refused(self):
         os.mkdir(self.folder + "/000002.pgn")
-        ran = self.split(b"* * *")
-        self.assertEqual((ran.returncode, ran.stdout, ran.stderr), (1, b"", UNWRITTEN % 2))
+        super().check(self.split(b"* * *"), 1, b"", UNWRITTEN % 2)
         self.assertEqual(sorted(os.listdir(self.folder)), ["000001.pgn", "000002.pgn"])
-
-    def test_full_device(self):
+        # a full device
+        os.rmdir(self.folder + "/000002.pgn")
         with full_device() as full:
             os.symlink(full.name, self.folder + "/000002.pgn")
         ran = self.split(b"* 1. e4 *")
@@ -102,12 +99,11 @@ def limit_open_files():
 class InputTest(Folder, unittest.TestCase):
     """FILE is what is read; without it, standard input."""
 
-    def test_file_and_standard_input(self):
+    def test_input(self):
         for words, text in (([self.put("games.pgn", b"* * *")], b"games: 3, plies: 0\n"),
                             ([], b"games: 1, plies: 0\n")):
             self.check(run([self.program, "check", *words], input=b"*"), 0, text)
-
-    def test_file_that_cannot_be_opened(self):
+        # a file that cannot be opened
         for command in ("export", "check", "list"):
             for name in ("/missing/file", "/"):
                 self.check(run([self.program, command, name], input=b"*"), 1, b"",
