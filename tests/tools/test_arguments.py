@@ -12,6 +12,7 @@ What is not tried: four words of which the first is no subcommand, or one is no 
 """
 import collections
 import concurrent.futures
+import functools
 import itertools
 import os
 import re
@@ -24,10 +25,8 @@ import test_cargo
 
 SUBCOMMANDS = (b"export", b"check", b"list", b"split")
 # The last three: abbreviations, which are rejected, and a word that is no text.
-WORDS = (
-    *SUBCOMMANDS, b"--reduced", b"--checked", b"games.pgn", b"folder", b"--", b"", b"--help", b"-h",
-    b"--version", b"-V", b"-", b"--reduced=x", b"--red", b"exp", b"\xff",
-)
+WORDS = (*SUBCOMMANDS, *b"--reduced --checked games.pgn folder -- --help -h --version -V -".split(),
+         b"", b"--reduced=x", b"--red", b"exp", b"\xff")
 FOLDER = "folder"
 # What clap 4.0 to 4.5 says, and how 4.6 says it, as the proved port does.
 WORDING = [
@@ -68,9 +67,8 @@ def lists():
 
 def games(number):
     """Two games. The first has so many plies and a comment, and the second no Result tag."""
-    plies = ["Nf3", "Nf6", "Ng1", "Ng8"]
-    moves = " ".join(plies[it % 4] for it in range(number))
-    return b"%s {so many} *\n1. e4 1-0\n" % moves.encode()
+    moves = b" ".join((b"Nf3", b"Nf6", b"Ng1", b"Ng8")[it % 4] for it in range(number))
+    return b"%s {so many} *\n1. e4 1-0\n" % moves
 
 
 def make_folder():
@@ -101,13 +99,10 @@ class Runner:
         """The status of a run, what it wrote, and the files that it left."""
         outputs = [os.path.join(self.device, it) for it in ("out", "err")]
         flags = os.O_WRONLY | os.O_CREAT | os.O_TRUNC
-        actions = [(os.POSIX_SPAWN_OPEN, 0, "stdin", os.O_RDONLY, 0)]
-        actions += [
-            (os.POSIX_SPAWN_OPEN, number, name, flags, 0o600)
-            for number, name in enumerate(outputs, 1)
-        ]
-        line = [b"pgn_tool", *words]
-        child = os.posix_spawn(program, line, os.environ, file_actions=actions)
+        actions = [(os.POSIX_SPAWN_OPEN, number, name, flags, 0o600)
+                   for number, name in enumerate(outputs, 1)]
+        actions.append((os.POSIX_SPAWN_OPEN, 0, "stdin", os.O_RDONLY, 0))
+        child = os.posix_spawn(program, [b"pgn_tool", *words], os.environ, file_actions=actions)
         status = os.waitstatus_to_exitcode(os.waitpid(child, 0)[1])
         return (status, *map(read, outputs), self.left())
 
@@ -144,13 +139,12 @@ def compare(proved, program, share):
 
 class Answers(unittest.TestCase):
     def test_both_programs_answer_each_list_of_words_the_same(self):
-        proved, program = programs.need_proved_program(), test_cargo.built()
-        all_lists = list(lists())
-        workers = len(os.sched_getaffinity(0))
+        both = programs.need_proved_program(), test_cargo.built()
+        all_lists, workers = list(lists()), len(os.sched_getaffinity(0))
         shares = [all_lists[it :: 4 * workers] for it in range(4 * workers)]
         statuses, differing = collections.Counter(), []
         with concurrent.futures.ProcessPoolExecutor(workers) as pool:
-            ran = pool.map(compare, *zip(*((proved, program, it) for it in shares)))
+            ran = pool.map(functools.partial(compare, *both), shares)
             for some_statuses, some_differing in ran:
                 statuses += some_statuses
                 differing += some_differing
