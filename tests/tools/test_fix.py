@@ -40,8 +40,10 @@ def applied(text, edits):
 
 
 def moves_of(text):
-    """For each game its moves with its variations, and its result."""
-    return [(game.result, str(game.moves().plies), game.text.partition(b"\n\n")[2])
+    """For each game its result, its moves, and its text without what the spelling of signs adds."""
+    added = rb"\s*(?:\$16|\{ \(=\) \}|[0-9]+\.+(?=\s))"
+    return [(game.result, str(game.moves().plies),
+             re.sub(added, b"", re.sub(rb"\s+", b" ", game.text.partition(b"\n\n")[2])))
             for game in gillspoon.games(text, checked=True)]
 
 
@@ -64,20 +66,14 @@ class Spellings(unittest.TestCase):
 
     def test_unsafe(self):
         self.each(UNSAFE, True)
-        for text, _, _ in UNSAFE:
-            found = [it for it in gillspoon.fixes(text.encode())]
-            self.assertEqual(found, [], text)
-
-    def test_left(self):
-        for text in LEFT:
+        for text in [row[0] for row in UNSAFE] + LEFT:
             self.assertEqual(list(gillspoon.fixes(text.encode())), [], text)
 
     def test_doubtful(self):
         for text in DOUBTFUL:
             with self.subTest(text):
                 self.assertEqual(list(gillspoon.fixes(text.encode(), unsafe=True)), [])
-                with self.assertRaises(gillspoon.PgnFault):
-                    gillspoon.check(text.encode())
+                self.assertRaises(gillspoon.PgnFault, gillspoon.check, text.encode())
 
     def test_each_fix_has_a_spelling(self):
         from gillspoon._fixes import NAMES
@@ -180,8 +176,7 @@ class Spoilt(unittest.TestCase):
                 self.assertRegex(mended, rb"[\s.][nqr][a-h1-8x]")
                 continue
             with self.subTest(text):
-                self.assertEqual([plain(it) for it in moves_of(mended)],
-                                 [plain(it) for it in moves_of(sound)])
+                self.assertEqual(moves_of(mended), moves_of(sound))
             tried += count > 0
         return tried
 
@@ -193,13 +188,6 @@ class Spoilt(unittest.TestCase):
                  for it in gillspoon.games(bytes_of(path), checked=True, on_fault=str) if it.plies]
         self.assertGreater(len(texts), 30)
         self.assertGreater(self.compare(texts * 30, 78), 500)
-
-
-def plain(game):
-    """A game without the glyphs and comments that the spelling of signs adds."""
-    result, plies, text = game
-    return result, plies, re.sub(rb"\s*(?:\$16|\{ \(=\) \}|[0-9]+\.+(?=\s))", b"",
-                                 re.sub(rb"\s+", b" ", text))
 
 
 BITS = (b"{", b"}", b"(", b")", b"[", b"]", b'"', b";", b"\n", b"%", b"*", b"1-0", b"--", b"e4",
@@ -226,9 +214,8 @@ class Damaged(unittest.TestCase):
 
     def test_sound_games_stay(self):
         rng = random.Random(79)
-        pool = [row[0].encode() for row in SAFE + UNSAFE] + [it.encode() for it in LEFT]
-        for path in sorted(glob.glob(ROOT + "/examples/*.pgn")):
-            pool.append(bytes_of(path))
+        pool = [it.encode() for it in [row[0] for row in SAFE + UNSAFE] + LEFT]
+        pool += map(bytes_of, sorted(glob.glob(ROOT + "/examples/*.pgn")))
         for _ in range(1500):
             text = damaged(rng, pool)
             applied(text, gillspoon.fixes(text, unsafe=True))
@@ -246,52 +233,39 @@ class Damaged(unittest.TestCase):
 class Kept(unittest.TestCase):
     """What decides whether an edit is kept."""
 
-    def mended(self, text, *proposals):
-        """A text after fixes that are planted: functions of a fault."""
+    def mended(self, text, *edit):
+        """A text after a planted fix, which proposes this edit wherever a fault is."""
         from gillspoon._fixes import Fix
-        from gillspoon._here import Around
+        from gillspoon._here import Around, Change
         from gillspoon._mend import Mending
         from gillspoon._reading import GameReader
-        fixes = [Fix("planted", frozenset(range(60)), True, ("", ""), it) for it in proposals]
+        fix = Fix("planted", frozenset(range(60)), True, ("", ""), lambda here: Change(*edit))
         around = Around(True, True, True)
-        return Mending(text, fixes, GameReader(), False, around).run().changes.text
-
-    def change(self, *edit):
-        """A function of a fault that proposes this edit, wherever the fault is."""
-        from gillspoon._here import Change
-        return lambda here: Change(*edit)
+        return Mending(text, [fix], GameReader(), False, around).run().changes.text
 
     def test_a_fix_that_makes_another_game_is_refused(self):
         """Each would mend the fault, and changes a move or the first position before it."""
         text = b'[FEN "4k3/8/8/8/8/8/8/4K2R w K - 0 1"]\n\n1. Rh2 Kd7 2. Kd2 Kc6 3. 1/2 *\n'
-        end = text.index(b" 3. 1/2")
-        wrong = text[:end] + b" Rh8 *\n"
-
+        wrong = text[:text.index(b" 3. 1/2")] + b" Rh8 *\n"
         for old, new in ((b"Rh2", b"Rh3"), (b"Kd7", b"Kd8"), (b"Kd2", b"Rh8"),
                          (b"4K2R w", b"4K1R1 w"), (b"Rh2 ", b"O-O "), (b"1. Rh2 Kd7 2. ", b"")):
-            bad = wrong.replace(b"Rh8 *", b"Rb6+ *") if old == b"Kd2" else wrong.replace(
-                b" Rh8 *", b" 3. K9 *")
+            bad = wrong.replace(b"Rh8 *", b"Rb6+ *" if old == b"Kd2" else b"3. K9 *")
             at = wrong.index(old)
-            planted = self.change(at, at + len(old), new)
-            self.assertEqual(self.mended(bad, planted), bad, (old, new))
+            self.assertEqual(self.mended(bad, at, at + len(old), new), bad, (old, new))
         # a tag before the moves is changed, and the game is another one
         tag = b'[Result "0-1"]\n\n1. e4 e5 1-0\n'
         other = b'[FEN "4k3/4p3/8/8/8/8/4P3/K7 w - - 0 1"]\n[Result "1-0"]'
-        self.assertEqual(self.mended(tag, self.change(0, 14, other)), tag)
-        self.assertEqual(self.mended(tag, self.change(9, 12, b"1-0")), tag.replace(b"0-1", b"1-0"))
+        self.assertEqual(self.mended(tag, 0, 14, other), tag)
+        self.assertEqual(self.mended(tag, 9, 12, b"1-0"), tag.replace(b"0-1", b"1-0"))
 
     def test_a_fix_must_go_on(self):
         text = b"1. e4 K9 Ka1 *\n"
         for new in (b"K9", b"K8", b"Ke2", b"{a", b"["):
-            self.assertEqual(self.mended(text, self.change(6, 8, new)), text)
-        self.assertEqual(self.mended(text, self.change(6, 8, b"e5")), text.replace(b"K9", b"e5"))
+            self.assertEqual(self.mended(text, 6, 8, new), text)
+        self.assertEqual(self.mended(text, 6, 8, b"e5"), text.replace(b"K9", b"e5"))
 
 
 SWALLOWED = b'[White "Ada"]\n\n1. e4 {Black resigns\n\n[White "Bob"]\n\n1. d4 {good} *\n'
-
-
-# as export writes it
-ROSTER = HEAD[:-1]
 FORFEIT = "Termination is not time forfeit, or another word of the standard (PGN 9.8.1)"
 
 
@@ -299,50 +273,69 @@ class Warnings(Lint):
     """What gillspoon lint says of games that are sound."""
 
     def warned(self, text, *lines):
+        """A text has these warnings, and no fault."""
         status, out, told = self.lint("a.pgn", of=text)
         wanted = ["a.pgn:" + it for it in lines]
         self.assertEqual((status, out.splitlines()[:-1], told), (0, wanted, ""))
         self.assertEqual(out.endswith("%d warning%s\n" % (len(lines), "s"[len(lines) == 1:])),
                          bool(lines))
 
+    def warned_of_game(self, text, place, reason):
+        """A text has this warning of its first game."""
+        white = "a" if '[White "a"' in text else "?"
+        self.warned(text, "%s: warning: %s (game 1, %s \u2013 ?)" % (place, reason, white))
+
     def test_a_game_in_a_comment(self):
         line = ("5:1: warning: a comment holds a line that begins a tag section: perhaps it was "
                 "never closed (game 1, Ada \u2013 ?)")
         self.warned(SWALLOWED, line)
         self.warned(SWALLOWED.replace(b"\n", b"\r\n"), line)
-        self.warned(b'1. e4 {a\n[%clk 1:2]\n["x"]\n\n[a] "b"} *\n')
-        self.warned(b'1. e4 {[White "Ada"] "x"} *\n')
-
-    def test_it_is_closed(self):
-        wanted = SWALLOWED.replace(b"resigns\n", b"resigns} *\n")
-        said = self.lint("--fix", input=SWALLOWED)
-        self.assertEqual(said, (0, SWALLOWED.decode(), (
-            "1 file, 1 game, 0 faults, 1 warning, 0 edits, 1 more with --unsafe-fixes\n")))
-        self.assertEqual(self.lint("--fix", "--unsafe-fixes", input=SWALLOWED), (
-            0, wanted.decode(), "<stdin>:3:21: fixed (unsafe): comment never closed, no marker: "
-            "added } *\n1 file, 2 games, 0 faults, 1 edit\n"))
+        self.warned('1. e4 {a\n[%clk 1:2]\n["x"]\n\n[a] "b"} *\n')
+        self.warned('1. e4 {[White "Ada"] "x"} *\n')
+        # it is closed
+        self.says("--fix", 0, SWALLOWED.decode(), (
+            "1 file, 1 game, 0 faults, 1 warning, 0 edits, 1 more with --unsafe-fixes\n"),
+            input=SWALLOWED)
+        wanted = SWALLOWED.replace(b"resigns\n", b"resigns} *\n").decode()
+        self.says("--fix --unsafe-fixes", 0, wanted, (
+            "<stdin>:3:21: fixed (unsafe): comment never closed, no marker: added } *\n"
+            "1 file, 2 games, 0 faults, 1 edit\n"), input=SWALLOWED)
 
     def test_what_export_drops(self):
-        self.warned(b"{a} 1. e4 *\n", "1:1: warning: comment before a game, which export drops "
-                                      "(game 1, ? \u2013 ?)")
-        self.warned(b"1. e4 * {a}\n", "1:9: warning: comment after the last game, which export "
-                                      "drops")
+        drops = "which export drops"
+        self.warned_of_game("{a} 1. e4 *\n", "1:1", "comment before a game, " + drops)
+        self.warned("1. e4 * {a}\n", "1:9: warning: comment after the last game, " + drops)
+        # the others are counted, once a file
+        game = '%a\n[White {%x} "a"]\n\n1. e4 {\n%b} e5\n%c\n*\n'
+        line = "warning: 1 line begins with %, and export drops it"
+        comment = "1:8: warning: 1 comment is inside a tag pair, and export drops it"
+        for text, *lines in (
+                ("%a\n1. e4 *\n", "1:1: " + line), ("1. e4 *\r\n%a\r\n", "2:1: " + line),
+                ('[White {x} "a"]\n\n1. e4 *\n', comment), ('[White {x} "a"] 1. e4 *\n', comment),
+                ('[White "a"]\n%a\n[Black "b"]\n\n1. e4 *\n', "2:1: " + line),
+                (HEAD.decode() + "1. e4\n%a\n{%b} e5 *\n", "10:1: " + line),
+                (3 * game + "%d\n", "1:1: warning: 7 lines begin with %, and export drops them",
+                 "2:8: warning: 3 comments are inside tag pairs, and export drops them"),
+                ("1. e4 {\n%a} e5 *\n",), ('[White "{x} ; %"]\n\n1. e4 {%} *\n',),
+                ('[White "a"] {x}\n\n1. e4 *\n',),
+                # of gillspoon sieve
+                ("% byte 9: move is not legal; line 1\n% bytes 0 to 9, up to the end\n1. e4 *\n",)):
+            self.warned(text, *lines)
 
     def test_forms_of_tags(self):
-        for tag, reason in (
-                ('Date "2020-01-02"', "Date is not YYYY.MM.DD (PGN 8.1.1.3)"),
-                ('Round "one"', "Round is not a number, ? or - (PGN 8.1.1.4)"),
-                ('WhiteElo "about 2000"', "WhiteElo is not a number or - (PGN 9.1.2)"),
-                ('BlackElo ""', "BlackElo is not a number or - (PGN 9.1.2)"),
-                ('ECO "X99"', "ECO is not a letter and two digits (PGN 9.4.1)"),
-                ('Termination "won by forfeit"', FORFEIT), ('Termination "Forfeit"', FORFEIT),
-                ('Termination "time forfeit of both"', FORFEIT),
-                ('Termination "default"', FORFEIT), ('Termination "no show"', FORFEIT),
-                (r'Termination "a \"walkover\""', FORFEIT),
-                ('Variant "Atomic"', "Variant tag: the moves are checked by the rules of ordinary "
-                                     "chess")):
-            self.warned(b"[%s]\n\n*\n" % tag.encode(),
-                        "1:1: warning: %s (game 1, ? \u2013 ?)" % reason)
+        for reason, *tags in (
+                ("Date is not YYYY.MM.DD (PGN 8.1.1.3)", 'Date "2020-01-02"'),
+                ("Round is not a number, ? or - (PGN 8.1.1.4)", 'Round "one"'),
+                ("WhiteElo is not a number or - (PGN 9.1.2)", 'WhiteElo "about 2000"'),
+                ("BlackElo is not a number or - (PGN 9.1.2)", 'BlackElo ""'),
+                ("ECO is not a letter and two digits (PGN 9.4.1)", 'ECO "X99"'),
+                (FORFEIT, *('Termination "%s"' % it for it in (
+                    "won by forfeit", "Forfeit", "time forfeit of both", "default", "no show",
+                    r"a \"walkover\""))),
+                ("Variant tag: the moves are checked by the rules of ordinary chess",
+                 'Variant "Atomic"')):
+            for tag in tags:
+                self.warned_of_game("[%s]\n\n*\n" % tag, "1:1", reason)
         for tag in ('Date "????.??.??"', 'Date "2020.01.??"', 'Round "1.2"', 'Round "-"',
                     'Variant "Standard"', 'WhiteElo "2700"', 'BlackElo "-"', 'ECO "B12/13"',
                     'ECO "B12"', *('Termination "%s"' % it for it in (
@@ -351,23 +344,21 @@ class Warnings(Lint):
                         "rules infraction", "time forfeit", "unterminated", "Time forfeit",
                         # it says nothing of a forfeit
                         "Ada won by resignation", "", r"a \"draw\""))):
-            self.warned(b"[%s]\n\n*\n" % tag.encode())
+            self.warned("[%s]\n\n*\n" % tag)
 
     def test_doubts(self):
         """What is read without a word and may mean something else, and what is like it."""
-        lower = "move number 1 after 2: perhaps a marker or moves are missing"
-        marks, null = "a variation has marks and no move", "0000 is read as a move number: PGN has " \
-            "no null move"
+        number = "move number %d after %d: perhaps a marker or moves are missing"
+        lower, marks = number % (1, 2), "a variation has marks and no move"
+        null = "0000 is read as a move number: PGN has no null move"
         line = "a comment from ; to the end of the line begins with the next moves"
         for text, place, reason in (
                 ("1. e4 e5 2. Nf3 Nc6 1. d4 d6 *", "1:21", lower),
                 ("1. e4 e5 2. Nf3 Nc6 {9.} (2... d6) 1. d4 d6 2. c4 *", "1:36", lower),
                 ('[White "a"]\n\n1.e4 e5 2.Nf3 Nc6\n\n1.d4 d6 *', "5:1", lower),
-                ("1. e4 e5 4. Nf3 Nc6 5. d4 *", "1:10",
-                 "move number 4 after 1: perhaps a marker or moves are missing"),
+                ("1. e4 e5 4. Nf3 Nc6 5. d4 *", "1:10", number % (4, 1)),
                 # also if the last number is right
-                ("1. e4 e5 7. Nf3 Nc6 3. d4 *", "1:10",
-                 "move number 7 after 1: perhaps a marker or moves are missing"),
+                ("1. e4 e5 7. Nf3 Nc6 3. d4 *", "1:10", number % (7, 1)),
                 ("1. e4 0000 2. d5 *", "1:7", null), ("1. e4 (1. d4 0000 2. d5) *", "1:14", null),
                 ("1. e4 (!) e5 *", "1:7", marks), ("1. e4 ( $1 !?) e5 *", "1:7", marks),
                 ("1. e4 ; e5 2. Nf3 Nc6\n *", "1:7", line),
@@ -376,60 +367,38 @@ class Warnings(Lint):
                 ("1. e4 {a} ; e5 2. Nf3 Nc6\n {b; c} *", "1:11", line),
                 ("1. e4 (1. d4 ;d5 c4 e6\n ) *", "1:14", line),
                 ("1. Pf3 *", "1:4", "Pf3 is read as a pawn's move, and Nf3 is legal too")):
-            white = "a" if "White" in text else "?"
-            self.warned(text.encode(), "%s: warning: %s (game 1, %s \u2013 ?)" % (
-                place, reason, white))
+            self.warned_of_game(text, place, reason)
         for text in (
                 # the numbers run, or there are none with a period
                 "e4 e5 Nf3 *", "1 e4 e5 1 Nf3 *", "1. e4 e5 {7.} (1... c5 9. d4) 2. Nf3 *",
                 '[FEN "4k3/8/8/8/8/8/8/4K3 w - - 0 30"]\n\n30. Kd2 Kd7 31. Kd3 *',
                 '[FEN "4k3/8/8/8/8/8/8/4K3 b - - 0 30"]\n\n1... Kd7 2. Kd2 Kc6 3. Kd3 *',
-                "1. e4 2. e5 3. Nf3 4. Nc6 *",
+                "1. e4 2. e5 3. Nf3 4. Nc6 *", "1. e4 e5 Nf3 Nc6 3. d4 *",
                 "1. e4 1... e5 2. Nf3 2... Nc6 3. d4 (3. c3 a6 4. d4) *",
-                "1. e4 e5 Nf3 Nc6 3. d4 *",
                 "1. e4 {0000} *", '[White "0000"]\n\n1. e4 *', "1. e4 00000 e5 *",
                 "1. e4 (1. d4!) {(!)} *", "1. e4 () *", "1. e4 ({!}) *",
                 # too few plies, other numbers, no legal moves, words, or no such comment
-                "1. e4 ; e5 2. Nf3\n *", "1. e4 ; e5 3. Nf3 Nc6\n *", "1. e4 ; 1. e5 2. Nf3 Nc6\n *",
-                "1. e4 ; e5 2. Nf3 Nf3\n *", "1. e4 ; best by test\n *", "1. e4 {; e5 2. Nf3 Nc6} *",
-                "1. e4 {a {; e5} {; e5 2. Nf3 Nc6} e5 {; 2. Nf3 Nc6 3. Bb5} *",
-                "1. Pe4 *"):
-            self.warned(text.encode())
+                *("1. e4 ; %s\n *" % it for it in (
+                    "e5 2. Nf3", "e5 3. Nf3 Nc6", "1. e5 2. Nf3 Nc6", "e5 2. Nf3 Nf3",
+                    "best by test")), "1. e4 {; e5 2. Nf3 Nc6} *", "1. Pe4 *",
+                "1. e4 {a {; e5} {; e5 2. Nf3 Nc6} e5 {; 2. Nf3 Nc6 3. Bb5} *"):
+            self.warned(text)
 
     def test_names_of_tags(self):
         for name, meant in (("event", "Event"), ("fen", "FEN"), ("Setup", "SetUp"),
-                            ("RESULT", "Result"), ("Evnt", "Event"), ("Rounds", "Round"), ("Whitt", "White"),
-                            ("Dat", "Date")):
-            self.warned(b'[%s "x"]\n\n*\n' % name.encode(), "1:1: warning: tag %s: perhaps %s is "
-                        "meant (game 1, ? \u2013 ?)" % (name, meant))
-        for tags in ('[Event "x"]\n[Evnt "y"]', '[Wihte "a"]', '[Opening "x"]', '[Dates "x"]\n[Date "?'
-                     '???.??.??"]', '[SetUpp "x"]', '[WhiteElo "-"]'):
-            self.warned(b"%s\n\n*\n" % tags.encode())
+                            ("RESULT", "Result"), ("Evnt", "Event"), ("Rounds", "Round"),
+                            ("Whitt", "White"), ("Dat", "Date")):
+            self.warned_of_game('[%s "x"]\n\n*\n' % name, "1:1",
+                                "tag %s: perhaps %s is meant" % (name, meant))
+        for tags in ('[Event "x"]\n[Evnt "y"]', '[Wihte "a"]', '[Opening "x"]', '[SetUpp "x"]',
+                     '[Dates "x"]\n[Date "????.??.??"]', '[WhiteElo "-"]'):
+            self.warned(tags + "\n\n*\n")
 
     def test_a_game_of_nothing(self):
         nothing = "warning: a game without tags and moves after a marker (game %d, ? \u2013 ?)"
-        self.warned(b"****\n", *("1:%d: %s" % (at, nothing % at) for at in (2, 3, 4)))
-        self.warned(b"1. e4 *\n\n*\n1. d4 *\n", "3:1: " + nothing % 2)
-        for text in (b"*\n", b'*\n\n[White "?"]\n\n*\n', b"* 1. e4 *\n"):
-            self.warned(text)
-
-    def test_what_export_drops_once_a_file(self):
-        game = b"%%a\n[White {%%x} \"a\"]\n\n1. e4 {\n%%b} e5\n%%c\n*\n"
-        line = "warning: 1 line begins with %, and export drops it"
-        comment = "1:8: warning: 1 comment is inside a tag pair, and export drops it"
-        self.warned(b"%a\n1. e4 *\n", "1:1: " + line)
-        self.warned(b"1. e4 *\r\n%a\r\n", "2:1: " + line)
-        self.warned(b'[White {x} "a"]\n\n1. e4 *\n', comment)
-        self.warned(b'[White {x} "a"] 1. e4 *\n', comment)
-        self.warned(b'[White "a"]\n%a\n[Black "b"]\n\n1. e4 *\n', "2:1: " + line)
-        self.warned(ROSTER + b"\n1. e4\n%a\n{%b} e5 *\n", "10:1: " + line)
-        self.warned(3 * (game % ()) + b"%d\n",
-                    "1:1: warning: 7 lines begin with %, and export drops them",
-                    "2:8: warning: 3 comments are inside tag pairs, and export drops them")
-        for text in (b"1. e4 {\n%a} e5 *\n", b'[White "{x} ; %"]\n\n1. e4 {%} *\n',
-                     b'[White "a"] {x}\n\n1. e4 *\n',
-                     # of gillspoon sieve
-                     b"% byte 9: move is not legal; line 1\n% bytes 0 to 9, up to the end\n1. e4 *\n"):
+        self.warned("****\n", *("1:%d: %s" % (at, nothing % at) for at in (2, 3, 4)))
+        self.warned("1. e4 *\n\n*\n1. d4 *\n", "3:1: " + nothing % 2)
+        for text in ("*\n", '*\n\n[White "?"]\n\n*\n', "* 1. e4 *\n"):
             self.warned(text)
 
     def test_results_of_a_forfeit(self):
@@ -441,49 +410,45 @@ class Warnings(Lint):
                   "0:0", "1-0 forfeit", "Forfeit", "won by default")),
                 ("", ("won", "1/2", "?", "", "1-0-0", "0-1-0"))):
             for value in values:
-                text = b'[Result "%s"]\n\n1. e4 *\n' % value.encode()
-                self.assertEqual(self.lint("--quiet", "a.pgn", of=text), (
-                    1, "a.pgn:1:9: bad result value%s (game 1, ? \u2013 ?)\n" % note, ""), value)
+                self.says("--quiet a.pgn", 1,
+                          ["a.pgn:1:9: bad result value%s (game 1, ? \u2013 ?)" % note],
+                          of='[Result "%s"]\n\n1. e4 *\n' % value)
 
     def test_files(self):
         for text, line in ((b"", 1), (b"\n \n", 3), (b"%x\n", 1)):
-            self.assertEqual(self.lint("--strict", "a.pgn", of=text), (
-                1, "a.pgn:%d:1: warning: there is no game\n"
-                   "1 file, 0 games, 0 faults, 1 warning\n" % line, ""))
+            self.says("--strict a.pgn", 1, ["a.pgn:%d:1: warning: there is no game" % line,
+                                            "1 file, 0 games, 0 faults, 1 warning"], of=text)
         game = '[White "M\u00fcller"]\n\n*\n'
         self.warned(game.encode() + b"\n" + game.encode("latin-1"),
                     "5:10: warning: another encoding than that of the games before: a file is "
                     "UTF-8 or it is not (game 2, M\u00fcller \u2013 ?)")
-        self.warned(game.encode() * 2)
-        self.warned(game.encode("latin-1") * 2)
+        for encoding in ("utf-8", "latin-1"):
+            self.warned(game.encode(encoding) * 2)
 
     def test_options(self):
         self.put_all({"a.pgn": SWALLOWED, "b.pgn": SWALLOWED})
-        self.assertEqual(self.lint("--quiet", "a.pgn"), (0, "", ""))
-        self.assertEqual(self.lint("--strict", "a.pgn")[0], 1)
-        self.assertEqual(self.lint("--strict", "-j", "2", "a.pgn", "b.pgn"),
-                         self.lint("--strict", "a.pgn", "b.pgn"))
+        self.says("--quiet a.pgn", 0)
+        self.assertEqual(self.lint("--strict a.pgn")[0], 1)
+        self.assertEqual(self.lint("--strict -j 2 a.pgn b.pgn"), self.lint("--strict a.pgn b.pgn"))
         warning, summary = self.records("a.pgn")
         self.assertEqual(warning, {
             "kind": "warning", "file": "a.pgn", "line": 5, "column": 1, "offset": 37,
             "reason": "a comment holds a line that begins a tag section: perhaps it was never "
                       "closed", "game": 1, "white": "Ada", "black": "?"})
         self.assertEqual(summary["warnings"], 1)
-        log = json.loads(self.lint("--sarif", "a.pgn")[1])
+        log = json.loads(self.lint("--sarif a.pgn")[1])
         self.assertEqual([it["level"] for it in log["runs"][0]["results"]], ["warning"])
 
 
 class CountedWarnings(Lint):
     """With --fix and --diff the warnings that are left are counted."""
 
-    def count(self, text, *words):
+    def count(self, text, line=""):
         """How many warnings the summary has, in words and in its record, and the lines before."""
-        said = self.lint(*words, "a.pgn", of=text)
-        *lines, summary = (said[2] if "--diff" in words else said[1]).splitlines()
+        stream = 2 if "--diff" in line else 1
+        *lines, summary = self.lint(line + " a.pgn", of=text)[stream].splitlines()
         found = re.search(r"(\d+) warnings?\b", summary)
-        self.put("a.pgn", text)
-        record = json.loads(self.lint(*words, "--json", "a.pgn")[2 if "--diff" in words else 1]
-                            .splitlines()[-1])
+        record = json.loads(self.lint(line + " --json a.pgn", of=text)[stream].splitlines()[-1])
         self.assertEqual(record.get("warnings", 0), int(found[1]) if found else 0)
         return record.get("warnings", 0), [it for it in lines if "warning" in it]
 
@@ -496,19 +461,18 @@ class CountedWarnings(Lint):
                 # the game that was mended has one too
                 (BAD.replace(b"\n\n", b'\n[Date "today"]\n\n') + b"\n" + bad_round, 2),
                 (b"{a} 1. e4 *\n" + SWALLOWED, 2)):
-            for words in (["--fix"], ["--diff"], ["--fix", "--verbose"]):
-                self.assertEqual(self.count(text, *words), (count, []), (text, words))
+            for line in ("--fix", "--diff", "--fix --verbose"):
+                self.assertEqual(self.count(text, line), (count, []), (text, line))
         self.assertEqual(self.count(bad_round)[0], 1)
-
-    def test_one_that_a_fix_takes_away(self):
-        self.assertEqual(self.count(SWALLOWED, "--fix")[0], 1)
-        self.assertEqual(self.count(SWALLOWED, "--fix", "--unsafe-fixes")[0], 0)
+        # one that a fix takes away
+        for line, count in (("--fix", 1), ("--fix --unsafe-fixes", 0)):
+            self.assertEqual(self.count(SWALLOWED, line)[0], count)
 
     def test_in_several_files(self):
         for name in "abc":
             self.put("all/%s.pgn" % name, b'{x}[Round "one"]\n\n1. e4 *\n' + BAD)
-        for words in (["-j", "2"], []):
-            self.assertEqual(self.lint("--diff", "all", *words)[2].splitlines()[-1],
+        for line in ("-j 2", ""):
+            self.assertEqual(self.lint("--diff all " + line)[2].splitlines()[-1],
                              "3 files, 6 games, 0 faults, 6 warnings, 3 edits")
 
 
@@ -516,92 +480,82 @@ class Statistics(Lint):
     """gillspoon lint --statistics: how many faults each reason has, and edits each fix."""
 
     def test_counts(self):
-        self.put("all/a.pgn", b"1. e2-e4 e7-e5 2. Ke3 *\n")
-        self.put("all/b.pgn", b"1. e2-e4 e5 *\n[White \"a\"]\n\n1. e2-e4, -- *\n")
-        for words in ([], ["-j", "2"], ["--max", "1"]):
-            out = self.lint("--statistics", "all", *words)[1]
+        self.put_all({"all/a.pgn": b"1. e2-e4 e7-e5 2. Ke3 *\n",
+                      "all/b.pgn": b"1. e2-e4 e5 *\n[White \"a\"]\n\n1. e2-e4, -- *\n"})
+        for line in ("", "-j 2", "--max 1"):
+            out = self.lint("--statistics all " + line)[1]
             self.assertEqual(out.splitlines()[-2:], [
-                "      3  not a move", "2 files, 3 games, 3 faults in 2 files"], words)
-            out = self.lint("--statistics", "--diff", "all", *words)[2]
+                "      3  not a move", "2 files, 3 games, 3 faults in 2 files"], line)
+            out = self.lint("--statistics --diff all " + line)[2]
             self.assertEqual(out.splitlines()[-5:-1], [
                 "      1  move is not legal", "      1  stray byte", "      4  fix: long notation",
-                "      1  fix: comma"], words)
+                "      1  fix: comma"], line)
         self.assertNotIn("  3  not a move", self.lint("all")[1])
+        for word in ("--quiet", "--sarif"):
+            self.check_usage("--statistics a.pgn " + word)
 
-    def test_records(self):
+        # in records
         self.put("a.pgn", b"1. e2-e4 e7-e5 2. Ke3 *\n")
-        self.assertEqual(self.records("--statistics", "a.pgn")[-1]["reasons"], {"not a move": 1})
-        self.assertNotIn("fixes", self.records("--statistics", "a.pgn")[-1])
+        summary = self.records("--statistics a.pgn")[-1]
+        self.assertEqual(summary["reasons"], {"not a move": 1})
+        self.assertNotIn("fixes", summary)
         self.assertNotIn("reasons", self.records("a.pgn")[-1])
-        summary = self.records("--statistics", "--fix", "a.pgn")[-1]
+        summary = self.records("--statistics --fix a.pgn")[-1]
         self.assertEqual((summary["reasons"], summary["fixes"]),
                          ({"move is not legal": 1}, {"long notation": 2}))
-
-    def test_refused(self):
-        for word in ("--quiet", "--sarif"):
-            status, out, said = self.lint("--statistics", word, "a.pgn")
-            self.assertEqual((status, out, said.count("\n")), (2, "", 1))
 
 
 class Command(Lint):
     """gillspoon lint --fix, --diff and --fixes."""
 
     def test_fix(self):
-        self.assertEqual(self.lint("--fix", "a.pgn", of=BAD),
-                         (0, LINE + "1 file, 1 game, 0 faults, 1 edit\n", ""))
-        self.assertEqual(self.get("a.pgn"), MENDED)
+        self.says("--fix a.pgn", 0, LINE + "1 file, 1 game, 0 faults, 1 edit\n", of=BAD,
+                  files={"a.pgn": MENDED})
         before = os.stat(self.folder + "/a.pgn").st_ino
-        self.assertEqual(self.lint("--fix", "a.pgn"), (0, "1 file, 1 game, 0 faults, 0 edits\n", ""))
+        self.says("--fix a.pgn", 0, "1 file, 1 game, 0 faults, 0 edits\n")
         self.assertEqual(os.stat(self.folder + "/a.pgn").st_ino, before)
+        # standard input
+        for line in ("--fix -", "--fix"):
+            self.says(line, 0, MENDED.decode(), LINE.replace("a.pgn", "<stdin>")
+                      + "1 file, 1 game, 0 faults, 1 edit\n", input=BAD)
+        self.says("--fix --quiet -", 0, MENDED.decode(), input=MENDED)
 
     def test_what_is_left(self):
         """It is reported by the lines of the new text, and unsafe edits are counted."""
-        self.put("a.pgn", b"1. e2-e4 1-0\n\n" + BAD.replace(b"e5", b"-- 2. d4"))
-        wanted = MENDED.replace(b"e5", b"-- 2. d4")
-        said = ("a.pgn:1:1: fixed: missing Result tag: added [Result \"1-0\"]\n"
-                "a.pgn:1:4: fixed: long notation: e2-e4 \u2192 e2e4\n"
-                "a.pgn:6:4: fixed: long notation: e2-e4 \u2192 e2e4\n"
-                "a.pgn:8:9: stray byte: - (U+002D) (game 2, Ada \u2013 Bob)\n"
-                "1 file, 2 games, 1 fault in 1 file, 3 edits, 1 more with --unsafe-fixes\n")
-        self.assertEqual(self.lint("--fix", "a.pgn"), (1, said, ""))
-        self.assertEqual(self.get("a.pgn"), b'[Result "1-0"]\n\n1. e2e4 1-0\n\n' + wanted)
-        said = ("a.pgn:8:9: fixed (unsafe): null move: -- 2. d4 \u2192 {-- 2. d4}\n"
-                "1 file, 2 games, 0 faults, 1 edit\n")
-        self.assertEqual(self.lint("--fix", "--unsafe-fixes", "a.pgn"), (0, said, ""))
-
-    def test_standard_input(self):
-        for words in (["--fix", "-"], ["--fix"]):
-            self.assertEqual(self.lint(*words, input=BAD), (
-                0, MENDED.decode(), LINE.replace("a.pgn", "<stdin>")
-                + "1 file, 1 game, 0 faults, 1 edit\n"))
-        self.assertEqual(self.lint("--fix", "--quiet", "-", input=MENDED), (0, MENDED.decode(), ""))
+        self.says("--fix a.pgn", 1, [
+            "a.pgn:1:1: fixed: missing Result tag: added [Result \"1-0\"]",
+            "a.pgn:1:4: fixed: long notation: e2-e4 \u2192 e2e4",
+            "a.pgn:6:4: fixed: long notation: e2-e4 \u2192 e2e4",
+            "a.pgn:8:9: stray byte: - (U+002D) (game 2, Ada \u2013 Bob)",
+            "1 file, 2 games, 1 fault in 1 file, 3 edits, 1 more with --unsafe-fixes"],
+            of=b"1. e2-e4 1-0\n\n" + BAD.replace(b"e5", b"-- 2. d4"), files={"a.pgn": (
+                b'[Result "1-0"]\n\n1. e2e4 1-0\n\n' + MENDED.replace(b"e5", b"-- 2. d4"))})
+        self.says("--fix --unsafe-fixes a.pgn", 0, [
+            "a.pgn:8:9: fixed (unsafe): null move: -- 2. d4 \u2192 {-- 2. d4}",
+            "1 file, 2 games, 0 faults, 1 edit"])
 
     def test_diff(self):
         need("diff")
-        status, out, told = self.lint("--diff", "a.pgn", of=BAD)
+        status, out, told = self.lint("--diff a.pgn", of=BAD)
         self.assertEqual((status, out.splitlines()[:2], told.splitlines()[0] + "\n"),
                          (1, ["--- a.pgn", "+++ a.pgn mended"], LINE.replace("fixed", "would fix")))
         self.assertEqual([it for it in out.splitlines()[2:] if it[0] in "+-"],
                          ["-1. e2-e4 e5 *", "+1. e2e4 e5 *"])
         self.assertEqual(self.get("a.pgn"), BAD)
-        self.assertEqual(self.lint("--diff", "--quiet", "a.pgn", of=MENDED), (0, "", ""))
+        self.says("--diff --quiet a.pgn", 0, of=MENDED)
+        # a compressed file is compared, and not mended
+        self.assertEqual(self.lint("--fix a.pgn.gz", of=gzip.compress(BAD))[::2], (
+            3, "gillspoon: a.pgn.gz: is compressed: unpack it, or give it to --fix -\n"))
+        self.assertIn("+1. e2e4 e5 *", self.lint("--diff a.pgn.gz")[1])
 
     def test_names(self):
-        self.assertEqual(self.lint("--fix", "--ignore", "long-notation", "a.pgn", of=BAD)[0], 1)
-        self.assertEqual(self.lint("--fix", "--select", "castling,small letter", "a.pgn")[0], 1)
+        self.assertEqual(self.lint("--fix --ignore long-notation a.pgn", of=BAD)[0], 1)
+        self.assertEqual(self.lint("--fix --select", "castling,small letter", "a.pgn")[0], 1)
         self.assertEqual(self.get("a.pgn"), BAD)
-        self.assertEqual(self.lint("--fix", "--select", "long notation", "a.pgn")[0], 0)
-        self.assertEqual(self.lint("--fix", "--select", "none", "a.pgn"), (2, "", (
+        self.assertEqual(self.lint("--fix --select", "long notation", "a.pgn")[0], 0)
+        self.says("--fix --select none a.pgn", 2, told=(
             "gillspoon lint: argument --select: there is no fix none; --fixes lists them "
-            "(--help shows the usage)\n")))
-
-    def test_each_name_that_is_listed_can_be_given(self):
-        rows = self.lint("--fixes")[1].splitlines()[2:]
-        names = [row.split("|")[1].strip() for row in rows]
-        self.assertIn("look-alike letter", names)
-        for text in (",".join(names), ",".join(names).replace(" ", "-")):
-            self.put("a.pgn", MENDED)
-            self.assertEqual(self.lint("--diff", "--select", text, "--quiet", "a.pgn"), (0, "", ""))
+            "(--help shows the usage)\n"))
 
     def test_languages(self):
         promoted = '[FEN "7k/P7/8/8/8/8/8/K7 w - - 0 1"]\n\n1. %s Kg7 2. %s *\n'
@@ -626,90 +580,81 @@ class Command(Lint):
                 # a Dutch knight, also where P is a pawn's letter before the fault
                 ("nl", "1. e4 e5 2. Pf3 Pc6 3. Lb5 a6 *\n", "1. e4 e5 2. Nf3 Nc6 3. Bb5 a6 *\n"),
                 ("nl", "1. Pf3 d5 2. Pe5 *\n", "1. Nf3 d5 2. Ne5 *\n")):
-            self.assertEqual(self.lint("--fix", "--language", code, input=text.encode())[:2],
-                             (0, wanted))
+            line = "--fix --language " + code
+            self.assertEqual(self.lint(line, input=text.encode())[:2], (0, wanted))
             # English games stay, and so does a game without its language
-            self.assertEqual(self.lint("--fix", "--language", code, input=wanted.encode())[1],
-                             wanted)
+            self.assertEqual(self.lint(line, input=wanted.encode())[1], wanted)
             with self.subTest(text):
                 self.assertNotEqual(self.lint("--fix", input=text.encode())[1], wanted)
         # a sound game with pawns' letters stays, and one that the letters do not mend
         for text in ("1. Pe4 Pe5 2. Pf3 Pc6 *\n", "1. Pe4 e5 2. Pf3 Pe9 *\n"):
-            self.assertEqual(self.lint("--fix", "--language", "nl", input=text.encode())[1], text)
+            self.assertEqual(self.lint("--fix --language nl", input=text.encode())[1], text)
 
     def test_wrong_words(self):
-        for words in (["--fix", "--diff", "a"], ["--fix", "--sarif", "a"], ["--fix", "-", "a"],
-                      ["--unsafe-fixes", "a"]):
-            self.check_usage(*words)
+        for line in ("--fix --diff a", "--fix --sarif a", "--fix - a", "--unsafe-fixes a",
+                     "--quiet --verbose --fix a", "--verbose a"):
+            self.check_usage(line)
 
     def test_table(self):
+        """It has each fix, is that of the document, and gives names that are taken."""
         from gillspoon._fixes import LISTED
         status, out, told = self.lint("--fixes")
-        rows = [line.split(" | ") for line in out.splitlines()]
-        self.assertEqual((status, told, [row[0][2:] for row in rows[2:]]),
-                         (0, "", [it.name for it in LISTED]))
-        self.assertEqual([row[2] for row in rows[2:]],
-                         ["yes" if it.is_safe else "no" for it in LISTED])
-
-    def test_the_table_of_the_document(self):
+        rows = [line.split(" | ") for line in out.splitlines()[2:]]
+        self.assertEqual((status, told), (0, ""))
+        self.assertEqual([(row[0][2:], row[2]) for row in rows],
+                         [(it.name, "yes" if it.is_safe else "no") for it in LISTED])
         found = re.search(r"<!-- gillspoon lint --fixes: begin -->\n\n(.*?)\n<!--",
                           text_of("docs/TOOLS.md"), re.S)
-        self.assertEqual(found[1], self.lint("--fixes")[1])
+        self.assertEqual(found[1], out)
+        names = ",".join(row[0][2:] for row in rows)
+        self.assertIn("look-alike letter", names)
+        for text in (names, names.replace(" ", "-")):
+            self.says("--quiet --diff --select", 0, names=[text, "a.pgn"], of=MENDED)
 
     def test_json(self):
         self.put("a.pgn", BAD)
         fix = {"game": 1, "line": 4, "column": 4, "offset": 32, "old": "e2-e4", "new": "e2e4",
                "name": "long notation", "safe": True}
         self.assertEqual(self.records("a.pgn")[0]["fixes"], [fix])
-        self.assertEqual(self.records("--fix", "a.pgn"), [
-            {"kind": "fix", "file": "a.pgn", **fix},
-            {"kind": "summary", "files": 1, "games": 1, "faults": 0, "bad_files": 0, "fixed": 1,
-             "more": 0}])
-
-    def test_sarif(self):
-        log = json.loads(self.lint("--sarif", "a.pgn", of=BAD)[1])
+        log = json.loads(self.lint("--sarif a.pgn")[1])
         self.assertEqual(log["runs"][0]["results"][0]["fixes"], [{
             "description": {"text": "long notation"},
             "artifactChanges": [{
                 "artifactLocation": {"uri": "a.pgn"},
                 "replacements": [{"deletedRegion": {"byteOffset": 32, "byteLength": 5},
                                   "insertedContent": {"text": "e2e4"}}]}]}])
-
-    def test_compressed_files_stay(self):
-        self.assertEqual(self.lint("--fix", "a.pgn.gz", of=gzip.compress(BAD))[::2], (
-            3, "gillspoon: a.pgn.gz: is compressed: unpack it, or give it to --fix -\n"))
-        need("diff")
-        self.assertIn("+1. e2e4 e5 *", self.lint("--diff", "a.pgn.gz")[1])
+        self.assertEqual(self.records("--fix a.pgn"), [
+            {"kind": "fix", "file": "a.pgn", **fix},
+            {"kind": "summary", "files": 1, "games": 1, "faults": 0, "bad_files": 0, "fixed": 1,
+             "more": 0}])
 
     def test_modes_links_and_read_only_files(self):
         self.put("a.pgn", BAD)
         os.chmod(self.folder + "/a.pgn", 0o640)
         os.symlink("a.pgn", self.folder + "/link.pgn")
         os.link(self.folder + "/a.pgn", self.folder + "/hard.txt")
-        self.assertEqual(self.lint("--fix", "link.pgn")[::2], (
+        self.assertEqual(self.lint("--fix link.pgn")[::2], (
             0, "gillspoon: link.pgn: had 2 hard links: those of other names keep the old text\n"))
         self.assertTrue(os.path.islink(self.folder + "/link.pgn"))
         self.assertEqual(stat.S_IMODE(os.stat(self.folder + "/a.pgn").st_mode), 0o640)
         self.assertEqual((self.get("a.pgn"), self.get("hard.txt")), (MENDED, BAD))
         self.put("b.pgn", BAD)
         os.chmod(self.folder + "/b.pgn", 0o444)
-        self.assertEqual(self.lint("--fix", "b.pgn")[::2], (
+        self.assertEqual(self.lint("--fix b.pgn")[::2], (
             3, "gillspoon: b.pgn: is read-only; it is left as it is\n"))
         self.assertEqual((self.get("b.pgn"), sorted(os.listdir(self.folder))),
                          (BAD, ["a.pgn", "b.pgn", "hard.txt", "link.pgn"]))
-
-    def test_names_with_line_ends(self):
+        # names with line ends
         self.put("a\nb.pgn", BAD)
-        self.assertEqual(self.lint("--fix", "--quiet", "a\nb.pgn", "none\nx.pgn"), (
-            3, "", "gillspoon: none\\nx.pgn: No such file or directory\n"))
-        self.assertEqual(self.get("a\nb.pgn"), MENDED)
+        self.says("--fix --quiet", 3, "", "gillspoon: none\\nx.pgn: No such file or directory\n",
+                  names=["a\nb.pgn", "none\nx.pgn"], files={"a\nb.pgn": MENDED})
 
     def test_a_full_disk(self):
         """A limit on the size of files stands for it."""
         text = BAD + MENDED * 4000
         self.put("a.pgn", text)
-        for words in ([], ["--verbose"], ["--json"]):
-            status, out, told = self.lint("--fix", *words, "a.pgn", preexec_fn=files_up_to(1 << 16))
+        for line in ("", "--verbose", "--json"):
+            status, out, told = self.lint("--fix a.pgn " + line, preexec_fn=files_up_to(1 << 16))
             self.assertEqual((status, told), (
                 3, "gillspoon: a.pgn: File too large; it is left as it is\n"))
             self.assertNotIn("fix", out.replace("fixed\": 0", ""))
@@ -718,8 +663,7 @@ class Command(Lint):
     def test_a_full_file_system(self):
         """Files that have room are mended all the same."""
         need("unshare", "mount")
-        text = BAD * 900
-        self.put_all({"text": text, "small": BAD})
+        self.put_all({"text": BAD * 900, "small": BAD})
         os.mkdir(self.folder + "/disk")
         # 64 KiB, of which the first file has 40 and the second one 4
         script = ('mount -t tmpfs -o size=64k none disk || exit 77; cp text disk/a.pgn; '
@@ -759,69 +703,60 @@ class ManyEdits(Lint):
                 for it in range(count)]
 
     def summary(self, count):
-        return "1 file, %d games, 0 faults, %d edits" % (count, count)
+        return "1 file, {0:,} games, 0 faults, {0:,} edits".format(count)
+
+    def mended(self, count):
+        return {"a.pgn": b"\n".join([MENDED] * count)}
 
     def test_the_rest_is_a_count(self):
         for count, more in ((200, []), (201, ["a.pgn: ... and 1 more edit (--verbose shows all)"]),
                             (1500, ["a.pgn: ... and 1,300 more edits (--verbose shows all)"])):
             lines = self.fill(count)
-            status, out, told = self.lint("--fix", "a.pgn")
-            end = self.summary(count).replace("1500", "1,500")
-            self.assertEqual((status, out.splitlines(), told), (0, lines[:200] + more + [end], ""))
-            self.assertEqual(self.get("a.pgn"), b"\n".join([MENDED] * count))
+            self.says("--fix a.pgn", 0, [*lines[:200], *more, self.summary(count)],
+                      files=self.mended(count))
 
     def test_verbose_and_json_have_all(self):
         lines = self.fill(250)
-        self.assertEqual(self.lint("--fix", "--verbose", "a.pgn"),
-                         (0, "\n".join([*lines, self.summary(250), ""]), ""))
-        for words in ([], ["--quiet"], ["--verbose"]):
+        self.says("--fix --verbose a.pgn", 0, [*lines, self.summary(250)])
+        for line in ("", "--quiet", "--verbose"):
             self.fill(250)
-            found = [it for it in self.records("--fix", *words, "a.pgn") if it["kind"] == "fix"]
+            found = [it for it in self.records("--fix a.pgn " + line) if it["kind"] == "fix"]
             self.assertEqual([it["line"] for it in found], [5 * it + 4 for it in range(250)])
 
     def test_quiet_has_none(self):
         need("diff")
         for count in (1, 250):
             lines = self.fill(count)
-            self.assertEqual(self.lint("--diff", "--quiet", "a.pgn")[2], "")
-            self.assertEqual(self.lint("--fix", "--quiet", "a.pgn"), (0, "", ""))
-            self.assertEqual(self.get("a.pgn"), b"\n".join([MENDED] * count))
+            self.assertEqual(self.lint("--diff --quiet a.pgn")[2], "")
+            self.says("--fix --quiet a.pgn", 0, files=self.mended(count))
             self.fill(count)
-            self.assertEqual(len(self.lint("--fix", "a.pgn")[1].splitlines()),
+            self.assertEqual(len(self.lint("--fix a.pgn")[1].splitlines()),
                              min(len(lines), 201) + 1)
         # what is left is written all the same
-        self.assertEqual(self.lint("--fix", "--quiet", "a.pgn", of=BAD.replace(b"e5", b"e9")), (
-            1, "a.pgn:4:9: not a move (game 1, Ada \u2013 Bob)\n", ""))
+        self.says("--fix --quiet a.pgn", 1, ["a.pgn:4:9: not a move (game 1, Ada \u2013 Bob)"],
+                  of=BAD.replace(b"e5", b"e9"))
 
     def test_standard_input_and_processes(self):
+        more = "%s: ... and 2 more edits (--verbose shows all)"
         lines = self.fill(202)
-        more = "<stdin>: ... and 2 more edits (--verbose shows all)"
-        said = [it.replace("a.pgn", "<stdin>") for it in lines[:200]] + [more, self.summary(202)]
-        status, out, told = self.lint("--fix", input=self.get("a.pgn"))
-        self.assertEqual((status, out, told.splitlines()),
-                         (0, "\n".join([MENDED.decode()] * 202), said))
-        for jobs in ("1", "2"):
-            wanted = []
-            for name in ("a.pgn", "b.pgn"):
-                wanted += self.fill(202, name)[:200]
-                wanted.append("%s: ... and 2 more edits (--verbose shows all)" % name)
+        said = [it.replace("a.pgn", "<stdin>") for it in lines[:200]]
+        said += [more % "<stdin>", self.summary(202), ""]
+        self.says("--fix", 0, "\n".join([MENDED.decode()] * 202), "\n".join(said),
+                  input=self.get("a.pgn"))
+        for jobs in "12":
+            wanted = [it for name in ("a.pgn", "b.pgn")
+                      for it in (*self.fill(202, name)[:200], more % name)]
             wanted.append("2 files, 404 games, 0 faults, 404 edits")
-            self.assertEqual(self.lint("--fix", "-j", jobs, "a.pgn", "b.pgn")[1].splitlines(),
-                             wanted)
+            self.assertEqual(self.lint("--fix a.pgn b.pgn -j " + jobs)[1].splitlines(), wanted)
 
     def test_lines_come_behind_the_file(self):
         """Whoever reads a line of an edit finds the new text."""
         self.fill(3)
-        os.mkfifo(self.folder + "/out")
         with subprocess.Popen([*LINT, "--fix", "a.pgn"], cwd=self.folder, env=self.env,
                               stdout=subprocess.PIPE) as running:
             running.stdout.read(1)
-            self.assertEqual(self.get("a.pgn"), b"\n".join([MENDED] * 3))
+            self.assertEqual(self.get("a.pgn"), self.mended(3)["a.pgn"])
             running.stdout.read()
-
-    def test_wrong_words(self):
-        for words in (["--quiet", "--verbose", "--fix", "a"], ["--verbose", "a"]):
-            self.check_usage(*words)
 
     def test_memory(self):
         """What is held until the file is replaced does not grow with the number of edits."""
@@ -832,10 +767,8 @@ class ManyEdits(Lint):
             tracemalloc.start()
             try:
                 held = HeldEdits(most)
-                edits = (Edit(it, it, 4, it, b"e2-e4", b"e2e4", "long notation", True)
-                         for it in range(count))
-                for edit in edits:
-                    held.add(edit)
+                for it in range(count):
+                    held.add(Edit(it, it, 4, it, b"e2-e4", b"e2e4", "long notation", True))
                 shown = count if most is None else min(most, count)
                 self.assertEqual(([it.game for it in held], held.more),
                                  (list(range(shown)), count - shown))
@@ -863,50 +796,50 @@ class Processes(Lint):
 
     def test_they_change_nothing(self):
         need("diff")
-        for words in (["--fix"], ["--diff"], ["--fix", "--json"], ["--fix", "--unsafe-fixes"],
-                      ["--fix", "--max", "2"], ["--diff", "--quiet"], ["--fix", "--board"]):
+        for line in ("--fix", "--diff", "--fix --json", "--fix --unsafe-fixes", "--fix --max 2",
+                     "--diff --quiet", "--fix --board"):
             said = []
-            for jobs in ("1", "3"):
+            for jobs in "13":
                 shutil.rmtree(self.folder + "/all", ignore_errors=True)
                 self.fill()
-                said.append((self.lint(*words, "-j", jobs, "all", "missing", "all/01.pgn"),
-                             self.texts()))
-            with self.subTest(words):
+                said.append((self.lint(line + " all missing all/01.pgn -j " + jobs), self.texts()))
+            with self.subTest(line):
                 self.assertEqual(said[0], said[1])
-                self.assertEqual(said[0][0][0], 3)
+                (status, *_), texts = said[0]
+                wanted = MENDED if "--fix" in line else BAD
                 # the locked one stays
-                self.assertEqual(said[1][1]["locked.pgn"], BAD)
-                wanted = MENDED if "--fix" in words else BAD
-                self.assertEqual((said[1][1]["01.pgn"], said[1][1]["one.pgn"]), (wanted, wanted))
+                self.assertEqual(
+                    (status, texts["locked.pgn"], texts["01.pgn"], texts["one.pgn"]),
+                    (3, BAD, wanted, wanted))
 
     def test_standard_input_among_files(self):
         need("diff")
         self.put_all({"a.pgn": BAD, "b.pgn": BAD})
-        words = ["--diff", "a.pgn", "-", "b.pgn"]
-        one = self.lint(*words, input=BAD)
-        self.assertEqual(self.lint("-j", "2", *words, input=BAD), one)
+        one = self.lint("--diff a.pgn - b.pgn", input=BAD)
+        self.says("--diff a.pgn - b.pgn -j 2", *one, input=BAD)
         self.assertEqual((one[0], one[1].count("+1. e2e4 e5 *")), (1, 3))
 
     def test_a_signal_leaves_no_file(self):
         """Each process removes the file that it writes. What was mended stays mended."""
-        text = BAD * 20000
+        text, names = BAD * 20000, ["a.pgn", "b.pgn", "c.pgn"]
         for number in (signal.SIGTERM, signal.SIGHUP, signal.SIGINT):
-            self.put_all(dict.fromkeys(("a.pgn", "b.pgn", "c.pgn"), text))
-            ran = signalled([*LINT, "--fix", "-j", "2", "a.pgn", "b.pgn", "c.pgn"], number,
-                            self.folder, env=self.env)
+            self.put_all(dict.fromkeys(names, text))
+            ran = signalled([*LINT, "--fix", "-j", "2", *names], number, self.folder, env=self.env)
             self.assertEqual(ran[::2], (-number, b""))
-            self.assertEqual(sorted(os.listdir(self.folder)), ["a.pgn", "b.pgn", "c.pgn"])
-            for name in ("a.pgn", "b.pgn", "c.pgn"):
+            self.assertEqual(sorted(os.listdir(self.folder)), names)
+            for name in names:
                 self.assertIn(self.get(name), (text, MENDED * 20000))
 
     def test_sound_files_import_no_fix(self):
         """They cost what gillspoon lint costs."""
-        script = ("import sys; sys.path.insert(0, %r); from gillspoon._command import main; main(); "
-                  "print(*sorted(it for it in sys.modules if it.startswith('gillspoon._')))")
+        script = "; ".join((
+            "import sys", "sys.path.insert(0, %r)" % PACKAGE,
+            "from gillspoon._command import main", "main()",
+            "print(*sorted(it for it in sys.modules if it.startswith('gillspoon._')))"))
         for text, is_there in ((MENDED, False), (BAD, True)):
             self.put("a.pgn", text)
             for words in (["--fix"], ["--diff"], ["--json"]):
-                call = [sys.executable, "-c", script % PACKAGE, "lint", *words, "a.pgn"]
+                call = [sys.executable, "-c", script, "lint", *words, "a.pgn"]
                 out = output_of(run(call, cwd=self.folder, env=self.env), err=None)
                 loaded = set(out.decode().splitlines()[-1].split())
                 found = loaded & {"gillspoon._fixes", "gillspoon._mend", "gillspoon._here"}

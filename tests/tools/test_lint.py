@@ -1,4 +1,5 @@
 """Tests of gillspoon lint: what it says of bad games, its options and statuses, who reads it."""
+import contextlib
 import doctest
 import glob
 import gzip
@@ -17,7 +18,7 @@ import unittest
 import programs
 from documents import blocks_of, lines_of
 from programs import (PACKAGE, PACKERS, ROOT, Folder, bytes_of, full_device, need, need_module,
-                      need_package, not_tried, output_of, run, text_of, vectors, zip_of)
+                      need_package, not_tried, run, text_of, vectors, zip_of)
 from test_python import REAL
 
 setUpModule = need_package
@@ -31,58 +32,56 @@ BAD = PLAYERS + b"\n1. e4 e5 2. Ke3 *\n"
 NOBODY, ADA, BOTH = (" (game 1, %s \u2013 %s)" % it
                      for it in (("?", "?"), ("Ada", "?"), ("Ada", "Bob")))
 BAD_LINE = "4:13: move is not legal" + BOTH
-ILLEGAL = "move is not legal" + NOBODY
-# Each way to be bad: the text, and the lines about it without the name of the file.
-WAYS = {
-    "no such move": (BAD, [BAD_LINE]),
-    "an exposed king": (b'[FEN "4r2k/8/8/8/8/8/4R3/4K3 w - - 0 1"]\n' + PLAYERS + b"\nRd2 *\n",
-        ["5:1: move is not legal" + BOTH]),
-    "two knights": (b'[FEN "4k3/8/8/8/1N3N2/8/8/4K3 w - - 0 1"]\n\n1. Nd3 *\n',
-                    ["3:4: move is ambiguous" + NOBODY]),
-    "no move": (b"1. e4 e9 *\n", ["1:7: not a move" + NOBODY]),
-    "a null move": (b"1. e4 -- *\n", ["1:7: stray byte: - (U+002D)" + NOBODY]),
-    "a move in a variation": (b"1. e4 (1. Ke3) *\n", ["1:11: " + ILLEGAL]),
-    "a parenthesis": (PLAYERS + b"1. e4 ) *\n", [
-        "3:7: closing parenthesis without an open one" + BOTH]),
-    "no result": (b'[White "Ada"]\n\n1. e4\n\n[White "Bob"]\n\n1. d4 *\n', [
-        "5:1: tag in movetext: the game before may have no result at its end" + ADA]),
-    "a comment between tags": (b'[White "Ada"]\n{a}\n[Black "Bob"]\n\n1. e4 *\n', [
-        "3:1: tag in movetext: a comment behind a tag pair begins the movetext" + BOTH]),
-    "no result at the end": (b"1. e4\n", [
-        "2:1: unexpected end of input: the last game has no result at its end" + NOBODY]),
-    "no closing brace": (b"1. e4 {a} {b\nc ; {\n", [
-        "3:1: comment is not closed: it begins at line 1, column 11" + NOBODY]),
-    "no closing quote": (b'[White "Ada\n\n1. e4 *\n', ["1:8: string is not closed" + NOBODY]),
-    "quotes in a tag": (b'[Event "a "b""]\n' + GOOD, ["1:12: closing bracket expected" + BOTH]),
-    "a curly quote": ("[White \u201ca\n".encode(), ["1:8: stray byte: \u201c (U+201C)" + NOBODY]),
-    "a fraction of Latin-1": (b"1. e4 \xbd", ["1:7: stray byte: \xbd (U+00BD)" + NOBODY]),
-    "an angle bracket": (b"1. e4 <2> *\n", [
-        "1:7: reserved character: PGN 7 keeps < and > for later" + NOBODY]),
-    "tags alone": (b'\n\n[White "Ada"]\n\n[White "Bob"]\n\n1. e4 *\n', [
-        "5:2: the game before may have tags alone, without moves and a result" + ADA]),
-    "a tag twice": (b'[White "Ada"]\n[White "Bob"]\n\n1. e4 *\n', [
-        "2:2: tag is given twice" + ADA]),
-    "a bad result": (b'[White "Ada"]\n[Result "1"]\n[Black "Bob"]\n\n1. e4 *\n', [
-        "2:9: bad result value" + BOTH]),
-    "a bad FEN": (b'[FEN "x"]\n\n*\n', ["1:6: bad FEN, field 1" + NOBODY]),
-    "another result": (b'[Result "0-1"]\n\n1. e4 1-0\n', [
-        "3:7: result differs from the Result tag" + NOBODY]),
-    "no Result tag": (b"1. e4 1-0\n", [
-        "1:7: result differs from the Result tag: there is no Result tag, which counts as *; "
-        "--checked takes the result at the end" + NOBODY]),
-    "CR LF": (BAD.replace(b"\n", b"\r\n"), [BAD_LINE]),
-    "CR": (BAD.replace(b"\n", b"\r"), [BAD_LINE]),
-    "a byte order mark": (b"\xef\xbb\xbf1. Ke3 *\n", ["1:4: " + ILLEGAL]),
-    "UTF-8": ('[White "M\u00fcller"]\n\n1. e4 {\u00e4\u4e16} Ke3 *\n'.encode(), [
-        "3:12: move is not legal (game 1, M\u00fcller \u2013 ?)"]),
-    "Latin-1": ('[White "M\u00fcller"]\n\n1. e4 {\u00e4\u00e4} Ke3 *\n'.encode("latin-1"), [
-        "3:12: move is not legal (game 1, M\u00fcller \u2013 ?)"]),
-    "three bad games of five": (GOOD + b"\n" + BAD + b"\n" + BAD + b"\n" + GOOD + b"\n" + BAD, [
-            "%d:13: move is not legal (game %d, Ada \u2013 Bob)" % it
-            for it in ((9, 2), (14, 3), (24, 5))]),
-    "an escape sequence in a name": (b'[White "a\x1b[2J"]\n\n1. e4 *\n', [
-        "1:10: control byte" + NOBODY]),
-}
+FIVE_GAMES = b"\n".join((GOOD, BAD, BAD, GOOD, BAD))
+# Each way to be bad: its name, the text, and the lines about it without the name of the file, and
+# without the players if nobody is named.
+WAYS = {name: (text, [it if "(game " in it else it + NOBODY for it in lines])
+        for name, text, *lines in (
+    ("no such move", BAD, BAD_LINE),
+    ("an exposed king", b'[FEN "4r2k/8/8/8/8/8/4R3/4K3 w - - 0 1"]\n' + PLAYERS + b"\nRd2 *\n",
+     "5:1: move is not legal" + BOTH),
+    ("two knights", b'[FEN "4k3/8/8/8/1N3N2/8/8/4K3 w - - 0 1"]\n\n1. Nd3 *\n',
+     "3:4: move is ambiguous"),
+    ("no move", b"1. e4 e9 *\n", "1:7: not a move"),
+    ("a null move", b"1. e4 -- *\n", "1:7: stray byte: - (U+002D)"),
+    ("a move in a variation", b"1. e4 (1. Ke3) *\n", "1:11: move is not legal"),
+    ("a parenthesis", PLAYERS + b"1. e4 ) *\n",
+     "3:7: closing parenthesis without an open one" + BOTH),
+    ("no result", b'[White "Ada"]\n\n1. e4\n\n[White "Bob"]\n\n1. d4 *\n',
+     "5:1: tag in movetext: the game before may have no result at its end" + ADA),
+    ("a comment between tags", b'[White "Ada"]\n{a}\n[Black "Bob"]\n\n1. e4 *\n',
+     "3:1: tag in movetext: a comment behind a tag pair begins the movetext" + BOTH),
+    ("no result at the end", b"1. e4\n",
+     "2:1: unexpected end of input: the last game has no result at its end"),
+    ("no closing brace", b"1. e4 {a} {b\nc ; {\n",
+     "3:1: comment is not closed: it begins at line 1, column 11"),
+    ("no closing quote", b'[White "Ada\n\n1. e4 *\n', "1:8: string is not closed"),
+    ("quotes in a tag", b'[Event "a "b""]\n' + GOOD, "1:12: closing bracket expected" + BOTH),
+    ("a curly quote", "[White \u201ca\n".encode(), "1:8: stray byte: \u201c (U+201C)"),
+    ("a fraction of Latin-1", b"1. e4 \xbd", "1:7: stray byte: \xbd (U+00BD)"),
+    ("an angle bracket", b"1. e4 <2> *\n",
+     "1:7: reserved character: PGN 7 keeps < and > for later"),
+    ("tags alone", b'\n\n[White "Ada"]\n\n[White "Bob"]\n\n1. e4 *\n',
+     "5:2: the game before may have tags alone, without moves and a result" + ADA),
+    ("a tag twice", b'[White "Ada"]\n[White "Bob"]\n\n1. e4 *\n', "2:2: tag is given twice" + ADA),
+    ("a bad result", b'[White "Ada"]\n[Result "1"]\n[Black "Bob"]\n\n1. e4 *\n',
+     "2:9: bad result value" + BOTH),
+    ("a bad FEN", b'[FEN "x"]\n\n*\n', "1:6: bad FEN, field 1"),
+    ("another result", b'[Result "0-1"]\n\n1. e4 1-0\n',
+     "3:7: result differs from the Result tag"),
+    ("no Result tag", b"1. e4 1-0\n",
+     "1:7: result differs from the Result tag: there is no Result tag, which counts as *; "
+     "--checked takes the result at the end"),
+    ("CR LF", BAD.replace(b"\n", b"\r\n"), BAD_LINE), ("CR", BAD.replace(b"\n", b"\r"), BAD_LINE),
+    ("a byte order mark", b"\xef\xbb\xbf1. Ke3 *\n", "1:4: move is not legal"),
+    ("UTF-8", '[White "M\u00fcller"]\n\n1. e4 {\u00e4\u4e16} Ke3 *\n'.encode(),
+     "3:12: move is not legal (game 1, M\u00fcller \u2013 ?)"),
+    ("Latin-1", '[White "M\u00fcller"]\n\n1. e4 {\u00e4\u00e4} Ke3 *\n'.encode("latin-1"),
+     "3:12: move is not legal (game 1, M\u00fcller \u2013 ?)"),
+    ("three bad games of five", FIVE_GAMES, *(
+        "%d:13: move is not legal (game %d, Ada \u2013 Bob)" % it
+        for it in ((9, 2), (14, 3), (24, 5)))),
+    ("an escape sequence in a name", b'[White "a\x1b[2J"]\n\n1. e4 *\n', "1:10: control byte"))}
 # What is below a line with --board: the line, where the caret is, and for a rejected move the
 # position and what is said of it.
 BOARDS = {
@@ -116,7 +115,9 @@ def board_of(line, column, fen=None, said=None):
     return "".join("  %s\n" % it if it else "\n" for it in shown)
 
 
+WAYS_IN_A_FOLDER = {"ways/%s.pgn" % name: text for name, (text, _) in WAYS.items()}
 PACKED = ("gz", "bz2", "zst")
+NO_FILE = "has no file *.pgn, also with .gz, .bz2, .xz, .zst or .zip after it"
 QUEENS = "1k6/8/8/8/4Q2Q/8/8/K6Q w - - 0 1"
 KINGS = "4k3/8/8/8/8/8/8/4K3 %s - - 0 %s"
 CASTLING = ("White may not castle by %s here: the right is lost, a square between is occupied, "
@@ -189,37 +190,28 @@ LEVEL = {"enum": ["none", "note", "warning", "error"]}
 FROM_0, FROM_1 = ({"type": "integer", "minimum": it} for it in (0, 1))
 FILE = record(["uri"], uri=URI)
 # What SARIF 2.1.0 requires of a log, of those properties that are used here.
-SARIF = record(
-    ["version", "runs"],
-    **{"$schema": URI},
-    version={"enum": ["2.1.0"]},
-    runs=array(minItems=1, items=record(
-        ["tool"],
-        tool=record(["driver"], driver=record(
-            ["name"], name={"type": "string"},
-            rules=array(record(["id"], id=RULE, shortDescription=TEXT), uniqueItems=True))),
-        invocations=array(record(
-            ["executionSuccessful"], executionSuccessful={"type": "boolean"},
-            toolExecutionNotifications=array(record(["message"], message=TEXT, level=LEVEL)))),
-        columnKind={"enum": ["utf16CodeUnits", "unicodeCodePoints"]},
-        results=array(record(
-            ["message"], ruleId=RULE, message=TEXT, level=LEVEL,
-            fixes=array(minItems=1, items=record(
-                ["artifactChanges"], description=TEXT,
-                artifactChanges=array(minItems=1, items=record(
-                    ["artifactLocation", "replacements"], artifactLocation=FILE,
-                    replacements=array(minItems=1, items=record(
-                        ["deletedRegion"], insertedContent=TEXT, deletedRegion=record(
-                            ["byteOffset", "byteLength"], byteOffset=FROM_0,
-                            byteLength=FROM_0))))))),
-            locations=array(record([], physicalLocation=record(
-                ["artifactLocation"], artifactLocation=FILE,
-                region=record(["startLine"], startLine=FROM_1, startColumn=FROM_1,
-                              byteOffset=FROM_0)))))))))
+DELETED = record(["byteOffset", "byteLength"], byteOffset=FROM_0, byteLength=FROM_0)
+REPLACEMENT = record(["deletedRegion"], insertedContent=TEXT, deletedRegion=DELETED)
+CHANGE = record(["artifactLocation", "replacements"], artifactLocation=FILE,
+                replacements=array(REPLACEMENT, minItems=1))
+FIX = record(["artifactChanges"], description=TEXT, artifactChanges=array(CHANGE, minItems=1))
+REGION = record(["startLine"], startLine=FROM_1, startColumn=FROM_1, byteOffset=FROM_0)
+PLACE = record(["artifactLocation"], artifactLocation=FILE, region=REGION)
+RESULT = record(["message"], ruleId=RULE, message=TEXT, level=LEVEL, fixes=array(FIX, minItems=1),
+                locations=array(record([], physicalLocation=PLACE)))
+DRIVER = record(["name"], name={"type": "string"}, rules=array(
+    record(["id"], id=RULE, shortDescription=TEXT), uniqueItems=True))
+INVOCATION = record(
+    ["executionSuccessful"], executionSuccessful={"type": "boolean"},
+    toolExecutionNotifications=array(record(["message"], message=TEXT, level=LEVEL)))
+RUN = record(["tool"], tool=record(["driver"], driver=DRIVER), invocations=array(INVOCATION),
+             columnKind={"enum": ["utf16CodeUnits", "unicodeCodePoints"]}, results=array(RESULT))
+SARIF = record(["version", "runs"], **{"$schema": URI}, version={"enum": ["2.1.0"]},
+               runs=array(RUN, minItems=1))
 
 
 class Lint(Folder, unittest.TestCase):
-    """A test with a folder of its own."""
+    """A test with a folder of its own, where calls are given as command lines."""
 
     def setUp(self):
         super().setUp()
@@ -228,52 +220,52 @@ class Lint(Folder, unittest.TestCase):
         for name in ("NO_COLOR", "INSIDE_EMACS"):
             self.env.pop(name, None)
 
-    def lint(self, *words, of=None, **more):
-        """The status, the output and the errors of a call in the folder.
+    def lint(self, line="", *names, of=None, **more):
+        """The status, the output and the errors of a call: a line of words, and names behind it.
 
         A text `of` a file is first written to the last of the words.
         """
+        words = [*line.split(), *names]
         if of is not None:
             self.put(words[-1], of)
-        more.setdefault("env", self.env)
         if "input" not in more:
             more.setdefault("stdin", subprocess.DEVNULL)
-        ran = run([*LINT, *words], cwd=self.folder, **more)
+        ran = run([*LINT, *words], **{"cwd": self.folder, "env": self.env, **more})
         return ran.returncode, (ran.stdout or b"").decode(), (ran.stderr or b"").decode()
 
-    def in_lines(self, *words, **more):
-        """The same with the lines of the output."""
-        status, out, told = self.lint(*words, **more)
-        return status, out.splitlines(), told
+    def says(self, line, status, out="", told="", names=(), files=(), **more):
+        """A call ends so, and these files then have these texts.
 
-    def check_usage(self, *words):
+        The output is given as a text, or as its lines.
+        """
+        out = out if isinstance(out, str) else "".join("%s\n" % it for it in out)
+        self.assertEqual(self.lint(line, *names, **more), (status, out, told), (line, names))
+        self.assertEqual({it: self.get(it) for it in files}, dict(files))
+
+    def check_usage(self, line):
         """Wrong words are said in one line, which is given."""
-        status, out, told = self.lint(*words)
-        self.assertEqual((status, out, told.count("\n")), (2, "", 1), words)
+        status, out, told = self.lint(line)
+        self.assertEqual((status, out, told.count("\n")), (2, "", 1), line)
         return told
 
-    def records(self, *words, **more):
-        _, out, _ = self.lint("--json", *words, **more)
-        return [json.loads(it) for it in out.splitlines()]
+    def records(self, line, *names, **more):
+        return list(map(json.loads, self.lint("--json " + line, *names, **more)[1].splitlines()))
 
 
 class Faults(Lint):
     def test_each_way_to_be_bad(self):
-        self.put_all({name + ".pgn": text for name, (text, _) in WAYS.items()})
+        """Each alone, and all at once."""
+        self.put_all(WAYS_IN_A_FOLDER)
+        wanted = {}
         for name, (_, lines) in WAYS.items():
+            path = "ways/%s.pgn" % name
+            wanted[path] = ["%s:%s" % (path, it) for it in lines]
             with self.subTest(name):
-                status, out, told = self.lint("--quiet", name + ".pgn")
-                wanted = "".join("%s.pgn:%s\n" % (name, it) for it in lines)
-                self.assertEqual((status, out, told), (1, wanted, ""))
-
-    def test_all_at_once(self):
-        self.put_all({"ways/" + name + ".pgn": text for name, (text, _) in WAYS.items()})
-        wanted = ["ways/%s.pgn:%s" % (name, it) for name in sorted(WAYS, key="{}.pgn".format)
-                  for it in WAYS[name][1]]
+                self.says("--quiet", 1, wanted[path], names=[path])
         # 29 files have a game each, but one has a second game, and one has five
-        wanted.append("29 files, 34 games, 31 faults in 29 files")
-        for words in ([], ["-j", "3"]):
-            self.assertEqual(self.in_lines("ways", *words), (1, wanted, ""))
+        lines = [it for path in sorted(wanted) for it in wanted[path]]
+        for line in ("ways", "ways -j 3"):
+            self.says(line, 1, [*lines, "29 files, 34 games, 31 faults in 29 files"])
 
     def test_sentences(self):
         from gillspoon._findings import explained
@@ -299,32 +291,29 @@ class Faults(Lint):
 
     def test_names_further_down(self):
         for tags in ('[Event "a "b""]\n\n', '{a}\n[A-B "x"]\n', '[Event "\x01"]\n;x\n'):
-            self.put("a.pgn", tags.encode() + PLAYERS + b"\n1. e4 *\n")
-            self.assertIn("(game 1, Ada \u2013 Bob)", self.lint("a.pgn")[1])
+            self.assertIn("(game 1, Ada \u2013 Bob)", self.lint(
+                "a.pgn", of=tags.encode() + PLAYERS + b"\n1. e4 *\n")[1])
         # the names of the next game are not those of this one
-        self.put("a.pgn", b'[White "Cy"\n\n[Event "x"]\n' + PLAYERS + b"\n1. e4 *\n")
-        self.assertNotIn("Ada", self.lint("a.pgn")[1].splitlines()[0])
+        text = b'[White "Cy"\n\n[Event "x"]\n' + PLAYERS + b"\n1. e4 *\n"
+        self.assertNotIn("Ada", self.lint("a.pgn", of=text)[1].splitlines()[0])
 
     def test_boards(self):
         for name, shown in BOARDS.items():
             with self.subTest(name):
                 text, lines = WAYS[name]
-                _, out, _ = self.lint("--board", "--quiet", "a.pgn", of=text)
+                _, out, _ = self.lint("--board --quiet a.pgn", of=text)
                 self.assertEqual(re.sub(r"(?m)^ +$", "", out),
                                  "a.pgn:%s\n%s\n" % (lines[0], board_of(*shown)))
-
-    def test_a_mark_behind_a_pawn_s_move(self):
-        """A check mark belongs to no promotion that is proposed."""
+        # a check mark behind a pawn's move belongs to no promotion that is proposed
         promotes = b'[FEN "8/P6k/8/8/8/8/8/K7 w - - 0 1"]\n[SetUp "1"]\n\n1. a8+ *\n'
         for text, said in ((promotes, "A white pawn is promoted on a8: write a8=Q."),
                            (b"1. e4 e5 2. Ke2 e4xh1+ *\n", "No black pawn can go to h1.")):
-            status, out, err = self.lint("--board", "--quiet", "a.pgn", of=text)
+            status, out, err = self.lint("--board --quiet a.pgn", of=text)
             self.assertEqual((status, err), (1, ""), out)
             self.assertEqual(out.rstrip().splitlines()[-1].strip(), said)
-
-    def test_a_long_line_is_cut_around_the_caret(self):
-        self.put("a.pgn", b"1. e4 {" + b"w " * 200 + b"} Ke3 {" + b"w " * 200 + b"} *\n")
-        lines = self.lint("--board", "a.pgn")[1].splitlines()
+        # a long line is cut around the caret
+        text = b"1. e4 {" + b"w " * 200 + b"} Ke3 {" + b"w " * 200 + b"} *\n"
+        lines = self.lint("--board a.pgn", of=text)[1].splitlines()
         self.assertEqual(lines[1][2:], "..." + "w " * 29 + "} " + "Ke3 {" + "w " * 27 + "w...")
         self.assertEqual(lines[2][2:], " " * 63 + "^")
 
@@ -333,8 +322,7 @@ class Faults(Lint):
         wanted = {it["file"]: it for it in vectors()
                   if it.get("fault", {}).get("number") in (34, 35, 36)}
         self.assertEqual(set(wanted), set(VECTORS))
-        for name, vector in wanted.items():
-            self.put("all/%s.pgn" % name, vector["input"].encode())
+        self.put_all({"all/%s.pgn" % name: it["input"] for name, it in wanted.items()})
         found, boards = {}, self.boards("all")
         for it in self.records("all"):
             found.setdefault(it.get("file"), it)
@@ -350,7 +338,7 @@ class Faults(Lint):
         """For each file the first two fields of a FEN, as the first board of it shows them."""
         found = {}
         for name, lines in re.findall(r"(?m)^(\S+\.pgn):\d+:\d+: .*\n((?:  .*\n)+)", self.lint(
-                "--board", "--quiet", folder)[1]):
+                "--board --quiet " + folder)[1]):
             rows = re.findall(r"(?m)^  [1-8]  ((?:[.\w] ){7}[.\w])$", lines)
             fields = "/".join(re.sub(r"\.+", lambda it: str(len(it[0])), row.replace(" ", ""))
                               for row in rows)
@@ -370,8 +358,15 @@ JUNK = """e4Q e5N exd5N a8N a8Q+ axb8R h1=N Pe4=B K=Q Kxe9 N Nf N3 Nf3N Nf3=Q+ Q
 (( )) [ ] [White "x"] [x] " "x { } ; % < > -- Z0 null 1/2 1:0 0-0-0-0
 \ufeff \u200b \xa0 \u2655h5 \u265f \xbd
 \x00 \x1a \xff a8=\u2655 N\u200bf3 D RR1d1 e8= exd6e.p. Ng1f3g5 aaa8Q K@e4 * 1-0""".split()
-MODES = ([], ["--board"], ["--json"], ["--sarif"], ["--json", "--unsafe-fixes"], ["--diff"],
-         ["--diff", "--unsafe-fixes"], ["--fix"])
+MODES = ("", "--board", "--json", "--sarif", "--json --unsafe-fixes", "--diff",
+         "--diff --unsafe-fixes", "--fix")
+# Plants an error in a function of the package, and runs its command.
+FAILING = """import sys; sys.path.insert(0, %r)
+import gillspoon._findings as findings, gillspoon._reports as reports, gillspoon._mend as mend
+def failing(*words): raise KeyError('planted')
+%s = failing
+from gillspoon._command import main
+sys.exit(main())"""
 
 
 class NoTraceback(Lint):
@@ -393,66 +388,56 @@ class NoTraceback(Lint):
                 number, words[0], " ".join(words[1:]), words[0]))
         return "\n".join(games)
 
-    def try_modes(self, *paths):
+    def try_modes(self, paths):
         counts = []
-        for words in MODES:
-            status, out, told = self.lint("-j", "2", *words, *paths)
-            self.assertEqual(status, 1, words)
-            self.assertNotIn("Traceback", told)
-            self.assertNotIn("an error of gillspoon", told)
-            if "--diff" not in words:
-                self.assertEqual(told, "", words)
+        for line in MODES:
+            status, out, told = self.lint("-j 2 %s %s" % (line, paths))
+            self.assertEqual(status, 1, line)
+            for said in ("Traceback", "an error of gillspoon"):
+                self.assertNotIn(said, told)
+            if "--diff" not in line:
+                self.assertEqual(told, "", line)
             counts.append(len(out))
         self.assertGreater(min(counts), 100)
 
     def test_worked_inputs(self):
         inputs = vectors()
-        self.put_all({"all/%s.pgn" % it["file"]: it["input"].encode() for it in inputs})
+        self.put_all({"all/%s.pgn" % it["file"]: it["input"] for it in inputs})
         self.assertGreater(len(inputs), 250)
         self.try_modes("all")
 
     def test_junk_in_the_place_of_a_token(self):
-        for seed, name in enumerate("ab"):
-            self.put(name + ".pgn", self.games(1200, seed).encode())
-        self.try_modes("a.pgn", "b.pgn")
+        self.put_all({name + ".pgn": self.games(1200, seed) for seed, name in enumerate("ab")})
+        self.try_modes("a.pgn b.pgn")
 
     def test_an_error_of_its_own(self):
         """An error that is planted gives the faults without what failed, and status 3."""
-        script = ("import sys; sys.path.insert(0, %r)\nimport gillspoon._findings as findings, "
-                  "gillspoon._reports as reports, gillspoon._mend as mend\n"
-                  "def failing(*words): raise KeyError('planted')\n"
-                  "%s = failing\nfrom gillspoon._command import main\nsys.exit(main())")
         self.put_all({"a.pgn": BAD, "b.pgn": BAD.replace(b"Ke3", b"Ke4") + GOOD})
         said = "an error of gillspoon, please report it: KeyError: 'planted'"
-        first = "a.pgn:%s\n" % BAD_LINE
+        wanted = ["gillspoon: %s.pgn:4:13: %s" % (it, said) for it in "ab"]
         for planted, words in (
                 ("findings.explained", ["--board"]), ("findings.explained", ["--json"]),
                 ("findings.line_around", []), ("reports.board", ["--board"]),
-                ("mend.SectionMender.section", ["--json"]),
-                ("mend.SectionMender.section", ["--diff"]),
-                ("mend.SectionMender.section", ["--sarif"])):
+                *(("mend.SectionMender.section", [it]) for it in ("--json", "--diff", "--sarif"))):
             for jobs in ("1", "2"):
-                ran = run([sys.executable, "-c", script % (PACKAGE, planted), "lint", *words, "-j", jobs,
-                           "a.pgn", "b.pgn"], cwd=self.folder, env=self.env)
+                ran = run([sys.executable, "-c", FAILING % (PACKAGE, planted), "lint", *words, "-j",
+                           jobs, "a.pgn", "b.pgn"], cwd=self.folder, env=self.env)
                 with self.subTest(planted, words=words, jobs=jobs):
                     told = ran.stderr.decode().splitlines()
                     own = [it for it in told if said in it]
-                    self.assertEqual((ran.returncode, told[-2:]), (3, own))
-                    self.assertEqual(own, ["gillspoon: %s.pgn:4:13: %s" % (name, said)
-                                           for name in "ab"])
+                    self.assertEqual((ran.returncode, told[-2:], own), (3, own, wanted))
                     if words == ["--board"]:
-                        self.assertTrue(ran.stdout.decode().startswith(first))
-                        self.assertIn("2 files, 3 games, 2 faults in 2 files", ran.stdout.decode())
+                        out = ran.stdout.decode()
+                        self.assertTrue(out.startswith("a.pgn:%s\n" % BAD_LINE))
+                        self.assertIn("2 files, 3 games, 2 faults in 2 files", out)
 
     def test_many_braces(self):
         """Comments among tags have one reading: a search that fails then ends."""
-        self.put("a.pgn", b"1. e4 [" + b"{ ; " * 500 + b"\n")
-        self.put("b.pgn", b"[" + b"{ " * 500 + b"\n")
-        self.assertEqual(self.in_lines("--quiet", "a.pgn", "b.pgn"), (1, [
-            "a.pgn:1:7: tag in movetext: the game before may have no result at its end "
-            "(game 1, ? \u2013 ?)",
-            "b.pgn:2:1: comment is not closed: it begins at line 1, column 2 (game 1, ? \u2013 ?)",
-        ], ""))
+        self.put_all({"a.pgn": b"1. e4 [" + b"{ ; " * 500 + b"\n",
+                      "b.pgn": b"[" + b"{ " * 500 + b"\n"})
+        self.says("--quiet a.pgn b.pgn", 1, [
+            "a.pgn:1:7: tag in movetext: the game before may have no result at its end" + NOBODY,
+            "b.pgn:2:1: comment is not closed: it begins at line 1, column 2" + NOBODY])
 
 
 class Files(Lint):
@@ -461,34 +446,28 @@ class Files(Lint):
         need("zstd")
         paths = sorted(glob.glob(REAL, recursive=True)) or not_tried("pychess is missing")
         paths += glob.glob("/usr/share/pgn-extract/eco.pgn") or not_tried("pgn-extract is missing")
-        texts, games = {}, 0
-        for number, path in enumerate(paths):
-            texts["real/%02d.pgn" % number] = bytes_of(path)
+        plain = {"real/%02d.pgn" % at: bytes_of(path) for at, path in enumerate(paths)}
         # the rest of the 58 are some of them once more, compressed
-        packed = list(texts)[:58 - len(texts)]
-        for number, name in enumerate(packed):
-            kind = PACKED[number % len(PACKED)]
-            texts[name + "." + kind] = texts[name]
-            self.put(name + "." + kind, PACKERS[kind](texts[name]))
-        self.put_all({name: texts[name] for name in [it for it in texts if it.endswith(".pgn")]})
-        self.assertEqual(len(texts), 58)
+        packed = {"%s.%s" % (name, PACKED[at % len(PACKED)]): name
+                  for at, name in enumerate(list(plain)[:58 - len(plain)])}
+        self.put_all(plain)
+        for name, of_plain in packed.items():
+            self.put(name, PACKERS[name.rpartition(".")[2]](plain[of_plain]))
+        names = sorted([*plain, *packed])
+        self.assertEqual(len(names), 58)
         *found, summary = self.records("real")
-        found = [it for it in found if it["kind"] == "fault"]
         summary.pop("warnings", None)
-        sieved = {it: self.sieved(it, texts[it]) for it in texts if it.endswith(".pgn")}
-        wanted = []
-        for name in sorted(texts):
-            count, faults = sieved[name[:len("real/00.pgn")]]
-            games += count
-            wanted += [(name, *it) for it in faults]
-        self.assertEqual([(it["file"], it["offset"], it["reason"], it["line"]) for it in found],
-                         wanted)
+        sieved = {name: self.sieved(name, text) for name, text in plain.items()}
+        games = sum(sieved[packed.get(it, it)][0] for it in names)
+        wanted = [(name, *it) for name in names for it in sieved[packed.get(name, name)][1]]
+        self.assertEqual([(it["file"], it["offset"], it["reason"], it["line"])
+                          for it in found if it["kind"] == "fault"], wanted)
         self.assertEqual(summary, {
             "kind": "summary", "files": 58, "games": games, "faults": len(wanted),
             "bad_files": len({it[0] for it in wanted})})
         self.assertGreater(len(wanted), 5)
         self.assertGreater(games, 3000)
-        words = self.lint("-j", "4", "real")[1].splitlines()[-1]
+        words = self.lint("-j 4 real")[1].splitlines()[-1]
         self.assertTrue(words.startswith("58 files, %s games, %d faults in %d files" % (
             format(games, ","), len(wanted), summary["bad_files"])), words)
 
@@ -511,59 +490,53 @@ class Files(Lint):
             self.put(name, BAD)
         wanted = ["all/%s:%s" % (it, BAD_LINE) for it in (
             "a.PGN", "below/c.pgn.GZ", "below/d.pgn.bz2", "below/e.pgn.zst")]
-        wanted.append("5 files, 5 games, 4 faults in 4 files")
-        for words in (["all"], ["-j2", "all"]):
-            self.assertEqual(self.in_lines(*words), (1, wanted, ""))
+        for line in ("all", "-j2 all"):
+            self.says(line, 1, [*wanted, "5 files, 5 games, 4 faults in 4 files"])
 
     def test_names(self):
         shown = {"a b.pgn": "a b.pgn", "a\nb.pgn": "a\\nb.pgn", "-c.pgn": "-c.pgn",
                  "\x1b[2J.pgn": "\\x1b[2J.pgn", "\u00fc\u4e16.pgn": "\u00fc\u4e16.pgn"}
-        for name in shown:
-            self.put("names/" + name, BAD)
-            self.assertEqual(self.lint("--quiet", "names/" + name),
-                             (1, "names/%s:%s\n" % (shown[name], BAD_LINE), ""))
-            found = self.records("names/" + name)[0]
-            self.assertEqual(found["file"], "names/" + name)
+        for name, wanted in shown.items():
+            name = "names/" + name
+            self.put(name, BAD)
+            self.says("--quiet", 1, "names/%s:%s\n" % (wanted, BAD_LINE), names=[name])
+            self.assertEqual(self.records("", name)[0]["file"], name)
         status, out, _ = self.lint("names")
         self.assertEqual((status, out.count("\n")), (1, len(shown) + 1))
-
-    def test_a_leading_dash(self):
+        # a leading dash
         self.put("-c.pgn", BAD)
-        self.assertEqual(self.lint("d.pgn", "--quiet", "--", "-c.pgn", "d.pgn", of=BAD)[1],
-                         "".join("%s.pgn:%s\n" % (it, BAD_LINE) for it in ("d", "-c", "d")))
-        self.assertEqual(self.lint("--quiet", "--", "-c.pgn"), (1, "-c.pgn:%s\n" % BAD_LINE, ""))
-
-    def test_a_name_that_is_no_utf_8(self):
+        self.says("d.pgn --quiet -- -c.pgn d.pgn", 1, of=BAD, out=[
+            "%s.pgn:%s" % (it, BAD_LINE) for it in ("d", "-c", "d")])
+        self.says("--quiet -- -c.pgn", 1, "-c.pgn:%s\n" % BAD_LINE)
+        # a name that is no UTF-8
         self.put(b"\xff.pgn", BAD)
         ran = run([*LINT, "--quiet", b"\xff.pgn"], cwd=self.folder, env=self.env)
         self.assertEqual(ran.stdout, b"\xff.pgn:" + BAD_LINE.encode() + b"\n")
         self.assertIn("%FF.pgn", self.lint("--sarif", b"\xff.pgn")[1])
 
     def test_another_encoding_of_the_output(self):
-        self.put("a.pgn", BAD.replace(b"Ada", "Ad\u00e4".encode()))
         env = dict(self.env, LC_ALL="C", PYTHONIOENCODING="ascii", PYTHONUTF8="0")
-        self.assertEqual(self.lint("--quiet", "a.pgn", env=env)[1],
+        text = BAD.replace(b"Ada", "Ad\u00e4".encode())
+        self.assertEqual(self.lint("--quiet a.pgn", of=text, env=env)[1],
                          "a.pgn:4:13: move is not legal (game 1, Ad? - Bob)\n")
 
     def test_standard_input(self):
-        for words in ([], ["-"], ["-j", "2", "-", "good.pgn"]):
-            self.put("good.pgn", GOOD)
-            self.assertEqual(self.lint("--quiet", *words, input=BAD),
-                             (1, "<stdin>:%s\n" % BAD_LINE, ""))
+        self.put("good.pgn", GOOD)
+        for line in ("", "-", "-j 2 - good.pgn"):
+            self.says("--quiet " + line, 1, "<stdin>:%s\n" % BAD_LINE, input=BAD)
 
     def test_what_cannot_be_read(self):
         self.put_all({"good.pgn": GOOD, "bad.pgn": BAD,
                       "cut.pgn.gz": gzip.compress(GOOD * 100)[:-20]})
         os.mkdir(self.folder + "/empty")
         for name, reason in (
-                ("missing.pgn", "No such file or directory"),
-                ("good.pgn/x", "Not a directory"),
-                ("empty", "has no file *.pgn, also with .gz, .bz2, .xz, .zst or .zip after it"),
-                ("cut.pgn.gz", "Compressed file ended before the end-of-stream marker was "
-                 "reached")):
-            for words in ([], ["-j", "2"]):
+                ("missing.pgn", "No such file or directory"), ("good.pgn/x", "Not a directory"),
+                ("empty", NO_FILE),
+                ("cut.pgn.gz",
+                 "Compressed file ended before the end-of-stream marker was reached")):
+            for line in ("", "-j 2"):
                 with self.subTest(name):
-                    status, out, told = self.lint(*words, "good.pgn", name, "bad.pgn")
+                    status, out, told = self.lint("%s good.pgn %s bad.pgn" % (line, name))
                     self.assertEqual((status, told), (3, "gillspoon: %s: %s\n" % (name, reason)))
                     self.assertEqual(out.splitlines()[0], "bad.pgn:" + BAD_LINE)
                     self.assertIn("2 files, ", out)
@@ -583,8 +556,7 @@ class Files(Lint):
                          (3, b"gillspoon: a.pgn: Permission denied\n"))
 
     def test_no_library(self):
-        self.env["GILLSPOON_LIBRARY"] = "/missing.so"
-        status, out, told = self.lint("a.pgn")
+        status, out, told = self.lint("a.pgn", env=dict(self.env, GILLSPOON_LIBRARY="/missing.so"))
         self.assertEqual((status, out), (127, ""))
         self.assertIn("/missing.so cannot be used", told)
 
@@ -609,42 +581,44 @@ OTHERS = {
     "feed.pgn": (b"<?xml version='1.0'?>\n<games/>\n", PAGE),
     "guide.pgn": (b"%PDF-1.4\n%\xe2\xe3\xcf\xd3\n1 0 obj\n<</Type/Catalog>>\nendobj\n", PDF),
 }
+OTHERS_IN_A_FOLDER = {"all/" + name: text for name, (text, _) in OTHERS.items()}
 
 
 class OtherKinds(Lint):
     """Files that are no text of games are refused, and stay as they are."""
 
+    def setUp(self):
+        super().setUp()
+        self.put_all(OTHERS_IN_A_FOLDER)
+
     def test_each_kind(self):
-        self.put_all({"all/" + name: text for name, (text, _) in OTHERS.items()})
-        for words in ([], ["--board"], ["--json"], ["--sarif"], ["--quiet"], ["--checked"],
-                      ["--fix"], ["--fix", "--unsafe-fixes"], ["--diff", "--unsafe-fixes"]):
+        for line in ("", "--board", "--json", "--sarif", "--quiet", "--checked", "--fix",
+                     "--fix --unsafe-fixes", "--diff --unsafe-fixes"):
             reasons = {name: reason for name, (_, reason) in OTHERS.items()}
-            if "--fix" in words:
+            if "--fix" in line:
                 reasons["tape.pgn.gz"] = "is compressed: unpack it, or give it to --fix -"
-            status, out, told = self.lint(*words, "all")
+            status, out, told = self.lint(line + " all")
             lines = [it for it in told.splitlines() if it.startswith("gillspoon: ")]
-            with self.subTest(words):
+            with self.subTest(line):
                 self.assertEqual((status, lines), (
                     3, ["gillspoon: all/%s: %s" % it for it in sorted(reasons.items())]))
                 self.assertNotIn("move", out)
-                self.assertEqual({it: self.get("all/" + it) for it in os.listdir(
-                    self.folder + "/all")}, {name: text for name, (text, _) in OTHERS.items()})
+                self.assertEqual({"all/" + it: self.get("all/" + it)
+                                  for it in os.listdir(self.folder + "/all")}, OTHERS_IN_A_FOLDER)
 
     def test_standard_input(self):
         for name in ("mark.pgn", "tape.pgn", "tape.pgn.gz", "page.pgn", "guide.pgn"):
             text, reason = OTHERS[name]
-            for words in (["-"], ["--json"], ["--fix", "--unsafe-fixes"], ["--diff", "-"]):
-                self.assertEqual(self.lint(*words, "--quiet", input=text),
-                                 (3, "", "gillspoon: <stdin>: %s\n" % reason))
+            for line in ("-", "--json", "--fix --unsafe-fixes", "--diff -"):
+                self.says(line + " --quiet", 3, told="gillspoon: <stdin>: %s\n" % reason,
+                          input=text)
 
     def test_the_other_files_are_read(self):
         self.put_all({"all/a.pgn": BAD, "all/z.pgn": BAD})
-        self.put_all({"all/" + name: text for name, (text, _) in OTHERS.items()})
         told = "".join("gillspoon: all/%s: %s\n" % (it, OTHERS[it][1]) for it in sorted(OTHERS))
-        for words in ([], ["-j", "2"]):
-            self.assertEqual(self.lint("all", *words), (
-                3, "all/a.pgn:%s\nall/z.pgn:%s\n2 files, 2 games, 2 faults in 2 files\n" % (
-                    BAD_LINE, BAD_LINE), told))
+        for line in ("all", "all -j 2"):
+            self.says(line, 3, ["all/a.pgn:" + BAD_LINE, "all/z.pgn:" + BAD_LINE,
+                                "2 files, 2 games, 2 faults in 2 files"], told)
 
     def test_damaged_games_are_no_other_kind(self):
         """They have their faults, as ever."""
@@ -653,7 +627,7 @@ class OtherKinds(Lint):
                 (b'\xef\xbb\xbf\n[ White "A"]\n\n1. e4 \0\0 *\n', "4:7: control byte"),
                 (b"<1> *\n", "1:1: reserved character"), (b"<", "1:1: reserved character"),
                 (b"%PDF is an escape line\n1. e9 *\n", "2:4: not a move")):
-            status, out, told = self.lint("--quiet", "a.pgn", of=text)
+            status, out, told = self.lint("--quiet a.pgn", of=text)
             self.assertEqual((status, told), (1, ""))
             self.assertTrue(out.startswith("a.pgn:%s" % reason), out)
 
@@ -684,9 +658,8 @@ class Zips(Lint):
 
     def test_members_are_named(self):
         wanted = ["a.zip" + it for it in self.lines]
-        for words in ([], ["-j", "2", "a.zip"]):
-            self.assertEqual(self.in_lines("--quiet", "a.zip", *words), (
-                1, wanted * (1 + len(words) // 3), ""))
+        self.says("--quiet a.zip", 1, wanted)
+        self.says("--quiet a.zip -j 2 a.zip", 1, wanted * 2)
         self.assertEqual(self.lint("a.zip")[1].splitlines()[-1],
                          "3 files, 4 games, 2 faults in 2 files")
         first, second, summary = self.records("a.zip")
@@ -694,38 +667,34 @@ class Zips(Lint):
                           for it in (first, second)],
                          [("a.zip:y.PGN", 5, 42, 1), ("a.zip:b\n: 1:2.pgn", 8, 81, 2)])
         self.assertEqual((summary["files"], summary["bad_files"]), (3, 2))
-        self.assertIn('"a.zip%3Ay.PGN"', self.lint("--sarif", "a.zip")[1])
-
-    def test_standard_input(self):
-        for words in (["-"], []):
-            self.assertEqual(self.in_lines("--quiet", *words, input=self.get("a.zip")),
-                             (1, ["<stdin>" + it for it in self.lines], ""))
+        self.assertIn('"a.zip%3Ay.PGN"', self.lint("--sarif a.zip")[1])
+        for line in ("-", ""):
+            self.says("--quiet " + line, 1, ["<stdin>" + it for it in self.lines],
+                      input=self.get("a.zip"))
 
     def test_a_member_is_given_by_its_name(self):
-        self.assertEqual(self.lint("--quiet", "a.zip:sub/x.pgn", "a.zip:y.PGN"),
-                         (1, "a.zip%s\n" % self.lines[0], ""))
-        self.assertEqual(self.lint("--quiet", "a.zip:none.pgn"), (3, "", (
-            "gillspoon: a.zip:none.pgn: There is no item named 'none.pgn' in the archive\n")))
-        self.assertEqual(self.lint("--quiet", "none.zip:a.pgn"), (
-            3, "", "gillspoon: none.zip:a.pgn: No such file or directory\n"))
+        self.says("--quiet a.zip:sub/x.pgn a.zip:y.PGN", 1, "a.zip%s\n" % self.lines[0])
+        for name, told in (
+                ("a.zip:none.pgn", "There is no item named 'none.pgn' in the archive"),
+                ("none.zip:a.pgn", "No such file or directory")):
+            self.says("--quiet " + name, 3, told="gillspoon: %s: %s\n" % (name, told))
         # the name of a file comes first
-        self.assertEqual(self.lint("--quiet", "a.zip:y.PGN", of=GOOD), (0, "", ""))
+        self.says("--quiet a.zip:y.PGN", 0, of=GOOD)
 
-    def test_hidden_members_are_passed_over(self):
-        self.put("b.zip", zip_of(("y.pgn", BAD), ("__MACOSX/._y.pgn", b"\0\5\26\7\0\2Mac OS X")))
-        self.assertEqual(self.lint("--quiet", "b.zip"), (1, "b.zip:y.pgn:%s\n" % BAD_LINE, ""))
-
-    def test_a_member_of_another_kind(self):
+    def test_members_beside_a_bad_one(self):
+        # hidden members are passed over
+        hidden = "__MACOSX/._y.pgn", b"\0\5\26\7\0\2Mac OS X"
+        bad = "b.zip:y.pgn:%s\n" % BAD_LINE
+        self.says("--quiet b.zip", 1, bad, of=zip_of(("y.pgn", BAD), hidden))
+        # one of another kind
         self.put("b.zip", zip_of(("u.pgn", OTHERS["mark.pgn"][0]), ("y.pgn", BAD)))
-        said = (3, "b.zip:y.pgn:%s\n" % BAD_LINE, "gillspoon: b.zip:u.pgn: %s\n" % NO_TEXT)
-        self.assertEqual(self.lint("--quiet", "b.zip"), said)
-        self.assertEqual(self.lint("--quiet", "-j2", "b.zip", "a.zip:sub/x.pgn"), said)
-
-    def test_a_damaged_member(self):
+        for line in ("b.zip", "-j2 b.zip a.zip:sub/x.pgn"):
+            self.says("--quiet " + line, 3, bad, "gillspoon: b.zip:u.pgn: %s\n" % NO_TEXT)
+        # a damaged one
         data = bytearray(zip_of(("x.pgn", GOOD * 50), ("y.pgn", BAD)))
         data[60] ^= 255
-        status, out, told = self.lint("--quiet", "b.zip", of=bytes(data))
-        self.assertEqual((status, out), (3, "b.zip:y.pgn:%s\n" % BAD_LINE))
+        status, out, told = self.lint("--quiet b.zip", of=bytes(data))
+        self.assertEqual((status, out), (3, bad))
         self.assertRegex(told, r"\Agillspoon: b\.zip:x\.pgn: (?!b\.zip).+\n\Z")
 
     def test_fix(self):
@@ -735,75 +704,71 @@ class Zips(Lint):
         packed = zip_of(("x.pgn", GOOD), ("y.pgn", old))
         self.put("b.zip", packed)
         line = "b.zip:y.pgn:4:4: fixed: long notation: e2-e4 \u2192 e2e4\n"
-        self.assertEqual(self.lint("--fix", "-", input=packed), (
-            0, GOOD.decode() + "\n\n" + new + "\n\n",
-            line.replace("b.zip", "<stdin>") + "2 files, 2 games, 0 faults, 1 edit\n"))
-        status, out, told = self.lint("--diff", "b.zip")
+        self.says("--fix -", 0, GOOD.decode() + "\n\n" + new + "\n\n", line.replace(
+            "b.zip", "<stdin>") + "2 files, 2 games, 0 faults, 1 edit\n", input=packed)
+        status, out, told = self.lint("--diff b.zip")
         self.assertEqual((status, out.splitlines()[:2], told.splitlines()[0] + "\n"), (
             1, ["--- b.zip:y.pgn", "+++ b.zip:y.pgn mended"], line.replace("fixed", "would fix")))
-        for words in (["b.zip"], ["-j2", "b.zip", "b.zip:x.pgn"]):
-            status, out, told = self.lint("--fix", *words)
+        for words in ("b.zip", "-j2 b.zip b.zip:x.pgn"):
+            status, out, told = self.lint("--fix " + words)
             self.assertEqual((status, told.splitlines()[0]), (
                 3, "gillspoon: b.zip: is compressed: unpack it, or give it to --fix -"))
         self.assertEqual(self.get("b.zip"), packed)
 
     def test_in_a_folder(self):
         """A zip with games is read whatever its name is, and one without is named."""
-        self.put_all({"all/a.pgn": GOOD, "all/games.ZIP": zip_of(("y.pgn", BAD)),
-                      "all/photos.zip": zip_of(("readme", b"none")),
-                      "all/.hidden.zip": zip_of(("y.pgn", BAD))})
-        said = (1, "all/games.ZIP:y.pgn:%s\n2 files, 2 games, 1 fault in 1 file\n" % BAD_LINE,
-                "gillspoon: all/photos.zip: is passed over: it has no file *.pgn inside\n")
-        for words in ([], ["-j", "2"]):
-            self.assertEqual(self.lint("all", *words), said)
-        self.assertEqual(self.lint("--quiet", "all"), (1, said[1].splitlines()[0] + "\n", ""))
+        bad, none = zip_of(("y.pgn", BAD)), zip_of(("readme", b"none"))
+        self.put_all({"all/a.pgn": GOOD, "all/games.ZIP": bad, "all/photos.zip": none,
+                      "all/.hidden.zip": bad})
+        passed = "gillspoon: all/photos.zip: is passed over: it has no file *.pgn inside\n"
+        found = "all/games.ZIP:y.pgn:" + BAD_LINE
+        for line in ("all", "all -j 2"):
+            self.says(line, 1, [found, "2 files, 2 games, 1 fault in 1 file"], passed)
+        self.says("--quiet all", 1, [found])
         # one that is given, or is said to have games, cannot be read
-        self.assertEqual(self.lint("--quiet", "all/photos.zip"), (
-            3, "", "gillspoon: all/photos.zip: has no file *.pgn inside\n"))
-        self.put_all({"all/b.pgn.zip": zip_of(("readme", b"none")), "all/c.zip": b"none"})
+        self.says("--quiet all/photos.zip", 3,
+                  told="gillspoon: all/photos.zip: has no file *.pgn inside\n")
+        self.put_all({"all/b.pgn.zip": none, "all/c.zip": b"none", "none/photos.zip": none})
         status, _, told = self.lint("all")
-        self.assertEqual((status, told.splitlines()), (3, [
-            "gillspoon: all/b.pgn.zip: has no file *.pgn inside",
-            "gillspoon: all/c.zip: File is not a zip file",
-            "gillspoon: all/photos.zip: is passed over: it has no file *.pgn inside"]))
-
-    def test_a_folder_of_such_a_zip_alone(self):
-        self.put("all/photos.zip", zip_of(("readme", b"none")))
-        status, _, told = self.lint("all")
-        self.assertEqual((status, told.splitlines()), (3, [
-            "gillspoon: all/photos.zip: is passed over: it has no file *.pgn inside",
-            "gillspoon: all: has no file *.pgn, also with .gz, .bz2, .xz, .zst or .zip after it"]))
+        self.assertEqual((status, told), (
+            3, "gillspoon: all/b.pgn.zip: has no file *.pgn inside\n"
+            "gillspoon: all/c.zip: File is not a zip file\n" + passed))
+        # a folder of such a zip alone
+        status, _, told = self.lint("none")
+        self.assertEqual((status, told), (3, passed.replace("all", "none")
+                                          + "gillspoon: none: %s\n" % NO_FILE))
 
 
 class Options(Lint):
     def test_sound(self):
-        self.put("a.pgn", GOOD * 1200)
-        self.assertEqual(self.lint("a.pgn"), (0, "1 file, 1,200 games, 0 faults\n", ""))
-        self.assertEqual(self.lint("--quiet", "a.pgn"), (0, "", ""))
+        self.says("a.pgn", 0, "1 file, 1,200 games, 0 faults\n", of=GOOD * 1200)
+        self.says("--quiet a.pgn", 0)
+        status, out, _ = self.lint("--sarif a.pgn")
+        self.assertEqual((status, json.loads(out)["runs"][0]["results"]), (0, []))
 
     def test_checked(self):
-        self.put("a.pgn", b"1. e4 1-0\n[White \"Ada\"]\n1. d4 0-1\n")
-        self.assertEqual(self.lint("--checked", "a.pgn"), (0, "1 file, 2 games, 0 faults\n", ""))
-        self.put("a.pgn", b'[Result "0-1"]\n\n1. e4 1-0\n')
-        self.assertEqual(self.lint("--checked", "--quiet", "a.pgn")[:2], (
-            1, "a.pgn:3:7: result differs from the Result tag (game 1, ? \u2013 ?)\n"))
+        self.says("--checked a.pgn", 0, "1 file, 2 games, 0 faults\n",
+                  of=b"1. e4 1-0\n[White \"Ada\"]\n1. d4 0-1\n")
+        self.says("--checked --quiet a.pgn", 1,
+                  ["a.pgn:3:7: result differs from the Result tag" + NOBODY],
+                  of=b'[Result "0-1"]\n\n1. e4 1-0\n')
 
     def test_max(self):
         self.put_all({name + ".pgn": (BAD + b"\n") * 3 for name in "abc"})
-        for jobs in ("1", "2"):
-            status, out, _ = self.lint("--max", "4", "-j", jobs, ".")
-            self.assertEqual((status, out.splitlines()), (1, [
-                "./%s.pgn:%d:13: move is not legal (game %d, Ada \u2013 Bob)" % it for it in (
-                    ("a", 4, 1), ("a", 9, 2), ("a", 14, 3), ("b", 4, 1))] + [
-                        "3 files, 9 games, 9 faults in 3 files"]))
+        lines = ["./%s.pgn:%d:13: move is not legal (game %d, Ada \u2013 Bob)" % it for it in (
+            ("a", 4, 1), ("a", 9, 2), ("a", 14, 3), ("b", 4, 1))]
+        for jobs in "12":
+            status, out, _ = self.lint("--max 4 . -j " + jobs)
+            self.assertEqual((status, out.splitlines()),
+                             (1, lines + ["3 files, 9 games, 9 faults in 3 files"]))
 
     def test_processes_change_nothing(self):
         for number in range(20):
             self.put("all/%d.pgn" % number, b"\n".join([GOOD, BAD, GOOD][:number % 4] * number))
-        for words in (["--board"], ["--json"], ["--sarif"], ["--quiet"], ["--max", "7"]):
-            one = self.lint(*words, "all", "missing")
+        for line in ("--board", "--json", "--sarif", "--quiet", "--max 7"):
+            one = self.lint(line + " all missing")
             self.assertEqual(one[0], 3)
-            self.assertEqual(self.lint(*words, "-j", "3", "all", "missing"), one)
+            self.says(line + " -j 3 all missing", *one)
 
     def test_json(self):
         fault, summary = self.records("a.pgn", of=WAYS["an exposed king"][0])
@@ -814,22 +779,19 @@ class Options(Lint):
             "A white rook can go to d2 from e2, but its king would then be in check.", []])
         self.assertEqual(summary, {"kind": "summary", "files": 1, "games": 1, "faults": 1,
                                    "bad_files": 1})
-
-    def test_tags_alone(self):
-        """A line has the note in place of a reason that would mislead; a record has both."""
-        note = "the game before may have tags alone, without moves and a result"
-        fault = self.records("a.pgn", of=WAYS["tags alone"][0])[0]
-        self.assertEqual((fault["number"], fault["reason"], fault["note"]),
-                         (22, "tag is given twice", note))
-        ran, = json.loads(self.lint("--sarif", "a.pgn")[1])["runs"]
-        self.assertEqual(ran["results"][0]["message"]["text"], note + " (game 1, Ada \u2013 ?)")
-        self.assertEqual(ran["tool"]["driver"]["rules"][0]["shortDescription"]["text"],
-                         "tag is given twice")
-
-    def test_the_fields_are_documented(self):
         rows = re.findall(r"(?m)^\.It Cm (.*)$", text_of("share/man/man1/gillspoon.1"))
         self.assertEqual([it.replace("Cm ", "") for row in rows for it in row.split(" , ")],
                          FIELDS[1:])
+
+    def test_tags_alone(self):
+        """A line has the note in place of a reason that would mislead; a record has both."""
+        note, reason = "the game before may have tags alone, without moves and a result", \
+            "tag is given twice"
+        fault = self.records("a.pgn", of=WAYS["tags alone"][0])[0]
+        self.assertEqual((fault["number"], fault["reason"], fault["note"]), (22, reason, note))
+        ran, = json.loads(self.lint("--sarif a.pgn")[1])["runs"]
+        self.assertEqual(ran["results"][0]["message"]["text"], note + ADA)
+        self.assertEqual(ran["tool"]["driver"]["rules"][0]["shortDescription"]["text"], reason)
 
     def test_sarif(self):
         jsonschema = need_module("jsonschema", "python3-jsonschema")
@@ -858,36 +820,33 @@ class Options(Lint):
 
     def check_that_the_schema_refuses(self, log, jsonschema):
         """Each place of the log with another value, and without what has to be there."""
-        run, result = ("runs", 0), ("runs", 0, "results", 0)
-        place = result + ("locations", 0, "physicalLocation")
+        run, result = "runs 0 ", "runs 0 results 0 "
+        place = result + "locations 0 physicalLocation "
         rules = log["runs"][0]["tool"]["driver"]["rules"]
+        missing = ["version", "runs", *(run + it for it in (
+            "tool", "tool driver name", "tool driver rules 0 id",
+            "invocations 0 executionSuccessful")), result + "message", result + "message text"]
         for path, value in (
-                (("version",), "2"), (("version",), None), (("runs",), []), (("runs",), None),
-                (run + ("tool",), None), (run + ("tool", "driver", "name"), None),
-                (run + ("tool", "driver", "rules", 0, "id"), None),
-                (run + ("tool", "driver", "rules", 1), rules[0]),
-                (run + ("invocations", 0, "executionSuccessful"), None),
-                (run + ("columnKind",), "bytes"), (result + ("message",), None),
-                (result + ("message", "text"), None), (result + ("level",), "bad"),
-                (result + ("ruleId",), "34"), (place + ("artifactLocation", "uri"), "a b.pgn"),
-                (place + ("region", "startLine"), 0), (place + ("region", "startColumn"), 0),
-                (place + ("region", "endline"), 1)):
-            broken = json.loads(json.dumps(log))
-            at = broken
-            for it in path[:-1]:
+                *dict.fromkeys(missing).items(), ("version", "2"), ("runs", []),
+                (run + "tool driver rules 1", rules[0]), (run + "columnKind", "bytes"),
+                (result + "level", "bad"), (result + "ruleId", "34"),
+                (place + "artifactLocation uri", "a b.pgn"), (place + "region startLine", 0),
+                (place + "region startColumn", 0), (place + "region endline", 1)):
+            at = broken = json.loads(json.dumps(log))
+            *path, last = (int(it) if it.isdigit() else it for it in path.split())
+            for it in path:
                 at = at[it]
             if value is None:
-                del at[path[-1]]
+                del at[last]
             else:
-                at[path[-1]] = value
-            with self.assertRaises(jsonschema.ValidationError, msg=path):
+                at[last] = value
+            with self.assertRaises(jsonschema.ValidationError, msg=[*path, last]):
                 jsonschema.validate(broken, SARIF)
 
     def test_sarif_of_each_way_to_be_bad(self):
         jsonschema = need_module("jsonschema", "python3-jsonschema")
-        self.put_all({"ways/" + name + ".pgn": text for name, (text, _) in WAYS.items()})
-        self.put("ways/a\n%\u00fc.pgn", BAD)
-        log = json.loads(self.lint("--sarif", "ways")[1])
+        self.put_all({**WAYS_IN_A_FOLDER, "ways/a\n%\u00fc.pgn": BAD})
+        log = json.loads(self.lint("--sarif ways")[1])
         jsonschema.validate(log, SARIF)
         ran, = log["runs"]
         self.assertEqual(len(ran["results"]), 32)
@@ -895,66 +854,64 @@ class Options(Lint):
         self.assertEqual({it["ruleId"] for it in ran["results"]}, rules)
         self.assertIn("ways/a%0A%25%C3%BC.pgn", json.dumps(ran["results"]))
 
-    def test_sarif_of_sound_files(self):
-        status, out, _ = self.lint("--sarif", "a.pgn", of=GOOD)
-        self.assertEqual(status, 0)
-        self.assertEqual(json.loads(out)["runs"][0]["results"], [])
-
-    def test_wrong_words(self):
-        for words in (["--no"], ["--max", "0", "a"], ["--max", "x", "a"], ["-j", "-1", "a"],
-                      ["--json", "--sarif", "a"], ["--board", "--json", "a"]):
-            self.assertIn("(--help shows the usage)", self.check_usage(*words))
-
-    def test_help(self):
+    def test_words(self):
+        for line in ("--no", "--max 0 a", "--max x a", "-j -1 a", "--json --sarif a",
+                     "--board --json a"):
+            self.assertIn("(--help shows the usage)", self.check_usage(line))
         status, out, told = self.lint("--help")
         self.assertEqual((status, told), (0, ""))
         for word in ("--board", "--json", "--sarif", "--quiet", "--checked", "--max", "-j"):
             self.assertIn(word, out)
-
-    def test_as_a_module(self):
+        # as a module
         self.put("a.pgn", BAD)
-        env = dict(self.env, PYTHONPATH=PACKAGE)
         ran = run([sys.executable, "-m", "gillspoon", "lint", "--quiet", "a.pgn"], cwd=self.folder,
-                  env=env)
+                  env=dict(self.env, PYTHONPATH=PACKAGE))
         self.assertEqual((ran.returncode, ran.stdout.decode()), (1, "a.pgn:%s\n" % BAD_LINE))
 
 
 class Streams(Lint):
+    def piped(self, line, **more):
+        """The first line of a call, as a pipe that is closed then has it, its status and errors."""
+        script = "gillspoon lint %s | head -n 1; echo ${PIPESTATUS[0]}" % line
+        ran = run(["bash", "-c", script], cwd=self.folder, env=self.env, **more)
+        return *ran.stdout.decode().splitlines(), ran.stderr
+
     def test_a_closed_pipe_ends_it_silently(self):
         self.put("a.pgn", (BAD + b"\n") * 3000)
-        for words in ("", "--json", "-j2 a.pgn", "--board"):
-            script = "gillspoon lint %s a.pgn | head -n 1; echo ${PIPESTATUS[0]}" % words
-            ran = run(["bash", "-c", script], cwd=self.folder, env=self.env)
-            first, status = ran.stdout.decode().splitlines()
+        for line in ("a.pgn", "--json a.pgn", "-j2 a.pgn a.pgn", "--board a.pgn"):
+            first, *rest = self.piped(line)
             self.assertIn("move is not legal", first)
-            self.assertEqual((status, ran.stderr), ("3", b""))
-
-    def test_a_closed_pipe_while_processes_write(self):
-        """What they have to say is more than a pipe holds, so that some end in the midst of it."""
+            self.assertEqual(rest, ["3", b""])
+        # processes say more than a pipe holds, so that some end in the midst of it
         self.put("a.pgn", (BAD + b"\n") * 1000)
-        script = "gillspoon lint -j4%s | head -n 1; echo ${PIPESTATUS[0]}" % (8 * " a.pgn")
         for _ in range(6):
-            ran = run(["bash", "-c", script], cwd=self.folder, env=self.env, timeout=20)
-            self.assertEqual(ran.stdout.decode().splitlines(), ["a.pgn:" + BAD_LINE, "3"])
-            self.assertEqual(ran.stderr, b"")
+            self.assertEqual(self.piped("-j4" + 8 * " a.pgn", timeout=20),
+                             ("a.pgn:" + BAD_LINE, "3", b""))
 
     def test_a_full_device(self):
         self.put("a.pgn", BAD)
-        for words in ([], ["--json"], ["--sarif"], ["-j", "2", "a.pgn"]):
+        for line in ("a.pgn", "a.pgn --json", "a.pgn --sarif", "a.pgn -j 2 a.pgn"):
             with full_device() as full:
-                self.assertEqual(self.lint("a.pgn", *words, stdout=full)[::2], (
+                self.assertEqual(self.lint(line, stdout=full)[::2], (
                     3, "gillspoon: output cannot be written: No space left on device\n"))
 
-    def interrupted(self, *words):
-        """The status and the errors of a call that waits for a pipe, and gets SIGINT."""
+    @contextlib.contextmanager
+    def reading(self, line):
+        """A call that waits for the pipe pipe.pgn, and the pipe."""
         os.mkfifo(self.folder + "/pipe.pgn")
         # a shell has background jobs ignore the signal, so the tests may do so too
-        words = ["env", "--default-signal=INT", *LINT, *words]
+        words = ["env", "--default-signal=INT", *LINT, *line.split()]
         with subprocess.Popen(words, cwd=self.folder, env=self.env,
                               stdout=subprocess.PIPE, stderr=subprocess.PIPE) as child:
             # once this opens, the other end is open in the process that reads
             with open(self.folder + "/pipe.pgn", "wb", buffering=0) as pipe:
                 pipe.write(b"1. e4 ")
+                yield child, pipe
+
+    def test_an_interrupt(self):
+        self.put("b.pgn", GOOD)
+        for line in ("pipe.pgn", "-j 2 pipe.pgn b.pgn"):
+            with self.reading(line) as (child, pipe):
                 time.sleep(0.2)
                 child.send_signal(signal.SIGINT)
                 _, told = child.communicate(timeout=20)
@@ -966,62 +923,50 @@ class Streams(Lint):
                     time.sleep(0.05)
                 else:
                     self.fail("a process still reads")
-        return child.returncode, told
+            os.remove(self.folder + "/pipe.pgn")
+            self.assertEqual((child.returncode, told), (-signal.SIGINT, b""))
 
-    def test_an_interrupt(self):
-        self.assertEqual(self.interrupted("pipe.pgn"), (-signal.SIGINT, b""))
+    def test_lost_processes(self):
+        """They are no fault of a file, and leave no traceback. None outlives the call.
 
-    def test_an_interrupt_of_processes(self):
+        They may be killed for lack of memory. A stopped one does not end when asked, and would
+        keep standard error open.
+        """
         self.put("b.pgn", GOOD)
-        self.assertEqual(self.interrupted("-j", "2", "pipe.pgn", "b.pgn"), (-signal.SIGINT, b""))
-
-    def check_lost_processes(self, *signals):
-        """A call by two processes that get these signals: no fault of a file, no traceback."""
-        os.mkfifo(self.folder + "/pipe.pgn")
-        self.put("b.pgn", GOOD)
-        with subprocess.Popen([*LINT, "-j", "2", "b.pgn", "pipe.pgn"], cwd=self.folder,
-                              env=self.env, stdout=subprocess.PIPE,
-                              stderr=subprocess.PIPE) as child:
-            # once this opens, a process reads the other end
-            with open(self.folder + "/pipe.pgn", "wb", buffering=0) as pipe:
-                pipe.write(b"1. e4 ")
+        for signals in ((signal.SIGKILL, signal.SIGKILL), (signal.SIGSTOP, signal.SIGKILL)):
+            with self.reading("-j 2 b.pgn pipe.pgn") as (child, _):
                 children = text_of("/proc/%d/task/%d/children" % (child.pid, child.pid)).split()
                 for process, number in zip(children, signals):
                     os.kill(int(process), number)
                 _, told = child.communicate(timeout=20)
-        self.assertEqual((child.returncode, told), (
-            3, b"gillspoon: a process ended before its file was read; try again without -j\n"))
+            os.remove(self.folder + "/pipe.pgn")
+            self.assertEqual((child.returncode, told), (
+                3, b"gillspoon: a process ended before its file was read; try again without -j\n"))
 
-    def test_a_process_that_is_killed(self):
-        """As for lack of memory."""
-        self.check_lost_processes(signal.SIGKILL, signal.SIGKILL)
-
-    def test_no_process_outlives_the_call(self):
-        """A stopped one does not end when asked, and would keep standard error open."""
-        self.check_lost_processes(signal.SIGSTOP, signal.SIGKILL)
+    def shown(self, name, **more):
+        """What a terminal shows of a call."""
+        return programs.on_a_terminal([*LINT, name], cwd=self.folder, env=dict(self.env, **more))
 
     def test_colours_on_a_terminal_alone(self):
         self.put("a.pgn", BAD)
-        shown = programs.on_a_terminal([*LINT, "a.pgn"], cwd=self.folder,
-                                       env=dict(self.env, TERM="xterm"))
-        self.assertEqual(shown, "\x1b[1ma.pgn:4:13:\x1b[0m \x1b[31mmove is not legal\x1b[0m "
-                         "(game 1, Ada \u2013 Bob)\n1 file, 1 game, 1 fault in 1 file\n")
+        self.assertEqual(
+            self.shown("a.pgn", TERM="xterm"),
+            "\x1b[1ma.pgn:4:13:\x1b[0m \x1b[31mmove is not legal\x1b[0m (game 1, Ada \u2013 Bob)\n"
+            "1 file, 1 game, 1 fault in 1 file\n")
         for more in ({"NO_COLOR": "1"}, {"TERM": "dumb"}):
-            shown = programs.on_a_terminal([*LINT, "a.pgn"], cwd=self.folder,
-                                           env=dict(self.env, **more))
-            self.assertNotIn("\x1b", shown)
+            self.assertNotIn("\x1b", self.shown("a.pgn", **more))
 
     def test_progress_on_a_terminal(self):
         """A second and more is needed until it is shown, and it goes before a line."""
         os.mkfifo(self.folder + "/pipe.pgn")
+        self.put_all({"a": GOOD * 600, "b": BAD})
         with subprocess.Popen(["sh", "-c", "exec >pipe.pgn; cat a; sleep 1.2; cat a b"],
                               cwd=self.folder):
-            self.put_all({"a": GOOD * 600, "b": BAD})
-            shown = programs.on_a_terminal([*LINT, "pipe.pgn"], cwd=self.folder,
-                                           env=dict(self.env, NO_COLOR="1"))
-        self.assertRegex(shown, "\\A(\r\x1b\\[Kgillspoon: file 1 of 1, [0-9,]+ games)+\r\x1b\\[K"
-                         "pipe.pgn:[0-9]+:13: move is not legal \\(game 1,201, .*\n"
-                         "1 file, 1,201 games, 1 fault in 1 file\n\\Z".replace("1,201, ", "1201, "))
+            self.assertRegex(
+                self.shown("pipe.pgn", NO_COLOR="1"),
+                "\\A(\r\x1b\\[Kgillspoon: file 1 of 1, [0-9,]+ games)+\r\x1b\\[K"
+                "pipe.pgn:[0-9]+:13: move is not legal \\(game 1201, .*\n"
+                "1 file, 1,201 games, 1 fault in 1 file\n\\Z")
 
 
 class Others(Lint):
@@ -1039,13 +984,13 @@ class Others(Lint):
         text = WAYS["UTF-8"][0].decode().replace("\u4e16", "\u00e4")
         self.put("a b.pgn", text.encode() + b"\n" + BAD)
         option = re.search(r"errorformat=\S+ %m", self.recipe("vim")[0])[0]
-        self.put("found", self.lint("a b.pgn")[1].encode())
-        run(["vim", "-u", "NONE", "-N", "-es", "-c", "set encoding=utf-8 " + option, "-c",
-             "cfile found", "-c", "redir! > seen", "-c",
-             "for it in filter(getqflist(), 'v:val.valid') | exe 'cc' |"
-             " echo bufname('%') it.lnum it.text | endfor", "-c",
-             "cfirst | echo line('.') getline('.')[col('.') - 1 : col('.') + 1]", "-c",
-             "cnext | echo line('.') getline('.')[col('.') - 1 : col('.') + 1]", "-c", "qa!"],
+        self.put("found", self.lint("", "a b.pgn")[1])
+        place = " | echo line('.') getline('.')[col('.') - 1 : col('.') + 1]"
+        commands = ("set encoding=utf-8 " + option, "cfile found", "redir! > seen",
+                    "for it in filter(getqflist(), 'v:val.valid') | exe 'cc' |"
+                    " echo bufname('%') it.lnum it.text | endfor",
+                    "cfirst" + place, "cnext" + place, "qa!")
+        run(["vim", "-u", "NONE", "-N", "-es", *(word for it in commands for word in ("-c", it))],
             cwd=self.folder, env=self.env)
         lines = [it for it in text_of(self.folder + "/seen").split("\n") if it]
         self.assertIn("a b.pgn 3 move is not legal (game 1, M\u00fcller \u2013 ?)", lines)
@@ -1073,20 +1018,24 @@ class Others(Lint):
         self.put_all({"good games.pgn": GOOD, "-c.pgn": BAD, "bad.txt": BAD})
         env = dict(self.env, PRE_COMMIT_HOME=self.folder + "/.home", HOME=self.folder,
                    GIT_CONFIG_COUNT="1", GIT_CONFIG_KEY_0="safe.directory", GIT_CONFIG_VALUE_0="*")
+
+        def git(*words):
+            return run(["git", *words], cwd=self.folder, env=env)
+
+        def hook(name, status):
+            ran = run(["pre-commit", "try-repo", ROOT, name, "--all-files", "--color", "never"],
+                      cwd=self.folder, env=env)
+            self.assertEqual(ran.returncode, status, ran.stdout + ran.stderr)
+            return ran.stdout.decode()
+
         for words in (["init", "-q"], ["add", "--", "good games.pgn", "-c.pgn", "bad.txt"]):
-            self.assertEqual(run(["git", *words], cwd=self.folder, env=env).returncode, 0)
-        ran = run(["pre-commit", "try-repo", ROOT, "gillspoon-lint", "--all-files", "--color",
-                   "never"], cwd=self.folder, env=env)
-        self.assertEqual(ran.returncode, 1, ran.stdout + ran.stderr)
-        found = [it for it in ran.stdout.decode().splitlines() if ".pgn" in it or ".txt" in it]
+            self.assertEqual(git(*words).returncode, 0)
+        found = [it for it in hook("gillspoon-lint", 1).splitlines()
+                 if ".pgn" in it or ".txt" in it]
         self.assertEqual(found, ["-c.pgn:" + BAD_LINE])
-        run(["git", "rm", "-qf", "--", "-c.pgn"], cwd=self.folder, env=env)
-        output_of(run(["pre-commit", "try-repo", ROOT, "gillspoon-lint", "--all-files"],
-                      cwd=self.folder, env=env), err=None)
-        ran = run(["pre-commit", "try-repo", ROOT, "gillspoon-fmt", "--all-files", "--color",
-                   "never"], cwd=self.folder, env=env)
-        self.assertEqual(ran.returncode, 1, ran.stdout + ran.stderr)
-        self.assertIn("\ngood games.pgn\n", ran.stdout.decode())
+        git("rm", "-qf", "--", "-c.pgn")
+        hook("gillspoon-lint", 0)
+        self.assertIn("\ngood games.pgn\n", hook("gillspoon-fmt", 1))
 
     def test_the_configuration_of_the_hook(self):
         """What the recipe says of pre-commit names the hooks of this repository."""
