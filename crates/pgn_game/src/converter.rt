@@ -523,8 +523,8 @@ impl<const T: usize, const L: usize> Converter<T, L> {
         self.is_finished
     }
 
-    /// Converts what is left at the end of the input: all of it, as `finish` does, or, if `to_game`,
-    /// up to the end of the next game. Returns whether a game was finished. The converter has met
+    /// Converts what is left at the end of the input: all of it, as `finish` does, or up to the end
+    /// of the next game, if `to_game`. Returns whether a game was finished. The converter has met
     /// no fault.
     pub(crate) fn finish_left<W: Sink>(&mut self, to_game: bool, out: &mut W) -> Result<bool, Fault>
         requires { IsGoing self.old }

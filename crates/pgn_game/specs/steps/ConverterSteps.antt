@@ -3,7 +3,7 @@
 -- Letters: p is the profile, u the bytes used so far, c a converter, f a fault, g a game. `given`
 -- are the tokens given before a call, `tokens` those read when it ends. `sink` is the sink before
 -- the call and after it, `before` and `after` are the bytes that it has taken, if it reports them.
-use Rattle.std.specs.Prelude.{◌≡◌, ℕ, ◌+◌, ◌<◌, ◌≤◌, ◌^◌, false, List, [], ◌∷◌, ◌++◌, length, take, drop, Option, None, Some, Result, Ok, Err, OnOk}
+use Rattle.std.specs.Prelude.{◌≡◌, ℕ, ◌+◌, ◌<◌, ◌≤◌, ◌^◌, false, List, [], ◌∷◌, ◌++◌, length, take, drop, Option, None, Result, OnOk}
 use Rattle.std.specs.Io.KnownBytes.{Appends}
 use Rattle.pgn_layout.specs.Device.{Device}
 use Rattle.pgn_lexer.specs.Tokens.{Token}

@@ -3,7 +3,7 @@
 -- Letters: l is a lexer, c a converter, s the bytes known of a text, t a token, f a fault. `sink`
 -- is the sink before a call and after it, `after` are the bytes that it has taken then, if it
 -- reports them.
-use Rattle.std.specs.Prelude.{◌≡◌, ℕ, ◌+◌, ◌-◌, ◌*◌, ◌^◌, ◌<◌, ◌≤◌, ◌⊎◌, ◌&&◌, Bool, true, false, not, List, [], ◌∷◌, ◌++◌, length, take, drop, Option, None, Some, Result, Ok, Err, IfOk, is_ok}
+use Rattle.std.specs.Prelude.{◌≡◌, ℕ, ◌+◌, ◌-◌, ◌*◌, ◌^◌, ◌<◌, ◌≤◌, ◌⊎◌, ◌&&◌, Bool, true, false, not, List, [], ◌∷◌, ◌++◌, length, take, drop, Option, None, Some, Result, Ok, Err, IfOk}
 use Rattle.pgn_layout.specs.Device.{Device}
 use Rattle.pgn_lexer.specs.Tokens.{Token, EndsAt}
 use Rattle.pgn_lexer.specs.TokensOf.{tokens_of}
@@ -337,7 +337,8 @@ abbrev pub read_on : Bool → Result Bool Fault → Result Bool Fault
 read_on to_game (Ok finished) = Ok (to_game && finished)
 read_on to_game (Err f) = Err f
 
--- A call that no game ends: a game that it finished is just finished, if none is begun behind it.
+-- A call up to a game (`true`) finishes one at most. In a call that no game ends, a game that it
+-- finished is just finished, if none is begun behind it.
 abbrev pub EndsGames : Bool → Converter → Converter → Result Bool Fault → Type 0
 EndsGames true old new result = new.games ≡ old.games + games_in result
 EndsGames false old new (Ok true) =
