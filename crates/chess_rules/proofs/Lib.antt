@@ -1,7 +1,7 @@
 mod Words
-mod listing
-mod lines
-mod moves
-mod positions
-mod sets
-mod trying
+pub mod listing
+pub mod lines
+pub mod moves
+pub mod positions
+pub mod sets
+pub mod trying

@@ -109,12 +109,7 @@ pub with_second : (x y : Bool) → (x ≡ true → y ≡ true) → x ≡ (x && y
 with_second x y h = grind (arith, h)
 
 pub attack_is : (k : Kind) (c : Colour) (b : Board) (s t : Square) → kind_attacks k c b s t ≡ (reaches k c s t && is_clear b s t)
-attack_is King c b s t = with_second _ _ (adjacent_clear b s t)
-attack_is Queen c b s t = refl
-attack_is Rook c b s t = refl
-attack_is Bishop c b s t = refl
-attack_is Knight c b s t = with_second _ _ (jump_clear b s t)
-attack_is Pawn c b s t = with_second _ _ (pawn_clear c b s t)
+attack_is v0 c b s t = grind (arith, common_steps, with_second, adjacent_clear, jump_clear, pawn_clear)
 
 pub cell_attack_is : (cell : Option Piece) (b : Board) (s t : Square) → cell_attacks cell b s t ≡ (reaches_from cell s t && is_clear b s t)
 cell_attack_is None b s t = refl
@@ -157,12 +152,7 @@ reach_of Pawn jump adjacent pawn line diagonal = pawn
 
 reach_is : (k : Kind) (c : Colour) (s t : Square)
     → reaches k c s t ≡ reach_of k (is_jump s t) (is_adjacent s t) (reaches Pawn c s t) (in_line s t) (on_diagonal s t)
-reach_is King c s t = refl
-reach_is Queen c s t = refl
-reach_is Rook c s t = refl
-reach_is Bishop c s t = refl
-reach_is Knight c s t = refl
-reach_is Pawn c s t = refl
+reach_is v0 c s t = grind (arith, common_steps)
 
 pub attacker_of : (c : Colour) (cell : Option Piece) (s t : Square)
     → (((((is_jump s t && has_kind Knight cell) || (is_adjacent s t && has_kind King cell)) || (reaches Pawn c s t && has_kind Pawn cell))
@@ -185,12 +175,5 @@ attacker_of c (Some x) s t = by_colour (same_colour c x.colour) refl
         || ((same_colour c x.colour && reaches x.kind x.colour s t)
         && not (same_kind King x.kind || (same_kind Knight x.kind || same_kind Pawn x.kind))))
         ≡ (same_colour c x.colour && reaches x.kind x.colour s t)
-    by_colour false e =
-        rw e (others (((is_jump s t && same_kind Knight x.kind) || (is_adjacent s t && same_kind King x.kind))
-        || (reaches Pawn c s t && same_kind Pawn x.kind))
-        (reaches x.kind x.colour s t) (not (same_kind King x.kind || (same_kind Knight x.kind || same_kind Pawn x.kind))))
-    by_colour true e =
-        let same : reaches x.kind x.colour s t
-        ≡ reach_of x.kind (is_jump s t) (is_adjacent s t) (reaches Pawn c s t) (in_line s t) (on_diagonal s t) =
-        ap (λ d. reaches x.kind d s t) (sym (colours_same c x.colour e)) ∙ reach_is x.kind c s t in
-        rw (e, same) (by_kind x.kind (is_jump s t) (is_adjacent s t) (reaches Pawn c s t) (in_line s t) (on_diagonal s t))
+    by_colour false e = grind (arith, common_steps)
+    by_colour true e = grind (arith, common_steps, colours_same, reach_is, by_kind)

@@ -6,10 +6,7 @@ use Rattle.chess_rules.proofs.sets.SetsToSquares.{any_of_set, places_and}
 all_unless : {X : Type 0} (p q r : X → Bool) (xs : List X) → ((x : X) → q x ≡ not (r x))
     → list_all (λ x. not (p x) || r x) xs ≡ not (list_any (λ x. p x && q x) xs)
 all_unless p q r [] h = refl
-all_unless p q r (x ∷ xs) h = by_tests (p x) (q x) (r x) _ _ (h x) (all_unless p q r xs h)
-  where
-    by_tests : (v w u rest some : Bool) → w ≡ not u → rest ≡ not some → ((not v || u) && rest) ≡ not ((v && w) || some)
-    by_tests v w u rest some e f = grind arith
+all_unless p q r (x ∷ xs) h = grind (arith, common_steps, (all_unless p q r xs h))
 
 filled : (o : Option Piece) → is_some o ≡ not (is_none o)
 filled o = grind arith

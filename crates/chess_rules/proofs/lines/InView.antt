@@ -1,6 +1,6 @@
 -- On a line through a square, the nearest piece on either side is the one in view. So at most eight
 -- pieces are in view of a square.
-use Rattle.chess_rules.proofs.Words.{Square, squares, inside, in_line, on_diagonal, strictly_between, Board, at, cell_of, is_empty, is_clear, IsLine, is_steep, square_at, has, Places, ◌≡◌, ◌≢◌, ℕ, ◌<◌, ◌≤◌, Bool, true, not, ◌&&◌, ◌||◌, length, sym, ◌∙◌, ap, ap₂, arith, filter, is_some, nat_lt, false≢true, and_from, common_steps, ltb-true, ltb-false, not-true}
+use Rattle.chess_rules.proofs.Words.{Square, squares, inside, in_line, on_diagonal, strictly_between, Board, at, cell_of, is_empty, is_clear, IsLine, is_steep, square_at, has, Places, ◌≡◌, ◌≢◌, ℕ, ◌<◌, ◌≤◌, Bool, true, not, ◌&&◌, ◌||◌, length, sym, ◌∙◌, ap, ap₂, arith, filter, is_some, nat_lt, false≢true, and_from, common_steps, ltb-true, ltb-false, not-true, rules}
 use Rattle.chess_rules.proofs.sets.AllSquares.{first_true, second_true, each_square, not_true, cell_of-square_at}
 use Rattle.chess_rules.proofs.sets.SetsToSquares.{at_square, one_kept}
 use Rattle.chess_rules.proofs.trying.FoundLists.{kept_either, kept_more}
@@ -47,10 +47,7 @@ one_side b t line side s = (line s && is_open b t s) && side s
 module _ (b : Board) (t : Square) (line : Square → Bool) (tf : t.file < 8) (on : IsLine line t) where
   apart : (i j : ℕ) → i < 64 → j < 64 → (line (square_at i) && is_open b t (square_at i)) ≡ true
       → (line (square_at j) && is_open b t (square_at j)) ≡ true → inside j i (cell_of t) ≡ true → ⊥
-  apart i j low high h g =
-      blocked b on i j low high (first_true (line (square_at i)) _ h) (first_true (line (square_at j)) _ g)
-      (first_true (is_some (at b (square_at i))) _ (second_true (line (square_at i)) _ h))
-      (second_true (is_some (at b (square_at j))) _ (second_true (line (square_at j)) _ g))
+  apart i j low high h g = search (rules, blocked, first_true, is_some, second_true)
 
   one_before : length (filter (one_side b t line (λ s. nat_lt (cell_of s) (cell_of t))) squares) ≤ 1
   one_before =

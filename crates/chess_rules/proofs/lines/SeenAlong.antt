@@ -24,12 +24,8 @@ module _ (b : Board) (t : Square) (line occupied up down high low : ℕ) (tf : t
     where
       empty_between : (u : Square) → u.file < 8 → u.rank < 8 → has line (cell_of u) ≡ true
           → ((i < cell_of u) × (cell_of u < cell_of t)) ⊎ ((cell_of t < cell_of u) × (cell_of u < i)) → is_empty b u ≡ true
-      empty_between u f r on_u (inl x) =
-          empty_there u (nat_lt (cell_of u) (cell_of t)) f r on_u (lt-ltb (cell_of u) (cell_of t) x.1)
-          (sym (before (cell_of u) (omega arith)) ∙ from.none i h from_i (cell_of u) x.0 (omega arith))
-      empty_between u f r on_u (inr x) =
-          empty_there u (not (nat_lt (cell_of u) (cell_of t))) f r on_u (ap not (le-ltb (cell_of u) (cell_of t) (omega (arith, x.0))))
-          (sym (after (cell_of u) (omega arith)) ∙ up_to.none i h up_to_i (cell_of u) x.1)
+      empty_between u f r on_u (inl x) = grind (arith, common_steps, empty_there, lt-ltb)
+      empty_between u f r on_u (inr x) = grind (arith, common_steps, empty_there, le-ltb)
 
   module _ (i : ℕ) (h : i < 64) (here : has line i ≡ true) (clear : is_clear b (square_at i) t ≡ true) where
     -- no other piece of the line is between

@@ -1,5 +1,5 @@
 -- Lists that are joined from those of each element.
-use Rattle.chess_rules.proofs.Words.{◌≡◌, Bool, true, false, List, [], ◌∷◌, ◌++◌, map, Option, None, refl, sym, ◌∙◌, ap, ap₂, cond, cons_option, filter, filter_map, flat_map}
+use Rattle.chess_rules.proofs.Words.{◌≡◌, Bool, true, false, List, [], ◌∷◌, ◌++◌, map, Option, None, refl, sym, ◌∙◌, ap, ap₂, cond, cons_option, filter, filter_map, flat_map, arith, common_steps}
 use Rattle.std.proofs.lemmas.List.{map-append}
 use Rattle.std.proofs.lemmas.List.Elements.{filter_map-append}
 
@@ -7,8 +7,7 @@ module _ {X Y Z : Type 0} where
   pub found_in_all : (h : Y → Option Z) (f : X → List Y) (xs : List X)
       → filter_map h (flat_map f xs) ≡ flat_map (λ x. filter_map h (f x)) xs
   found_in_all h f [] = refl
-  found_in_all h f (x ∷ xs) =
-      filter_map-append h (f x) (flat_map f xs) ∙ ap (λ zs. filter_map h (f x) ++ zs) (found_in_all h f xs)
+  found_in_all h f (x ∷ xs) = grind (arith, common_steps, filter_map-append, (found_in_all h f xs))
 
   pub none_found : (h : Y → Option Z) (f : X → Y) (xs : List X) → ((x : X) → h (f x) ≡ None) → filter_map h (map f xs) ≡ []
   none_found h f [] none = refl
@@ -27,12 +26,7 @@ module _ {X Y : Type 0} where
   pub all_kept : (f : X → List Y) (kept : X → Bool) (xs : List X) → ((x : X) → kept x ≡ false → f x ≡ [])
       → flat_map f (filter kept xs) ≡ flat_map f xs
   all_kept f kept [] none = refl
-  all_kept f kept (x ∷ xs) none = by_test (kept x) refl (all_kept f kept xs none)
-    where
-      by_test : (v : Bool) → kept x ≡ v → flat_map f (filter kept xs) ≡ flat_map f xs
-          → flat_map f (cond v (x ∷ filter kept xs) (filter kept xs)) ≡ f x ++ flat_map f xs
-      by_test true e rest = ap (λ ys. f x ++ ys) rest
-      by_test false e rest = rest ∙ ap (λ ys. ys ++ flat_map f xs) (sym (none x e))
+  all_kept f kept (x ∷ xs) none = grind (arith, common_steps, (all_kept f kept xs none))
 
   pub all_nothing : (f : X → List Y) (xs : List X) → ((x : X) → f x ≡ []) → flat_map f xs ≡ []
   all_nothing f [] none = refl

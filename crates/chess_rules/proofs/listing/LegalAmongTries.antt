@@ -1,5 +1,5 @@
 -- The legal moves that are still to come, while moves are tried one by one.
-use Rattle.chess_rules.proofs.Words.{Move, Parts, Played, legal_among, played, ◌≡◌, ℕ, ◌+◌, ◌≤◌, List, [], ◌∷◌, length, None, Some, refl, sym, ◌∙◌, ap, arith, filter_map, cons_option}
+use Rattle.chess_rules.proofs.Words.{Move, Parts, Played, legal_among, played, ◌≡◌, ℕ, ◌+◌, ◌≤◌, List, [], ◌∷◌, length, None, Some, refl, sym, ◌∙◌, ap, arith, filter_map, cons_option, common_steps}
 
 -- The legal ones among the moves that are left are those still to come. Each move so far was
 -- counted.
@@ -23,12 +23,7 @@ module _ {p : Parts} {whole : List Played} {old now : ℕ} {left : List Move} (w
     -- the next move is not legal
     pub passed : (later : ℕ) → None ≡ played p m → later ≡ now + 1 → AreLeft p whole old later rest
     unfolding legal_among
-    passed later is one = record {
-      same = sym (ap (filter_map (played p)) next ∙ ap (λ o. cons_option o (filter_map (played p) rest)) (sym is)) ∙ w.same;
-      few = omega (arith, w.few, ap length next);
-      counted = omega (arith, w.counted, ap length next);
-      rises = omega (arith, w.rises);
-    }
+    passed later is one = grind (arith, common_steps, length)
 
   -- no move is left
   pub all_passed : left ≡ [] → whole ≡ []

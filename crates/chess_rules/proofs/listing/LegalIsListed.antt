@@ -1,5 +1,5 @@
 -- Each legal move is tried: those among the moves that are tried are all legal moves.
-use Rattle.chess_rules.proofs.Words.{Colour, Knight, Pawn, Kind, Promotion, Move, Parts, Played, Square, squares, is_jump, Board, at, has_colour, is_empty, other, own, sees, is_clear, is_aligned, is_advance, is_double_step, is_pawn_way, last_rank, legal, every_promotion, every_move, legal_among, legal_moves, moves_between, played, is_tried, promotions_from, tries_from, tries_to, with_later, short_right, long_right, short_wing, long_wing, ◌≡◌, Bool, true, false, not, ◌&&◌, ◌==◌, inl, inr, List, [], ◌∷◌, map, Option, None, Some, is_some, option_map, if◌then◌else◌, refl, sym, ◌∙◌, ap, subst, arith, cons_option, filter, filter_map, flat_map, or_cases, false_from_ne_true}
+use Rattle.chess_rules.proofs.Words.{Colour, Knight, Pawn, Kind, Promotion, Move, Parts, Played, Square, squares, is_jump, Board, at, has_colour, is_empty, other, own, sees, is_clear, is_aligned, is_advance, is_double_step, is_pawn_way, last_rank, legal, every_promotion, every_move, legal_among, legal_moves, moves_between, played, is_tried, promotions_from, tries_from, tries_to, with_later, short_right, long_right, short_wing, long_wing, ◌≡◌, Bool, true, false, not, ◌&&◌, ◌==◌, inl, inr, List, [], ◌∷◌, map, Option, None, Some, is_some, option_map, if◌then◌else◌, refl, sym, ◌∙◌, ap, subst, arith, cons_option, filter, filter_map, flat_map, or_cases, false_from_ne_true, common_steps, rules}
 use Rattle.chess_rules.specs.declared.piece.Promotion.TheVariants as promotions
 use Rattle.chess_rules.proofs.sets.AllSquares.{second_true}
 use Rattle.chess_rules.proofs.listing.FlatMaps.{all_kept, all_nothing, each_same, found_in_all, none_found}
@@ -41,28 +41,11 @@ target_free p q m l =
     ]
 
 no_knight : (p : Parts) (k : Kind) (s : Square) → is_rider k ≡ true → own p k s ≡ true → own p Knight s ≡ false
-no_knight p k s rides owns =
-    false_from_ne_true (own p Knight s) (λ knight.
-    cc (subst (λ (l : Kind). is_rider l ≡ true) (one_kind p.side p.side k Knight (at p.board s) owns knight) rides))
+no_knight p k s rides owns = grind (arith, common_steps, false_from_ne_true, one_kind)
 
 tried_when : (p : Parts) (k : Kind) (s t : Square) → own p k s ≡ true → sees k p s t ≡ true
     → has_colour p.side (at p.board t) ≡ false → is_tried p s t ≡ true
-tried_when p k s t owns seen free =
-    elim (kind_cases k) [
-      | inl rides ↦ by_way (own p Knight s) (is_jump t s) (is_aligned t s && is_clear p.board t s) (no_knight p k s rides owns)
-          (seen_back p s t ∙ (sym (sees_by_way p k s t rides) ∙ seen)) free
-      | inr knight ↦ by_jump (own p Knight s) (is_jump t s) (is_aligned t s && is_clear p.board t s)
-          (subst (λ (l : Kind). own p l s ≡ true) knight owns)
-          (jump_back t s ∙ subst (λ (l : Kind). sees l p s t ≡ true) knight seen) free
-    ]
-  where
-    by_way : (n j w : Bool) → n ≡ false → w ≡ true → has_colour p.side (at p.board t) ≡ false
-        → ((if n then j else w) && not (has_colour p.side (at p.board t))) ≡ true
-    by_way n j w e f g = grind arith
-
-    by_jump : (n j w : Bool) → n ≡ true → j ≡ true → has_colour p.side (at p.board t) ≡ false
-        → ((if n then j else w) && not (has_colour p.side (at p.board t))) ≡ true
-    by_jump n j w e f g = grind arith
+tried_when p k s t owns seen free = search (rules, kind_cases, no_knight, seen_back, sees_by_way, jump_back)
 
 -- what is true of each legal move
 record Tried (p : Parts) (m : Move) : Type 0 where
@@ -98,9 +81,7 @@ module _ (h : Move → Option Played) (f : Option Promotion → Move) where
   last_promoted none = ap (λ o. cons_option o (filter_map h (map f (promotions_from (Some promotions.Queen))))) (sym none)
 
   never_promoted : ((x : Promotion) → h (f (Some x)) ≡ None) → filter_map h (map f (promotions_from None)) ≡ filter_map h (map f every_promotion)
-  never_promoted none =
-      ap (cons_option (h (f None)))
-      (sym (none_found h (λ x. f (Some x)) (promotions.Queen ∷ promotions.Rook ∷ promotions.Bishop ∷ promotions.Knight ∷ []) none))
+  never_promoted none = grind (arith, common_steps, none_found)
 
 module _ (p : Parts) (sound : Sound p) where
   pair_tried : (s t : Square) → filter_map (played p) (tries_to p s t) ≡ filter_map (played p) (moves_between s t)
@@ -132,20 +113,11 @@ module _ (p : Parts) (sound : Sound p) where
 
   origin_tried : (s : Square) → filter_map (played p) (tries_from p s) ≡ flat_map (found_between s) squares
   unfolding tries_from
-  origin_tried s =
-      found_in_all (played p) (tries_to p s) (filter (is_tried p s) squares)
-      ∙ (each_same (λ t. filter_map (played p) (tries_to p s t)) (found_between s) (filter (is_tried p s) squares) (pair_tried s)
-      ∙ all_kept (found_between s) (is_tried p s) squares (none_to s))
+  origin_tried s = search (rules, found_in_all, each_same, pair_tried, all_kept, none_to)
 
   none_of_origin : (s : Square) → has_colour p.side (at p.board s) ≡ false → flat_map (found_between s) squares ≡ []
   none_of_origin s theirs = all_nothing (found_between s) squares (λ t. none_from s t theirs)
 
   pub legal_listed : legal_among p (flat_map (tries_from p) (own_squares p)) ≡ legal_moves p
   unfolding legal_among every_move
-  legal_listed =
-      found_in_all (played p) (tries_from p) (own_squares p)
-      ∙ (each_same (λ s. filter_map (played p) (tries_from p s)) (λ s. flat_map (found_between s) squares) (own_squares p) origin_tried
-      ∙ (all_kept (λ s. flat_map (found_between s) squares) (λ s. has_colour p.side (at p.board s)) squares none_of_origin
-      ∙ sym (found_in_all (played p) (λ s. flat_map (moves_between s) squares) squares
-      ∙ each_same (λ s. filter_map (played p) (flat_map (moves_between s) squares)) (λ s. flat_map (found_between s) squares) squares
-      (λ s. found_in_all (played p) (moves_between s) squares))))
+  legal_listed = search (rules, found_in_all, each_same, origin_tried, all_kept, none_of_origin)

@@ -1,5 +1,5 @@
 -- A move is in the list exactly if it is legal, and the position after it is with it.
-use Rattle.chess_rules.proofs.Words.{Promotion, Move, Parts, Played, Square, squares, cell_of, legal, every_promotion, every_move, legal_among, legal_moves, moves_between, played, ◌≡◌, zero, suc, List, [], ◌∷◌, map, Option, None, Some, option_map, inl, inr, ◌⊎◌, refl, sym, ◌∙◌, ap, subst, arith, cons_option, filter_map, flat_map}
+use Rattle.chess_rules.proofs.Words.{Promotion, Move, Parts, Played, Square, squares, cell_of, legal, every_promotion, every_move, legal_among, legal_moves, moves_between, played, ◌≡◌, zero, suc, List, [], ◌∷◌, map, Option, None, Some, option_map, inl, inr, ◌⊎◌, refl, sym, ◌∙◌, ap, subst, arith, cons_option, filter_map, flat_map, common_steps, rules}
 use Rattle.std.specs.Prelude.{Contains, ◌↔◌}
 use Rattle.std.proofs.lemmas.List.Elements.{Contains-append_left, Contains-append_right}
 use Rattle.chess_rules.specs.declared.piece.Promotion.TheVariants.{Queen, Rook, Bishop, Knight}
@@ -24,12 +24,7 @@ none_in y (k, low, is) = omega arith
 
 module _ {X Y : Type 0} where
   in_map : (f : X → Y) (xs : List X) (x : X) → Contains xs x → Contains (map f xs) (f x)
-  in_map f [] x c = absurd (none_in x c)
-  in_map f (z ∷ zs) x c =
-      elim (element z zs x c) [
-        | inl is ↦ subst (λ (y : X). Contains (f z ∷ map f zs) (f y)) is (here (f z) (map f zs))
-        | inr more ↦ later (f z) (map f zs) (f x) (in_map f zs x more)
-      ]
+  in_map f v1 x c = grind (arith, common_steps, none_in, element, map)
 
   in_flat_map : (f : X → List Y) (xs : List X) (x : X) (y : Y) → Contains xs x → Contains (f x) y → Contains (flat_map f xs) y
   in_flat_map f [] x y c d = absurd (none_in x c)
@@ -53,16 +48,7 @@ module _ {X Y : Type 0} where
 
   found_in : (h : X → Option Y) (xs : List X) (y : Y) → Contains (filter_map h xs) y → (x : X) × (h x ≡ Some y)
   found_in h [] y c = absurd (none_in y c)
-  found_in h (z ∷ zs) y c = by_head (h z) refl c (found_in h zs y)
-    where
-      by_head : (o : Option Y) → h z ≡ o → Contains (cons_option o (filter_map h zs)) y
-          → (Contains (filter_map h zs) y → (x : X) × (h x ≡ Some y)) → (x : X) × (h x ≡ Some y)
-      by_head None e there more = more there
-      by_head (Some w) e there more =
-          elim (element w (filter_map h zs) y there) [
-            | inl is ↦ (z, e ∙ ap Some is)
-            | inr behind ↦ more behind
-          ]
+  found_in h (z ∷ zs) y c = grind (arith, common_steps, element, (found_in h zs y))
 
 -- Every move of the board is in the list of all moves.
 
@@ -91,10 +77,7 @@ with_next m q = record { mv = m; next = q }
 
 played_as : (p q : Parts) (m n : Move) (o : Option Parts) → legal p n ≡ o
     → option_map {U = Played} (λ r. record { mv = n; next = r }) o ≡ Some (record { mv = m; next = q }) → legal p m ≡ Some q
-played_as p q m n None e is = absurd (cc)
-played_as p q m n (Some r) e is =
-    let same : with_next n r ≡ with_next m q = cc in
-    subst (λ (k : Move). legal p k ≡ Some q) (ap (λ (x : Played). x.mv) same) (e ∙ ap (λ (x : Played). Some x.next) same)
+played_as p q m n v4 e is = search rules
 
 pub legal_exactly : (p q : Parts) (m : Move) → (legal p m ≡ Some q) ↔ Contains (legal_moves p) (record { mv = m; next = q })
 unfolding legal_among

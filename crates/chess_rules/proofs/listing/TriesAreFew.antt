@@ -1,5 +1,5 @@
 -- At most 1,024 pairs of squares are tried, and at most four moves of each.
-use Rattle.chess_rules.proofs.Words.{Parts, Piece, Promotion, Square, squares, square_at, at, has_colour, is_jump, is_tried, one_move, promotions_from, tries_from, tries_to, with_later, Move, own, Knight, is_aligned, is_clear, is_some, ◌≡◌, ℕ, ◌+◌, ◌*◌, ◌<◌, ◌≤◌, Bool, true, false, not, cond, ◌&&◌, List, [], ◌∷◌, length, map, Option, if◌then◌else◌, refl, sym, ap₂, subst, arith, filter, flat_map, sum_by, sum_by-cons, sum_by-le, sum_by-le-sum_by}
+use Rattle.chess_rules.proofs.Words.{Parts, Piece, Promotion, Square, squares, square_at, at, has_colour, is_jump, is_tried, one_move, promotions_from, tries_from, tries_to, with_later, Move, own, Knight, is_aligned, is_clear, is_some, ◌≡◌, ℕ, ◌+◌, ◌*◌, ◌<◌, ◌≤◌, Bool, true, false, not, cond, ◌&&◌, List, [], ◌∷◌, length, map, Option, if◌then◌else◌, refl, sym, ap₂, subst, arith, filter, flat_map, sum_by, sum_by-cons, sum_by-le, sum_by-le-sum_by, common_steps}
 use Rattle.std.proofs.lemmas.List.Concat.{length-flat_map}
 use Rattle.chess_rules.proofs.sets.AllSquares.{square_in_place, squares_long}
 use Rattle.chess_rules.proofs.lines.AttackToReach.{is_in_view}
@@ -40,17 +40,7 @@ module _ (p : Parts) where
 
   from_origin : (s : Square) → cond (mine s) (length (tries_from p s)) 0 ≤ 4 * sum_by (λ t. one t s) squares
   unfolding tries_from
-  from_origin s = by_colour (mine s)
-    where
-      by_colour : (v : Bool) → cond v (length (flat_map (tries_to p s) (filter (is_tried p s) squares))) 0
-          ≤ 4 * sum_by (λ t. bit (v && is_tried p s t)) squares
-      by_colour true = omega (
-        arith,
-        length-flat_map (tries_to p s) (filter (is_tried p s) squares),
-        sum_four (λ t. length (tries_to p s t)) (filter (is_tried p s) squares) (four_to p s),
-        length_by_bits (is_tried p s) squares,
-      )
-      by_colour false = omega arith
+  from_origin s = grind (arith, common_steps, length, bit, length-flat_map, sum_four, four_to, length_by_bits)
 
   -- a pair that is tried is in view, or a jump apart
   one_most : (t s : Square) → one t s ≤ bit (is_in_view p.board t s) + bit (is_jump s t)

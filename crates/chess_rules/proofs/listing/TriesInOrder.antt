@@ -1,5 +1,5 @@
 -- Which move is tried next, and which are tried after it.
-use Rattle.chess_rules.proofs.Words.{at, has_colour, Move, Parts, Square, Tries, one_move, members, is_tried, Places, pending_tries, tries_from, tries_left, tries_to, with_later, ◌≡◌, ℕ, List, [], ◌∷◌, ◌++◌, Option, None, Some, refl, sym, ◌∙◌, ap, arith, append_assoc, flat_map, HasNone, TakesLowest}
+use Rattle.chess_rules.proofs.Words.{at, has_colour, Move, Parts, Square, Tries, one_move, members, is_tried, Places, pending_tries, tries_from, tries_left, tries_to, with_later, ◌≡◌, ℕ, List, [], ◌∷◌, ◌++◌, Option, None, Some, refl, sym, ◌∙◌, ap, arith, append_assoc, flat_map, HasNone, TakesLowest, common_steps}
 use Rattle.chess_rules.proofs.sets.SetsToSquares.{members_are, no_member}
 use Rattle.chess_rules.proofs.trying.PairsFromOrigin.{own_squares}
 
@@ -12,27 +12,21 @@ module _ (p : Parts) (tries : Tries) where
   pub pending_first : (m : Move) (rest : Option Move) → tries.pending ≡ Some m → with_later m ≡ m ∷ pending_tries rest
       → tries_left p tries ≡ m ∷ tries_left p (record { pending = rest; origin = tries.origin; targets = tries.targets; origins = tries.origins })
   unfolding pending_tries tries_left
-  pending_first m rest is first =
-      ap (λ xs. xs ++ (flat_map (tries_to p tries.origin) (members tries.targets) ++ flat_map (tries_from p) (members tries.origins)))
-      (ap pending_tries is ∙ first)
+  pending_first m rest is first = grind (arith, common_steps)
 
   -- the first move to the next target of the origin
   pub target_first : (t : Square) (left : ℕ) (m : Move) (rest : Option Move) → tries.pending ≡ None → TakesLowest tries.targets left t
       → m ≡ one_move p tries.origin t → with_later m ≡ m ∷ pending_tries rest
       → tries_left p tries ≡ m ∷ tries_left p (record { pending = rest; origin = tries.origin; targets = left; origins = tries.origins })
   unfolding pending_tries tries_left tries_to
-  target_first t left m rest none taken is first =
-      rw (none, taken.next, sym is) (first_of_three m (pending_tries rest) (flat_map (tries_to p tries.origin) (members left))
-      (flat_map (tries_from p) (members tries.origins)) (with_later m) first)
+  target_first t left m rest none taken is first = grind (arith, common_steps, first_of_three)
 
   -- the next origin
   pub origin_first : (s : Square) (targets rest : ℕ) → tries.pending ≡ None → HasNone tries.targets → TakesLowest tries.origins rest s
       → Places targets (is_tried p s)
       → tries_left p (record { pending = tries.pending; origin = s; targets = targets; origins = rest }) ≡ tries_left p tries
   unfolding pending_tries tries_left tries_from
-  origin_first s targets rest none no_target taken there =
-      rw (none, no_target.none, taken.next)
-      (ap (λ xs. flat_map (tries_to p s) xs ++ flat_map (tries_from p) (members rest)) (members_are targets (is_tried p s) there.of))
+  origin_first s targets rest none no_target taken there = grind (arith, common_steps, members_are)
 
   pub none_left : tries.pending ≡ None → HasNone tries.targets → HasNone tries.origins → tries_left p tries ≡ []
   unfolding pending_tries tries_left
@@ -42,6 +36,4 @@ module _ (p : Parts) (tries : Tries) where
 pub all_left : (p : Parts) (tries : Tries) → tries.pending ≡ None → tries.targets ≡ 0
     → Places tries.origins (λ s. has_colour p.side (at p.board s)) → tries_left p tries ≡ flat_map (tries_from p) (own_squares p)
 unfolding pending_tries tries_left
-all_left p tries none no_target there =
-    rw (none, (no_member tries.targets no_target).none)
-    (ap (flat_map (tries_from p)) (members_are tries.origins (λ s. has_colour p.side (at p.board s)) there.of))
+all_left p tries none no_target there = grind (arith, common_steps, no_member, members_are)

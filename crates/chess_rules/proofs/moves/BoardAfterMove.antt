@@ -118,15 +118,7 @@ put_stays p m b s x stays on free plain =
     }
   where
     there_still : (c : Colour) (k : Square) → StandsAt c b k → StandsAt c (put b s x) k
-    there_still c k stands =
-        record {
-          file = stands.file;
-          rank = stands.rank;
-          king = elim (at_put b s k x stays.long on (record { file = stands.file; rank = stands.rank })) [
-            | inl here ↦ cc (free c, subst (λ (u : Square). has_piece c King (at b u) ≡ true) here.0 stands.king)
-            | inr there ↦ ap (has_piece c King) there.1 ∙ stands.king
-          ];
-        }
+    there_still c k stands = grind (arith, common_steps, at_put)
 
 -- a square but the target that had no king has none
 pub carried_free : (p : Parts) (m : Move) → Sound p → Lands p m → (u : Square) → OnBoard u → u ≢ m.to

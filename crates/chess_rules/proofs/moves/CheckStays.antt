@@ -1,5 +1,5 @@
 -- In check, a move to no square that meets the attack is not legal.
-use Rattle.chess_rules.proofs.Words.{Colour, King, Knight, Pawn, Piece, Move, Parts, Square, same_square, strictly_between, is_adjacent, squares, Board, at, cell_of, is_empty, other, has_colour, attacks, cell_attacks, is_attacked, is_clear, king_attacked, is_position, is_target, own, short_right, short_wing, long_right, long_wing, Wing, castles, carried, is_legal, is_check, king_square, has, members, is_king_step, is_untried, one_move, is_legal_pair, has_untried_move, Bits, ◌≡◌, ◌≢◌, ℕ, Bool, true, false, not, ◌&&◌, ◌||◌, refl, sym, ◌∙◌, ap, ap₂, subst, arith, length, Option, None, is_none, list_any, false≢true, and_from, false_from_ne_true, not-true, common_steps, HasAttacker, MeetsAttack, is_king_move, is_unattacked, stand_ready}
+use Rattle.chess_rules.proofs.Words.{Colour, King, Knight, Pawn, Piece, Move, Parts, Square, same_square, strictly_between, is_adjacent, squares, Board, at, cell_of, is_empty, other, has_colour, attacks, cell_attacks, is_attacked, is_clear, king_attacked, is_position, is_target, own, short_right, short_wing, long_right, long_wing, Wing, castles, carried, is_legal, is_check, king_square, has, members, is_king_step, is_untried, one_move, is_legal_pair, has_untried_move, Bits, ◌≡◌, ◌≢◌, ℕ, Bool, true, false, not, ◌&&◌, ◌||◌, refl, sym, ◌∙◌, ap, ap₂, subst, arith, length, Option, None, is_none, list_any, false≢true, and_from, false_from_ne_true, not-true, common_steps, HasAttacker, MeetsAttack, is_king_move, is_unattacked, stand_ready, rules}
 use Rattle.chess_rules.proofs.moves.WaysToStep.{PieceStep, Castles, piece_step_means, pawn_step_means, passing_means, castles_means, way_of, by_piece, by_pawn, by_passing, by_short, by_long}
 use Rattle.chess_rules.proofs.sets.AllSquares.{first_true, second_true, each_square, Passes, some_square, any_square, not_true, cell_of-square_at}
 use Rattle.chess_rules.proofs.lines.AttackToReach.{clear_if, squares_same, other-other, adjacent_back}
@@ -28,19 +28,11 @@ module _ (b : Board) (from to k : Square) (cell : Option Piece) (c : Colour)
       theirs = first_true (has_colour c (at b s)) _ h
 
       stays : at (moved b from to cell) s ≡ at b s
-      stays = elim (at_moved b from to s cell long on_from on_to on) [
-        | on_target is _ ↦ absurd (apart is)
-        | on_origin is _ ↦ absurd (false≢true (sym mine ∙ subst (λ (u : Square). has_colour c (at b u) ≡ true) is theirs))
-        | on_other _ _ same ↦ same
-      ]
+      stays = grind (arith, common_steps, at_moved, on_from, on_to, on_target, on_origin, mine, theirs, on_other)
 
       empty_then : (u : Square) → OnBoard u → strictly_between s u k ≡ true → is_empty b u ≡ true
           → is_empty (moved b from to cell) u ≡ true
-      empty_then u on_u between empty = elim (at_moved b from to u cell long on_from on_to on_u) [
-        | on_target is _ ↦ absurd (aside (subst (λ (v : Square). strictly_between s v k ≡ true) is between))
-        | on_origin _ none ↦ ap is_none none
-        | on_other _ _ same ↦ ap is_none same ∙ empty
-      ]
+      empty_then u on_u between empty = search (rules, at_moved, on_from, on_to, on_target, on_origin, is_none, on_other)
 
       clear_then : is_clear b s k ≡ true → is_clear (moved b from to cell) s k ≡ true
       clear_then clear =
@@ -160,9 +152,7 @@ module _ (p : Parts) (set : ℕ) (position : is_position p ≡ true) (check : is
       ∙ false_from_ne_true _ (λ h. by_origin (some_square (λ s. is_untried p t s && is_legal_pair p s t) h))
     where
       by_origin : Passes (λ s. is_untried p t s && is_legal_pair p s t) → ⊥
-      by_origin w =
-          false≢true (sym (not_legal_pair t w.on out (first_true (is_untried p t w.on) _ w.holds))
-          ∙ second_true (is_untried p t w.on) _ w.holds)
+      by_origin w = grind (arith, common_steps, not_legal_pair, first_true, second_true)
 
   -- no pair is legal for any other target
   pub none_elsewhere : (rest : ℕ) → Bits rest (λ i. not (has set i)) → list_any (has_untried_move p) (members rest) ≡ false
@@ -173,6 +163,4 @@ module _ (p : Parts) (set : ℕ) (position : is_position p ≡ true) (check : is
       ∙ false_from_ne_true _ (λ h. by_target (some_square (λ t. not (has set (cell_of t)) && has_untried_move p t) h))
     where
       by_target : Passes (λ t. not (has set (cell_of t)) && has_untried_move p t) → ⊥
-      by_target w =
-          false≢true (sym (none_to w.on (not-true (has set (cell_of w.on)) (first_true (not (has set (cell_of w.on))) _ w.holds)))
-          ∙ second_true (not (has set (cell_of w.on))) _ w.holds)
+      by_target w = grind (arith, common_steps, none_to, not-true, first_true, second_true)

@@ -1,5 +1,5 @@
 -- A plain step gives an attack only by the piece that moves, or along the line that it leaves.
-use Rattle.chess_rules.proofs.Words.{Colour, Piece, Promotion, Move, Parts, Square, same_square, between_on_rank, between_on_file, between_on_diagonal, strictly_between, squares, Board, at, put, is_empty, other, has_colour, attacks, cell_attacks, is_attacked, is_clear, king_attacked, is_position, is_on_board, promoted, carried, board_after, after, legal, if_safe, is_legal, is_check, is_aligned, is_near, king_square, may_attack, reaches_from, slides, Plain, step_kind, ◌≡◌, Bool, true, false, not, ◌&&◌, ◌||◌, ◌⊎◌, inl, inr, refl, sym, ◌∙◌, ap, ap₂, subst, arith, length, Option, None, Some, is_none, is_some, option_map, if◌then◌else◌, list_any, false≢true, and_from, false_from_ne_true, nat_tests, common_steps}
+use Rattle.chess_rules.proofs.Words.{Colour, Piece, Promotion, Move, Parts, Square, same_square, between_on_rank, between_on_file, between_on_diagonal, strictly_between, squares, Board, at, put, is_empty, other, has_colour, attacks, cell_attacks, is_attacked, is_clear, king_attacked, is_position, is_on_board, promoted, carried, board_after, after, legal, if_safe, is_legal, is_check, is_aligned, is_near, king_square, may_attack, reaches_from, slides, Plain, step_kind, ◌≡◌, Bool, true, false, not, ◌&&◌, ◌||◌, ◌⊎◌, inl, inr, refl, sym, ◌∙◌, ap, ap₂, subst, arith, length, Option, None, Some, is_none, is_some, option_map, if◌then◌else◌, list_any, false≢true, and_from, false_from_ne_true, nat_tests, common_steps, rules}
 use Rattle.chess_rules.proofs.sets.AllSquares.{first_true, second_true, each_square, all_squares, Passes, some_square, any_square, not_true, implied}
 use Rattle.chess_rules.proofs.lines.AttackToReach.{attacker_is, cell_attack_is, none_or_all, between_cases, other-other}
 use Rattle.chess_rules.proofs.positions.OneKing.{StandsAt}
@@ -52,19 +52,14 @@ module _ (b : Board) (from to k : Square) (cell : Option Piece) (c : Colour)
       (each_square (λ u. not (strictly_between s u k) || is_empty (moved b from to cell) u) u h file rank))))
     where
       empty_before : (u : Square) → OnBoard u → strictly_between s u k ≡ true → is_empty (moved b from to cell) u ≡ true → is_empty b u ≡ true
-      empty_before u on between empty = elim (at_moved b from to u cell long on_from on_to on) [
-        | on_target _ here ↦ absurd (false≢true (sym full ∙ (sym (ap is_none here) ∙ empty)))
-        | on_origin is _ ↦ absurd (false≢true (sym apart ∙ subst (λ (v : Square). is_aligned v k ≡ true) is (between_aligned s u k between)))
-        | on_other _ _ same ↦ ap is_none (sym same) ∙ empty
-      ]
+      empty_before u on between empty = search (rules, at_moved, on_target, is_none, on_origin, between_aligned, on_other)
 
   abbrev pub Opens : Type 0
   Opens = (is_aligned from k ≡ false) ⊎ (list_any (slides b c k) squares ≡ false)
 
   attacked_before : (s : Square) → OnBoard s → is_none cell ≡ false → Opens
       → (has_colour c (at b s) && cell_attacks (at b s) (moved b from to cell) s k) ≡ true → (has_colour c (at b s) && attacks b s k) ≡ true
-  attacked_before s on full (inl apart) h =
-      grind (arith, common_steps, and_from, first_true, cell_still, clear_before)
+  attacked_before s on full (inl apart) h = grind (arith, common_steps, and_from, first_true, cell_still, clear_before)
   attacked_before s on full (inr none) h =
       sym (no_slide c (at b s) (moved b from to cell) b s k
       (false_from_ne_true (slides b c k s)
@@ -91,16 +86,7 @@ module _ (b : Board) (from to k : Square) (cell : Option Piece) (c : Colour)
   still_slides : (s : Square) → (has_colour c (at b s) && cell_attacks (at b s) (moved b from to cell) s k) ≡ true
       → (has_colour c (at b s) && attacks b s k) ≡ false
       → (((has_colour c (at b s) && reaches_from (at b s) s k) && not (is_near (at b s))) && is_clear (moved b from to cell) s k) ≡ true
-  still_slides s hits before = by_test ((has_colour c (at b s) && reaches_from (at b s) s k) && not (is_near (at b s))) refl
-    where
-      clear : is_clear (moved b from to cell) s k ≡ true
-      clear = second_true (reaches_from (at b s) s k) _ (sym (cell_attack_is (at b s) (moved b from to cell) s k)
-          ∙ second_true (has_colour c (at b s)) _ hits)
-
-      by_test : (x : Bool) → ((has_colour c (at b s) && reaches_from (at b s) s k) && not (is_near (at b s))) ≡ x
-          → (((has_colour c (at b s) && reaches_from (at b s) s k) && not (is_near (at b s))) && is_clear (moved b from to cell) s k) ≡ true
-      by_test true e = and_from _ _ e clear
-      by_test false e = absurd (false≢true (sym before ∙ (sym (no_slide c (at b s) (moved b from to cell) b s k e) ∙ hits)))
+  still_slides s hits before = grind (arith, common_steps, moved, second_true, cell_attack_is, and_from, no_slide)
 
   pub along_line : is_none cell ≡ false → (has_colour c cell && attacks (moved b from to cell) to k) ≡ false
       → is_attacked b c k ≡ false
@@ -124,10 +110,7 @@ module _ (b : Board) (from to k : Square) (cell : Option Piece) (c : Colour)
 
       seen : (w : Passes (λ s. slides (moved b from to cell) c k s && is_clear (moved b from to cell) s k))
           → is_attacked (moved b from to cell) c k ≡ true
-      seen w = any_square (λ s. has_colour c (at (moved b from to cell) s) && attacks (moved b from to cell) s k) w.on w.file w.rank
-          (attacker_is (moved b from to cell) c w.on k
-          ∙ and_from _ _ (first_true (may_attack (moved b from to cell) c k w.on) _ (first_true (slides (moved b from to cell) c k w.on) _ w.holds))
-          (second_true (slides (moved b from to cell) c k w.on) _ w.holds))
+      seen w = search (rules, any_square, moved, attacker_is, and_from, first_true, second_true)
 
       by_test : (x : Bool) → is_attacked (moved b from to cell) c k ≡ x
           → x ≡ list_any (λ s. slides (moved b from to cell) c k s && is_clear (moved b from to cell) s k) squares

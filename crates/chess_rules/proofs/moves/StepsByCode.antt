@@ -1,5 +1,5 @@
 -- A code says what piece it is, and what that reaches on an empty board.
-use Rattle.chess_rules.proofs.Words.{Colour, Kind, King, Queen, Rook, Bishop, Knight, Pawn, Piece, Move, Parts, Square, Board, at, has_colour, cell_attacks, has_piece, is_clear, attacks, own, is_piece_step, code_of, kind_code, code_reaches, reaches, reaches_from, Option, None, Some, is_none, ◌≡◌, ◌≢◌, ℕ, Bool, true, false, not, ◌&&◌, refl, sym, ◌∙◌, ap, arith, false≢true}
+use Rattle.chess_rules.proofs.Words.{Colour, Kind, King, Queen, Rook, Bishop, Knight, Pawn, Piece, Move, Parts, Square, Board, at, has_colour, cell_attacks, has_piece, is_clear, attacks, own, is_piece_step, code_of, kind_code, code_reaches, reaches, reaches_from, Option, None, Some, is_none, ◌≡◌, ◌≢◌, ℕ, Bool, true, false, not, ◌&&◌, refl, sym, ◌∙◌, ap, arith, false≢true, common_steps}
 use Rattle.chess_rules.proofs.lines.AttackToReach.{attack_is, cell_attack_is, colours_same}
 
 pub pawn_by_code : (c : Colour) (cell : Option Piece) → has_colour c cell ≡ true → code_of cell ≡ 4 → has_piece c Pawn cell ≡ true
@@ -14,12 +14,7 @@ no_king_by_code c cell differs = grind arith
 -- but for a pawn, the code says what the piece reaches
 
 kind_reaches : (k : Kind) (c : Colour) (s t : Square) → kind_code k ≢ 4 → code_reaches (kind_code k) s t ≡ reaches k c s t
-kind_reaches King c s t h = refl
-kind_reaches Queen c s t h = refl
-kind_reaches Rook c s t h = refl
-kind_reaches Bishop c s t h = refl
-kind_reaches Knight c s t h = refl
-kind_reaches Pawn c s t h = absurd (h refl)
+kind_reaches v0 c s t h = grind (arith, common_steps)
 
 pub code_reaches_from : (cell : Option Piece) (s t : Square) → code_of cell ≢ 4 → code_reaches (code_of cell) s t ≡ reaches_from cell s t
 code_reaches_from None s t h = refl
@@ -29,21 +24,7 @@ code_reaches_from (Some x) s t h = kind_reaches x.kind x.colour s t h
 
 pub pawn_attacks : (c : Colour) (cell : Option Piece) (b : Board) (s t : Square) → has_colour c cell ≡ true → code_of cell ≡ 4
     → cell_attacks cell b s t ≡ reaches Pawn c s t
-pawn_attacks c None b s t mine is = absurd (false≢true mine)
-pawn_attacks c (Some x) b s t mine is =
-    cell_attack_is (Some x) b s t ∙ (sym (pawn_clear_is b s t x is) ∙ ap (λ d. reaches Pawn d s t) (sym (colours_same c x.colour mine)))
-  where
-    pawn_clear_is : (b : Board) (s t : Square) (x : Piece) → kind_code x.kind ≡ 4
-        → reaches Pawn x.colour s t ≡ (reaches x.kind x.colour s t && is_clear b s t)
-    pawn_clear_is b s t x is = by_kind x.kind is
-      where
-        by_kind : (k : Kind) → kind_code k ≡ 4 → reaches Pawn x.colour s t ≡ (reaches k x.colour s t && is_clear b s t)
-        by_kind Pawn e = attack_is Pawn x.colour b s t
-        by_kind King e = absurd (cc)
-        by_kind Queen e = absurd (cc)
-        by_kind Rook e = absurd (cc)
-        by_kind Bishop e = absurd (cc)
-        by_kind Knight e = absurd (cc)
+pawn_attacks c v1 b s t mine is = grind (arith, common_steps, cell_attack_is, colours_same, attack_is)
 
 pub attacks_by_code : (cell : Option Piece) (b : Board) (s t : Square) → code_of cell ≢ 4
     → cell_attacks cell b s t ≡ (code_reaches (code_of cell) s t && is_clear b s t)

@@ -70,9 +70,4 @@ way_of p m b h = by_tests _ _ _ _ _ refl refl refl refl refl h
     by_tests : (v w x y z : Bool) → is_piece_step p m ≡ v → is_pawn_step p m ≡ w → is_en_passant p m ≡ x
         → castles_short p m ≡ y → castles_long p m ≡ z → (if v || w then Some (carried p m) else if x then Some (en_passant_board p m)
         else if y then Some (castled p m 7 5) else if z then Some (castled p m 0 3) else None) ≡ Some b → Way p m b
-    by_tests true w x y z e f g i j is = by_piece e cc
-    by_tests false true x y z e f g i j is = by_pawn f cc
-    by_tests false false true y z e f g i j is = by_passing g cc
-    by_tests false false false true z e f g i j is = by_short i cc
-    by_tests false false false false true e f g i j is = by_long j cc
-    by_tests false false false false false e f g i j is = cc
+    by_tests v0 w x y z e f g i j is = search (rules, by_piece, by_pawn, by_passing, by_short, by_long)

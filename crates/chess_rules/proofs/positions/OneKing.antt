@@ -14,10 +14,7 @@ tally-count_by p xs = is_count_by (tally p) p refl (λ _ _. refl) xs
 at_least_one : {X : Type 0} (p : X → Bool) (xs : List X) (i : ℕ) (d : X) → i < length xs → p (get_or xs i d) ≡ true → 1 ≤ tally p xs
 at_least_one p [] i d low h = absurd (omega arith)
 at_least_one p (x ∷ xs) zero d low h = rw h (omega arith)
-at_least_one p (x ∷ xs) (suc i) d low h = by_first (p x) (at_least_one p xs i d (omega arith) h)
-  where
-    by_first : (v : Bool) → 1 ≤ tally p xs → 1 ≤ cond v (1 + tally p xs) (tally p xs)
-    by_first v more = grind arith
+at_least_one p (x ∷ xs) (suc i) d low h = grind (arith, common_steps, (at_least_one p xs i d (omega arith) h))
 
 two : (n : ℕ) (v : Bool) → v ≡ true → 1 ≤ n → cond v (1 + n) n ≤ 1 → ⊥
 two n v e more few = grind arith
@@ -32,8 +29,7 @@ module _ {X : Type 0} (p : X → Bool) where
   tally_place (x ∷ xs) zero zero d one low high h g = refl
   tally_place (x ∷ xs) zero (suc j) d one low high h g = absurd (two (tally p xs) (p x) h (at_least_one p xs j d (omega arith) g) one)
   tally_place (x ∷ xs) (suc i) zero d one low high h g = absurd (two (tally p xs) (p x) g (at_least_one p xs i d (omega arith) h) one)
-  tally_place (x ∷ xs) (suc i) (suc j) d one low high h g =
-      ap suc (tally_place xs i j d (fewer (tally p xs) (p x) one) (omega arith) (omega arith) h g)
+  tally_place (x ∷ xs) (suc i) (suc j) d one low high h g = grind (arith, common_steps, (tally_place xs i j d (fewer (tally p xs) (p x) one) (omega arith) (omega arith) h g))
 
   -- two elements that pass, where one does, stand at one place
   one_place : (xs : List X) (i j : ℕ) (d : X) → count_by p xs ≤ 1 → i < length xs → j < length xs → p (get_or xs i d) ≡ true
@@ -42,11 +38,7 @@ module _ {X : Type 0} (p : X → Bool) where
 
   tally_some : (xs : List X) → 1 ≤ tally p xs → position_or_len p xs < length xs
   tally_some [] h = absurd (omega arith)
-  tally_some (x ∷ xs) h = by_first (p x) h (tally_some xs)
-    where
-      by_first : (v : Bool) → 1 ≤ cond v (1 + tally p xs) (tally p xs) → (1 ≤ tally p xs → position_or_len p xs < length xs)
-          → cond (not v) (1 + position_or_len p xs) 0 < length (x ∷ xs)
-      by_first v g more = grind arith
+  tally_some (x ∷ xs) h = grind (arith, common_steps, length, (tally_some xs))
 
   some_place : (xs : List X) → 1 ≤ count_by p xs → position_or_len p xs < length xs
   some_place xs h = tally_some xs (omega (arith, tally-count_by p xs))

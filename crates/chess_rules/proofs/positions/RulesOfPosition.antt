@@ -99,9 +99,7 @@ abbrev pub is_edge : ℕ → Bool
 is_edge rank = (rank == 0) || (rank == 7)
 
 pub no_pawn_there : (b : Board) → pawn_on_edge b ≡ false → (u : Square) → OnBoard u → is_edge u.rank ≡ true → is_pawn (at b u) ≡ false
-no_pawn_there b h u on edge =
-    false_from_ne_true (is_pawn (at b u)) (λ pawn.
-    cc (any_square (λ s. ((s.rank == 0) || (s.rank == 7)) && is_pawn (at b s)) u on.file on.rank (and_from _ _ edge pawn)))
+no_pawn_there b h u on edge = search (rules, edge, false_from_ne_true, any_square, and_from)
 
 pub no_pawn_on_edge : (b : Board)
     → ((u : Square) → OnBoard u → is_edge u.rank ≡ true → is_pawn (at b u) ≡ false) → pawn_on_edge b ≡ false

@@ -1,5 +1,5 @@
 -- The lowest and the highest place of a set that is not empty.
-use Rattle.chess_rules.proofs.Words.{has, IsHighest, IsLowest, ◌≡◌, ℕ, zero, suc, ◌+◌, ◌-◌, ◌*◌, ◌^◌, ◌<◌, ◌≤◌, pow-suc, w64, sym, ◌∙◌, ap, arith, ◌==◌, bit_at, leading_zeros, trailing_zeros, leading_length, bit_at_above, bit_at-trailing_zeros, HasNone, IsFrom, IsUpTo, true, not, ◌||◌, nat_lt, rules, lt-ltb}
+use Rattle.chess_rules.proofs.Words.{has, IsHighest, IsLowest, ◌≡◌, ℕ, zero, suc, ◌+◌, ◌-◌, ◌*◌, ◌^◌, ◌<◌, ◌≤◌, pow-suc, w64, sym, ◌∙◌, ap, arith, ◌==◌, bit_at, leading_zeros, trailing_zeros, leading_length, bit_at_above, bit_at-trailing_zeros, HasNone, IsFrom, IsUpTo, true, not, ◌||◌, nat_lt, rules, lt-ltb, common_steps}
 use Rattle.chess_rules.proofs.sets.WordsToCells.{has_below, has_zero}
 
 pub lowest_place : (n : ℕ) → 0 < n → n < 2 ^ 64 → IsLowest n (trailing_zeros w64 n)
@@ -18,14 +18,7 @@ highest_place n some fits = by_length (leading_length 64 n fits)
   where
     by_length : ((m : ℕ) × (leading_zeros w64 n + m ≡ 64) × (n < 2 ^ m) × (2 ^ m ≤ 2 * n + 1)) → IsHighest n (63 - leading_zeros w64 n)
     by_length (zero, all, high, low) = absurd (omega arith)
-    by_length (suc j, all, high, low) =
-        let place : j ≡ 63 - leading_zeros w64 n = omega arith in
-        let top : bit_at n j ≡ 1 = top_digit n j (omega (arith, pow-suc 2 j)) (omega (arith, pow-suc 2 j)) in
-        record {
-          inside = omega arith;
-          here = ap (λ d. d == 1) (ap (bit_at n) (sym place) ∙ top);
-          none = λ i above _. ap (λ d. d == 1) (bit_at_above n (suc j) i high (omega arith));
-        }
+    by_length (suc j, all, high, low) = grind (arith, common_steps, top_digit, pow-suc, bit_at_above)
 
 -- The places up to the first of a set, and those from the last on.
 

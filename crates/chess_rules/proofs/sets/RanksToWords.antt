@@ -1,7 +1,7 @@
 -- The words of a board, made of the lanes of its ranks.
 use Rattle.std.proofs.Math.Pow.{pow_mono}
 use Rattle.std.proofs.Math.Seq.{drop-cons}
-use Rattle.chess_rules.proofs.Words.{AreWords, Black, Board, Piece, cells, cell_in, coded, diagonal_of, has, has_colour, is_near, straight_of, word, ◌≡◌, ℕ, suc, ◌+◌, ◌*◌, ◌/◌, ◌%◌, ◌^◌, ◌<◌, ◌≤◌, Bool, List, [], ◌∷◌, ◌++◌, get_or, take, length, pow-suc, refl, sym, ◌∙◌, ap, ap₂, append_assoc, arith, length-append, subst, Option, None, if◌then◌else◌, at, lines, square, true, false, Some, map, is_some, ◌==◌, bit_at_lowest, bit_at-suc, nat_tests, get_or-map-range_with_len, drop, replicate, drop-drop, length-drop, length-replicate, length-take-le, replicate-append-replicate, take-append-drop, take_at, lanes_of, words, bytes_of_bits, bytes_of_runs, number_of_piece, numbers, word_of_bytes}
+use Rattle.chess_rules.proofs.Words.{AreWords, Black, Board, Piece, cells, cell_in, coded, diagonal_of, has, has_colour, is_near, straight_of, word, ◌≡◌, ℕ, suc, ◌+◌, ◌*◌, ◌/◌, ◌%◌, ◌^◌, ◌<◌, ◌≤◌, Bool, List, [], ◌∷◌, ◌++◌, get_or, take, length, pow-suc, refl, sym, ◌∙◌, ap, ap₂, append_assoc, arith, length-append, subst, Option, None, if◌then◌else◌, at, lines, square, true, false, Some, map, is_some, ◌==◌, bit_at_lowest, bit_at-suc, nat_tests, get_or-map-range_with_len, drop, replicate, drop-drop, length-drop, length-replicate, length-take-le, replicate-append-replicate, take-append-drop, take_at, lanes_of, words, bytes_of_bits, bytes_of_runs, number_of_piece, numbers, word_of_bytes, common_steps}
 unfoldable use Rattle.chess_rules.specs.Words.{lanes}
 use Rattle.chess_rules.proofs.sets.WordsToCells.{has_word, long_there, same_cells, word_fits}
 use Rattle.chess_rules.specs.declared.board.Board.TheInside.{Inside}
@@ -20,9 +20,7 @@ lanes-cons x b = omega arith
 -- the content before those that are read
 pub next_lanes : (b : Board) (i n read : ℕ) → i < length b → read ≡ lanes (take n (drop (suc i) b))
     → lanes_of (get_or b i None) + 2 * read ≡ lanes (take (suc n) (drop i b))
-next_lanes b i n read low h =
-    ap (λ k. lanes_of (get_or b i None) + 2 * k) h
-    ∙ sym (ap (λ c. lanes (take (suc n) c)) (drop-cons b i None low) ∙ lanes-cons _ _)
+next_lanes b i n read low h = grind (arith, common_steps, take, drop-cons, lanes-cons)
 
 -- eight cells or fewer have eight bits or fewer
 lane_fits : {X : Type 0} (test : X → Bool) (xs : List X) → length xs ≤ 8 → word test xs < 256
@@ -51,7 +49,7 @@ lanes_apart n b short h =
 
 -- The words of the ranks.
 
-word-append : {X : Type 0} (test : X → Bool) (xs ys : List X) → word test (xs ++ ys) ≡ word test xs + 2 ^ length xs * word test ys
+pub word-append : {X : Type 0} (test : X → Bool) (xs ys : List X) → word test (xs ++ ys) ≡ word test xs + 2 ^ length xs * word test ys
 unfolding word
 word-append test [] ys = omega arith
 word-append test (x ∷ xs) ys =
@@ -104,13 +102,7 @@ module _ (old new : Inside) (lanes_read : ℕ) (row : Board) (eight : length row
       ∙ omega (arith, rest, here, after)
 
   words_pushed : words pushed ≡ new
-  words_pushed =
-      ap₂ (λ x y. record { straight = x; diagonal = y; near = word is_near pushed; black = word (has_colour Black) pushed })
-      (with_rank straight_of old.straight _ new.straight (ap (λ (w : Inside). w.straight) are_words) sets.straight straight)
-      (with_rank diagonal_of old.diagonal _ new.diagonal (ap (λ (w : Inside). w.diagonal) are_words) sets.diagonal diagonal)
-      ∙ ap₂ (λ x y. record { straight = new.straight; diagonal = new.diagonal; near = x; black = y })
-      (with_rank is_near old.near _ new.near (ap (λ (w : Inside). w.near) are_words) sets.near near)
-      (with_rank (has_colour Black) old.black _ new.black (ap (λ (w : Inside). w.black) are_words) sets.black black)
+  words_pushed = grind (arith, common_steps, straight, diagonal, near, black, with_rank, sets)
 
   pub are_words_pushed : AreWords new
   are_words_pushed = subst AreWords words_pushed (ap words (cells_again pushed long))
@@ -169,14 +161,10 @@ sum : (v w : ℕ) (s d e c r : ℕ) (p q t u z : ℕ) → s + 2 * d + 4 * e + 8 
 sum v w s d e c r p q t u z g h = omega arith
 
 first_of_run : (k n bits : ℕ) → bits % 2 ≡ 0 → bytes_of_runs (suc k) n bits ≡ (16 + n) + 256 * bytes_of_runs k (n + 1) (bits / 2)
-first_of_run k n bits h =
-    let none : (bits % 2 == 0) ≡ true = grind (arith, nat_tests) in
-    ap (λ v. if v then 16 + n + 256 * bytes_of_runs k (n + 1) (bits / 2) else 256 * bytes_of_runs k 0 (bits / 2)) none
+first_of_run k n bits h = grind (arith, common_steps)
 
 end_of_run : (k n bits : ℕ) → bits % 2 ≡ 1 → bytes_of_runs (suc k) n bits ≡ 0 + 256 * bytes_of_runs k 0 (bits / 2)
-end_of_run k n bits h =
-    let some : (bits % 2 == 0) ≡ false = grind (arith, nat_tests) in
-    ap (λ v. if v then 16 + n + 256 * bytes_of_runs k (n + 1) (bits / 2) else 256 * bytes_of_runs k 0 (bits / 2)) some ∙ omega arith
+end_of_run k n bits h = grind (arith, common_steps)
 
 pub total : (xs : Board) (n s d e c o : ℕ) → Marks straight_of s xs → Marks diagonal_of d xs → Marks is_near e xs
     → Marks (has_colour Black) c xs → Marks is_some o xs
@@ -220,9 +208,4 @@ cell_on_rank b rank i low = get_or-map-range_with_len (λ file. at b (square fil
 pub on_rank : (test : Option Piece → Bool) (set bits : ℕ) (b : Board) (rank : ℕ) → rank < 8
     → ((i : ℕ) → i < 8 → has bits i ≡ has set (8 * rank + i)) → ((i : ℕ) → i < 64 → has set i ≡ test (get_or b i None))
     → Marks test bits (cells_of_rank b rank)
-on_rank test set bits b rank inside h g =
-    record {
-      of = λ i low.
-          let low_file : i < 8 = omega (arith, low) in
-          h i low_file ∙ g (8 * rank + i) (omega arith) ∙ ap test (sym (cell_on_rank b rank i low_file));
-    }
+on_rank test set bits b rank inside h g = grind (arith, common_steps, cell_on_rank)

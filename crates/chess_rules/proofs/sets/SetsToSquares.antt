@@ -61,9 +61,7 @@ empty_test w fits = grind (arith, common_steps, set_test)
 same_filter : (p q : Square → Bool) (a n : ℕ) → ((i : ℕ) → a ≤ i → i < a + n → p (square_at i) ≡ q (square_at i))
     → filter p (map square_at (range_with_len a n)) ≡ filter q (map square_at (range_with_len a n))
 same_filter p q a zero h = refl
-same_filter p q a (suc n) h =
-    ap₂ (λ v xs. cond v (square_at a ∷ xs) xs) (h a (omega arith) (omega arith))
-    (same_filter p q (a + 1) n (λ i low high. h i (omega arith) (omega arith)))
+same_filter p q a (suc n) h = grind (arith, common_steps, (same_filter p q (a + 1) n (λ i low high. h i (omega arith) (omega arith))))
 
 pub members_are : (w : ℕ) (test : Square → Bool)
     → ((i : ℕ) → i < 64 → has w i ≡ test (square_at i)) → members w ≡ filter test squares
@@ -145,9 +143,7 @@ no_member w none = record {
     nothing (x ∷ xs) = nothing xs
 
 pub lone_means : (xs : List Square) (s : Square) → lone xs ≡ Some s → xs ≡ s ∷ []
-lone_means [] s h = cc
-lone_means (x ∷ []) s h = cc
-lone_means (x ∷ (y ∷ xs)) s h = cc
+lone_means v0 s h = grind (arith, common_steps)
 
 -- the first square is taken out
 pub takes_lowest : (w rest : ℕ) (s : Square) → IsFirst w s → Sets w rest (cell_of s) false → TakesLowest w rest s
@@ -163,12 +159,7 @@ takes_lowest w rest s first sets =
 -- it is the one square, if none is left
 lone_after : (p : Square → Bool) (xs : List Square) (s : Square) → lone (s ∷ filter p xs) ≡ (if list_any p xs then None else Some s)
 lone_after p [] s = refl
-lone_after p (x ∷ xs) s = by_first (p x) (filter p xs) (list_any p xs) (lone_after p xs s)
-  where
-    by_first : (v : Bool) (ys : List Square) (more : Bool) → lone (s ∷ ys) ≡ (if more then None else Some s)
-        → lone (s ∷ cond v (x ∷ ys) ys) ≡ (if v || more then None else Some s)
-    by_first true ys more h = refl
-    by_first false ys more h = h
+lone_after p (x ∷ xs) s = grind (arith, common_steps, (lone_after p xs s))
 
 pub lone_first : (w rest : ℕ) (s : Square) → IsFirst w s → Sets w rest (cell_of s) false
     → lone (members w) ≡ (if has_any rest then None else Some s)
@@ -183,12 +174,7 @@ first_place w s some fits is = grind (arith, common_steps, trailing_zeros, w64, 
 none_kept : (p : Square → Bool) (a n : ℕ) → ((i : ℕ) → a ≤ i → i < a + n → p (square_at i) ≡ true → ⊥)
     → length (filter p (map square_at (range_with_len a n))) ≡ 0
 none_kept p a zero h = refl
-none_kept p a (suc n) h = by_test (p (square_at a)) refl (none_kept p (a + 1) n (λ i low high. h i (omega arith) (omega arith)))
-  where
-    by_test : (x : Bool) → p (square_at a) ≡ x → length (filter p (map square_at (range_with_len (a + 1) n))) ≡ 0
-        → length (cond x (square_at a ∷ filter p (map square_at (range_with_len (a + 1) n)))
-        (filter p (map square_at (range_with_len (a + 1) n)))) ≡ 0
-    by_test x e none = grind arith
+none_kept p a (suc n) h = grind (arith, common_steps, length, map, (none_kept p (a + 1) n (λ i low high. h i (omega arith) (omega arith))))
 
 one_of_range : (p : Square → Bool) (a n : ℕ)
     → ((i j : ℕ) → a ≤ i → i < j → j < a + n → p (square_at i) ≡ true → p (square_at j) ≡ true → ⊥)
@@ -199,11 +185,7 @@ one_of_range p a (suc n) h = by_test (p (square_at a)) refl (one_of_range p (a +
     by_test : (x : Bool) → p (square_at a) ≡ x → length (filter p (map square_at (range_with_len (a + 1) n))) ≤ 1
         → length (cond x (square_at a ∷ filter p (map square_at (range_with_len (a + 1) n)))
         (filter p (map square_at (range_with_len (a + 1) n)))) ≤ 1
-    by_test true e few =
-        let none : length (filter p (map square_at (range_with_len (a + 1) n))) ≡ 0 =
-        none_kept p (a + 1) n (λ i low high there. h a i (omega arith) (omega arith) (omega arith) e there) in
-        omega arith
-    by_test false e few = few
+    by_test v0 e few = grind (arith, common_steps, length, map, none_kept)
 
 pub one_kept : (p : Square → Bool) → ((i j : ℕ) → i < j → j < 64 → p (square_at i) ≡ true → p (square_at j) ≡ true → ⊥)
     → length (filter p squares) ≤ 1
@@ -224,8 +206,7 @@ module _ {X : Type 0} (test : X → Bool) where
   ones_kept : (xs : List X) → ones (word test xs) ≡ length (filter test xs)
   unfolding word ones
   ones_kept [] = refl
-  ones_kept (x ∷ xs) = ones_next (test x) (word test xs)
-      ∙ (ap (λ n. cond (test x) 1 0 + n) (ones_kept xs) ∙ one_more (test x) x (filter test xs))
+  ones_kept (x ∷ xs) = grind (arith, common_steps, ones_next, (ones_kept xs))
 
 -- a set, as the word of its places
 word_of_set : (w : ℕ) → w < 2 ^ 64 → word (has w) (range_with_len 0 64) ≡ w
@@ -238,10 +219,7 @@ word_of_set w fits =
 by_squares : (w a n : ℕ) → length (filter (has w) (range_with_len a n))
     ≡ length (filter (λ s. has w (cell_of s)) (map square_at (range_with_len a n)))
 by_squares w a zero = refl
-by_squares w a (suc n) =
-    sym (one_more (has w a) a (filter (has w) (range_with_len (a + 1) n)))
-    ∙ (ap₂ (λ v k. cond v 1 0 + k) (ap (has w) (sym (cell_of-square_at a))) (by_squares w (a + 1) n)
-    ∙ one_more (has w (cell_of (square_at a))) (square_at a) (filter (λ s. has w (cell_of s)) (map square_at (range_with_len (a + 1) n))))
+by_squares w a (suc n) = grind (arith, common_steps, cell_of-square_at, map, (by_squares w (a + 1) n))
 
 pub ones_are_members : (w : ℕ) → w < 2 ^ 64 → ones w ≡ length (members w)
 unfolding members

@@ -1,5 +1,5 @@
 -- What is found by a test or a filter: no element twice, and how many.
-use Rattle.chess_rules.proofs.Words.{◌≡◌, ℕ, ◌+◌, ◌≤◌, Bool, true, false, cond, eqb, ◌&&◌, ◌||◌, List, [], ◌∷◌, map, length, Option, None, Some, refl, ◌∙◌, ap, arith, list_any, list_all, filter, filter_map, cons_option, AllByRecursion, IsDistinct}
+use Rattle.chess_rules.proofs.Words.{◌≡◌, ℕ, ◌+◌, ◌≤◌, Bool, true, false, cond, eqb, ◌&&◌, ◌||◌, List, [], ◌∷◌, map, length, Option, None, Some, refl, ◌∙◌, ap, arith, list_any, list_all, filter, filter_map, cons_option, AllByRecursion, IsDistinct, common_steps}
 use Rattle.chess_rules.proofs.sets.AllSquares.{first_true, second_true}
 
 -- What is found passes a test.
@@ -34,11 +34,7 @@ module _ {X Y : Type 0} (e : Y → Y → Bool) (h : X → Option Y) (known : X �
   differ : (y : Y) (n : ℕ) → back y ≡ n → (xs : List X) → list_all known xs ≡ true
       → AllByRecursion (λ m. eqb n m ≡ false) (map code xs) → AllByRecursion (λ z. e y z ≡ false) (filter_map h xs)
   differ y n is [] k apart = tt
-  differ y n is (x ∷ xs) k apart = by_found (h x) refl (differ y n is xs (second_true (known x) _ k) apart.1)
-    where
-      by_found : (o : Option Y) → h x ≡ o → AllByRecursion (λ z. e y z ≡ false) (filter_map h xs)
-          → AllByRecursion (λ z. e y z ≡ false) (cons_option o (filter_map h xs))
-      by_found o there rest = grind arith
+  differ y n is (x ∷ xs) k apart = grind (arith, common_steps, second_true, (differ y n is xs (second_true (known x) _ k) apart.1))
 
   pub distinct_found : (xs : List X) → list_all known xs ≡ true → IsDistinct eqb (map code xs) → IsDistinct e (filter_map h xs)
   unfolding IsDistinct
@@ -55,28 +51,15 @@ module _ {X Y : Type 0} (e : Y → Y → Bool) (h : X → Option Y) (known : X �
 pub kept_more : {X : Type 0} (f g : X → Bool) (xs : List X)
     → ((s : X) → f s ≡ true → g s ≡ true) → length (filter f xs) ≤ length (filter g xs)
 kept_more f g [] h = omega arith
-kept_more {X = X} f g (x ∷ xs) h = by_tests (f x) (g x) (h x) (kept_more f g xs h)
-  where
-    by_tests : (v w : Bool) → (v ≡ true → w ≡ true) → length (filter f xs) ≤ length (filter g xs)
-        → length (cond v (x ∷ filter f xs) (filter f xs)) ≤ length (cond w (x ∷ filter g xs) (filter g xs))
-    by_tests v w more few = grind arith
+kept_more {X = X} f g (x ∷ xs) h = grind (arith, common_steps, length, (kept_more f g xs h))
 
 -- those that pass one test and then another
 pub kept_twice : {X : Type 0} (f g : X → Bool) (both : X → Bool) → ((x : X) → both x ≡ (f x && g x)) → (xs : List X)
     → filter g (filter f xs) ≡ filter both xs
 kept_twice f g both same [] = refl
-kept_twice {X = X} f g both same (x ∷ xs) = by_tests (f x) (g x) (both x) (same x) refl (kept_twice f g both same xs)
-  where
-    by_tests : (v w b : Bool) → b ≡ (v && w) → g x ≡ w → filter g (filter f xs) ≡ filter both xs
-        → filter g (cond v (x ∷ filter f xs) (filter f xs)) ≡ cond b (x ∷ filter both xs) (filter both xs)
-    by_tests true w b e passes more = rw (e, passes) (ap (λ ys. cond w (x ∷ ys) ys) more)
-    by_tests false w b e passes more = rw e more
+kept_twice {X = X} f g both same (x ∷ xs) = grind (arith, common_steps, (kept_twice f g both same xs))
 
 pub kept_either : {X : Type 0} (f g : X → Bool) (xs : List X)
     → length (filter (λ x. f x || g x) xs) ≤ length (filter f xs) + length (filter g xs)
 kept_either f g [] = omega arith
-kept_either {X = X} f g (x ∷ xs) = by_tests (f x) (g x) (filter (λ y. f y || g y) xs) (filter f xs) (filter g xs) (kept_either f g xs)
-  where
-    by_tests : (v w : Bool) (all one other : List X) → length all ≤ length one + length other
-        → length (cond (v || w) (x ∷ all) all) ≤ length (cond v (x ∷ one) one) + length (cond w (x ∷ other) other)
-    by_tests v w all one other h = grind arith
+kept_either {X = X} f g (x ∷ xs) = grind (arith, common_steps, length, (kept_either f g xs))

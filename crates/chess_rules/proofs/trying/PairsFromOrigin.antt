@@ -46,12 +46,7 @@ module _ (p : Parts) (s t : Square) where
 pub sum_kept : {X : Type 0} (cost : X → ℕ) (kept : X → Bool) (xs : List X)
     → sum_by cost (filter kept xs) ≡ sum_by (λ x. cond (kept x) (cost x) 0) xs
 sum_kept cost kept [] = refl
-sum_kept {X = X} cost kept (x ∷ xs) =
-    by_test (kept x) (filter kept xs) ∙ (ap (λ n. cond (kept x) (cost x) 0 + n) (sum_kept cost kept xs)
-    ∙ sym (sum_by-cons (λ y. cond (kept y) (cost y) 0) x xs))
-  where
-    by_test : (v : Bool) (ys : List X) → sum_by cost (cond v (x ∷ ys) ys) ≡ cond v (cost x) 0 + sum_by cost ys
-    by_test v ys = grind (arith, sum_by-cons)
+sum_kept {X = X} cost kept (x ∷ xs) = grind (arith, common_steps, sum_by-cons, (sum_kept cost kept xs))
 
 -- how many targets of the set are to be tried from s
 abbrev pub count_from : Parts → ℕ → Square → ℕ

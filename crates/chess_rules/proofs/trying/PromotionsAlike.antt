@@ -85,24 +85,15 @@ promoting s t x = record { from = s; to = t; promotion = Some x }
 
 module _ (p : Parts) (s t : Square) (x y : Promotion) where
   carried_alike : length p.board ≡ 64 → OnBoard s → OnBoard t → Alike p.side (carried p (promoting s t x)) (carried p (promoting s t y))
-  carried_alike long on_s on_t =
-      put_alike p.side (put p.board s None) (put p.board s None) t (some_piece p.side (kind_of x)) (some_piece p.side (kind_of y))
-      (itself_too p.side (put p.board s None) (length-put p.board s None ∙ long)) on_t (men_alike p.side x y)
+  carried_alike long on_s on_t = search (rules, put_alike, itself_too, length-put, men_alike)
 
   passing_alike : length p.board ≡ 64 → OnBoard s → OnBoard t → Alike p.side (en_passant_board p (promoting s t x))
       (en_passant_board p (promoting s t y))
-  passing_alike long on_s on_t =
-      put_alike p.side (carried p (promoting s t x)) (carried p (promoting s t y)) (captured_pawn (promoting s t x)) None None
-      (carried_alike long on_s on_t) (record { file = on_t.file; rank = on_s.rank }) (itself p.side None)
+  passing_alike long on_s on_t = search (rules, put_alike, carried_alike, itself)
 
   castled_alike : (rook crossing : ℕ) → length p.board ≡ 64 → OnBoard s → OnBoard t → rook < 8 → crossing < 8
       → Alike p.side (castled p (promoting s t x) rook crossing) (castled p (promoting s t y) rook crossing)
-  castled_alike rook crossing long on_s on_t low_rook low_crossing =
-      put_alike p.side (put (carried p (promoting s t x)) (home p rook) None)
-      (put (carried p (promoting s t y)) (home p rook) None) (home p crossing) (some_piece p.side Rook) (some_piece p.side Rook)
-      (put_alike p.side (carried p (promoting s t x)) (carried p (promoting s t y)) (home p rook) None None
-      (carried_alike long on_s on_t) (record { file = low_rook; rank = home_below p.side }) (itself p.side None))
-      (record { file = low_crossing; rank = home_below p.side }) (itself p.side (some_piece p.side Rook))
+  castled_alike rook crossing long on_s on_t low_rook low_crossing = search (rules, put_alike, carried_alike, home_below, itself)
 
 -- the mover's king is not attacked on the board
 abbrev leaves_safe : Parts → Board → Bool

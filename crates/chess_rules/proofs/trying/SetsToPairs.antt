@@ -13,12 +13,7 @@ module _ (p : Parts) where
 
   -- what is seen is seen by a clear way
   sees_is : (k : Kind) (s t : Square) → sees k p s t ≡ (may_see k s t && is_clear p.board s t)
-  sees_is King s t = refl
-  sees_is Queen s t = refl
-  sees_is Rook s t = refl
-  sees_is Bishop s t = refl
-  sees_is Knight s t = with_second _ _ (jump_clear p.board s t)
-  sees_is Pawn s t = refl
+  sees_is v0 s t = grind (arith, common_steps, with_second, jump_clear)
 
   pub jumps_are : (k : Kind) (t : Square) (r : ℕ) → k ≡ Knight → Places r (λ s. own p k s && may_see k s t) → members r ≡ candidates p k t
   jumps_are k t r knight h = grind (arith, common_steps, members_are)
@@ -60,9 +55,7 @@ module _ (p : Parts) where
       )
     where
       one_of : (xs : List Square) → is_some (lone xs) ≡ true → length xs ≤ 1
-      one_of [] e = cc
-      one_of (x ∷ []) e = omega arith
-      one_of (x ∷ (y ∷ xs)) e = cc
+      one_of v0 e = grind (arith, common_steps)
 
       seen : (s : Square) → is_candidate p k t s ≡ true → (own p k s && may_see k s t) ≡ true
       seen s e = grind arith
@@ -108,28 +101,12 @@ module _ (p : Parts) where
 any_parts : (test kept : Square → Bool) (xs : List Square)
     → (list_any test (filter kept xs) || list_any test (filter (λ s. not (kept s)) xs)) ≡ list_any test xs
 any_parts test kept [] = refl
-any_parts test kept (x ∷ xs) =
-    by_test (kept x) (filter kept xs) (filter (λ s. not (kept s)) xs) ∙ ap (λ v. test x || v) (any_parts test kept xs)
-  where
-    in_turn : (x y z : Bool) → (x || (y || z)) ≡ ((x || y) || z)
-    in_turn x y z = grind arith
-
-    later : (x y z : Bool) → (x || (y || z)) ≡ (y || (x || z))
-    later x y z = grind arith
-
-    by_test : (v : Bool) (a b : List Square)
-        → (list_any test (cond v (x ∷ a) a) || list_any test (cond (not v) (x ∷ b) b)) ≡ (test x || (list_any test a || list_any test b))
-    by_test v a b = grind arith
+any_parts test kept (x ∷ xs) = grind (arith, common_steps, (any_parts test kept xs))
 
 sum_parts : (cost : Square → ℕ) (kept : Square → Bool) (xs : List Square)
     → sum_by cost (filter kept xs) + sum_by cost (filter (λ s. not (kept s)) xs) ≡ sum_by cost xs
 sum_parts cost kept [] = refl
-sum_parts cost kept (x ∷ xs) =
-    by_test (kept x) (filter kept xs) (filter (λ s. not (kept s)) xs) (sum_parts cost kept xs) ∙ sym (sum_by-cons cost x xs)
-  where
-    by_test : (v : Bool) (a b : List Square) → sum_by cost a + sum_by cost b ≡ sum_by cost xs
-        → sum_by cost (cond v (x ∷ a) a) + sum_by cost (cond (not v) (x ∷ b) b) ≡ cost x + sum_by cost xs
-    by_test v a b e = grind (arith, sum_by-cons)
+sum_parts cost kept (x ∷ xs) = grind (arith, common_steps, sum_by-cons, (sum_parts cost kept xs))
 
 others : (w r : ℕ) → Bits r (λ i. not (has w i)) → members r ≡ filter (λ s. not (has w (cell_of s))) squares
 others w r rest = members_are r (λ s. not (has w (cell_of s))) (λ i low. rest.of i low ∙ ap (λ j. not (has w j)) (sym (cell_of-square_at i)))

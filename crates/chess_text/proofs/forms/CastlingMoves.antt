@@ -39,11 +39,7 @@ way_of_step p m h = by_on _ refl h
     by_pawn g = let both = and_parts _ (is_pawn_way p m && promotion_fits p m) g in pawn_goes both.0 (and_parts _ _ both.1).0
 
     ways : ((is_piece_step p m || is_pawn_step p m) || (is_en_passant p m || is_castling p m)) ≡ true → StepWay p m
-    ways g =
-        elim (or_cases (is_piece_step p m || is_pawn_step p m) (is_en_passant p m || is_castling p m) g) [
-          | inl plain ↦ elim (or_cases _ (is_pawn_step p m) plain) [ inl a ↦ by_piece a | inr b ↦ by_pawn b ]
-          | inr more ↦ elim (or_cases (is_en_passant p m) _ more) [ inl a ↦ pawn_passes (passing_parts p m a).0 a | inr b ↦ king_castles b ]
-        ]
+    ways g = search (rules, or_cases, by_piece, by_pawn, pawn_passes, passing_parts, king_castles)
 
     by_way : (plain passes short long : Bool)
         → is_some (option_map (after p m) (if plain then Some (carried p m) else if passes then Some (en_passant_board p m) else if short then Some
@@ -104,11 +100,7 @@ module _ (p : Parts) (m : Move) where
   castles_far right wing far h = grind (arith, common_steps, castles_ends, and_from)
 
   pub castling_goes_far : is_castling p m ≡ true → goes_far p m ≡ true
-  castling_goes_far h =
-      elim (or_cases (castles_short p m) (castles_long p m) h) [
-        | inl short ↦ castles_far (short_right p.side p.rights) short_wing (omega arith) short
-        | inr long ↦ castles_far (long_right p.side p.rights) long_wing (omega arith) long
-      ]
+  castling_goes_far h = search (rules, or_cases, castles_far)
 
 -- two tests that imply one another
 same_tests : (x y : Bool) → (x ≡ true → y ≡ true) → (y ≡ true → x ≡ true) → x ≡ y

@@ -2,7 +2,7 @@
 use mathlib.Core.Bool.{and-false, or-false}
 use Rattle.std.proofs.lemmas.List.{length-set}
 use Rattle.std.proofs.lemmas.Map.Views.{any-filter_same}
-use Rattle.chess_text.proofs.Words.{◌≡◌, ◌≢◌, ℕ, ◌<◌, ◌≤◌, Bool, true, false, cond, ◌&&◌, ◌||◌, List, [], ◌∷◌, map, length, replicate, set, get_or, inl, inr, refl, sym, ◌∙◌, ap, subst, arith, Option, None, Some, Ok, Err, ◌↔◌, is_some, count_by, if◌then◌else◌, range_with_len, filter, filter_map, cons_option, list_any, list_any_at, list_any-IsPermutation, IsPermutation, get_or-map-range_with_len, sum_by-cons, and_parts, or_right, both_ways, false_from_ne_true, Colour, White, Black, Kind, Promotion, Move, Parts, Square, square, squares, same_square, step, home, home_rank, if_safe, is_legal, is_candidate, candidates, StepsFromCandidates, Form, Castle, Man, OriginKind, Played, NoMove, Ambiguous, castling_move, move_from, describes, with_next, played, agreeing, only, form_move, is_step_of_form, kind_of_move, origin_kind, origins_of_form, nth_square, is_legal_kind, count_legal, LegalOriginsDecide, cases_eq, get_or-set_at, ext_get_or, get_or-map, get_or-replicate, get_or-set_other, length-map, NoStep, Unsafe, Legal}
+use Rattle.chess_text.proofs.Words.{◌≡◌, ◌≢◌, ℕ, ◌<◌, ◌≤◌, Bool, true, false, cond, ◌&&◌, ◌||◌, List, [], ◌∷◌, map, length, replicate, set, get_or, inl, inr, refl, sym, ◌∙◌, ap, subst, arith, Option, None, Some, Ok, Err, ◌↔◌, is_some, count_by, if◌then◌else◌, range_with_len, filter, filter_map, cons_option, list_any, list_any_at, list_any-IsPermutation, IsPermutation, get_or-map-range_with_len, sum_by-cons, and_parts, or_right, both_ways, false_from_ne_true, Colour, White, Black, Kind, Promotion, Move, Parts, Square, square, squares, same_square, step, home, home_rank, if_safe, is_legal, is_candidate, candidates, StepsFromCandidates, Form, Castle, Man, OriginKind, Played, NoMove, Ambiguous, castling_move, move_from, describes, with_next, played, agreeing, only, form_move, is_step_of_form, kind_of_move, origin_kind, origins_of_form, nth_square, is_legal_kind, count_legal, LegalOriginsDecide, cases_eq, get_or-set_at, ext_get_or, get_or-map, get_or-replicate, get_or-set_other, length-map, NoStep, Unsafe, Legal, common_steps, rules}
 use Rattle.chess_text.proofs.forms.CastlingMoves.{castles_ends, legal_is_step, squares_same, played_not, legal_next}
 use Rattle.chess_text.proofs.forms.OnlyElement.{filter_map-map, filter_map-filter}
 use Rattle.chess_text.proofs.forms.PieceForms.{same_square-refl}
@@ -37,10 +37,7 @@ module _ (p : Parts) (f : Form) where
       record { long = length-set kinds i _ ∙ so_far.long; each = each }
     where
       apart : (n : ℕ) → n < 64 → n ≢ i → same_square (nth_square n) s ≡ false
-      apart n within other =
-          false_from_ne_true _ (λ h.
-          let same = squares_same (nth_square n) s h ∙ sym is in
-          other (omega (arith, ap (λ (t : Square). t.file) same, ap (λ (t : Square). t.rank) same)))
+      apart n within other = search (rules, false_from_ne_true, squares_same)
 
       each : (n : ℕ) → n < 64 → get_or (set kinds i (origin_kind p f s)) n NoStep ≡ cond (more (nth_square n)) (origin_kind p f (nth_square n)) NoStep
       each n within = elim (cases_eq n i) [
@@ -70,9 +67,7 @@ module _ (p : Parts) (f : Form) where
       kind_at n low = get_or-map (origin_kind p f) squares n (square 0 0) NoStep (omega (arith, squares_long)) ∙ ap (origin_kind p f) (square_at n (square 0 0) low)
 
       each : (n : ℕ) → n < length kinds → get_or kinds n NoStep ≡ get_or (map (origin_kind p f) squares) n NoStep
-      each n within =
-          let low : n < 64 = omega (arith, so_far.long) in
-          so_far.each n low ∙ by_tried n low _ refl ∙ sym (kind_at n low)
+      each n within = grind (arith, common_steps, by_tried, kind_at)
 
 castling_from : (p : Parts) (long : Bool) (m : Move) → describes p (Castle long) m ≡ true → m.from ≡ home p 4
 castling_from p false m h = (castles_ends p m _ _ h).0
@@ -168,9 +163,7 @@ king_square_alone Black = refl
 
 agreeing_count : (p : Parts) (f : Form) → length (agreeing p f) ≡ count_legal p f
 unfolding agreeing
-agreeing_count p (Man k file rank to promotion) =
-    let f = Man k file rank to _ in
-    ap length (filter_map-map _ _ squares) ∙ moves_count p f
+agreeing_count p (Man k file rank to promotion) = search (rules, length, filter_map-map, moves_count)
 agreeing_count p (Castle long) =
     ap (λ ss. length (filter_map (move_at p (Castle long)) ss)) (sym (king_square_alone p.side))
     ∙ ap length (filter_map-filter _ _ elsewhere squares) ∙ moves_count p _

@@ -1,5 +1,5 @@
 -- A form that is read of a text is spelled by it.
-use Rattle.chess_text.proofs.Words.{◌≡◌, ℕ, ◌+◌, ◌-◌, ◌<◌, Bool, true, false, ◌&&◌, nat_lt, nat_le, ◌==◌, List, [], ◌∷◌, ◌++◌, append-nil, refl, sym, ap, arith, Option, None, Some, is_some, find, codes, if◌then◌else◌, list_all, eqb-true, cond_some, nat_tests, Kind, Pawn, Promotion, Square, on_board, Form, Castle, Man, letter, kinds, square_text, SpellsBare, Spells, is_among, letter_texts, hint_text, capture_texts, promotion_letter, promotions, promotion_texts, castle_texts, is_mark, below_eight, is_form, last_byte, front, front_if, before_marks, file_of, rank_of, promotion_of, promotion_at_end, before_sign, before_promotion, square_of, target_at_end, before_capture, before_target, rank_at_end, before_rank, file_at_end, before_file, kind_of_text, piece_move_if, piece_move_of, castle_of, castle_or, bare_form, form_of, same_Some, common_steps}
+use Rattle.chess_text.proofs.Words.{◌≡◌, ℕ, ◌+◌, ◌-◌, ◌<◌, Bool, true, false, ◌&&◌, nat_lt, nat_le, ◌==◌, List, [], ◌∷◌, ◌++◌, append-nil, refl, sym, ap, arith, Option, None, Some, is_some, find, codes, if◌then◌else◌, list_all, eqb-true, cond_some, nat_tests, Kind, Pawn, Promotion, Square, on_board, Form, Castle, Man, letter, kinds, square_text, SpellsBare, Spells, is_among, letter_texts, hint_text, capture_texts, promotion_letter, promotions, promotion_texts, castle_texts, is_mark, below_eight, is_form, last_byte, front, front_if, before_marks, file_of, rank_of, promotion_of, promotion_at_end, before_sign, before_promotion, square_of, target_at_end, before_capture, before_target, rank_at_end, before_rank, file_at_end, before_file, kind_of_text, piece_move_if, piece_move_of, castle_of, castle_or, bare_form, form_of, same_Some, common_steps, rules}
 use Rattle.std.proofs.lemmas.List.{append_assoc}
 use Rattle.chess_text.proofs.forms.SpellingToForm.{snoc_again}
 
@@ -83,16 +83,10 @@ promotion_spelled s = by_byte (promotion_at_end s) refl
   where
     by_sign : (q : Promotion) (b : Bool) → (last_byte (front s) == 61) ≡ b
         → s ≡ front s ++ promotion_letter q ∷ [] → Part s (front_if b (front s)) (promotion_texts (Some q))
-    by_sign q true e h =
-        let joined : s ≡ front (front s) ++ 61 ∷ promotion_letter q ∷ [] =
-        cc (is_it (front s) 61 e (omega arith), append_assoc (front (front s)) (61 ∷ []) (promotion_letter q ∷ [])) in
-        record { text = 61 ∷ promotion_letter q ∷ []; joined = joined; fits = (letter_texts_of q).1 }
-    by_sign q false e h = record { text = promotion_letter q ∷ []; joined = h; fits = (letter_texts_of q).2 }
+    by_sign q v1 e h = grind (arith, common_steps, is_it, append_assoc, letter_texts_of)
 
     by_byte : (o : Option Promotion) → promotion_at_end s ≡ o → Part s (if is_some o then before_sign (front s) else s) (promotion_texts o)
-    by_byte None e = record { text = []; joined = sym (append-nil s); fits = refl }
-    by_byte (Some q) e =
-        by_sign q (last_byte (front s) == 61) refl (ends_in s (promotion_letter q) (promotion_byte (last_byte s) q e) (letter_texts_of q).0)
+    by_byte v0 e = search (rules, append-nil, by_sign, ends_in, promotion_byte, letter_texts_of)
 
 own_letter : (k : Kind) → is_among (letter k ∷ []) (letter_texts k) ≡ true
 own_letter k = grind arith
@@ -145,9 +139,7 @@ bare_spelled s f h = by_castling (castle_of s) refl h
   where
     by_castling : (o : Option Bool) → castle_of s ≡ o → castle_or o (piece_move_of s) ≡ Some f → Told s f
     by_castling None e g = piece_move_spelled s f g
-    by_castling (Some long) e g =
-        rw (← same_Some (Castle long) f g)
-        (record { spelled = found (λ l. is_among s (castle_texts l)) (false ∷ true ∷ []) long e; good = refl })
+    by_castling (Some long) e g = search (rules, same_Some)
 
 pub form_spelled : (s : List ℕ) (f : Form) → form_of s ≡ Some f → Spells s f × (is_form f ≡ true)
 form_spelled s f h =

@@ -54,9 +54,7 @@ castling_written p m h = by_wing _ _ refl refl h
   where
     by_wing : (a b : Bool) → castles_short p m ≡ a → castles_long p m ≡ b
         → (a || b) ≡ true → castling_text (m.to.file == 2) ≡ king_text_by a b p m
-    by_wing true b e f g = let file = ap (λ (s : Square). s.file) (castles_ends p m _ _ e).1 in rw file refl
-    by_wing false true e f g = let file = ap (λ (s : Square). s.file) (castles_ends p m _ _ f).1 in rw file refl
-    by_wing false false e f g = cc
+    by_wing v0 b e f g = search (rules, castles_ends)
 
 pub step_written : (p : Parts) (m : Move) → is_castling p m ≡ false → king_text p m ≡ codes "K" ++ capture_text p m ++ square_text m.to
 step_written p m h = let (short, long) = or_parts (castles_short p m) _ h in rw (short, long) refl
@@ -127,7 +125,4 @@ pawn_takes p m stands legal = by_way (pawn_way p m legal stands)
         )
 
     by_way : PawnWay p m → is_capture p m ≡ not (m.from.file == m.to.file)
-    by_way (takes g a f) = cc (sideways m.from.file m.to.file g)
-    by_way (passes g a t e) = cc (or-true (not (is_empty p.board m.to)), sideways m.from.file m.to.file g)
-    by_way (advances s a f) = straight s f
-    by_way (doubles s a b e f) = straight s f
+    by_way v0 = grind (arith, common_steps, sideways, or-true, straight, doubles)

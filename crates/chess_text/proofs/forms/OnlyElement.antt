@@ -1,5 +1,5 @@
 -- Lists of what is found, and the only element of one.
-use Rattle.chess_text.proofs.Words.{◌≡◌, ◌⊎◌, inl, inr, ℕ, zero, suc, ◌+◌, ◌<◌, ◌≤◌, Bool, true, false, List, [], ◌∷◌, ◌++◌, map, length, take, drop, get_or, append-nil, Option, None, Some, refl, sym, ◌∙◌, ap, ap₂, arith, Ok, Err, sum_by, option_to_list, ok_or, filter, filter_map, cons_option, Contains, IsPermutation, get_or-map, length-map, take_more, take_all, take-append-drop, sum_by-cons, filter_map-append, Contains-permutation, sum_by-IsPermutation, Played, NoMove, Ambiguous, only}
+use Rattle.chess_text.proofs.Words.{◌≡◌, ◌⊎◌, inl, inr, ℕ, zero, suc, ◌+◌, ◌<◌, ◌≤◌, Bool, true, false, List, [], ◌∷◌, ◌++◌, map, length, take, drop, get_or, append-nil, Option, None, Some, refl, sym, ◌∙◌, ap, ap₂, arith, Ok, Err, sum_by, option_to_list, ok_or, filter, filter_map, cons_option, Contains, IsPermutation, get_or-map, length-map, take_more, take_all, take-append-drop, sum_by-cons, filter_map-append, Contains-permutation, sum_by-IsPermutation, Played, NoMove, Ambiguous, only, common_steps}
 use Rattle.std.specs.Option.{is_some}
 
 -- Elements.
@@ -132,11 +132,7 @@ pub record NextOf {X : Type 0} (xs : List X) (n : ℕ) (x : X) (others : List X)
   pub left : others ≡ drop (suc n) xs
 
 pub next_of : {X : Type 0} (xs : List X) (n : ℕ) (x : X) (others : List X) → drop n xs ≡ x ∷ others → NextOf xs n x others
-next_of [] n x others e = absurd (nothing n e)
-  where
-    nothing : (n : ℕ) → drop n [] ≡ x ∷ others → ⊥
-    nothing zero e = cc
-    nothing (suc n) e = cc
+next_of [] n x others e = grind (arith, common_steps)
 next_of (y ∷ ys) zero x others e = record { low = omega arith; is = cc; left = cc }
 next_of (y ∷ ys) (suc n) x others e =
     let more = next_of ys n x others e in

@@ -1,6 +1,6 @@
 -- What stands before the marks of a move.
 use mathlib.Core.Bool.{and-true, or-false}
-use Rattle.chess_text.proofs.Words.{◌≡◌, ℕ, ◌+◌, ◌-◌, ◌<◌, ◌≤◌, true, false, List, [], ◌∷◌, ◌++◌, ◌⊎◌, inl, inr, length, get_or, take, drop, refl, sym, ◌∙◌, ap, arith, list_all, take-append-drop, take_more, is_mark, before_marks, and_right, and_left, list_all-append, ◌&&◌, nat_lt, ◌==◌, append-nil, append_assoc, or_cases, length-append, Option, None, Some, bytes_eq, codes, nat_tests, and_parts, bytes_eq-Decides, Kind, King, Pawn, Promotion, Square, on_board, Form, Castle, Man, file_letter, rank_digit, square_text, SpellsPieceMove, SpellsBare, Spells, is_among, letter_texts, hint_text, capture_texts, promotion_letter, promotion_texts, below_eight, is_form, last_byte, front, file_of, rank_of, promotion_of, promotion_at_end, before_sign, before_promotion, target_at_end, before_capture, before_target, rank_at_end, before_rank, file_at_end, before_file, kind_of_text, piece_move_of, castle_of, bare_form, form_of, false_from_ne_true, common_steps, get_or-append_seam, take-append_seam}
+use Rattle.chess_text.proofs.Words.{◌≡◌, ℕ, ◌+◌, ◌-◌, ◌<◌, ◌≤◌, true, false, List, [], ◌∷◌, ◌++◌, ◌⊎◌, inl, inr, length, get_or, take, drop, refl, sym, ◌∙◌, ap, arith, list_all, take-append-drop, take_more, is_mark, before_marks, and_right, and_left, list_all-append, ◌&&◌, nat_lt, ◌==◌, append-nil, append_assoc, or_cases, length-append, Option, None, Some, bytes_eq, codes, nat_tests, and_parts, bytes_eq-Decides, Kind, King, Pawn, Promotion, Square, on_board, Form, Castle, Man, file_letter, rank_digit, square_text, SpellsPieceMove, SpellsBare, Spells, is_among, letter_texts, hint_text, capture_texts, promotion_letter, promotion_texts, below_eight, is_form, last_byte, front, file_of, rank_of, promotion_of, promotion_at_end, before_sign, before_promotion, target_at_end, before_capture, before_target, rank_at_end, before_rank, file_at_end, before_file, kind_of_text, piece_move_of, castle_of, bare_form, form_of, false_from_ne_true, common_steps, get_or-append_seam, take-append_seam, rules}
 
 pub marks_alone-none : (s : List ℕ) → list_all is_mark s ≡ true → before_marks s ≡ []
 marks_alone-none [] h = refl
@@ -82,9 +82,7 @@ record Letters (s : List ℕ) (k : Kind) : Type 0 where
   no_x : (last_byte s == 120) ≡ false
 
 letters_read : (k : Kind) (s : List ℕ) → is_among s (letter_texts k) ≡ true → Letters s k
-letters_read Pawn s h = elim (two_of s [] (codes "P") h) [ inl e ↦ rw e assumption | inr e ↦ rw e assumption ]
-letters_read King s h = rw (one_of s _ h) assumption
-letters_read k s h = rw (one_of s _ h) assumption
+letters_read k s h = grind (arith, common_steps, two_of, codes, one_of)
 
 -- The hints.
 
@@ -162,10 +160,7 @@ promotion_read s p n (Some q) h low last =
     ]
   where
     by_letter : (t : List ℕ) → before_sign t ≡ s → PromotionRead s (t ++ promotion_letter q ∷ []) (Some q)
-    by_letter t before =
-        let last = last_byte-snoc t (promotion_letter q) in
-        let there : promotion_at_end (t ++ promotion_letter q ∷ []) ≡ Some q = cc (promotion_back q) in
-        record { told = there; before = rw there (ap before_sign (front-snoc t (promotion_letter q)) ∙ before); ends = rw last (letter_ends q) }
+    by_letter t before = grind (arith, common_steps, last_byte-snoc, promotion_back, front-snoc, letter_ends)
 
 -- All of it.
 
@@ -200,9 +195,7 @@ piece_move_read s k file rank to promotion h g =
     rw h.joined (record { told = cc (no_castle (d ++ h.promoted) p.ends); whole = no_mark_end (d ++ h.promoted) p.ends.no_mark })
 
 bare_read : (s : List ℕ) (f : Form) → SpellsBare s f → is_form f ≡ true → BareRead s f
-bare_read s (Castle false) h g = elim (two_of s (codes "O-O") (codes "0-0") h) [ inl e ↦ rw e assumption | inr e ↦ rw e assumption ]
-bare_read s (Castle true) h g = elim (two_of s (codes "O-O-O") (codes "0-0-0") h) [ inl e ↦ rw e assumption | inr e ↦ rw e assumption ]
-bare_read s (Man k file rank to promotion) h g = piece_move_read s k file rank to promotion h g
+bare_read s v1 h g = search (rules, two_of, codes, piece_move_read)
 
 pub form_read : (s : List ℕ) (f : Form) → Spells s f → is_form f ≡ true → form_of s ≡ Some f
 form_read s f h g = grind (arith, bare_read, before_marks-append)

@@ -1,5 +1,5 @@
 -- Which moves take en passant: those from the two squares beside the pawn that is taken.
-use Rattle.chess_text.proofs.Words.{◌≡◌, ◌≢◌, ℕ, ◌+◌, ◌-◌, ◌≤◌, Bool, cond, zero, suc, same_Some, true, false, ◌&&◌, ◌||◌, ◌⊎◌, inl, inr, List, [], ◌∷◌, length, refl, sym, ◌∙◌, ap, ap₂, subst, arith, Option, None, Some, if◌then◌else◌, ◌==◌, list_any, list_all, list_all_at, eqb-true, eq-eqb, filter, Contains, Any-from_list_any, both_ways, cases_Bool, cases_lt, and_parts, and_from, or_cases, nat_tests, common_steps, Colour, White, Black, Pawn, Piece, Move, Parts, Square, square, squares, gap, on_board, same_square, Board, at, has_piece, is_empty, cell_attacks, attacks, is_ahead, own, is_en_passant, is_legal, promotion_fits}
+use Rattle.chess_text.proofs.Words.{◌≡◌, ◌≢◌, ℕ, ◌+◌, ◌-◌, ◌≤◌, Bool, cond, zero, suc, same_Some, true, false, ◌&&◌, ◌||◌, ◌⊎◌, inl, inr, List, [], ◌∷◌, length, refl, sym, ◌∙◌, ap, ap₂, subst, arith, Option, None, Some, if◌then◌else◌, ◌==◌, list_any, list_all, list_all_at, eqb-true, eq-eqb, filter, Contains, Any-from_list_any, both_ways, cases_Bool, cases_lt, and_parts, and_from, or_cases, nat_tests, common_steps, Colour, White, Black, Pawn, Piece, Move, Parts, Square, square, squares, gap, on_board, same_square, Board, at, has_piece, is_empty, cell_attacks, attacks, is_ahead, own, is_en_passant, is_legal, promotion_fits, rules}
 use Rattle.chess_text.specs.Key.{takes_en_passant, move_to, is_taken_on, attackers, if_taken_on, pairs_on, usable_target, key_pairs}
 use Rattle.chess_text.specs.Beside.{one_if, rank_behind, stands_on, takes_from, west_of}
 use Rattle.chess_rules.specs.Step.{is_target}
@@ -16,13 +16,7 @@ module _ (p : Parts) (m : Move) where
   -- a pawn that comes to an empty square of another file takes en passant
   pub passes_aside : own p Pawn m.from ≡ true → is_empty p.board m.to ≡ true → gap m.from.file m.to.file ≡ 1
       → is_legal p m ≡ true → is_en_passant p m ≡ true
-  passes_aside pawn free aside h =
-      elim (pawn_way p m h pawn) [
-        | takes g a full ↦ absurd (both_ways _ full free)
-        | passes g a taken is ↦ is
-        | advances same a e ↦ absurd (gap_apart _ _ same aside)
-        | doubles same a b c e ↦ absurd (gap_apart _ _ same aside)
-      ]
+  passes_aside pawn free aside h = search (rules, pawn, pawn_way, both_ways, gap_apart, doubles)
 
   pub taken_if_legal : own p Pawn m.from ≡ true → is_empty p.board m.to ≡ true → gap m.from.file m.to.file ≡ 1
       → is_legal p m ≡ takes_en_passant p m
@@ -60,31 +54,18 @@ none_there s ss apart = by_test _ refl
     by_test true e = let (k, t, low, is, same) = Any-from_list_any (same_square s) ss e in absurd (apart t (k, low, is) (squares_same _ _ same))
 
 differ_test : (s t : Square) → s ≢ t → same_square s t ≡ false
-differ_test s t differ = by_test _ refl
-  where
-    by_test : (b : Bool) → same_square s t ≡ b → b ≡ false
-    by_test false e = refl
-    by_test true e = absurd (differ (squares_same s t e))
+differ_test s t differ = grind (arith, common_steps, squares_same)
 
 -- one that does not pass counts for nothing
 skip : (f : Square → Bool) (a s : Square) (h : Bool) → f s ≡ false → (f a && (same_square a s || h)) ≡ (f a && h)
-skip f a s h out = by_test _ refl
-  where
-    by_test : (b : Bool) → same_square a s ≡ b → (f a && (b || h)) ≡ (f a && h)
-    by_test false e = refl
-    by_test true e = let none = ap f (squares_same a s e) ∙ out in rw none refl
+skip f a s h out = grind (arith, common_steps, squares_same)
 
 module _ (f : Square → Bool) where
   -- one that passes is one of the two
   first_of : (a b s : Square) (ss : List Square) → s ≡ a → a ≢ b → ((t : Square) → Contains ss t → s ≢ t) → f s ≡ true
       → 1 + (one_if (f a && has a ss) + one_if (f b && has b ss))
       ≡ one_if (f a && (same_square a s || has a ss)) + one_if (f b && (same_square b s || has b ss))
-  first_of a b s ss is differ apart in_test =
-      let none : has a ss ≡ false = subst (λ (x : Square). has x ss ≡ false) is (none_there s ss apart) in
-      let here : same_square a s ≡ true = rw is (same_square-refl a) in
-      let other : same_square b s ≡ false = differ_test b s (λ e. differ (sym is ∙ sym e)) in
-      let passes : f a ≡ true = ap f (sym is) ∙ in_test in
-      rw (none, here, other, passes) (omega arith)
+  first_of a b s ss is differ apart in_test = search (rules, none_there, same_square-refl, differ_test)
 
   pub count_two : (a b : Square) (ss : List Square) → Apart ss → a ≢ b → ((s : Square) → f s ≡ true → (s ≡ a) ⊎ (s ≡ b))
       → length (filter f ss) ≡ one_if (f a && has a ss) + one_if (f b && has b ss)
@@ -139,9 +120,7 @@ record Beside (c : Colour) (s t : Square) : Type 0 where
   rank : is_ahead c s.rank t.rank ≡ true
 
 beside : (p : Parts) (s t : Square) → own p Pawn s ≡ true → attacks p.board s t ≡ true → Beside p.side s t
-beside p s t pawn hits =
-    let both = and_parts (gap s.file t.file == 1) _ (sym (pawn_attacks p.side (at p.board s) p.board s t pawn) ∙ hits) in
-    record { file = eqb-true _ 1 both.0; rank = both.1 }
+beside p s t pawn hits = grind (arith, common_steps, pawn, hits, pawn_attacks, eqb-true)
 
 -- a pawn that takes on t
 record Taker (p : Parts) (s t : Square) : Type 0 where
@@ -162,12 +141,7 @@ module _ (p : Parts) (t : Square) where
   module _ (r : ℕ) (ahead : is_ahead p.side r t.rank ≡ true) where
     -- where a pawn beside stands
     at_files : (s : Square) → Beside p.side s t → ((suc s.file ≡ t.file) × (s ≡ square s.file r)) ⊎ (s ≡ square (t.file + 1) r)
-    at_files s b =
-        let rank = same_rank p.side s.rank r t.rank b.rank ahead in
-        elim (one_file_apart s.file t.file b.file) [
-          | inl e ↦ inl (e, ap (square s.file) rank)
-          | inr e ↦ inr (ap₂ square e rank)
-        ]
+    at_files s b = grind (arith, common_steps, same_rank, one_file_apart)
 
     on_file : (s : Square) → s ≡ square s.file r → (on_board s && takes_en_passant p (move_to t s)) ≡ true → takes_from p t r s.file ≡ true
     on_file s is h = subst (λ (u : Square). (on_board u && takes_en_passant p (move_to t u)) ≡ true) is h
@@ -200,23 +174,11 @@ module _ (p : Parts) (t : Square) where
 
     -- the pawn on a square beside attacks the target
     hits : (s : Square) → gap s.file t.file ≡ 1 → s.rank ≡ r → (attacks_it s && has s squares) ≡ (on_board s && own p Pawn s)
-    hits s file rank = by_pawn _ refl
-      where
-        ahead_of_it : is_ahead p.side s.rank t.rank ≡ true
-        ahead_of_it = subst (λ (k : ℕ). is_ahead p.side k t.rank ≡ true) (sym rank) ahead
-
-        by_pawn : (b : Bool) → own p Pawn s ≡ b → (attacks_it s && has s squares) ≡ (on_board s && own p Pawn s)
-        by_pawn false e = rw e (sym (and_none (on_board s)))
-        by_pawn true e =
-            rw (e, pawn_attacks p.side (at p.board s) p.board s t e, eq-eqb _ 1 file, ahead_of_it, has_is s) (sym (and_all (on_board s)))
+    hits s file rank = grind (arith, common_steps, and_none, pawn_attacks, eq-eqb, has_is, and_all)
 
     -- one two files away does not
     misses : (s : Square) → (gap s.file t.file ≡ 1 → ⊥) → attacks_it s ≡ false
-    misses s apart =
-        elim (cases_Bool (attacks_it s)) [
-          | inl e ↦ let both = and_parts (own p Pawn s) _ e in absurd (apart (beside p s t both.0 both.1).file)
-          | inr e ↦ e
-        ]
+    misses s apart = grind (arith, common_steps, cases_Bool, beside)
 
     west_is : (f : ℕ) → t.file ≡ f
         → one_if (attacks_it (square (f - 1) r) && has (square (f - 1) r) squares) ≡ one_if (west_of (stands_on p r) f)
@@ -256,12 +218,7 @@ module _ (p : Parts) (t : Square) where
       where
         none_in : (ss : List Square) → length (filter attacks_it ss) ≡ 0
         none_in [] = refl
-        none_in (s ∷ ss) = by_test (none_in ss) _ refl
-          where
-            by_test : length (filter attacks_it ss) ≡ 0 → (b : Bool) → attacks_it s ≡ b
-                → length (cond b (s ∷ filter attacks_it ss) (filter attacks_it ss)) ≡ 0
-            by_test more false e = more
-            by_test more true e = absurd (none_attacks s e)
+        none_in (s ∷ ss) = grind (arith, common_steps, length, none_attacks, (none_in ss))
 
 -- what is known of a target by trying
 pub target_usable : (p : Parts) (t : Square) (b : Bool) → p.target ≡ Some t → is_taken_on p t ≡ b
@@ -285,14 +242,10 @@ target_covered p t is full = (
 
 -- the rank behind is the one from which a pawn is ahead
 pub behind_ahead : (c : Colour) (t r : ℕ) → Some r ≡ rank_behind c t → is_ahead c r t ≡ true
-behind_ahead White zero r e = cc
-behind_ahead White (suc n) r e = grind (arith, nat_tests)
-behind_ahead Black t r e = grind (arith, nat_tests)
+behind_ahead v0 t r e = grind (arith, common_steps)
 
 pub none_behind : (c : Colour) (t : ℕ) → None ≡ rank_behind c t → (r : ℕ) → is_ahead c r t ≡ true → ⊥
-none_behind White zero e r h = grind (arith, nat_tests)
-none_behind White (suc n) e r h = cc
-none_behind Black t e r h = cc
+none_behind v0 t e r h = grind (arith, common_steps)
 
 -- a test of the file before, where there is one
 pub west_at : {X : Type 0} (f : ℕ) (g : Bool → X) (test : ℕ → Bool) → (f ≡ 0 → ⊥) → g (test (f - 1)) ≡ g (west_of test f)

@@ -10,30 +10,19 @@ use Rattle.chess_rules.specs.Position.{one_king, pawn_on_edge}
 unfoldable use Rattle.chess_text.proofs.Words.{digits}
 use Rattle.chess_rules.specs.Step.{is_target, last_rank}
 use Rattle.chess_text.proofs.forms.CastlingMoves.{squares_same, castles_ends, no_pawn, stepped}
-use Rattle.chess_text.proofs.Words.{nat_tests, squares, Any-from_list_any, Promotion, ◌||◌, is_some, option_map, if_safe, is_legal, after, board_after, carried, en_passant_board, is_on_board, is_pawn_step, is_piece_step, promotion_fits, is_en_passant, castles, Wing, short_right, long_right, short_wing, long_wing, home, own, at, is_empty, King, Pawn, Rook, Move, not, ◌&&◌, ◌==◌, nat_le, and_parts, and_from, is_none, other, White, Black, Kings, PawnOnEdge, KingCapturable, TargetRank, NumberRange, Bool, true, false, refl, sym, subst, codes, common_steps, None, Some, if◌then◌else◌, Parts, Fen, fen_text, target_fits, is_position, position_fault, ◌≡◌, ◌≤◌, ◌+◌, ℕ, List, [], ◌∷◌, ◌++◌, ◌∙◌, ap, arith, append_assoc, length, length-append, join_with_byte, Result, Ok, Err, OnOk, Option, Board, Colour, Rights, Square, placement_text, side_text, rights_text, target_text}
+use Rattle.chess_text.proofs.Words.{nat_tests, squares, Any-from_list_any, Promotion, ◌||◌, is_some, option_map, if_safe, is_legal, after, board_after, carried, en_passant_board, is_on_board, is_pawn_step, is_piece_step, promotion_fits, is_en_passant, castles, Wing, short_right, long_right, short_wing, long_wing, home, own, at, is_empty, King, Pawn, Rook, Move, not, ◌&&◌, ◌==◌, nat_le, and_parts, and_from, is_none, other, White, Black, Kings, PawnOnEdge, KingCapturable, TargetRank, NumberRange, Bool, true, false, refl, sym, subst, codes, common_steps, None, Some, if◌then◌else◌, Parts, Fen, fen_text, target_fits, is_position, position_fault, ◌≡◌, ◌≤◌, ◌+◌, ℕ, List, [], ◌∷◌, ◌++◌, ◌∙◌, ap, arith, append_assoc, length, length-append, join_with_byte, Result, Ok, Err, OnOk, Option, Board, Colour, Rights, Square, placement_text, side_text, rights_text, target_text, rules}
 use Rattle.chess_text.proofs.positions.BoardToText.{length-placement_text}
 use Rattle.chess_text.proofs.positions.FieldsOfText.{length-side_text, length-rights_text, length-target_text}
 
 -- four fields written one after another
 pub four_written : (a b c d t u v w x : List ℕ) → t ≡ a ++ 32 ∷ [] → u ≡ t ++ b → v ≡ u ++ 32 ∷ c → w ≡ v ++ 32 ∷ [] → x ≡ w ++ d
     → x ≡ join_with_byte 32 (a ∷ b ∷ c ∷ d ∷ [])
-four_written a b c d t u v w x e f g h i =
-    cc (
-      append_assoc a (32 ∷ []) b,
-      append_assoc a (32 ∷ b) (32 ∷ c),
-      append_assoc (a ++ 32 ∷ (b ++ 32 ∷ c)) (32 ∷ []) d,
-      append_assoc a (32 ∷ (b ++ 32 ∷ c)) (32 ∷ d),
-      append_assoc b (32 ∷ c) (32 ∷ d),
-    )
+four_written a b c d t u v w x e f g h i = grind (arith, common_steps, append_assoc)
 
 -- 71 bytes for the board, 1 for the side, 4 for the rights, 2 for the target, and three spaces
 pub length-key : (b : Board) (c : Colour) (r : Rights) (t : Option Square)
     → length (join_with_byte 32 (placement_text b ∷ side_text c ∷ rights_text r ∷ target_text t ∷ [])) ≤ 81
-length-key b c r t =
-    omega (arith, length-four (placement_text b) (side_text c) (rights_text r) (target_text t), length-placement_text b, length-side_text c, length-rights_text r, length-target_text t)
-  where
-    length-four : (a b c d : List ℕ) → length (join_with_byte 32 (a ∷ b ∷ c ∷ d ∷ [])) ≡ length a + length b + length c + length d + 3
-    length-four a b c d = omega (arith, length-append {A = ℕ})
+length-key b c r t = search (rules, length-placement_text, length-side_text, length-rights_text, length-target_text, length, length-append)
 
 -- what a copy that has room holds
 pub copied : {A E : Type 0} (r : Result A E) (P : Type 0) → IsOk r → OnOk r P → P
@@ -55,12 +44,7 @@ bare_text p = four_then (placement_text p.board) (side_text p.side) (rights_text
     four_then a b c d = grind (arith, common_steps)
 
 usable_fits : (p : Parts) (o : Option Square) → target_fits p.side o ≡ true → target_fits p.side (if_taken_on p o) ≡ true
-usable_fits p None h = refl
-usable_fits p (Some t) h = by_test _ refl
-  where
-    by_test : (b : Bool) → is_taken_on p t ≡ b → target_fits p.side (if b then Some t else None) ≡ true
-    by_test true e = h
-    by_test false e = refl
+usable_fits p v1 h = grind (arith, common_steps)
 
 no_fault : (a b c d now e : Bool) → is_none (if not a then Some Kings else if b then Some PawnOnEdge else if c then Some KingCapturable
     else if not d then Some TargetRank else if not e then Some NumberRange else None) ≡ true → (d ≡ true → now ≡ true)
@@ -124,14 +108,7 @@ passing p m h =
     }
 
 no_castling : (p : Parts) (m : Move) (right : Bool) (wing : Wing) → own p Pawn m.from ≡ true → castles p m right wing ≡ false
-no_castling p m right wing pawn = by_test _ refl
-  where
-    by_test : (b : Bool) → castles p m right wing ≡ b → b ≡ false
-    by_test false e = refl
-    by_test true e =
-        let (from, to, plain, ready) = castles_ends p m right wing e in
-        let king = (and_parts (own p King (home p 4)) (own p Rook (home p wing.rook)) (and_parts (own p King (home p 4) && own p Rook (home p wing.rook)) _ ready).0).0 in
-        absurd (no_pawn p.side (at p.board (home p 4)) king (subst (λ (s : Square). own p Pawn s ≡ true) from pawn))
+no_castling p m right wing pawn = grind (arith, common_steps, pawn, castles_ends, no_pawn)
 
 -- whether the king is safe on the board after a move
 abbrev pub safe_on : Colour → Option Board → Bool
@@ -139,12 +116,7 @@ safe_on c None = false
 safe_on c (Some b) = not (king_attacked b (other (other c)))
 
 pub legal_by : (p : Parts) (m : Move) (o : Option Board) → is_some (if_safe (option_map (after p m) o)) ≡ safe_on p.side o
-legal_by p m None = refl
-legal_by p m (Some b) = by_test _
-  where
-    by_test : (safe : Bool) → is_some (if safe then Some (after p m b) else None) ≡ safe
-    by_test true = refl
-    by_test false = refl
+legal_by p m v2 = grind (arith, common_steps, is_some)
 
 -- a pawn's move is legal by the board and the side to move, and by whether it is en passant
 abbrev pawn_board : Parts → Move → Bool → Option Board
@@ -182,21 +154,14 @@ takes_alike p q m board side target =
     made b c t = record { board = b; side = c; rights = q.rights; target = t; half = q.half; full = q.full }
 
     same : with_others p q ≡ q
-    same =
-        ap (λ (b : Board). made b p.side p.target) board ∙ ap (λ (c : Colour). made q.board c p.target) side
-        ∙ ap (λ (t : Option Square). made q.board q.side t) target
+    same = grind (arith, common_steps, target)
 
 some_none : (t : Square) → ◌≡◌ {A = Option Square} (Some t) None → ⊥
 some_none t h = cc
 
 -- a usable target is the target
 usable_some : (p : Parts) (o : Option Square) (t : Square) → if_taken_on p o ≡ Some t → o ≡ Some t
-usable_some p None t h = cc
-usable_some p (Some u) t h = by_test _ refl h
-  where
-    by_test : (b : Bool) → is_taken_on p u ≡ b → ◌≡◌ {A = Option Square} (if b then Some u else None) (Some t) → ◌≡◌ {A = Option Square} (Some u) (Some t)
-    by_test true e g = g
-    by_test false e g = cc
+usable_some p v1 t h = grind (arith, common_steps)
 
 taken_some : (p : Parts) (t s : Square) → p.target ≡ Some t → takes_en_passant p (move_to t s) ≡ true → usable_target p ≡ Some t
 taken_some p t s is h =
@@ -235,9 +200,7 @@ module _ (p q : Parts) where
       by_taken false e = absurd (some_none t (sym h ∙ ap (if_taken_on p) is ∙ ap (λ (b : Bool). if b then Some t else None) e))
 
 same_option : (a b : Option Square) → ((t : Square) → a ≡ Some t → b ≡ Some t) → ((t : Square) → b ≡ Some t → a ≡ Some t) → a ≡ b
-same_option (Some t) b f g = sym (f t refl)
-same_option None (Some t) f g = g t refl
-same_option None None f g = refl
+same_option v0 b f g = grind (arith, common_steps)
 
 pub turned : (p q : Parts) → SamePosition p q → SamePosition q p
 turned p q same = record { board = sym same.board; side = sym same.side; rights = sym same.rights; en_passant = λ m. sym (same.en_passant m) }

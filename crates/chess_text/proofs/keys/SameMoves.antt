@@ -1,17 +1,13 @@
 -- In two positions that are the same the same moves are legal.
 use Rattle.chess_text.specs.Key.{SamePosition, SameMovesLegal, takes_en_passant, usable_rights, stand_at_home}
-use Rattle.chess_text.proofs.Words.{◌≡◌, Bool, true, false, ◌&&◌, ◌||◌, refl, sym, ◌∙◌, ap, subst, Option, None, Some, is_some, option_map, if◌then◌else◌, and_parts, and_from, both_ways, Colour, White, Black, King, Pawn, Rook, Move, Parts, Rights, Square, Board, at, own, home, Wing, short_wing, long_wing, short_right, long_right, castles, castles_short, castles_long, castled, if_safe, is_legal, after, board_after, carried, en_passant_board, is_on_board, is_pawn_step, is_piece_step, is_en_passant}
+use Rattle.chess_text.proofs.Words.{◌≡◌, Bool, true, false, ◌&&◌, ◌||◌, refl, sym, ◌∙◌, ap, subst, Option, None, Some, is_some, option_map, if◌then◌else◌, and_parts, and_from, both_ways, Colour, White, Black, King, Pawn, Rook, Move, Parts, Rights, Square, Board, at, own, home, Wing, short_wing, long_wing, short_right, long_right, castles, castles_short, castles_long, castled, if_safe, is_legal, after, board_after, carried, en_passant_board, is_on_board, is_pawn_step, is_piece_step, is_en_passant, arith, common_steps}
 use Rattle.chess_text.proofs.forms.CastlingMoves.{castles_ends, no_pawn, passing_parts}
 use Rattle.chess_text.proofs.keys.EnPassant.{same_tests}
 use Rattle.chess_text.proofs.keys.KeyToPosition.{legal_by, safe_on, turned}
 
 -- a move is legal by the board after it
 legal_is : (p : Parts) (m : Move) → is_legal p m ≡ (is_on_board m && safe_on p.side (board_after p m))
-legal_is p m = by_board (is_on_board m)
-  where
-    by_board : (on : Bool) → is_some (if_safe (if on then option_map (after p m) (board_after p m) else None)) ≡ (on && safe_on p.side (board_after p m))
-    by_board true = legal_by p m (board_after p m)
-    by_board false = refl
+legal_is p m = grind (arith, common_steps, is_some, legal_by)
 
 -- the board after a move, by what it is
 abbrev board_by : Parts → Move → Bool → Bool → Bool → Bool → Option Board
@@ -51,13 +47,7 @@ castling p m true wing h =
   where
     by_test : (q : Parts) → q.board ≡ p.board → q.side ≡ p.side → m.from ≡ home p 4 → own p King (home p 4) ≡ true
         → (b : Bool) → is_en_passant q m ≡ b → b ≡ false
-    by_test q board side from king false e = refl
-    by_test q board side from king true e =
-        let pawn = (passing_parts q m e).0 in
-        let here = subst (λ (s : Square). own q Pawn s ≡ true) from pawn in
-        let there = subst (λ (b : Board). own (record q { board = b }) Pawn (home p 4) ≡ true) board here in
-        let ours = subst (λ (c : Colour). own (record q { board = p.board; side = c }) Pawn (home p 4) ≡ true) side there in
-        absurd (no_pawn p.side (at p.board (home p 4)) king ours)
+    by_test q board side from king v5 e = grind (arith, common_steps, passing_parts, no_pawn)
 
 -- a right that can be used in one position is one in the other
 short_kept : (b : Board) (c : Colour) (r s : Rights) → stand_at_home b c short_wing.rook ≡ true → short_right c r ≡ true

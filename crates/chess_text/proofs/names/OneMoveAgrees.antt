@@ -104,10 +104,7 @@ king_alone : OneKing → (p : Parts) (m n : Move) → is_position p ≡ true
 king_alone one p m n position h g stands = by_wing _ _ refl refl
   where
     together : (right : Bool) (wing : Wing) → castles p m right wing ≡ true → castles p n right wing ≡ true → n ≡ m
-    together right wing e d =
-        let x = castles_ends p m right wing e in
-        let y = castles_ends p n right wing d in
-        same_move n m (y.0 ∙ sym x.0) (y.1 ∙ sym x.1) (no_promotion _ y.2 ∙ sym (no_promotion _ x.2))
+    together right wing e d = grind (arith, common_steps, castles_ends, same_move, no_promotion)
 
     by_wing : (a b : Bool) → castles_short p m ≡ a → castles_long p m ≡ b → describes p (king_form_by a b m) n ≡ true → n ≡ m
     by_wing true b e f d = together _ _ e d
@@ -189,10 +186,7 @@ module _ (p : Parts) (m n : Move) (pawn_m : own p Pawn m.from ≡ true) (pawn_n 
   -- with the file told
   by_file : n.from.file ≡ m.from.file → gap m.from.file m.to.file ≡ 1
       → is_ahead p.side m.from.rank m.to.rank ≡ true → PawnWay p n → n.from ≡ m.from
-  by_file file aside ahead (takes g a e) = ap₂ square file (same_rank ahead a)
-  by_file file aside ahead (passes g a e f) = ap₂ square file (same_rank ahead a)
-  by_file file aside ahead (advances s a e) = absurd (gap_apart _ _ (sym file ∙ s ∙ to_file) aside)
-  by_file file aside ahead (doubles s a b e f) = absurd (gap_apart _ _ (sym file ∙ s ∙ to_file) aside)
+  by_file file aside ahead v3 = grind (arith, common_steps, aside, same_rank, gap_apart, to_file, doubles)
 
   file_of_target : n.from.file ≡ n.to.file → m.from.file ≡ m.to.file → n.from.file ≡ m.from.file
   file_of_target h g = cc
@@ -202,23 +196,11 @@ module _ (p : Parts) (m n : Move) (pawn_m : own p Pawn m.from ≡ true) (pawn_n 
 
   -- with no file told
   straight_alone : PawnWay p m → PawnWay p n → m.from.file ≡ m.to.file → n.from ≡ m.from
-  straight_alone (takes g a e) wn file = absurd (gap_apart _ _ file g)
-  straight_alone (passes g a e f) wn file = absurd (gap_apart _ _ file g)
-  straight_alone (advances s a e) (takes h b f) file = absurd (not_empty f e)
-  straight_alone (advances s a e) (passes h b f g) file = grind (arith, common_steps, not_both)
-  straight_alone (advances s a e) (advances t b f) file = ap₂ square (file_of_target t s) (same_rank a b)
-  straight_alone (advances s a e) (doubles t b c f g) file = absurd (over p n m (sym there) a t b c f pawn_m s)
-  straight_alone (doubles s a b e f) (takes h c g) file = absurd (not_empty g f)
-  straight_alone (doubles s a b e f) (passes h c g i) file = absurd (past p m n there c s a b e g)
-  straight_alone (doubles s a b e f) (advances t c g) file = absurd (over p m n there c s a b e pawn_n t)
-  straight_alone (doubles s a b e f) (doubles t c d g h) file = ap₂ square (file_of_target t s) (c ∙ sym a)
+  straight_alone v0 wn file = grind (arith, common_steps, gap_apart, not_both, file_of_target, same_rank, doubles, past)
 
   aside : PawnWay p m → (m.from.file == m.to.file) ≡ false
       → (gap m.from.file m.to.file ≡ 1) × (is_ahead p.side m.from.rank m.to.rank ≡ true)
-  aside (takes g a e) h = (g, a)
-  aside (passes g a e f) h = (g, a)
-  aside (advances s a e) h = absurd (both_ways _ h (ap (λ k. k == m.to.file) s ∙ itself _))
-  aside (doubles s a b e f) h = absurd (both_ways _ h (ap (λ k. k == m.to.file) s ∙ itself _))
+  aside v0 h = grind (arith, common_steps, both_ways, itself, doubles)
 
 pawn_alone : (p : Parts) (m n : Move) → is_legal p m ≡ true → is_legal p n ≡ true
     → own p Pawn m.from ≡ true → describes p (pawn_form_by (is_capture p m) m) n ≡ true → n ≡ m

@@ -40,9 +40,7 @@ some_rival : (p : Parts) (k : Kind) (m : Move) (test other : Square → Bool)
 some_rival p k m test other implied h = by_place (Any-from_list_any _ squares (sym (any-filter test _ squares) ∙ h))
   where
     by_place : Any (λ s. ((own p k s && is_rival p m s) && test s) ≡ true) squares → Rival p k m other
-    by_place (i, s, low, there, holds) =
-        let (stands, other_square, goes, passes) = four_hold (own p k s) (same_square s m.from) (is_legal p (from_square m s)) (test s) holds in
-        record { on = s; stands = stands; other = other_square; goes = goes; passes = implied s passes }
+    by_place v0 = search (rules, four_hold)
 
 pub another : (n m : Move) → same_square n.from m.from ≡ false → n ≢ m
 another n m other e = false≢true (sym other ∙ ap (λ (x : Move). same_square x.from m.from) e ∙ same_square-refl m.from)
@@ -158,10 +156,7 @@ more m n s less h = record { all = h.all; fits = omega arith }
 
 -- the parts of a text
 apart_bytes : (s : Square) (any file rank : Bool) → on_board s ≡ true → Bytes 2 (disambiguation_by s any file rank)
-apart_bytes s false file rank on = grind arith
-apart_bytes s true false rank on = more 1 2 _ (omega arith) (file_bytes s on)
-apart_bytes s true true false on = more 1 2 _ (omega arith) (rank_bytes s on)
-apart_bytes s true true true on = square_bytes s on
+apart_bytes s v1 file rank on = grind (arith, common_steps, file_bytes, rank_bytes, square_bytes)
 
 capture_bytes : (takes : Bool) → Bytes 1 (capture_if takes)
 capture_bytes takes = grind arith
@@ -212,10 +207,7 @@ king_symbol p m to = by_wing _ _
 
 pawn_symbol : (takes : Bool) (m : Move) → on_board m.from ≡ true → on_board m.to ≡ true
     → Unmarked (pawn_capture takes m ++ square_text m.to ++ promotion_text m.promotion)
-pawn_symbol true m from to =
-    grind (arith, common_steps, bytes_append, file_bytes, capture_bytes, square_bytes, promotion_bytes)
-pawn_symbol false m from to =
-    grind (arith, common_steps, bytes_append, square_bytes, promotion_bytes, more)
+pawn_symbol v0 m from to = search (rules, bytes_append, file_bytes, capture_bytes, square_bytes, promotion_bytes)
 
 kind_symbol : (k : Kind) (p : Parts) (m : Move) → on_board m.from ≡ true → on_board m.to ≡ true → Unmarked (kind_text k p m)
 kind_symbol King p m from to = king_symbol p m to

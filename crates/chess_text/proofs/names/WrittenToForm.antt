@@ -72,9 +72,7 @@ pawn_spelled true m = record { letters = []; capture = codes "x"; promoted = pro
 pawn_spelled false m = record { letters = []; capture = []; promoted = promotion_text _; joined = refl; letters_fit = refl; capture_fits = refl; promoted_fits = promotion_written m.promotion }
 
 kind_spelled : (k : Kind) (p : Parts) (m : Move) → SpellsBare (kind_text k p m) (written k p m)
-kind_spelled King p m = king_spelled p m
-kind_spelled Pawn p m = pawn_spelled _ m
-kind_spelled k p m = disambiguated_spelled k p m refl
+kind_spelled k p m = grind (arith, common_steps, king_spelled, pawn_spelled, disambiguated_spelled)
 
 pub marks_alone : (o : Option Parts) → list_all is_mark (mark o) ≡ true
 marks_alone None = refl
@@ -155,9 +153,7 @@ king_described p m h stands = by_wing _ _ refl refl
     by_wing false false e g = piece_move_described p m King None None None stands refl (unpromoted p m King h stands refl) (ap₂ ◌||◌ e g)
 
 pawn_described : (p : Parts) (m : Move) (takes : Bool) → own p Pawn m.from ≡ true → describes p (pawn_form_by takes m) m ≡ true
-pawn_described p m true stands =
-    piece_move_described p m Pawn (Some m.from.file) None _ stands (and_from _ true (itself _) refl) refl (no_castling p m Pawn stands refl)
-pawn_described p m false stands = piece_move_described p m Pawn None None _ stands refl refl (no_castling p m Pawn stands refl)
+pawn_described p m v2 stands = search (rules, piece_move_described, and_from, itself, no_castling)
 
 disambiguated_described : (p : Parts) (m : Move) (k : Kind) → is_legal p m ≡ true → own p k m.from ≡ true
     → same_kind k Pawn ≡ false → same_kind King k ≡ false → describes p (disambiguated_form k p m) m ≡ true

@@ -11,9 +11,7 @@ record LetterStands (x : Piece) : Type 0 where
   cells : cells_at (piece_letter x) ≡ Some x ∷ []
 
 letter_stands : (c : Colour) (k : Kind) → LetterStands (record { colour = c; kind = k })
-letter_stands White King = record { item = refl; cells = refl }
-letter_stands Black King = record { item = refl; cells = refl }
-letter_stands c k = record { item = refl; cells = refl }
+letter_stands c k = search rules
 
 digit_runs : (n : ℕ) → 0 < n → n ≤ 8 → is_run (48 + n) ≡ true
 digit_runs n h g = grind (arith, nat_tests)
@@ -23,12 +21,7 @@ record RunStands (n : ℕ) : Type 0 where
   cells : cells_of (run_text n) ≡ replicate n None
 
 run_stands : (n : ℕ) → n ≤ 8 → RunStands n
-run_stands zero h = record { items = refl; cells = refl }
-run_stands (suc n) h =
-    let some : (suc n == 0) ≡ false = grind (arith, nat_tests) in
-    let run = digit_runs _ (omega arith) h in
-    let same : 48 + suc n - 48 ≡ suc n = omega arith in
-    record { items = rw some (rw run refl); cells = rw some (rw run (append-nil _ ∙ ap (λ k. replicate k None) same)) }
+run_stands v0 h = grind (arith, common_steps, digit_runs, append-nil)
 
 -- the text of the squares that follow a run of n empty ones spells the run and the squares
 record RankStands (n : ℕ) (cells : Board) : Type 0 where
@@ -161,8 +154,7 @@ same_rows b rs ts e good h = absurd (omega arith)
 join_is_short : (ss : List (List ℕ)) → list_all is_rank ss ≡ true
     → length (join_with_byte 47 (map (rank_text 0) (map cells_of ss))) ≤ length (join_with_byte 47 ss)
 join_is_short [] h = omega arith
-join_is_short (s ∷ []) h =
-    omega (arith, rank_is_short s 0 (first_of_two (list_all is_item s) (length (cells_of s) == 8) (first_of_two (is_rank s) true h)))
+join_is_short (s ∷ []) h = grind (arith, common_steps, rank_is_short, first_of_two, length)
 join_is_short (s ∷ t ∷ ss) h =
     let both = and_parts (is_rank s) _ h in
     omega (

@@ -23,10 +23,7 @@ pub fits : CanonicalFits
 fits p h = length-fen_text p (half_low p h) (full_low p h)
 
 target_side : (s : List ℕ) (t : Option Square) → target_of s ≡ Some t → (c : Colour) × (target_fits c t ≡ true)
-target_side (c ∷ []) t h = (White, ap (target_fits White) (sym (cond_some (c == 45) None t h).1))
-target_side (file ∷ rank ∷ []) t h =
-    grind (arith, common_steps, fits, cond_some, or_cases, and_parts)
-target_side s t h = cc
+target_side s t h = grind (arith, common_steps, cond_some, or_cases)
 
 pub fields : FieldsAreSpellings
 fields =

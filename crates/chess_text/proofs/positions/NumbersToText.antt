@@ -132,9 +132,7 @@ module _ (whole : List ℕ) (most : ℕ) (text : List ℕ) (end word : ℕ) (cel
   -- a byte is stored within the text
   pub stored_within : (x : Option Piece) (more byte : ℕ) → Step word more byte
       → RankWritten whole most text end word (x ∷ cells) → (1 ≤ end + more) × (end + more ≤ length text)
-  stored_within None more byte s w = (omega (arith, end_of_run more byte w s), omega (arith, w.within, s.few))
-  stored_within (Some x) more byte s w =
-      (omega (arith, s.adds (omega (arith, piece_first word x cells w.next, piece_is_small x))), omega (arith, w.within, w.long, s.few))
+  stored_within v0 more byte s w = grind (arith, common_steps, end_of_run, piece_first, piece_is_small)
 
 -- the squares that are left of a rank begin with that of this file
 pub next_square : {whole : List ℕ} {most : ℕ} {text : List ℕ} {end word : ℕ} (b : Board) (rank file : ℕ) → file < 8
@@ -158,9 +156,7 @@ same_text word n (Some x ∷ cells) (Some y ∷ others) e low h g =
       same_letter x y (sym (piece_first word x cells h) ∙ piece_first word y others g),
       same_text (word / 256) 0 cells others (omega (arith, e)) (omega (arith, low)) (piece_rest word x cells h) (piece_rest word y others g),
     )
-same_text word n (None ∷ cells) (Some y ∷ others) e low h g =
-    absurd (omega (arith, run_first word n cells (omega (arith, low)) h, piece_first word y others g, piece_is_small y))
-same_text word n (Some x ∷ cells) (None ∷ others) e low h g =
-    absurd (omega (arith, run_first word n others (omega (arith, e, low)) g, piece_first word x cells h, piece_is_small x))
+same_text word n (None ∷ cells) (Some y ∷ others) e low h g = grind (arith, common_steps, run_first, piece_first, piece_is_small)
+same_text word n (Some x ∷ cells) (None ∷ others) e low h g = grind (arith, common_steps, run_first, piece_first, piece_is_small)
 same_text word n [] (y ∷ others) e low h g = absurd (omega (arith, e))
 same_text word n (x ∷ cells) [] e low h g = absurd (omega (arith, e))

@@ -23,9 +23,7 @@ pub rights_spelled : (s : List ℕ) (r : Rights) → rights_of s ≡ Some r → 
 rights_spelled s r h = let (named, is) = cond_some _ _ r h in same_bytes s _ named ∙ ap rights_text is
 
 pub target_spelled : (s : List ℕ) (t : Option Square) → target_of s ≡ Some t → s ≡ target_text t
-target_spelled (c ∷ []) t h = let (dash, is) = cond_some (c == 45) None t h in cc (eqb-true c 45 dash)
-target_spelled (file ∷ rank ∷ []) t h = grind (arith, common_steps)
-target_spelled s t h = cc
+target_spelled s t h = grind (arith, common_steps, cond_some, eqb-true)
 
 pub number_spelled : (s : List ℕ) (n : ℕ) → number_of s ≡ Some n → SpellsNumber s n
 number_spelled s n h = let (digits, is) = cond_some _ _ n h in record { digits_alone = digits; number = sym is }
@@ -58,9 +56,7 @@ not_shorter s = omega (arith, length-take (position_or_len is_space s) s)
 all_there : (p : Parts) (b : Option Board) (c : Option Colour) (r : Option Rights) (t : Option (Option Square)) (m n : Option ℕ)
     → parts_or_fault b c r t m n ≡ Ok p
     → (b ≡ Some p.board) × (c ≡ Some p.side) × (r ≡ Some p.rights) × (t ≡ Some p.target) × (m ≡ Some p.half) × (n ≡ Some p.full)
-all_there p (Some b) (Some c) (Some r) (Some t) (Some m) (Some n) h =
-    let same : record { board = b; side = c; rights = r; target = t; half = m; full = n } ≡ p = cc in (cc, cc, cc, cc, cc, cc)
-all_there p b c r t m n h = cc
+all_there p b c r t m n h = grind (arith, common_steps)
 
 good : (p : Parts) (r : Result Parts FenFault) → if_position r ≡ Ok p → (r ≡ Ok p) × (is_position p ≡ true)
 good p (Err f) h = absurd (cc)

@@ -1,6 +1,6 @@
 -- A legal move is one of a piece of the side to move, so a mark can be computed by the moves of
 -- these pieces alone.
-use Rattle.chess_text.proofs.Words.{◌≡◌, ℕ, Bool, true, ◌&&◌, not, inl, inr, List, [], ◌∷◌, ◌++◌, refl, ap, Option, None, Some, codes, if◌then◌else◌, list_any, or_cases, Move, Parts, Square, squares, at, has_colour, every_promotion, is_check, is_legal, legal, mark, san, unmarked, arith}
+use Rattle.chess_text.proofs.Words.{◌≡◌, ℕ, Bool, true, ◌&&◌, not, inl, inr, List, [], ◌∷◌, ◌++◌, refl, ap, Option, None, Some, codes, if◌then◌else◌, list_any, or_cases, Move, Parts, Square, squares, at, has_colour, every_promotion, is_check, is_legal, legal, mark, san, unmarked, arith, rules}
 use Rattle.chess_text.proofs.forms.MoverOfMove.{mover_colour}
 use Rattle.chess_text.proofs.names.OneMoveAgrees.{any-same}
 
@@ -36,10 +36,7 @@ mark_tried None = []
 mark_tried (Some q) = if is_check q && not (list_any (piece_has_move q) squares) then codes "#" else if is_check q then codes "+" else []
 
 pub mark_is_tried : (o : Option Parts) → mark o ≡ mark_tried o
-mark_is_tried None = refl
-mark_is_tried (Some q) =
-    ap (λ b. if is_check q && not b then codes "#" else if is_check q then codes "+" else [])
-    (any-same (has_move_from q) (piece_has_move q) (from_piece q) squares)
+mark_is_tried v0 = search (rules, codes, any-same, from_piece)
 
 abbrev pub san_tried : Parts → Move → List ℕ
 san_tried p m = unmarked p m ++ mark_tried (legal p m)
