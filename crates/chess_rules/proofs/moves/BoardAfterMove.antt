@@ -4,7 +4,7 @@ use Rattle.chess_rules.proofs.Words.{Colour, King, Piece, Move, Parts, Square, s
 use Rattle.chess_rules.proofs.lines.AttackToReach.{squares_same}
 use Rattle.chess_rules.proofs.positions.OneKing.{StandsAt}
 use Rattle.chess_rules.proofs.moves.CellsAfterPut.{OnBoard, at_put, at_put_here, length-put, king_count, kings-put, kings-put_alike, at_moved, on_target, on_origin, on_other}
-use Rattle.chess_rules.proofs.positions.RulesOfPosition.{Sound, is_edge, no_pawn_there, itself}
+use Rattle.chess_rules.proofs.positions.RulesOfPosition.{Sound, is_edge, no_pawn_there, same_square-refl}
 
 abbrev pub arriving : Parts → Move → Option Piece
 arriving p m = promoted p.side m.promotion (at p.board m.from)
@@ -90,7 +90,7 @@ carried_stays p m sound lands =
           king = elim (at_moved p.board m.from m.to k (arriving p m) sound.long lands.on_from lands.on_to
               (record { file = stands.file; rank = stands.rank })) [
                 | on_target is _ ↦ cc (lands.free c, subst (λ (s : Square). has_piece c King (at p.board s) ≡ true) is stands.king)
-                | on_origin is _ ↦ cc (differ, subst (λ (s : Square). same_square s k ≡ true) is (itself k))
+                | on_origin is _ ↦ cc (differ, subst (λ (s : Square). same_square s k ≡ true) is (same_square-refl k))
                 | on_other _ _ same ↦ ap (has_piece c King) same ∙ stands.king
               ];
         }

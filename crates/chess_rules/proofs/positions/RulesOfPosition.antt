@@ -109,8 +109,8 @@ no_pawn_on_edge b h =
     by_pawn : Passes (λ s. ((s.rank == 0) || (s.rank == 7)) && is_pawn (at b s)) → ⊥
     by_pawn w = grind arith
 
-pub itself : (s : Square) → same_square s s ≡ true
-itself s = grind arith
+pub same_square-refl : (s : Square) → same_square s s ≡ true
+same_square-refl s = grind arith
 
 -- the king of the side to move is on its square alone
 pub own_king : (p : Parts) (s k : Square) → is_position p ≡ true → s.file < 8
@@ -127,7 +127,7 @@ own_king p s k position file rank is = same_tests _ _ there back ∙ ap (same_sq
     there h =
         subst (λ t. same_square s t ≡ true)
         (king_only_there p.side p.board s (king_square p.side p.board) sound.long
-        (sound.kings_of p.side) (record { file = file; rank = rank; king = h }) king) (itself s)
+        (sound.kings_of p.side) (record { file = file; rank = rank; king = h }) king) (same_square-refl s)
 
     back : same_square s (king_square p.side p.board) ≡ true → own p King s ≡ true
     back h = subst (λ t. own p King t ≡ true) (sym (squares_same s (king_square p.side p.board) h)) king.king

@@ -1,4 +1,7 @@
 -- Which steps and legal moves are castling.
+use Rattle.chess_rules.proofs.moves.PlainStepAttacks.{none_when_not}
+use Rattle.chess_rules.proofs.sets.AllSquares.{same_tests}
+use Rattle.chess_rules.proofs.moves.WaysToStep.{some_of}
 use Rattle.chess_text.proofs.Words.{◌≡◌, ℕ, ◌<◌, ◌≤◌, Bool, true, false, not, ◌&&◌, ◌||◌, inl, inr, refl, sym, ◌∙◌, arith, nat_lt, Option, None, Some, is_none, is_some, option_map, if◌then◌else◌, abs_diff, and_parts, and_from, or_cases, ltb-true, Colour, King, Pawn, Piece, Move, Parts, Square, same_square, is_adjacent, Board, at, has_colour, has_piece, attacks, cell_attacks, own, Kind, home, Wing, short_wing, long_wing, short_right, long_right, is_pawn_way, is_en_passant, captured_pawn, other, castles, castles_short, castles_long, on_board, step, is_legal, if_safe, is_castling, nat_tests, [], subst, Ok, Err, cons_option, legal, Castle, Played, NoMove, describes, with_next_position, played, castling_move, agreeing, only, move_of_form, false_from_ne_true, rules, common_steps, after, board_after, carried, castled, en_passant_board, is_on_board, is_pawn_step, is_piece_step, promotion_fits, stand_ready}
 
 -- what each way of a step says
@@ -61,9 +64,6 @@ legal_is_step p m h = by_step _ h
 pub stepped : (p : Parts) (m : Move) → is_legal p m ≡ true → Stepped p m
 stepped p m h = way_of_step p m (legal_is_step p m h)
 
-pub squares_same : (s t : Square) → same_square s t ≡ true → s ≡ t
-squares_same s t h = grind (arith, common_steps)
-
 -- a king is no pawn
 module _ (c : Colour) (cell : Option Piece) where
   pub no_pawn : has_piece c King cell ≡ true → has_piece c Pawn cell ≡ true → ⊥
@@ -102,10 +102,6 @@ module _ (p : Parts) (m : Move) where
   pub castling_goes_far : is_castling p m ≡ true → goes_far p m ≡ true
   castling_goes_far h = search (rules, or_cases, castles_far)
 
--- two tests that imply one another
-same_tests : (x y : Bool) → (x ≡ true → y ≡ true) → (y ≡ true → x ≡ true) → x ≡ y
-same_tests x y h g = grind arith
-
 pub castling_is_far : (p : Parts) (m : Move) → is_some (step p m) ≡ true → is_castling p m ≡ goes_far p m
 castling_is_far p m h =
     same_tests _ _ (castling_goes_far p m)
@@ -132,10 +128,6 @@ pub fits_by_kind : (legal fit asked castles : Bool) → legal ≡ true → fit �
 fits_by_kind legal fit asked castles h g same = grind arith
 
 -- What a form of castling names: the one move that is tried, or none.
-
-pub legal_next : (o : Option Parts) → is_some o ≡ true → (q : Parts) × (o ≡ Some q)
-legal_next None h = cc
-legal_next (Some q) h = (q, refl)
 
 first_alone : (x y : Bool) → (y ≡ true → ⊥) → x ≡ (x || y)
 first_alone x y h = grind arith
@@ -164,12 +156,9 @@ played_some false p q m e h = cc
 pub played_not : (b : Bool) (p : Parts) (m : Move) → b ≡ false → played b p m ≡ None
 played_not b p m e = cc
 
-no_next : (o : Option Parts) → is_some o ≡ false → o ≡ None
-no_next o h = grind arith
-
 pub played_unless : (b : Bool) (p : Parts) (m : Move) → (b ≡ true → is_legal p m ≡ true → ⊥) → played b p m ≡ None
 played_unless false p m h = refl
-played_unless true p m h = played_none true p m (no_next (legal p m) (false_from_ne_true _ (h refl)))
+played_unless true p m h = played_none true p m (none_when_not (legal p m) (false_from_ne_true _ (h refl)))
 
 module _ (p : Parts) (long : Bool) (m : Move) (is : m ≡ castling_move p.side long) where
   answer_of : (o : Option Played) → played (describes p (Castle long) (castling_move p.side long)) p (castling_move p.side long) ≡ o
@@ -177,11 +166,11 @@ module _ (p : Parts) (long : Bool) (m : Move) (is : m ≡ castling_move p.side l
   answer_of o h = cc (reads_one p long)
 
   pub castling_illegal : is_legal p m ≡ false → Err NoMove ≡ move_of_form p (Castle long)
-  castling_illegal h = answer_of None (played_none _ p (castling_move p.side long) (rw is at (no_next _ h)))
+  castling_illegal h = answer_of None (played_none _ p (castling_move p.side long) (rw is at (none_when_not _ h)))
 
   pub castling_found : is_legal p m ≡ true → is_castling p m ≡ true → with_next_position p (Ok m) ≡ move_of_form p (Castle long)
   castling_found h named =
-      let (q, leads) = legal_next (legal p m) h in
+      let (q, leads) = some_of (legal p m) h in
       cc (answer_of (Some (record { mv = castling_move p.side long; next = q })) (played_some _ p q (castling_move p.side long)
       (described p long (castling_move _ long) refl ∙ rw is at named) (subst (λ n. legal p n ≡ Some q) is leads)))
 

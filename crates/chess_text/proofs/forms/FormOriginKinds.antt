@@ -1,20 +1,19 @@
 -- The kinds of squares for a form, one after another, and how many legal moves they count.
+use Rattle.chess_rules.proofs.sets.AllSquares.{squares_long}
+use Rattle.chess_rules.proofs.moves.WaysToStep.{some_of}
+use Rattle.chess_rules.proofs.positions.RulesOfPosition.{same_square-refl}
+use Rattle.chess_rules.proofs.lines.AttackToReach.{squares_same}
 use mathlib.Core.Bool.{and-false, or-false}
 use Rattle.std.proofs.lemmas.List.{length-set}
 use Rattle.std.proofs.lemmas.Map.Views.{any-filter_same}
 use Rattle.chess_text.proofs.Words.{◌≡◌, ◌≢◌, ℕ, ◌<◌, ◌≤◌, Bool, true, false, cond, ◌&&◌, ◌||◌, List, [], ◌∷◌, map, length, replicate, set, get_or, inl, inr, refl, sym, ◌∙◌, ap, subst, arith, Option, None, Some, Ok, Err, ◌↔◌, is_some, count_by, if◌then◌else◌, range_with_len, filter, filter_map, cons_option, list_any, list_any_at, list_any-IsPermutation, IsPermutation, get_or-map-range_with_len, sum_by-cons, and_parts, or_right, both_ways, false_from_ne_true, Colour, White, Black, Kind, Promotion, Move, Parts, Square, square, squares, same_square, step, home, home_rank, if_safe, is_legal, is_candidate, candidates, StepsFromCandidates, Form, Castle, Man, OriginKind, Played, NoMove, Ambiguous, castling_move, move_from, describes, with_next, played, agreeing, only, form_move, is_step_of_form, kind_of_move, origin_kind, origins_of_form, nth_square, is_legal_kind, count_legal, LegalOriginsDecide, cases_eq, get_or-set_at, ext_get_or, get_or-map, get_or-replicate, get_or-set_other, length-map, NoStep, Unsafe, Legal, common_steps, rules}
-use Rattle.chess_text.proofs.forms.CastlingMoves.{castles_ends, legal_is_step, squares_same, played_not, legal_next}
+use Rattle.chess_text.proofs.forms.CastlingMoves.{castles_ends, legal_is_step, played_not}
 use Rattle.chess_text.proofs.forms.OnlyElement.{filter_map-map, filter_map-filter}
-use Rattle.chess_text.proofs.forms.PieceForms.{same_square-refl}
 
 -- the squares by their places
 squares_by_place : squares ≡ map nth_square (range_with_len 0 64)
 unfolding squares
 squares_by_place = refl
-
-pub squares_long : length squares ≡ 64
-unfolding squares
-squares_long = refl
 
 pub square_at : (n : ℕ) (d : Square) → n < 64 → get_or squares n d ≡ nth_square n
 square_at n d low = ap (λ ss. get_or ss n d) squares_by_place ∙ get_or-map-range_with_len nth_square 0 64 n n d low (omega arith)
@@ -107,7 +106,7 @@ piece_kinds from_candidates p k file rank to promotion xs perm n low none =
     no_kind p (Man k file rank to promotion) m
     (λ h.
     let both = and_parts (is_some (step p m)) _ h in
-    let (q, leads) = legal_next (step p m) both.0 in
+    let (q, leads) = some_of (step p m) both.0 in
     both_ways _ none (listed (from_candidates p q m k leads (and_parts _ _ (and_parts _ _ both.1).0).0)))
   where
     m : Move

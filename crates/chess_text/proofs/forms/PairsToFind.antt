@@ -1,12 +1,11 @@
 -- At least as many pairs are tried to find a move as it has candidates.
+use Rattle.chess_rules.proofs.lines.AttackToReach.{kinds_same}
+use Rattle.chess_rules.proofs.moves.WaysToStep.{some_of}
 use Rattle.chess_text.proofs.Words.{◌≡◌, ℕ, ◌≤◌, Bool, true, false, length, false≢true, refl, sym, ◌∙◌, ap, arith, Option, None, Some, Result, Ok, Err, IfOk, IsTrue, ok_or, if◌then◌else◌, and_parts, Kind, King, Piece, Move, Parts, Form, Castle, Man, Played, SanFault, NoMove, at, has_piece, same_kind, is_legal, legal, candidates, is_castling, describes, with_next, with_next_position, move_of_form, form_pairs, has_rivals, kind_pairs, disambiguation_pairs, castles_short, castles_long, ◌||◌, common_steps}
 use Rattle.chess_text.specs.San.{piece_pairs}
 use Rattle.chess_text.proofs.forms.AgreeingAreFound.{said, the_one_move_is_read}
-use Rattle.chess_text.proofs.forms.CastlingMoves.{castles_by_king, legal_next}
+use Rattle.chess_text.proofs.forms.CastlingMoves.{castles_by_king}
 use Rattle.chess_text.proofs.forms.MoverOfMove.{mover, mover_stands}
-
-kinds_alike : (k l : Kind) → same_kind k l ≡ true → k ≡ l
-kinds_alike k l h = grind arith
 
 at_most : (b : Bool) (n : ℕ) → (if b then n else 0) ≤ n
 at_most b n = grind arith
@@ -24,7 +23,7 @@ module _ (p : Parts) (m : Move) where
   -- by the kind of the piece that moves
   of_kind : (k : Kind) (cell : Option Piece) → has_piece p.side k cell ≡ true → piece_pairs cell p m ≡ kind_pairs k p m
   of_kind k None h = cc
-  of_kind k (Some x) h = ap (λ l. kind_pairs l p m) (sym (kinds_alike k x.kind (and_parts _ (same_kind k x.kind) h).1))
+  of_kind k (Some x) h = ap (λ l. kind_pairs l p m) (sym (kinds_same k x.kind (and_parts _ (same_kind k x.kind) h).1))
 
   of_castling : is_legal p m ≡ true → is_castling p m ≡ true → (cell : Option Piece) → at p.board m.from ≡ cell → piece_pairs cell p m ≤ 1
   of_castling allowed castles None e = absurd (mover_stands p m allowed e)
@@ -40,7 +39,7 @@ pub found_candidates : (p : Parts) (f : Form) (r : Result Move SanFault) → IfO
     → with_next_position p r ≡ move_of_form p f → IfOk r (λ m. disambiguation_pairs p m ≤ form_pairs p f)
 found_candidates p f (Err fault) allowed answer = tt
 found_candidates p f (Ok m) allowed answer =
-    let (q, leads) = legal_next (legal p m) allowed in
+    let (q, leads) = some_of (legal p m) allowed in
     let x : Played = record { mv = m; next = q } in
     let found : move_of_form p f ≡ Ok x = sym answer ∙ ap (λ o. ok_or (with_next m o) NoMove) leads in
     described p m f allowed (and_parts (is_legal p m) (describes p f m) ((the_one_move_is_read p f x).0 found).0).1

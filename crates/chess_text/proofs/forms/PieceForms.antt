@@ -1,14 +1,12 @@
 -- What a form of no castling names: all its moves come from candidates.
+use Rattle.chess_rules.proofs.moves.WaysToStep.{some_of}
 use Rattle.chess_text.proofs.Words.{◌≡◌, ℕ, ◌<◌, Bool, true, false, ◌&&◌, List, get_or, refl, Option, None, ◌==◌, length, filter_map, All, IsPermutation, both_ways, and_parts, and_from, eq-eqb, filter_passes, All-weaker, All-permutation, IsPermutation-sym, Kind, Promotion, Parts, Square, squares, same_square, own, legal, is_candidate, candidates, CandidatesComplete, Form, Man, Played, same_promotion, describes, played, move_from, agreeing, only, move_of_form, piece_move_fits, arith, ap, Some, is_some, Move, is_legal, with_next, common_steps}
-use Rattle.chess_text.proofs.forms.CastlingMoves.{played_unless, legal_next}
+use Rattle.chess_text.proofs.forms.CastlingMoves.{played_unless}
 use Rattle.chess_text.proofs.forms.OnlyElement.{filter_map-map, filter_map-filter, only_permuted}
 
 -- what the form names from that square
 abbrev pub from_square : Parts → Form → Square → Option Promotion → Square → Option Played
 from_square p f to promotion s = played (describes p f (move_from to promotion s)) p (move_from to promotion s)
-
-pub same_square-refl : (s : Square) → same_square s s ≡ true
-same_square-refl s = and_from (s.file == s.file) (s.rank == s.rank) (eq-eqb _ _ refl) (eq-eqb _ _ refl)
 
 pub same_promotion-refl : (x : Option Promotion) → same_promotion x x ≡ true
 same_promotion-refl x = grind arith
@@ -32,7 +30,7 @@ module _ (p : Parts) (k : Kind) (file rank : Option ℕ) (to : Square) (promotio
   only_candidates complete s other =
       played_unless _ p (move_from to promotion s)
       (λ e legal_here.
-      let (q, leads) = legal_next (legal p (move_from to promotion s)) legal_here in
+      let (q, leads) = some_of (legal p (move_from to promotion s)) legal_here in
       both_ways (is_candidate p k to s) other (complete p q (move_from to promotion s) k leads (and_parts _ _ (and_parts _ _ e).0).0))
 
   -- what is found from the candidates, in any order, decides
@@ -82,7 +80,7 @@ kept_is_some p (Some m) h = some_next m _ h
 
 -- a legal move has a position after it
 pub kept_next : (p : Parts) (m : Move) → is_legal p m ≡ true → (x : Played) × (with_next m (legal p m) ≡ Some x)
-kept_next p m h = let (q, leads) = legal_next (legal p m) h in (record { mv = m; next = q }, ap (with_next m) leads)
+kept_next p m h = let (q, leads) = some_of (legal p m) h in (record { mv = m; next = q }, ap (with_next m) leads)
 
 -- what is found from a move is it with that position, if it is legal and fits, and else nothing
 pub fitting_is_played : (p : Parts) (m : Move) (fits : Bool) → (is_legal p m && fits) ≡ true → played fits p m ≡ with_next m (legal p m)

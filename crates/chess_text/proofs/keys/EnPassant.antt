@@ -1,16 +1,15 @@
 -- Which moves take en passant: those from the two squares beside the pawn that is taken.
+use mathlib.Core.Bool.{and-false, and-true}
+use Rattle.chess_rules.proofs.sets.AllSquares.{same_tests}
+use Rattle.chess_rules.proofs.positions.RulesOfPosition.{same_square-refl}
+use Rattle.chess_rules.proofs.lines.AttackToReach.{squares_same}
 use Rattle.chess_text.proofs.Words.{◌≡◌, ◌≢◌, ℕ, ◌+◌, ◌-◌, ◌≤◌, Bool, cond, zero, suc, same_Some, true, false, ◌&&◌, ◌||◌, ◌⊎◌, inl, inr, List, [], ◌∷◌, length, refl, sym, ◌∙◌, ap, ap₂, subst, arith, Option, None, Some, if◌then◌else◌, ◌==◌, list_any, list_all, list_all_at, eqb-true, eq-eqb, filter, Contains, Any-from_list_any, both_ways, cases_Bool, cases_lt, and_parts, and_from, or_cases, nat_tests, common_steps, Colour, White, Black, Pawn, Piece, Move, Parts, Square, square, squares, gap, on_board, same_square, Board, at, has_piece, is_empty, cell_attacks, attacks, is_ahead, own, is_en_passant, is_legal, promotion_fits, rules}
 use Rattle.chess_text.specs.Key.{takes_en_passant, move_to, is_taken_on, attackers, if_taken_on, pairs_on, usable_target, key_pairs}
 use Rattle.chess_text.specs.Beside.{one_if, rank_behind, stands_on, takes_from, west_of}
 use Rattle.chess_rules.specs.Step.{is_target}
 use Rattle.chess_text.proofs.forms.MoverOfMove.{takes, passes, advances, doubles, pawn_way, gap_apart}
 use Rattle.chess_text.proofs.forms.AgreeingAreFound.{Apart, squares_apart, in_squares, any_contained}
-use Rattle.chess_text.proofs.forms.CastlingMoves.{squares_same, passing_parts, stepped}
-use Rattle.chess_text.proofs.forms.PieceForms.{same_square-refl}
-
--- two tests that imply one another
-pub same_tests : (x y : Bool) → (x ≡ true → y ≡ true) → (y ≡ true → x ≡ true) → x ≡ y
-same_tests x y h g = grind arith
+use Rattle.chess_text.proofs.forms.CastlingMoves.{passing_parts, stepped}
 
 module _ (p : Parts) (m : Move) where
   -- a pawn that comes to an empty square of another file takes en passant
@@ -22,12 +21,6 @@ module _ (p : Parts) (m : Move) where
       → is_legal p m ≡ takes_en_passant p m
   taken_if_legal pawn free aside =
       same_tests _ _ (λ h. and_from _ _ (passes_aside pawn free aside h) h) (λ h. (and_parts (is_en_passant p m) _ h).1)
-
-and_none : (b : Bool) → (b && false) ≡ false
-and_none b = grind arith
-
-and_all : (b : Bool) → (b && true) ≡ b
-and_all b = grind arith
 
 -- en passant goes to an empty square
 passing_free : (p : Parts) (m : Move) → is_en_passant p m ≡ true → is_empty p.board m.to ≡ true
@@ -174,7 +167,7 @@ module _ (p : Parts) (t : Square) where
 
     -- the pawn on a square beside attacks the target
     hits : (s : Square) → gap s.file t.file ≡ 1 → s.rank ≡ r → (attacks_it s && has s squares) ≡ (on_board s && own p Pawn s)
-    hits s file rank = grind (arith, common_steps, and_none, pawn_attacks, eq-eqb, has_is, and_all)
+    hits s file rank = grind (arith, common_steps, and-false, pawn_attacks, eq-eqb, has_is, and-true)
 
     -- one two files away does not
     misses : (s : Square) → (gap s.file t.file ≡ 1 → ⊥) → attacks_it s ≡ false

@@ -1,6 +1,8 @@
 -- Two positions have the same key exactly if they are the same.
+use Rattle.chess_rules.proofs.moves.WaysToStep.{passing_means}
+use Rattle.chess_rules.proofs.sets.AllSquares.{same_tests}
+use Rattle.chess_rules.proofs.lines.AttackToReach.{squares_same}
 use Rattle.std.specs.Prelude.{IsOk}
-use Rattle.chess_text.proofs.keys.EnPassant.{same_tests}
 use Rattle.chess_text.proofs.forms.AgreeingAreFound.{in_squares, any_contained}
 use Rattle.chess_text.specs.Key.{KeysTell, SamePosition, takes_en_passant, move_to, usable_rights, usable_target, if_taken_on, is_taken_on, position_key}
 use Rattle.chess_text.proofs.positions.CanonicalText.{canonical_spells, last_rules}
@@ -9,7 +11,7 @@ use Rattle.chess_rules.specs.Attacks.{king_attacked}
 use Rattle.chess_rules.specs.Position.{one_king, pawn_on_edge}
 unfoldable use Rattle.chess_text.proofs.Words.{digits}
 use Rattle.chess_rules.specs.Step.{is_target, last_rank}
-use Rattle.chess_text.proofs.forms.CastlingMoves.{squares_same, castles_ends, no_pawn, stepped}
+use Rattle.chess_text.proofs.forms.CastlingMoves.{castles_ends, no_pawn, stepped}
 use Rattle.chess_text.proofs.Words.{nat_tests, squares, Any-from_list_any, Promotion, ◌||◌, is_some, option_map, if_safe, is_legal, after, board_after, carried, en_passant_board, is_on_board, is_pawn_step, is_piece_step, promotion_fits, is_en_passant, castles, Wing, short_right, long_right, short_wing, long_wing, home, own, at, is_empty, King, Pawn, Rook, Move, not, ◌&&◌, ◌==◌, nat_le, and_parts, and_from, is_none, other, White, Black, Kings, PawnOnEdge, KingCapturable, TargetRank, NumberRange, Bool, true, false, refl, sym, subst, codes, common_steps, None, Some, if◌then◌else◌, Parts, Fen, fen_text, target_fits, is_position, position_fault, ◌≡◌, ◌≤◌, ◌+◌, ℕ, List, [], ◌∷◌, ◌++◌, ◌∙◌, ap, arith, append_assoc, length, length-append, join_with_byte, Result, Ok, Err, OnOk, Option, Board, Colour, Rights, Square, placement_text, side_text, rights_text, target_text, rules}
 use Rattle.chess_text.proofs.positions.BoardToText.{length-placement_text}
 use Rattle.chess_text.proofs.positions.FieldsOfText.{length-side_text, length-rights_text, length-target_text}
@@ -90,23 +92,6 @@ target_is : (o : Option Square) (s : Square) → is_target o s ≡ true → o �
 target_is None s h = cc
 target_is (Some t) s h = ap Some (squares_same t s h)
 
--- what en passant says of its target and its promotion
-record Passing (p : Parts) (m : Move) : Type 0 where
-  pawn : own p Pawn m.from ≡ true
-  target : p.target ≡ Some m.to
-  promotion : promotion_fits p m ≡ true
-
-passing : (p : Parts) (m : Move) → is_en_passant p m ≡ true → Passing p m
-passing p m h =
-    let one = (and_parts ((own p Pawn m.from && promotion_fits p m) && (is_target p.target m.to && is_empty p.board m.to)) _ h).0 in
-    let two = and_parts (own p Pawn m.from && promotion_fits p m) (is_target p.target m.to && is_empty p.board m.to) one in
-    let three = and_parts (own p Pawn m.from) (promotion_fits p m) two.0 in
-    record {
-      pawn = three.0;
-      target = target_is p.target m.to (and_parts (is_target p.target m.to) _ two.1).0;
-      promotion = three.1;
-    }
-
 no_castling : (p : Parts) (m : Move) (right : Bool) (wing : Wing) → own p Pawn m.from ≡ true → castles p m right wing ≡ false
 no_castling p m right wing pawn = grind (arith, common_steps, pawn, castles_ends, no_pawn)
 
@@ -118,21 +103,21 @@ safe_on c (Some b) = not (king_attacked b (other (other c)))
 pub legal_by : (p : Parts) (m : Move) (o : Option Board) → is_some (if_safe (option_map (after p m) o)) ≡ safe_on p.side o
 legal_by p m v2 = grind (arith, common_steps, is_some)
 
+-- a move is legal by the board after it
+pub legal_is : (p : Parts) (m : Move) → is_legal p m ≡ (is_on_board m && safe_on p.side (board_after p m))
+legal_is p m = grind (arith, common_steps, is_some, legal_by)
+
 -- a pawn's move is legal by the board and the side to move, and by whether it is en passant
 abbrev pawn_board : Parts → Move → Bool → Option Board
 pawn_board p m passes = if is_piece_step p m || is_pawn_step p m then Some (carried p m) else if passes then Some (en_passant_board p m) else None
 
 pawn_legal : (p : Parts) (m : Move) → own p Pawn m.from ≡ true
     → is_legal p m ≡ (is_on_board m && safe_on p.side (pawn_board p m (is_en_passant p m)))
-pawn_legal p m pawn = by_board (is_on_board m) ∙ ap (λ (o : Option Board). is_on_board m && safe_on p.side o) boards
+pawn_legal p m pawn = legal_is p m ∙ ap (λ (o : Option Board). is_on_board m && safe_on p.side o) boards
   where
     boards : board_after p m ≡ pawn_board p m (is_en_passant p m)
     boards =
         rw (no_castling p m (short_right p.side p.rights) short_wing pawn, no_castling p m (long_right p.side p.rights) long_wing pawn) refl
-
-    by_board : (on : Bool) → is_some (if_safe (if on then option_map (after p m) (board_after p m) else None)) ≡ (on && safe_on p.side (board_after p m))
-    by_board true = legal_by p m (board_after p m)
-    by_board false = refl
 
 -- Parts that differ in their rights and their numbers alone.
 abbrev with_others : Parts → Parts → Parts
@@ -144,7 +129,7 @@ passing_alike p q m = by_test _ refl
     by_test : (b : Bool) → is_en_passant p m ≡ b → (is_en_passant p m && is_legal p m) ≡ (is_en_passant p m && is_legal (with_others p q) m)
     by_test false e = rw e refl
     by_test true e =
-        let pawn = (passing p m e).pawn in ap (λ (b : Bool). is_en_passant p m && b) (pawn_legal p m pawn ∙ sym (pawn_legal (with_others p q) m pawn))
+        let pawn = (passing_means p m e).pawn in ap (λ (b : Bool). is_en_passant p m && b) (pawn_legal p m pawn ∙ sym (pawn_legal (with_others p q) m pawn))
 
 takes_alike : (p q : Parts) (m : Move) → p.board ≡ q.board → p.side ≡ q.side → p.target ≡ q.target → takes_en_passant p m ≡ takes_en_passant q m
 takes_alike p q m board side target =
@@ -177,12 +162,13 @@ unpromoted c t x fits h = grind (arith, nat_tests)
 module _ (p q : Parts) where
   takes_too : is_position p ≡ true → SameBare p q → (m : Move) → takes_en_passant p m ≡ true → takes_en_passant q m ≡ true
   takes_too at_p same m h =
-      let pass = passing p m (and_parts (is_en_passant p m) _ h).0 in
-      let fits = subst (λ (o : Option Square). target_fits p.side o ≡ true) pass.target (last_rules p at_p).0 in
-      let plain = unpromoted p.side m.to m.promotion fits pass.promotion in
+      let pass = passing_means p m (and_parts (is_en_passant p m) _ h).0 in
+      let target_here = target_is p.target m.to pass.target in
+      let fits = subst (λ (o : Option Square). target_fits p.side o ≡ true) target_here (last_rules p at_p).0 in
+      let plain = unpromoted p.side m.to m.promotion fits pass.fits in
       let here = subst (λ (x : Option Promotion). takes_en_passant p (record { from = m.from; to = m.to; promotion = x }) ≡ true) plain h in
-      let usable = sym same.target ∙ taken_some p m.to m.from pass.target here in
-      let target = pass.target ∙ sym (usable_some q q.target m.to usable) in
+      let usable = sym same.target ∙ taken_some p m.to m.from target_here here in
+      let target = target_here ∙ sym (usable_some q q.target m.to usable) in
       sym (takes_alike p q m same.board same.side target) ∙ h
 
   -- what is usable in one position is usable in one that is the same
@@ -196,7 +182,7 @@ module _ (p q : Parts) where
       by_taken true e =
           let (k, s, low, same_s, one) = Any-from_list_any (λ s. takes_en_passant p (move_to t s)) squares e in
           let other_one = sym (same.en_passant (move_to t s)) ∙ one in
-          taken_some q t s (passing q (move_to t s) (and_parts (is_en_passant q (move_to t s)) _ other_one).0).target other_one
+          taken_some q t s (target_is q.target t (passing_means q (move_to t s) (and_parts (is_en_passant q (move_to t s)) _ other_one).0).target) other_one
       by_taken false e = absurd (some_none t (sym h ∙ ap (if_taken_on p) is ∙ ap (λ (b : Bool). if b then Some t else None) e))
 
 same_option : (a b : Option Square) → ((t : Square) → a ≡ Some t → b ≡ Some t) → ((t : Square) → b ≡ Some t → a ≡ Some t) → a ≡ b

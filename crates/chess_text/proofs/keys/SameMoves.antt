@@ -1,13 +1,9 @@
 -- In two positions that are the same the same moves are legal.
+use Rattle.chess_rules.proofs.sets.AllSquares.{same_tests}
 use Rattle.chess_text.specs.Key.{SamePosition, SameMovesLegal, takes_en_passant, usable_rights, stand_at_home}
-use Rattle.chess_text.proofs.Words.{◌≡◌, Bool, true, false, ◌&&◌, ◌||◌, refl, sym, ◌∙◌, ap, subst, Option, None, Some, is_some, option_map, if◌then◌else◌, and_parts, and_from, both_ways, Colour, White, Black, King, Pawn, Rook, Move, Parts, Rights, Square, Board, at, own, home, Wing, short_wing, long_wing, short_right, long_right, castles, castles_short, castles_long, castled, if_safe, is_legal, after, board_after, carried, en_passant_board, is_on_board, is_pawn_step, is_piece_step, is_en_passant, arith, common_steps}
+use Rattle.chess_text.proofs.Words.{◌≡◌, Bool, true, false, ◌&&◌, ◌||◌, refl, sym, ◌∙◌, ap, subst, Option, None, Some, is_some, option_map, if◌then◌else◌, and_parts, and_from, both_ways, Colour, White, Black, King, Pawn, Rook, Move, Parts, Rights, Square, Board, at, own, home, Wing, short_wing, long_wing, short_right, long_right, castles, castles_short, castles_long, castled, if_safe, is_legal, after, board_after, carried, en_passant_board, is_on_board, is_pawn_step, is_piece_step, is_en_passant, arith, common_steps, false_from_ne_true}
 use Rattle.chess_text.proofs.forms.CastlingMoves.{castles_ends, no_pawn, passing_parts}
-use Rattle.chess_text.proofs.keys.EnPassant.{same_tests}
-use Rattle.chess_text.proofs.keys.KeyToPosition.{legal_by, safe_on, turned}
-
--- a move is legal by the board after it
-legal_is : (p : Parts) (m : Move) → is_legal p m ≡ (is_on_board m && safe_on p.side (board_after p m))
-legal_is p m = grind (arith, common_steps, is_some, legal_by)
+use Rattle.chess_text.proofs.keys.KeyToPosition.{legal_is, safe_on, turned}
 
 -- the board after a move, by what it is
 abbrev board_by : Parts → Move → Bool → Bool → Bool → Bool → Option Board
@@ -17,10 +13,6 @@ board_by p m plain passes short long =
     else if short then Some (castled p m short_wing.rook short_wing.crossing)
     else if long then Some (castled p m long_wing.rook long_wing.crossing)
     else None
-
-false_unless : (b : Bool) → (b ≡ true → ⊥) → b ≡ false
-false_unless true h = absurd (h refl)
-false_unless false h = refl
 
 -- Another position with this board and this side to move.
 abbrev like : Parts → Parts → Parts
@@ -111,7 +103,7 @@ module _ (p q : Parts) (m : Move) (rights : usable_rights p ≡ usable_rights (l
       rw (none, short_too g) h
   by_way false false false true e f g i h =
       let none = (castling p m (long_right p.side p.rights) long_wing i).no_passing other_one refl refl in
-      let not_short = false_unless (castles_short other_one m) (λ short. both_ways _ g (castles_short_alike short)) in
+      let not_short = false_from_ne_true (castles_short other_one m) (λ short. both_ways _ g (castles_short_alike short)) in
       rw (none, not_short, long_too i) h
   by_way false false false false e f g i h = absurd (never (is_on_board m) h)
 

@@ -1,20 +1,15 @@
 -- The rivals of a move, found among the candidates for its target.
+use Rattle.chess_rules.proofs.trying.FoundLists.{list_any-filter}
+use Rattle.chess_rules.proofs.moves.WaysToStep.{some_of}
+use Rattle.chess_rules.proofs.positions.RulesOfPosition.{same_square-refl}
+use Rattle.chess_rules.proofs.lines.AttackToReach.{squares_same}
 use mathlib.Core.Bool.{and-true}
 use Rattle.chess_text.proofs.Words.{◌≡◌, ℕ, ◌+◌, ◌<◌, ◌≤◌, Bool, true, false, cond, ◌&&◌, ◌||◌, List, [], ◌∷◌, length, take, get_or, refl, sym, ◌∙◌, ap, ◌==◌, list_any, IsPermutation, and_parts, take_all, list_any_more, list_any-IsPermutation, Kind, Move, Parts, Square, squares, own, legal, sees, candidates, CandidatesComplete, from_square, is_rival, rivals, on_file, on_rank, disambiguation_by, disambiguation, arith, inl, inr, not, and_from, or_cases, IsPermutation-refl, same_square, is_legal, is_candidate, cases_Bool, ap₂, subst, Option, None, Some, is_none, both_ways, not-true, not-false, eqb-true, nat_tests, Colour, King, Pawn, Piece, square, gap, at, has_piece, same_kind, is_empty, other, is_ahead, is_position, captured_pawn, crossed, pawn_rank, double_rank, Wing, castles, castles_short, castles_long, OneKing, hints_fit, describes, agrees, is_capture, rules, common_steps}
-use Rattle.chess_text.proofs.forms.CastlingMoves.{legal_next, stepped, squares_same, castles_ends}
+use Rattle.chess_text.proofs.forms.CastlingMoves.{stepped, castles_ends}
 use Rattle.std.specs.Prelude.{filter}
 use Rattle.chess_text.proofs.forms.AgreeingAreFound.{in_squares, any_contained, said, same_move, no_promotion}
-use Rattle.chess_text.proofs.forms.PieceForms.{same_square-refl}
 use Rattle.chess_text.proofs.forms.MoverOfMove.{PawnWay, takes, passes, advances, doubles, pawn_way, pawn_takes, gap_apart}
 use Rattle.chess_text.proofs.names.WrittenToForm.{file_by, rank_by, disambiguated_form, king_form_by, pawn_form_by, written, unpromoted, itself}
-
-any-cond : {Y : Type 0} (test : Y → Bool) (b : Bool) (y : Y) (ys : List Y)
-    → list_any test (cond b (y ∷ ys) ys) ≡ ((b && test y) || list_any test ys)
-any-cond test b y ys = grind arith
-
-pub any-filter : {Y : Type 0} (test p : Y → Bool) (ys : List Y) → list_any test (filter p ys) ≡ list_any (λ y. p y && test y) ys
-any-filter test p [] = refl
-any-filter test p (y ∷ ys) = cc (any-cond test _ y _, any-filter test p ys)
 
 pub any-same : {Y : Type 0} (f g : Y → Bool) → ((y : Y) → f y ≡ g y) → (ys : List Y) → list_any f ys ≡ list_any g ys
 any-same f g h [] = refl
@@ -27,7 +22,7 @@ seen p m test xs = list_any (λ s. is_rival p m s && test s) xs
 rival_sees : CandidatesComplete → (p : Parts) (k : Kind) (m : Move) (s : Square)
     → own p k s ≡ true → is_rival p m s ≡ true → sees k p s m.to ≡ true
 rival_sees complete p k m s h g =
-    let (q, leads) = legal_next (legal p (from_square m s)) (and_parts _ _ g).1 in
+    let (q, leads) = some_of (legal p (from_square m s)) (and_parts _ _ g).1 in
     (and_parts (own p k s) (sees k p s m.to) (complete p q _ k leads h)).1
 
 same_test : (o g r t : Bool) → (o ≡ true → r ≡ true → g ≡ true) → ((o && g) && (r && t)) ≡ ((o && r) && t)
@@ -37,10 +32,10 @@ pub rivals_seen : CandidatesComplete → (p : Parts) (k : Kind) (m : Move) (test
     → IsPermutation (candidates p k m.to) xs → seen p m test xs ≡ list_any test (rivals p k m)
 rivals_seen complete p k m test xs perm =
     sym (list_any-IsPermutation _ _ xs perm)
-    ∙ (any-filter _ _ squares
+    ∙ (list_any-filter _ _ squares
     ∙ (any-same _ _
     (λ s. same_test (own p k s) (sees k p s m.to) (is_rival p m s) (test s) (rival_sees complete p k m s)) squares
-    ∙ sym (any-filter test _ squares)))
+    ∙ sym (list_any-filter test _ squares)))
 
 -- so far
 pub record Found (p : Parts) (m : Move) (xs : List Square) (n : ℕ) (any file rank : Bool) : Type 0 where
@@ -78,12 +73,12 @@ only_one s (x ∷ y ∷ ys) few h = absurd (omega arith)
 module _ (complete : CandidatesComplete) (p : Parts) (k : Kind) (m : Move) (allowed : is_legal p m ≡ true)
     (stands : own p k m.from ≡ true) (few : length (candidates p k m.to) ≤ 1) where
   own_candidate : is_candidate p k m.to m.from ≡ true
-  own_candidate = let (q, leads) = legal_next (legal p m) allowed in complete p q m k leads stands
+  own_candidate = let (q, leads) = some_of (legal p m) allowed in complete p q m k leads stands
 
   pub lone_candidate : candidates p k m.to ≡ m.from ∷ []
   lone_candidate =
       only_one _ _ few
-      (any-filter _ _ squares
+      (list_any-filter _ _ squares
       ∙ any_contained _ squares m.from
       (in_squares _ (stepped p m allowed).from_on)
       (and_from (is_candidate p k m.to _) (same_square m.from m.from) own_candidate (same_square-refl m.from)))
@@ -124,7 +119,7 @@ is_it_rival p m n g to named apart =
 
 pub among_rivals : (p : Parts) (k : Kind) (m n : Move) (test : Square → Bool) → is_legal p n ≡ true
     → own p k n.from ≡ true → is_rival p m n.from ≡ true → test n.from ≡ true → list_any test (rivals p k m) ≡ true
-among_rivals p k m n test g stands rival found = grind (arith, common_steps, any-filter, any_contained, in_squares, stepped)
+among_rivals p k m n test g stands rival found = grind (arith, common_steps, list_any-filter, any_contained, in_squares, stepped)
 
 pub turn : (x y : ℕ) → (x == y) ≡ true → (y == x) ≡ true
 turn x y h = grind (arith, nat_tests)

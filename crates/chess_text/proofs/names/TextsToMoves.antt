@@ -1,9 +1,10 @@
 -- What the texts of legal moves name.
+use Rattle.chess_rules.proofs.trying.FoundLists.{list_any-filter}
+use Rattle.chess_rules.proofs.positions.RulesOfPosition.{same_square-refl}
 use Rattle.chess_text.proofs.Words.{◌≡◌, ◌≢◌, ℕ, zero, suc, ◌<◌, Bool, true, false, not, ◌&&◌, List, [], ◌∷◌, ◌++◌, append-nil, refl, sym, ◌∙◌, ap, arith, ◌==◌, nat_lt, Option, None, Some, slice_index_or, list_any, Any, false≢true, and_parts, and_from, ltb-true, Any-from_list_any, Kind, King, Pawn, Move, Parts, Square, squares, same_square, same_kind, own, is_legal, OneKing, Man, letter, file_letter, rank_digit, square_text, Spells, is_form, below_eight, hint_text, hints_fit, capture_text, from_square, is_rival, rivals, on_file, on_rank, disambiguation_by, has_rivals, mark, san, Names, SingleReading, disambiguations, text_with, ShorterIsAmbiguous, same_Some, ◌+◌, ◌≤◌, length, subst, is_some, option_map, codes, list_all, list_all-append, nat_tests, Promotion, legal, on_board, move_of_form, capture_if, pawn_capture, promotion_text, king_text, disambiguated_text, kind_text, piece_text, is_letter, is_move_byte, begins_with_letter, IsMoveSymbol, WrittenMoveIsSymbol, WrittenMoveIsRead, or_right, rules, common_steps}
 use Rattle.chess_text.proofs.forms.CastlingMoves.{stepped}
 use Rattle.chess_text.proofs.forms.SpellingToForm.{form_read}
-use Rattle.chess_text.proofs.forms.PieceForms.{same_square-refl}
-use Rattle.chess_text.proofs.names.OneMoveAgrees.{any-filter, turn, alone}
+use Rattle.chess_text.proofs.names.OneMoveAgrees.{turn, alone}
 use Rattle.chess_text.proofs.names.WrittenToForm.{written, moved, san_spelled, good_form, written_agrees, capture_fits, own_letter, marks_alone, unpromoted, no_castling, piece_move_described, itself}
 use Rattle.chess_text.proofs.forms.AgreeingAreFound.{the_one_move_is_read}
 use Rattle.chess_text.proofs.forms.MoverOfMove.{king_text_by}
@@ -37,7 +38,7 @@ four_hold a b c d h = grind arith
 
 some_rival : (p : Parts) (k : Kind) (m : Move) (test other : Square → Bool)
     → ((s : Square) → test s ≡ true → other s ≡ true) → list_any test (rivals p k m) ≡ true → Rival p k m other
-some_rival p k m test other implied h = by_place (Any-from_list_any _ squares (sym (any-filter test _ squares) ∙ h))
+some_rival p k m test other implied h = by_place (Any-from_list_any _ squares (sym (list_any-filter test _ squares) ∙ h))
   where
     by_place : Any (λ s. ((own p k s && is_rival p m s) && test s) ≡ true) squares → Rival p k m other
     by_place v0 = search (rules, four_hold)

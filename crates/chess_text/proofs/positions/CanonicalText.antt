@@ -1,6 +1,7 @@
 -- The canonical text of a position spells it.
+use Rattle.chess_rules.proofs.sets.AllSquares.{first_true, second_true}
 use Rattle.chess_text.proofs.Words.{◌≡◌, ℕ, zero, suc, ◌+◌, ◌-◌, ◌*◌, ◌<◌, ◌≤◌, ◌==◌, nat_le, Bool, true, false, not, ◌&&◌, List, [], ◌∷◌, ◌++◌, length, get_or, drop, reverse, replicate, drop-cons, add-one, append_assoc, append-nil, refl, sym, ◌∙◌, ap, arith, rules, None, Some, decimal, flat_map, map, fold, is_none, if◌then◌else◌, list_all, eqb-true, nat_tests, replicate_more, drop_all, flat_map-append, list_all-append, decimal_nonempty, digits_decimal, digits_value-decimal, IsNumeralModel, numerals_by_fold, White, Black, Kind, King, Colour, Piece, Parts, Kings, PawnOnEdge, KingCapturable, TargetRank, NumberRange, lines, Board, is_position, target_fits, piece_letter, is_run, is_item, is_rank, cells_at, cells_of, run_text, rank_text, row, placement_text, is_digit, value, SpellsBoard, SpellsNumber, Fen, fen_text, length-append, join_with_byte, and_parts, length-decimal-le, append_cancel_left, reverse-append, reverse-reverse, length-reverse, map-append, digits_value_short, side_text, rights_text, target_text, common_steps, leb-true, take-append_seam}
-use Rattle.chess_text.proofs.positions.FieldsOfText.{length-number, first_of_two, second_of_two}
+use Rattle.chess_text.proofs.positions.FieldsOfText.{length-number}
 use Rattle.chess_text.proofs.positions.BoardToText.{run_is_short}
 use Rattle.chess_text.proofs.positions.ReadingToSpelling.{some_digit}
 
@@ -104,13 +105,13 @@ module _ (p : Parts) where
   last_rules h = grind (arith, common_steps, fourth_and_fifth)
 
   pub half_low : is_position p ≡ true → p.half ≤ 99999
-  half_low h = leb-true _ 99999 (first_of_two _ (nat_le _ 99999) (last_rules h).1)
+  half_low h = leb-true _ 99999 (first_true _ (nat_le _ 99999) (last_rules h).1)
 
   pub full_low : is_position p ≡ true → p.full ≤ 99999
-  full_low h = leb-true _ 99999 (second_of_two (nat_le _ 99999) _ (last_rules h).1)
+  full_low h = leb-true _ 99999 (second_true (nat_le _ 99999) _ (last_rules h).1)
 
   pub long_board : is_position p ≡ true → length p.board ≡ 64
-  long_board h = eqb-true _ 64 (first_of_two _ _ h)
+  long_board h = eqb-true _ 64 (first_true _ _ h)
 
   pub canonical_spells : is_position p ≡ true → Fen (fen_text p) p
   canonical_spells h = search (rules, decimal, board_spelled, long_board, number_spelled, half_low, full_low)
@@ -154,13 +155,13 @@ same_rows b rs ts e good h = absurd (omega arith)
 join_is_short : (ss : List (List ℕ)) → list_all is_rank ss ≡ true
     → length (join_with_byte 47 (map (rank_text 0) (map cells_of ss))) ≤ length (join_with_byte 47 ss)
 join_is_short [] h = omega arith
-join_is_short (s ∷ []) h = grind (arith, common_steps, rank_is_short, first_of_two, length)
+join_is_short (s ∷ []) h = grind (arith, common_steps, rank_is_short, first_true, length)
 join_is_short (s ∷ t ∷ ss) h =
     let both = and_parts (is_rank s) _ h in
     omega (
       arith,
       join_is_short (t ∷ ss) both.1,
-      rank_is_short s 0 (first_of_two (list_all is_item s) (length (cells_of s) == 8) both.0),
+      rank_is_short s 0 (first_true (list_all is_item s) (length (cells_of s) == 8) both.0),
       length-append {A = ℕ},
     )
 
@@ -173,8 +174,8 @@ all_reversed (s ∷ ss) h =
     cc (
       reverse_next s ss,
       list_all-append is_rank (reverse ss) (s ∷ []),
-      all_reversed ss (second_of_two (is_rank s) (list_all is_rank ss) h),
-      first_of_two (is_rank s) (list_all is_rank ss) h,
+      all_reversed ss (second_true (is_rank s) (list_all is_rank ss) h),
+      first_true (is_rank s) (list_all is_rank ss) h,
     )
 
 cells_reversed : (ss : List (List ℕ)) → reverse (map cells_of ss) ≡ map cells_of (reverse ss)

@@ -1,4 +1,5 @@
 -- The fields of a text, which stand between its spaces.
+use Rattle.chess_rules.proofs.sets.AllSquares.{first_true, second_true}
 use Rattle.chess_text.proofs.Words.{◌≡◌, ℕ, Bool, true, not, ◌&&◌, List, [], ◌∷◌, ◌++◌, length, refl, arith, list_all, before_first, after_first, position_or_len, join_with_byte, is_space, field, ◌≤◌, ap, length-append, Option, decimal, length-decimal-le, Colour, Rights, Parts, Square, placement_text, side_text, rights_text, target_text, fen_text, common_steps, take-append_seam, drop-append-add}
 use Rattle.chess_text.proofs.positions.BoardToText.{length-placement_text}
 
@@ -6,18 +7,12 @@ use Rattle.chess_text.proofs.positions.BoardToText.{length-placement_text}
 abbrev pub lacks : (ℕ → Bool) → List ℕ → Bool
 lacks p s = list_all (λ c. not (p c)) s
 
-pub first_of_two : (a b : Bool) → (a && b) ≡ true → a ≡ true
-first_of_two a b h = grind arith
-
-pub second_of_two : (a b : Bool) → (a && b) ≡ true → b ≡ true
-second_of_two a b h = grind arith
-
 position_past : (p : ℕ → Bool) (t : List ℕ) (y : ℕ) (r : List ℕ)
     → lacks p t ≡ true → p y ≡ true → position_or_len p (t ++ y ∷ r) ≡ length t
 position_past p [] y r h e = rw e refl
 position_past p (x ∷ t) y r h e =
-    let passed = first_of_two _ (lacks p t) h in
-    let more = position_past p t y r (second_of_two (not (p x)) (lacks p t) h) e in
+    let passed = first_true _ (lacks p t) h in
+    let more = position_past p t y r (second_true (not (p x)) (lacks p t) h) e in
     rw passed (omega arith)
 
 module _ (p : ℕ → Bool) (t : List ℕ) (y : ℕ) (r : List ℕ) where

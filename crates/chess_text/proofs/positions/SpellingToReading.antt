@@ -1,7 +1,8 @@
 -- A text that spells a position is read as that position.
+use Rattle.chess_rules.proofs.sets.AllSquares.{first_true}
 use Rattle.chess_text.proofs.Words.{◌≡◌, ℕ, ◌+◌, ◌-◌, ◌<◌, ◌==◌, nat_le, Bool, true, false, not, ◌&&◌, List, [], ◌∷◌, length, refl, sym, ◌∙◌, ap, ap₂, arith, Option, None, Some, Ok, list_all, join_with_byte, false≢true, false_from_ne_true, and_parts, is_target, eqb-true, nat_tests, list_all-append, onto_first, ◌++◌, slice_split, slice_split-cons_no, slice_split-cons_yes, length-slice_split, Colour, Rights, Parts, Square, square, Board, target_fits, ranks, is_slash, is_item, is_rank, placement_of, side_text, side_of, rights_text, rights_of, target_text, target_of, is_digit, number_of, SpellsBoard, SpellsNumber, Fen, is_space, parts_or_fault, read, not-true, common_steps}
 use Rattle.chess_text.proofs.positions.CanonicalText.{last_rules}
-use Rattle.chess_text.proofs.positions.FieldsOfText.{lacks, first_of_two, six_fields}
+use Rattle.chess_text.proofs.positions.FieldsOfText.{lacks, six_fields}
 
 -- a byte that passes is not one that does not
 differs : (p : ℕ → Bool) (c d : ℕ) → p d ≡ false → p c ≡ true → not (c == d) ≡ true
@@ -19,11 +20,11 @@ ranks_lack : (d : ℕ) → is_item d ≡ false → (ss : List (List ℕ))
 ranks_lack d h [] g = refl
 ranks_lack d h (s ∷ ss) g =
     let both = and_parts (is_rank s) (list_all is_rank ss) g in
-    cc (all_lack is_item d h s (first_of_two (list_all is_item s) _ both.0), ranks_lack d h ss both.1)
+    cc (all_lack is_item d h s (first_true (list_all is_item s) _ both.0), ranks_lack d h ss both.1)
 
 joined_lacks : (ss : List (List ℕ)) → list_all (lacks is_space) ss ≡ true → lacks is_space (join_with_byte 47 ss) ≡ true
 joined_lacks [] g = refl
-joined_lacks (s ∷ []) g = first_of_two _ true g
+joined_lacks (s ∷ []) g = first_true _ true g
 joined_lacks (s ∷ t ∷ ss) g =
     let both = and_parts (lacks is_space s) (list_all (lacks is_space) (t ∷ ss)) g in
     cc (list_all-append (λ c. not (is_space c)) s (47 ∷ join_with_byte 47 (t ∷ ss)), both.0, joined_lacks (t ∷ ss) both.1)
@@ -49,7 +50,7 @@ one_part (c ∷ s) h = let both = and_parts (not (is_slash c)) (lacks is_slash s
 -- what was joined by slashes
 joined_ranks : (s : List ℕ) (ss : List (List ℕ)) → list_all (lacks is_slash) (s ∷ ss) ≡ true
     → ranks (join_with_byte 47 (s ∷ ss)) ≡ s ∷ ss
-joined_ranks s [] h = one_part s (first_of_two _ true h)
+joined_ranks s [] h = one_part s (first_true _ true h)
 joined_ranks s (t ∷ ss) h =
     let both = and_parts (lacks is_slash s) (list_all (lacks is_slash) (t ∷ ss)) h in
     cc (slice_split-around is_slash s 47 (join_with_byte 47 (t ∷ ss)) refl, one_part s both.0, joined_ranks t ss both.1)
@@ -101,7 +102,7 @@ pub number_read : (s : List ℕ) (n : ℕ) → SpellsNumber s n → number_of s 
 number_read s n spells = let digits_alone = spells.digits_alone in rw digits_alone (ap Some (sym spells.number))
 
 number_lacks : (s : List ℕ) (n : ℕ) → SpellsNumber s n → lacks is_space s ≡ true
-number_lacks s n spells = all_lack is_digit 32 refl s (first_of_two _ (nat_le 1 (length s) && nat_le (length s) 5) spells.digits_alone)
+number_lacks s n spells = all_lack is_digit 32 refl s (first_true _ (nat_le 1 (length s) && nat_le (length s) 5) spells.digits_alone)
 
 -- The whole.
 

@@ -1,9 +1,9 @@
 -- Worked rows of the texts of moves as symbols (PGN 7, 8.2.3), and of reading them back.
+use Rattle.chess_rules.proofs.moves.WaysToStep.{some_of}
 use Rattle.chess_text.proofs.Words.{◌≡◌, ℕ, ◌≤◌, true, List, [], Option, None, Some, Result, Ok, Err, refl, sym, subst, ◌∙◌, arith, codes, is_some, option_map, IsTrue, false≢true, Move, Parts, Square, squares, is_position, legal, Played, SanFault, NoMove, Ambiguous, form_of, agreeing, move_of_form, san, begins_with_letter, is_marker, IsMoveSymbol, WrittenMoveIsSymbol, WrittenMoveIsRead}
 use Rattle.chess_text.proofs.rows.MovesOfPieces.{san_is_tried}
 use Rattle.chess_text.proofs.rows.TextLawRows.{knights, queens, rooks, promoting, kings, g1e2, c3e2, h4e1, e1c1, a1b1, a7b8}
 use Rattle.chess_text.proofs.rows.SanRows.{named, go}
-use Rattle.chess_text.proofs.forms.CastlingMoves.{legal_next}
 
 -- a symbol, by the law
 symbols : WrittenMoveIsSymbol → Unit {0}
@@ -94,5 +94,5 @@ fails_unless_legal_to_read law = not_read NoMove c3e2 knights _ pinned_is_not_re
 fails_unless_position : ((p q : Parts) (m : Move) → legal p m ≡ Some q → as_read p (san p m) ≡ played m q) → ⊥
 unfolding squares
 fails_unless_position law =
-    let (q, next) = legal_next (legal kings a1b1) refl in
+    let (q, next) = some_of (legal kings a1b1) refl in
     not_read Ambiguous a1b1 q _ two_kings_are_not_read (law kings q a1b1 next)

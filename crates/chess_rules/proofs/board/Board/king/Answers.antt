@@ -1,7 +1,7 @@
 use Rattle.chess_rules.proofs.Words.{Colour, King, Square, squares, same_square, Board, at, cell_of, kings, has_piece, lone, king_square, square_at, Places, members, ◌≡◌, ℕ, suc, ◌+◌, ◌<◌, Bool, true, ◌&&◌, List, [], ◌∷◌, cond, length, map, get_or, refl, sym, ◌∙◌, ap, arith, None, Some, filter, ◌==◌, if◌then◌else◌, list_any, range_with_len, and_from}
 use Rattle.chess_rules.proofs.lines.AttackToReach.{squares_same}
 use Rattle.chess_rules.proofs.positions.OneKing.{StandsAt, king_stands, tally, tally-count_by}
-use Rattle.chess_rules.proofs.positions.RulesOfPosition.{itself}
+use Rattle.chess_rules.proofs.positions.RulesOfPosition.{same_square-refl}
 use Rattle.chess_rules.proofs.sets.AllSquares.{any_square, by_places}
 use Rattle.chess_rules.proofs.sets.SetsToSquares.{members_are}
 use Rattle.chess_rules.proofs.trying.FoundLists.{list_any-filter}
@@ -43,7 +43,7 @@ lone_king c b w long places = by_members (members w) many here
             ap (list_any (same_square (king_square c b))) kept
             ∙ (list_any-filter (same_square (king_square c b)) (λ s. has_piece c King (at b s)) squares
             ∙ any_square (λ s. has_piece c King (at b s) && same_square (king_square c b) s)
-            (king_square c b) k.file k.rank (and_from _ _ k.king (itself (king_square c b))))
+            (king_square c b) k.file k.rank (and_from _ _ k.king (same_square-refl (king_square c b))))
 
     by_members : (xs : List Square) → length xs ≡ kings c b → (kings c b ≡ 1 → list_any (same_square (king_square c b)) xs ≡ true)
         → lone xs ≡ (if kings c b == 1 then Some (king_square c b) else None)
