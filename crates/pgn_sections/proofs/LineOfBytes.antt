@@ -1,4 +1,5 @@
 -- What the code keeps of a line, byte by byte, shows what the line shows.
+use mathlib.Core.Bool.{and-false}
 use Rattle.std.proofs.Common.{◌≡◌, ℕ, ◌+◌, ◌-◌, ◌≤◌, Bool, true, false, List, [], ◌∷◌, Option, None, Some, length, drop, refl, sym, ◌∙◌, ap, ap₂, arith}
 use Rattle.std.proofs.lemmas.Bool.{true≢false}
 use Rattle.std.proofs.lemmas.Grind.{common_steps}
@@ -209,10 +210,6 @@ mark_long (a ∷ []) h = absurd (true≢false (sym h))
 mark_long (a ∷ b ∷ []) h = absurd (true≢false (sym h))
 mark_long (a ∷ b ∷ c ∷ s) h = omega arith
 
-and_false : (t : Bool) → (t && false) ≡ false
-and_false true = refl
-and_false false = refl
-
 mark_within : (n : ℕ) (line : List ℕ) → (nat_le (n + 3) (length line) && has_mark (drop n line)) ≡ has_mark (drop n line)
 mark_within n line = by_mark (has_mark (drop n line)) refl where
   by_mark : (t : Bool) → has_mark (drop n line) ≡ t → (nat_le (n + 3) (length line) && t) ≡ t
@@ -221,7 +218,7 @@ mark_within n line = by_mark (has_mark (drop n line)) refl where
       let long : n + 3 ≤ length line = omega (arith, k, length-drop n line) in
       let e : nat_le (n + 3) (length line) ≡ true = grind (arith, common_steps) in
       ap (λ (t : Bool). t && true) e
-  by_mark false h = and_false (nat_le (n + 3) (length line))
+  by_mark false h = and-false (nat_le (n + 3) (length line))
 
 module _ (g : BadGame) (line : List ℕ) where
   abbrev seen : Line

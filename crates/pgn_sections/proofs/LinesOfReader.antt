@@ -1,4 +1,5 @@
 -- The lines that the code reads, byte by byte, are those of the text.
+use mathlib.Core.Bool.{and-false, or-true}
 use Rattle.std.proofs.Common.{◌≡◌, ℕ, ◌+◌, Bool, true, false, List, [], ◌∷◌, ◌++◌, Option, None, Some, length, refl, sym, ◌∙◌, ap, subst, arith}
 use Rattle.std.proofs.lemmas.Bool.{true≢false}
 use Rattle.std.proofs.lemmas.Grind.{common_steps}
@@ -93,12 +94,8 @@ first_or_none : (o : Option ℕ) → o ≡ first_place o None
 first_or_none None = refl
 first_or_none (Some place) = refl
 
-and_false : (t : Bool) → (t && false) ≡ false
-and_false true = refl
-and_false false = refl
-
 no_bytes : (is_last : Bool) (g : BadGame) (r : Bool) → place_at_end is_last (at_line g [] r) ≡ None
-no_bytes is_last g r = ap (λ (t : Bool). if t then kept.place_on g (line_begun g) else None) (and_false is_last)
+no_bytes is_last g r = ap (λ (t : Bool). if t then kept.place_on g (line_begun g) else None) (and-false is_last)
 
 last_line : (is_last : Bool) (g : BadGame) (b : ℕ) (u : List ℕ) (r : Bool) → ends_with_line_feed (b ∷ u) ≡ false
     → place_at_end is_last (at_line g (b ∷ u) r) ≡ place_in g (whole_lines is_last ((b ∷ u) ∷ []))
@@ -146,12 +143,8 @@ line_and_more is_last g u r s lines rest on whole e =
     line_done is_last g u r s (whole_lines is_last rest) on
     ∙ ap (λ (x : List (List ℕ)). place_in g x) (sym (ap (λ (x : List (List ℕ)). whole_lines is_last x) e ∙ whole_behind is_last u rest whole))
 
-or_true : (t : Bool) → (t || true) ≡ true
-or_true true = refl
-or_true false = refl
-
 feed_whole : (is_last : Bool) (u : List ℕ) (b : ℕ) → (b == 10) ≡ true → (is_last || ends_with_line_feed (u ++ b ∷ [])) ≡ true
-feed_whole is_last u b h = ap (λ (t : Bool). is_last || t) (feed_behind u b ∙ h) ∙ or_true is_last
+feed_whole is_last u b h = ap (λ (t : Bool). is_last || t) (feed_behind u b ∙ h) ∙ or-true is_last
 
 abbrev in_line : BadGame → Line → Bool → LineReader
 in_line g l r = record { game = g; line = l; is_behind_return = r; found = None }

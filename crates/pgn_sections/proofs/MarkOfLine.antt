@@ -1,4 +1,5 @@
 -- A byte order mark that is looked for at a place of a line is found if it is there.
+use mathlib.Core.Bool.{and-true, and-false}
 use Rattle.std.proofs.Common.{◌≡◌, ℕ, ◌+◌, ◌-◌, ◌<◌, ◌≤◌, Bool, true, false, List, [], ◌∷◌, drop, refl, sym, ◌∙◌, ap, arith}
 use Rattle.std.proofs.lemmas.Grind.{common_steps}
 use Rattle.std.specs.Prelude.{◌&&◌, ◌==◌, nat_lt, suc, if◌then◌else◌}
@@ -28,10 +29,7 @@ if_and m n true u s e h = e
 if_and m n false u s e h = h
 
 first_byte : (b : ℕ) (s : List ℕ) → has_mark (b ∷ s) ≡ ((b == 239) && second s)
-first_byte b [] = sym (and_false (b == 239)) where
-  and_false : (t : Bool) → (t && false) ≡ false
-  and_false true = refl
-  and_false false = refl
+first_byte b [] = sym (and-false (b == 239))
 first_byte b (c ∷ []) = sym (and_falses (b == 239) (c == 187)) where
   and_falses : (t u : Bool) → (t && (u && false)) ≡ false
   and_falses true true = refl
@@ -43,14 +41,10 @@ first_byte b (c ∷ d ∷ s) = and_and (b == 239) (c == 187) (d == 191) where
   and_and true false v = refl
   and_and false u v = refl
 
-and_true : (t : Bool) → (t && true) ≡ t
-and_true true = refl
-and_true false = refl
-
 one_byte : (m : MarkSearch) (b : ℕ) (s : List ℕ) → has_rest (mark_with m b) s ≡ has_rest m (b ∷ s)
 one_byte Begin b s = if_and BehindFirst Missing (b == 239) (second s) s refl refl ∙ sym (first_byte b s)
 one_byte BehindFirst b s = if_and BehindSecond Missing (b == 187) (third s) s refl refl
-one_byte BehindSecond b s = if_and Whole Missing (b == 191) true s refl refl ∙ and_true (b == 191)
+one_byte BehindSecond b s = if_and Whole Missing (b == 191) true s refl refl ∙ and-true (b == 191)
 one_byte Whole b s = refl
 one_byte Missing b s = refl
 

@@ -1,4 +1,5 @@
 -- What the code reads of tag pairs at the front of a line, byte by byte, is what the line has.
+use mathlib.Core.Bool.{or-true, or-false}
 use Rattle.std.proofs.Common.{◌≡◌, ℕ, ◌+◌, ◌-◌, ◌≤◌, Bool, true, false, List, [], ◌∷◌, Option, None, Some, length, drop, refl, sym, ◌∙◌, ap, subst, arith}
 use Rattle.std.proofs.lemmas.Bool.{true≢false}
 use Rattle.std.proofs.lemmas.Grind.{common_steps}
@@ -152,21 +153,13 @@ front_over f p (b ∷ s) = front_over (front_with f p b) (p + 1) s
 abbrev front : PairProgress → Bool → Text → FrontOfLine
 front x has_pair t = record { pair = x; has_pair = has_pair; text = t }
 
-or_false : (t : Bool) → (t || false) ≡ t
-or_false true = refl
-or_false false = refl
-
-or_true : (t : Bool) → (t || true) ≡ true
-or_true true = refl
-or_true false = refl
-
 -- a byte of a pair that is not whole then, and one that ends it
 goes_in : (x : PairProgress) (h : Bool) (t : Text) (p b : ℕ) → is_between x ≡ false → is_whole x ≡ false
     → front_at x (front x h t) p b ≡ front x h (text_with t p b)
-goes_in x h t p b e w = rw (w, e, or_false h) refl
+goes_in x h t p b e w = rw (w, e, or-false h) refl
 
 ends_pair : (f : FrontOfLine) (p b : ℕ) → front_at Whole f p b ≡ front Whole true nothing_read
-ends_pair f p b = ap (λ (h : Bool). front Whole h nothing_read) (or_true f.has_pair)
+ends_pair f p b = ap (λ (h : Bool). front Whole h nothing_read) (or-true f.has_pair)
 
 -- what is kept of the front of a whole line
 pub record Keeps (f : FrontOfLine) (h : Bool) (t : Text) : Type 0 where
@@ -322,7 +315,7 @@ first_pair true (Some rest) n x h p q b s more found fits e =
     let goes = whole_goes BehindLeft (h || false) (text_with nothing_read p b) (p + 1) (p + 1 + length s - length rest) s rest refl found k in
     let behind = pairs_behind n (p + 1 + length s - length rest) q rest more r.text (omega (arith, r.short, fits)) (omega (arith, k, e)) in
     subst (λ (t : Bool). Keeps (front_over (front BehindLeft (h || false) (text_with nothing_read p b)) (p + 1) s) t (text_over nothing_read q (behind_some_pairs n rest)))
-    (sym (or_true h))
+    (sym (or-true h))
     (subst (λ (f : FrontOfLine). Keeps f true (text_over nothing_read q (behind_some_pairs n rest))) (sym goes) behind)
 
 pairs : (n : ℕ) → Pairs n

@@ -1,4 +1,5 @@
 -- The tag that the code finds at the front of a line, byte by byte, is the one that the line has.
+use mathlib.Core.Bool.{and-false, and-true}
 use Rattle.std.proofs.Common.{◌≡◌, ℕ, ◌+◌, ◌-◌, Bool, true, false, List, [], ◌∷◌, Option, None, Some, length, drop, take, refl, sym, ◌∙◌, ap, ap₂, subst, arith}
 use Rattle.std.proofs.lemmas.Bool.{true≢false}
 use Rattle.std.proofs.lemmas.Grind.{common_steps}
@@ -268,10 +269,7 @@ stray_ends_none : (b : ℕ) → is_stray b ≡ true → ((b == 191) ≡ false) �
 stray_ends_none b h = grind (arith, common_steps)
 
 read_stray : (k : Bool) (b : ℕ) (r : List ℕ) → is_stray b ≡ true → (k && (b == 91)) ≡ is_behind_mark (b ∷ r)
-read_stray k b r h = rw (stray_ends_none b h).1 (and_false k) ∙ sym (no_mark_behind b r (stray_ends_none b h).0) where
-  and_false : (t : Bool) → (t && false) ≡ false
-  and_false true = refl
-  and_false false = refl
+read_stray k b r h = rw (stray_ends_none b h).1 (and-false k) ∙ sym (no_mark_behind b r (stray_ends_none b h).0)
 
 same : (b c : ℕ) → (b == c) ≡ true → b ≡ c
 same b c h = grind (arith, common_steps)
@@ -352,7 +350,7 @@ finds_none n k i (b ∷ s) line = finds_none n k (i + 1) s line
 at_bracket : (k : Bool) (r s : List ℕ) (b i : ℕ) → k ≡ is_behind_mark r → (b == 91) ≡ true → i ≡ length r
     → Finds (tag_over (search_of BehindBracket i (k && (b == 91))) (i + 1) s) (found_in (Some (length r + 0)) (onto r (b ∷ s))) (onto r (b ∷ s))
 at_bracket k r s b i e h n =
-    let is_marked : (k && (b == 91)) ≡ is_behind_mark r = ap (λ (t : Bool). k && t) h ∙ and_true k ∙ e in
+    let is_marked : (k && (b == 91)) ≡ is_behind_mark r = ap (λ (t : Bool). k && t) h ∙ and-true k ∙ e in
     let other : (b == 239) ≡ false = grind (arith, common_steps) in
     let goes = finds_behind BehindBracket (length r) (is_behind_mark r) (length r + 1) s (onto r (b ∷ s)) refl (mark_there r s b (is_behind_mark r) refl other) in
     let rest : drop (length r + 0 + 1) (onto r (b ∷ s)) ≡ s =
@@ -363,10 +361,7 @@ at_bracket k r s b i e h n =
     sym (ap₂ (λ (j : ℕ) (v : List ℕ). tag_line_behind j (behind_space v)) begins rest) in
     subst (λ (t : Bool). Finds (tag_over (search_of BehindBracket i t) (i + 1) s) (found_in (Some (length r + 0)) (onto r (b ∷ s))) (onto r (b ∷ s))) (sym is_marked)
     (subst (λ (j : ℕ). Finds (tag_over (search_of BehindBracket j (is_behind_mark r)) (j + 1) s) (found_in (Some (length r + 0)) (onto r (b ∷ s))) (onto r (b ∷ s))) (sym n)
-    (subst (λ (o : Option TagLine). Finds (tag_over (search_of BehindBracket (length r) (is_behind_mark r)) (length r + 1) s) o (onto r (b ∷ s))) found goes)) where
-      and_true : (t : Bool) → (t && true) ≡ t
-      and_true true = refl
-      and_true false = refl
+    (subst (λ (o : Option TagLine). Finds (tag_over (search_of BehindBracket (length r) (is_behind_mark r)) (length r + 1) s) o (onto r (b ∷ s))) found goes))
 
 -- the first byte that is neither stray nor of a mark
 at_other : (m : MarkProgress) (k : Bool) (r s : List ℕ) (b i : ℕ) (t : Bool) → AreRead m k r → is_at_bracket m b ≡ t → i ≡ length r

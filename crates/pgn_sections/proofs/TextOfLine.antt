@@ -1,4 +1,5 @@
 -- What the code keeps of a text has what is seen of the text.
+use mathlib.Core.Bool.{and-true, and-false}
 use Rattle.std.proofs.lemmas.Grind.{common_steps}
 use Rattle.std.proofs.Common.{◌≡◌, ℕ, ◌+◌, ◌-◌, ◌≤◌, Bool, true, false, List, [], ◌∷◌, ◌++◌, Option, None, Some, length, drop, refl, sym, ◌∙◌, ap, ap₂, arith}
 use Rattle.std.proofs.lemmas.List.{drop_all, length-append}
@@ -65,24 +66,16 @@ word_is t p (b ∷ s) =
 same_both : (a b : ℕ) → (a == b) ≡ (b == a)
 same_both a b = grind (arith, common_steps)
 
-and_true : (t : Bool) → (t && true) ≡ t
-and_true true = refl
-and_true false = refl
-
-and_false : (t : Bool) → (t && false) ≡ false
-and_false true = refl
-and_false false = refl
-
 and_and : (t u v : Bool) → (t && (u && v)) ≡ ((t && u) && v)
 and_and true u v = refl
 and_and false u v = refl
 
 both_longer : (p v : List ℕ) (c b : ℕ) → pointwise ◌==◌ (p ++ c ∷ []) (v ++ b ∷ []) ≡ (pointwise ◌==◌ p v && (b == c))
-both_longer [] [] c b = and_true (c == b) ∙ same_both c b
-both_longer [] (x ∷ []) c b = and_false (c == x)
-both_longer [] (x ∷ y ∷ v) c b = and_false (c == x)
-both_longer (x ∷ []) [] c b = and_false (x == b)
-both_longer (x ∷ y ∷ p) [] c b = and_false (x == b)
+both_longer [] [] c b = and-true (c == b) ∙ same_both c b
+both_longer [] (x ∷ []) c b = and-false (c == x)
+both_longer [] (x ∷ y ∷ v) c b = and-false (c == x)
+both_longer (x ∷ []) [] c b = and-false (x == b)
+both_longer (x ∷ y ∷ p) [] c b = and-false (x == b)
 both_longer (x ∷ p) (y ∷ v) c b = ap (λ (t : Bool). (x == y) && t) (both_longer p v c b) ∙ and_and (x == y) (pointwise ◌==◌ p v) (b == c)
 
 drop_longer : (n : ℕ) (v : List ℕ) (b : ℕ) → n ≤ length v → drop n (v ++ b ∷ []) ≡ drop n v ++ b ∷ []
