@@ -24,23 +24,6 @@ use Rattle.pgn_c.specs.MoveNumbers.{AreAccepted, Mark, digits_with, main_line, m
 use Rattle.pgn_c.specs.MoveNumberSteps.{depth_after, with_other, numbered_by, plies_after, with_period, with_symbol, wrong_at_period, wrong_of, wrong_in, has_brace, with_ply}
 use Rattle.pgn_c.specs.UnusualParts.{begins_unusual, skipped, to_brace, to_line_end, to_quote}
 
--- ---- a table of bytes
-
--- so many numbers from this one on
-abbrev pub numbers : ℕ → ℕ → List ℕ
-numbers zero k = []
-numbers (suc n) k = k ∷ numbers n (k + 1)
-
-at_number : (f : ℕ → Bool) (n k i : ℕ) (d : Bool) → i < n → get_or (map f (numbers n k)) i d ≡ f (k + i)
-at_number f zero k i d less = absurd (omega arith)
-at_number f (suc n) k zero d less = grind arith
-at_number f (suc n) k (suc i) d less = grind (arith, at_number f n)
-
--- a table of a test of bytes holds what the test says of each byte
-pub table_at : (f : ℕ → Bool) (table : List Bool) (b : ℕ) (d : Bool) → table ≡ map f (numbers 256 0) → b < 256 → get_or table b d ≡ f b
-table_at f table b d are less =
-    let same : 0 + b ≡ b = omega arith in ap (λ l. get_or l b d) are ∙ at_number f 256 0 b d less ∙ ap f same
-
 -- ---- runs of a symbol, of a NAG and of a suffix
 
 module _ (test : ℕ → Bool) (w : Within)

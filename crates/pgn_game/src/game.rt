@@ -17,7 +17,7 @@ ghost use Rattle.pgn_game.specs.steps.ItemResult.{ItemCall};
 ghost use Rattle.pgn_layout.specs.Lines.{IsToken};
 ghost use Rattle.pgn_game.specs.declared.event.Event.TheVariants as events;
 ghost use Rattle.pgn_game.specs.steps.Judged.{IsAnnotation, IsFound, IsPlayed, TakesMeant, WritesMove, after_move_at, game_by, section_unless};
-ghost use Rattle.pgn_game.specs.steps.TokenTaken.{BeginsText, EndsAtPlace, TakesEntryPlaced, TakesMarker, TakesPlaced};
+ghost use Rattle.pgn_game.specs.steps.TokenTaken.{BeginsText, FinishesAtPlace, TakesEntryPlaced, TakesMarker, TakesPlaced};
 ghost use Rattle.pgn_game.specs.steps.GameState.{GameCall, expected_of, is_unexpected, known_of, plies_of_finished_games, silenced, unread, with_announced};
 ghost use Rattle.pgn_game.specs.steps.TokenInMovetext.{MayTakeMove, has_whole_pairs, may_have_movetext};
 
@@ -344,7 +344,7 @@ impl<const T: usize, const L: usize> Game<T, L> {
     fn end_game_at<W: Sink>(&mut self, marker: Marker, at: u64, out: &mut W) -> Result<bool, Reason>
         requires { IsTrue (may_have_movetext self.old.stage) }
         ensures { GameCall W.taken W.failures self.old self.new out.old out.new
-            (EndsAtPlace self.old marker at self.new result) }
+            (FinishesAtPlace self.old marker at self.new result) }
     {
         if self.is_unexpected(marker, at) {
             return Err(Reason::ResultDiffers);
@@ -364,7 +364,7 @@ impl<const T: usize, const L: usize> Game<T, L> {
         }
     }
 
-    /// Ends the game with its marker, which was judged (PGN 8.2.6).
+    /// Ends the game with its marker (PGN 8.2.6).
     #[inline(always)]
     fn end_game<W: Sink>(&mut self, marker: Marker, out: &mut W) -> Result<(), Reason>
         requires { IsTrue (may_have_movetext self.old.stage) }

@@ -29,7 +29,7 @@ const FROM_FEN: &[u8] = b"1";
 ///
 /// A roster pair that the game lacks has its default, which for Result is what is known of a
 /// missing one. Beside a FEN, SetUp is 1 (PGN 9.7.1). `has_fen` says whether one is among the
-/// pairs, here and below.
+/// pairs.
 ///
 /// # Errors
 ///

@@ -15,7 +15,7 @@ ghost use Rattle.pgn_game.specs.games.Markers.{marker_text, missing_of};
 ghost use Rattle.pgn_game.specs.games.Pairs.{has_pair};
 ghost use Rattle.pgn_game.specs.games.Profile.{known_result};
 ghost use Rattle.pgn_game.specs.steps.ItemResult.{ItemCall, PutsAnnotation, PutsMarker, PutsTokens};
-ghost use Rattle.pgn_game.specs.steps.GameState.{expected_by, known_text};
+ghost use Rattle.pgn_game.specs.steps.GameState.{announced_result, expected_by};
 
 use crate::marker::{Marker, MissingResult, PlacedMarker};
 use crate::mode::{Mode, Written};
@@ -86,7 +86,7 @@ impl Writer {
     ) -> Result<(), WriteFault>
         requires { has_fen ≡ has_pair pairs.now (codes "FEN") }
         ensures section { ItemCall self.old.written W.taken W.failures out.old out.new
-            (λ by d. WritesText d result (tag_section mode (known_text (missing_of missing_result)
+            (λ by d. WritesText d result (tag_section mode (announced_result (missing_of missing_result)
             self.old.announced) pairs.now)) }
         ensures writer { self.new ≡ record self.old { is_after_move = false } }
     {
@@ -100,7 +100,7 @@ impl Writer {
     // What is known of a missing Result before the marker.
     #[inline(always)]
     fn known(&self, missing_result: MissingResult) -> MissingResult
-        ensures { known_result (missing_of result) ≡ known_text (missing_of missing_result)
+        ensures { known_result (missing_of result) ≡ announced_result (missing_of missing_result)
             self.now.announced }
     {
         match (missing_result, self.announced) {

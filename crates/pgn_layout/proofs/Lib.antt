@@ -1,3 +1,4 @@
+mod Words
 mod EscapedBytes
 mod LineRows
 mod LineTextRows

@@ -1,11 +1,5 @@
 -- Worked rows of the laws of lines (PGN 8.2.1, 8.2.6), with their premises and without.
-use Rattle.std.proofs.lemmas.Grind.{common_steps}
-use Rattle.std.proofs.Common.{◌≡◌, ℕ, ◌<◌, ◌≤◌, List, [], ◌∷◌, ◌++◌, map, length, refl, sym, ap, arith, length-append}
-use Rattle.std.specs.Prelude.{◌↔◌, All, codes, replicate}
-use Rattle.std.proofs.lemmas.List.Elements.{All-cons, All-nil}
-use Rattle.pgn_layout.specs.Lines.{Line, AreFull, IsToken, Lines, full_lines, last_line, lines_of, text_of, tokens_over}
-use Rattle.pgn_layout.specs.Layout.{EndGame, Put, laid_from}
-use Rattle.pgn_layout.specs.Laws.{LinesAreThosePut, TokensDetermineLines}
+use Rattle.pgn_layout.proofs.Words.{common_steps, ◌≡◌, ℕ, ◌<◌, ◌≤◌, List, [], ◌∷◌, ◌++◌, map, length, refl, sym, ap, arith, length-append, ◌↔◌, All, codes, replicate, All-cons, All-nil, Line, AreFull, IsToken, Lines, full_lines, last_line, lines_of, text_of, tokens_over, EndGame, Put, laid_from, LinesAreThosePut, TokensDetermineLines}
 
 -- a token of so many bytes
 abbrev pub letters : ℕ → List ℕ

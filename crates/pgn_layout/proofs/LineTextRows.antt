@@ -1,12 +1,6 @@
 -- Worked rows of the text of lines (PGN 8.2.1): each token is in it, in order, with a space or LF
 -- behind it, and nothing else is.
-use Rattle.std.proofs.lemmas.Grind.{common_steps}
-use Rattle.std.proofs.Common.{◌≡◌, ℕ, List, [], ◌∷◌, ◌++◌, refl, arith}
-use Rattle.std.specs.Prelude.{codes, IsTrue}
-use Rattle.std.proofs.lemmas.Bool.{false≢true}
-use Rattle.pgn_layout.specs.Laws.{LinesKeepTokens, LinesOfKeepTokens}
-use Rattle.pgn_layout.specs.LineText.{is_gap, IsTextOf, no_token, next_token}
-use Rattle.pgn_layout.specs.Lines.{text_of}
+use Rattle.pgn_layout.proofs.Words.{common_steps, ◌≡◌, ℕ, List, [], ◌∷◌, ◌++◌, refl, arith, codes, IsTrue, false≢true, LinesKeepTokens, LinesOfKeepTokens, is_gap, IsTextOf, no_token, next_token, text_of}
 use Rattle.pgn_layout.proofs.LineRows.{letters, few, on_one_line, on_two_lines, full_line, two_lines, no_line}
 
 texts_by_rules : Unit {0}

@@ -1,12 +1,5 @@
 -- `lines_of` gives the lines of the tokens, and there are no others.
-use Rattle.std.proofs.lemmas.Grind.{common_steps}
-use Rattle.std.proofs.Common.{◌≡◌, ℕ, ◌+◌, ◌<◌, ◌≤◌, true, false, List, [], ◌∷◌, ◌++◌, map, length, refl, sym, ap, ◌∙◌, append_assoc, append-nil, arith, length-append}
-use Rattle.std.specs.Prelude.{All}
-use Rattle.std.proofs.lemmas.List.Elements.{All-head, All-tail}
-use Rattle.std.proofs.lemmas.Bool.Decides.{nat_tests}
-use Rattle.std.proofs.lemmas.Bool.{le-leb, lt-leb}
-use Rattle.pgn_layout.specs.Lines.{Line, tokens_on, spaced, text_on, tokens_over, AreFull, Lines, IsToken, has_room, lines_from, lines_of}
-use Rattle.pgn_layout.specs.Laws.{TokensDetermineLines}
+use Rattle.pgn_layout.proofs.Words.{common_steps, ◌≡◌, ℕ, ◌+◌, ◌<◌, ◌≤◌, true, false, List, [], ◌∷◌, ◌++◌, map, length, refl, sym, ap, ◌∙◌, append_assoc, append-nil, arith, length-append, All, All-head, All-tail, nat_tests, le-leb, lt-leb, Line, tokens_on, spaced, text_on, tokens_over, AreFull, Lines, IsToken, has_room, lines_from, lines_of, TokensDetermineLines}
 
 -- tokens that fit go on the line
 fills : (line : List ℕ) (ts more : List (List ℕ)) → length (line ++ spaced ts) ≤ 79

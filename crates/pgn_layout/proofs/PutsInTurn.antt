@@ -1,11 +1,5 @@
 -- What puts in turn write and hold.
-use Rattle.std.proofs.lemmas.Grind.{common_steps}
-use Rattle.std.proofs.Common.{◌≡◌, ℕ, List, [], ◌∷◌, ◌++◌, map, refl, sym, ap, ◌∙◌, append_assoc, append-nil, arith}
-use Rattle.std.specs.Prelude.{All}
-use Rattle.std.proofs.lemmas.List.Elements.{All-head, All-tail}
-use Rattle.pgn_layout.specs.Lines.{IsToken, lines_from, lines_of, full_lines, last_line, text_of}
-use Rattle.pgn_layout.specs.Layout.{Put, EndGame, Laid, laid_from}
-use Rattle.pgn_layout.specs.Laws.{LinesAreThosePut}
+use Rattle.pgn_layout.proofs.Words.{common_steps, ◌≡◌, ℕ, List, [], ◌∷◌, ◌++◌, map, refl, sym, ap, ◌∙◌, append_assoc, append-nil, arith, All, All-head, All-tail, IsToken, lines_from, lines_of, full_lines, last_line, text_of, Put, EndGame, Laid, laid_from, LinesAreThosePut}
 use Rattle.pgn_layout.proofs.LinesOfTokens.{lines_are}
 
 -- what is written and held, put together

@@ -1,9 +1,5 @@
 -- The text of lines is their tokens, each with the byte after it.
-use Rattle.std.proofs.lemmas.Grind.{common_steps}
-use Rattle.std.proofs.Common.{arith, ◌≡◌, ℕ, List, [], ◌∷◌, ◌++◌, map, refl, ap, ◌∙◌, append_assoc, append-nil}
-use Rattle.pgn_layout.specs.Lines.{Line, spaced, text_on, tokens_over, lines_from, text_of}
-use Rattle.pgn_layout.specs.LineText.{IsTextOf, no_token, next_token}
-use Rattle.pgn_layout.specs.Laws.{LinesKeepTokens, LinesOfKeepTokens}
+use Rattle.pgn_layout.proofs.Words.{common_steps, arith, ◌≡◌, ℕ, List, [], ◌∷◌, ◌++◌, map, refl, ap, ◌∙◌, append_assoc, append-nil, Line, spaced, text_on, tokens_over, lines_from, text_of, IsTextOf, no_token, next_token, LinesKeepTokens, LinesOfKeepTokens}
 use Rattle.pgn_layout.proofs.LinesOfTokens.{alone, grown, parts_from, text_on-grown, in_order}
 
 -- a line with its LF, before the text of the lines after it

@@ -1,3 +1,4 @@
+mod Words
 mod Fronts
 mod LineOfBytes
 mod LinesInPieces

@@ -1,38 +1,12 @@
 -- What the code keeps of a line, byte by byte, shows what the line shows.
-use mathlib.Core.Bool.{and-false}
-use Rattle.std.proofs.Common.{◌≡◌, ℕ, ◌+◌, ◌-◌, ◌≤◌, Bool, true, false, List, [], ◌∷◌, Option, None, Some, length, drop, refl, sym, ◌∙◌, ap, ap₂, arith}
-use Rattle.std.proofs.lemmas.Bool.{true≢false}
-use Rattle.std.proofs.lemmas.Grind.{common_steps}
-use Rattle.std.proofs.lemmas.List.{length-drop}
-use Rattle.std.specs.Prelude.{◌&&◌, ◌||◌, ◌==◌, not, nat_le, is_some, if◌then◌else◌}
-use Rattle.std.specs.List.{list_all}
-use Rattle.std.specs.Option.{option_and_then}
-use Rattle.pgn_lexer.specs.Bytes.{is_space}
-use Rattle.pgn_lexer.specs.TokensOf.{has_mark}
+use Rattle.pgn_sections.proofs.Words.{and-false, ◌≡◌, ℕ, ◌+◌, ◌-◌, ◌≤◌, Bool, true, false, List, [], ◌∷◌, Option, None, Some, length, drop, refl, sym, ◌∙◌, ap, ap₂, arith, true≢false, common_steps, length-drop, ◌&&◌, ◌||◌, ◌==◌, not, nat_le, is_some, if◌then◌else◌, list_all, option_and_then, is_space, has_mark, before_escapes, behind_line, behind_mark, behind_tags, end_at, end_by, end_in_comment, end_outside, first_escape, place_above, place_on, with_text, with_text_line, begins_with, end_before, front_in, has_mark_at, is_whole_mark, line_begun, line_over, line_with, ends_with_tag, is_byte, last_text, open_comment, outside_text, without_comments, front_with, behind_pair, behind_stray, tag_line, tag_found, comment_of, nothing_read, outside_of, text_from, BadGame, Anywhere, InComments, Nowhere, Line, Braces, Closed, FrontOfLine, Missing, TagLine, TagSearch, Text}
 use Rattle.pgn_sections.proofs.MarkOfLine.{mark_is, mark_over}
 use Rattle.pgn_sections.proofs.PairsOfLine.{front_outside, front_over, none_ends, pairs_short}
 use Rattle.pgn_sections.proofs.TagOfLine.{finds_tag, tag_over}
 use Rattle.pgn_sections.proofs.TextOfLine.{comment_is, outside_is}
-use Rattle.pgn_sections.specs.BadGame.{before_escapes, behind_line, behind_mark, behind_tags, end_at, end_by, end_in_comment, end_outside, first_escape, place_above, place_on, with_text, with_text_line}
-use Rattle.pgn_sections.specs.Bytes.{begins_with}
 use Rattle.pgn_sections.specs.Line as kept
-use Rattle.pgn_sections.specs.Line.{end_before, front_in, has_mark_at, is_whole_mark, line_begun, line_over, line_with}
-use Rattle.pgn_sections.specs.Outside.{ends_with_tag, is_byte, last_text, open_comment, outside_text, without_comments}
-use Rattle.pgn_sections.specs.PairProgress.{front_with}
-use Rattle.pgn_sections.specs.TagLine.{behind_pair, behind_stray, tag_line}
-use Rattle.pgn_sections.specs.TagProgress.{tag_found}
-use Rattle.pgn_sections.specs.Text.{comment_of, nothing_read, outside_of, text_from}
-use Rattle.pgn_sections.specs.declared.bad_game.BadGame.{BadGame}
 use Rattle.pgn_sections.specs.declared.bad_game.Ends.{Ends}
-use Rattle.pgn_sections.specs.declared.bad_game.Ends.TheVariants.{Anywhere, InComments, Nowhere}
-use Rattle.pgn_sections.specs.declared.line.Line.{Line}
-use Rattle.pgn_sections.specs.declared.outside.Comment.TheVariants.{Braces, Closed}
 use Rattle.pgn_sections.specs.declared.outside.OutsideText.{OutsideText}
-use Rattle.pgn_sections.specs.declared.pair.FrontOfLine.{FrontOfLine}
-use Rattle.pgn_sections.specs.declared.pair.PairProgress.TheVariants.{Missing}
-use Rattle.pgn_sections.specs.declared.tag_line.TagLine.{TagLine}
-use Rattle.pgn_sections.specs.declared.tag_line.TagSearch.{TagSearch}
-use Rattle.pgn_sections.specs.declared.text.Text.{Text}
 
 -- the parts of what is kept
 

@@ -1,17 +1,5 @@
 -- The lines of a text are the first whole line of a piece, and those behind it.
-use Rattle.std.proofs.lemmas.Grind.{common_steps}
-use Rattle.std.proofs.Common.{◌≡◌, ℕ, ◌+◌, ◌-◌, ◌<◌, Bool, true, false, List, [], ◌∷◌, ◌++◌, Option, None, Some, length, drop, take, refl, sym, ◌∙◌, ap, arith, append-nil}
-use Rattle.std.proofs.lemmas.Bool.{false≢true, lt-ltb}
-use Rattle.std.proofs.lemmas.List.{drop_all}
-use Rattle.std.specs.Prelude.{IsTrue, is_some, not, ◌&&◌, ◌||◌, ◌==◌, if◌then◌else◌}
-use Rattle.std.specs.List.{list_all}
-use Rattle.pgn_sections.specs.BadGame.{behind_line, place_on, with_line}
-use Rattle.pgn_lexer.specs.Bytes.{is_space}
-use Rattle.pgn_sections.specs.Bytes.{begins_with}
-use Rattle.pgn_sections.specs.FirstLine.{line_from, line_to_return}
-use Rattle.pgn_sections.specs.Lines.{ends_line, lines_of, place_in, with_first}
-use Rattle.pgn_sections.specs.Pieces.{CanFollow, FindsPlace, IsSameGame, behind_lines, ends_with_line_feed, whole_lines}
-use Rattle.pgn_sections.specs.declared.bad_game.BadGame.{BadGame}
+use Rattle.pgn_sections.proofs.Words.{common_steps, ◌≡◌, ℕ, ◌+◌, ◌-◌, ◌<◌, Bool, true, false, List, [], ◌∷◌, ◌++◌, Option, None, Some, length, drop, take, refl, sym, ◌∙◌, ap, arith, append-nil, false≢true, lt-ltb, drop_all, IsTrue, is_some, not, ◌&&◌, ◌||◌, ◌==◌, if◌then◌else◌, list_all, behind_line, place_on, with_line, is_space, begins_with, line_from, line_to_return, ends_line, lines_of, place_in, with_first, CanFollow, FindsPlace, IsSameGame, behind_lines, ends_with_line_feed, whole_lines, BadGame}
 
 -- The first line of a piece and what follows it. So many bytes of it are before the piece.
 pub record FirstLine (before end : ℕ) (piece s : List ℕ) : Type 0 where

@@ -1,23 +1,8 @@
 -- The lines that the code reads, byte by byte, are those of the text.
-use mathlib.Core.Bool.{and-false, or-true}
-use Rattle.std.proofs.Common.{◌≡◌, ℕ, ◌+◌, Bool, true, false, List, [], ◌∷◌, ◌++◌, Option, None, Some, length, refl, sym, ◌∙◌, ap, subst, arith}
-use Rattle.std.proofs.lemmas.Bool.{true≢false}
-use Rattle.std.proofs.lemmas.Grind.{common_steps}
-use Rattle.std.proofs.lemmas.List.{append_assoc}
-use Rattle.std.specs.Prelude.{◌&&◌, ◌||◌, ◌==◌, IfSome, not, if◌then◌else◌}
-use Rattle.std.specs.List.{list_all}
+use Rattle.pgn_sections.proofs.Words.{and-false, or-true, ◌≡◌, ℕ, ◌+◌, Bool, true, false, List, [], ◌∷◌, ◌++◌, Option, None, Some, length, refl, sym, ◌∙◌, ap, subst, arith, true≢false, common_steps, append_assoc, ◌&&◌, ◌||◌, ◌==◌, IfSome, not, if◌then◌else◌, list_all, behind_line, place_on, begins_with, line_begun, line_over, line_with, first_place, lines_of, place_in, with_first, ends_with_line_feed, whole_lines, byte_taken, byte_taken_if, ended_at, line_ended, place_at_end, place_behind, reader_of, reader_over, reader_with, BadGame, Line, LineReader}
 use Rattle.pgn_sections.proofs.LineOfBytes.{game_is, length_kept, place_is}
 use Rattle.pgn_sections.proofs.LinesInPieces.{a_line, whole_behind}
-use Rattle.pgn_sections.specs.BadGame.{behind_line, place_on}
-use Rattle.pgn_sections.specs.Bytes.{begins_with}
 use Rattle.pgn_sections.specs.Line as kept
-use Rattle.pgn_sections.specs.Line.{line_begun, line_over, line_with}
-use Rattle.pgn_sections.specs.Lines.{first_place, lines_of, place_in, with_first}
-use Rattle.pgn_sections.specs.Pieces.{ends_with_line_feed, whole_lines}
-use Rattle.pgn_sections.specs.Search.{byte_taken, byte_taken_if, ended_at, line_ended, place_at_end, place_behind, reader_of, reader_over, reader_with}
-use Rattle.pgn_sections.specs.declared.bad_game.BadGame.{BadGame}
-use Rattle.pgn_sections.specs.declared.line.Line.{Line}
-use Rattle.pgn_sections.specs.declared.search.LineReader.{LineReader}
 
 -- Bytes that end no line, and the lines of a text behind them.
 

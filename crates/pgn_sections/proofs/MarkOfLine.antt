@@ -1,10 +1,5 @@
 -- A byte order mark that is looked for at a place of a line is found if it is there.
-use mathlib.Core.Bool.{and-true, and-false}
-use Rattle.std.proofs.Common.{◌≡◌, ℕ, ◌+◌, ◌-◌, ◌<◌, ◌≤◌, Bool, true, false, List, [], ◌∷◌, drop, refl, sym, ◌∙◌, ap, arith}
-use Rattle.std.proofs.lemmas.Grind.{common_steps}
-use Rattle.std.specs.Prelude.{◌&&◌, ◌==◌, nat_lt, suc, if◌then◌else◌}
-use Rattle.pgn_lexer.specs.TokensOf.{has_mark}
-use Rattle.pgn_sections.specs.Line.{is_whole_mark, mark_with}
+use Rattle.pgn_sections.proofs.Words.{and-true, and-false, ◌≡◌, ℕ, ◌+◌, ◌-◌, ◌<◌, ◌≤◌, Bool, true, false, List, [], ◌∷◌, drop, refl, sym, ◌∙◌, ap, arith, common_steps, ◌&&◌, ◌==◌, nat_lt, suc, if◌then◌else◌, has_mark, is_whole_mark, mark_with}
 use Rattle.pgn_sections.specs.declared.line.MarkSearch.{MarkSearch}
 use Rattle.pgn_sections.specs.declared.line.MarkSearch.TheVariants.{Begin, BehindFirst, BehindSecond, Whole, Missing}
 

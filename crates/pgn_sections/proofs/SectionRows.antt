@@ -1,11 +1,6 @@
 -- Worked rows of where reading goes on behind a bad game: the text, where the game before ends, the
 -- place of the fault, and the result. They are worked out by hand from the rules in words.
-use Rattle.std.proofs.Common.{◌≡◌, false, true, [], ◌∷◌, None, Some, refl}
-use Rattle.std.specs.Prelude.{codes}
-use Rattle.pgn_sections.specs.BadGame.{unread}
-use Rattle.pgn_sections.specs.Lines.{lines_of, next_place}
-use Rattle.pgn_sections.specs.Pieces.{behind_lines, whole_lines}
-use Rattle.pgn_sections.specs.declared.bad_game.Ends.TheVariants.{Anywhere}
+use Rattle.pgn_sections.proofs.Words.{◌≡◌, false, true, [], ◌∷◌, None, Some, refl, codes, unread, lines_of, next_place, behind_lines, whole_lines, Anywhere}
 
 next_places : Unit {0}
 next_places =

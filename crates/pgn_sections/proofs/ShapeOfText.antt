@@ -1,11 +1,5 @@
 -- What the code keeps of a text has what is seen of the text.
-use Rattle.std.proofs.lemmas.Grind.{common_steps}
-use Rattle.std.proofs.Common.{◌≡◌, ℕ, ◌||◌, List, [], ◌∷◌, None, Some, refl, arith}
-use Rattle.std.specs.List.{list_any}
-use Rattle.pgn_sections.specs.Outside.{first_text, last_text, number_at_front, number_behind_bracket, outside_text, ends_with_marker, last_word}
-use Rattle.pgn_sections.specs.Shape.{begun, shape_over, shape_with, text_of_shape}
-use Rattle.pgn_sections.specs.declared.outside.Shape.{Shape}
-use Rattle.std.specs.Prelude.{true, ◌==◌}
+use Rattle.pgn_sections.proofs.Words.{common_steps, ◌≡◌, ℕ, ◌||◌, List, [], ◌∷◌, None, Some, refl, arith, list_any, first_text, last_text, number_at_front, number_behind_bracket, outside_text, ends_with_marker, last_word, begun, shape_over, shape_with, text_of_shape, Shape, true, ◌==◌}
 
 first_kept : (a : Shape) (b : ℕ) (s : List ℕ) → a.first ≡ Some b → (shape_over a s).first ≡ Some b
 first_kept a b [] e = e

@@ -1,21 +1,9 @@
 -- What the code keeps of a text has what is seen of the text.
-use mathlib.Core.Bool.{and-true, and-false}
-use Rattle.std.proofs.lemmas.Grind.{common_steps}
-use Rattle.std.proofs.Common.{◌≡◌, ℕ, ◌+◌, ◌-◌, ◌≤◌, Bool, true, false, List, [], ◌∷◌, ◌++◌, Option, None, Some, length, drop, refl, sym, ◌∙◌, ap, ap₂, arith}
-use Rattle.std.proofs.lemmas.List.{drop_all, length-append}
-use Rattle.std.specs.Prelude.{◌&&◌, ◌==◌, if◌then◌else◌, codes}
-use Rattle.std.specs.List.{cons_option, ends_with}
+use Rattle.pgn_sections.proofs.Words.{and-true, and-false, common_steps, ◌≡◌, ℕ, ◌+◌, ◌-◌, ◌≤◌, Bool, true, false, List, [], ◌∷◌, ◌++◌, Option, None, Some, length, drop, refl, sym, ◌∙◌, ap, ap₂, arith, drop_all, length-append, ◌&&◌, ◌==◌, if◌then◌else◌, codes, cons_option, ends_with, is_space, comment_after, is_closed, last_word, open_comment, outside_byte, outside_text, without_comments, begun, shape_over, text_of_shape, comment_in, comment_of, fronts_with, has_marker, no_fronts, outside_of, shape_with_seen, text_from, text_with, word_with, word_with_seen, Closed, Braces, RestOfLine, Shape, Text}
 use lib.Pointwise.{pointwise}
-use Rattle.pgn_lexer.specs.Bytes.{is_space}
 use Rattle.pgn_sections.proofs.ShapeOfText.{text_is}
-use Rattle.pgn_sections.specs.Outside.{comment_after, is_closed, last_word, open_comment, outside_byte, outside_text, without_comments}
-use Rattle.pgn_sections.specs.Shape.{begun, shape_over, text_of_shape}
-use Rattle.pgn_sections.specs.Text.{comment_in, comment_of, fronts_with, has_marker, no_fronts, outside_of, shape_with_seen, text_from, text_with, word_with, word_with_seen}
 use Rattle.pgn_sections.specs.declared.outside.Comment.{Comment}
-use Rattle.pgn_sections.specs.declared.outside.Comment.TheVariants.{Closed, Braces, RestOfLine}
-use Rattle.pgn_sections.specs.declared.outside.Shape.{Shape}
 use Rattle.pgn_sections.specs.declared.text.MarkerFronts.{MarkerFronts}
-use Rattle.pgn_sections.specs.declared.text.Text.{Text}
 use Rattle.pgn_sections.specs.declared.text.Word.{Word}
 
 -- with the bytes of a text, from a place on

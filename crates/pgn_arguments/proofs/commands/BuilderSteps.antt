@@ -1,15 +1,9 @@
 -- What each step of a builder does to what a parse reads.
-use Rattle.std.proofs.lemmas.Grind.{common_steps}
-use Rattle.std.proofs.Common.{arith, ◌≡◌, ap, Bool, true, false, Some}
-use Rattle.std.proofs.lemmas.Bool.{and_parts, not-true}
+use Rattle.pgn_arguments.proofs.Words.{common_steps, arith, ◌≡◌, ap, Bool, true, false, Some, and_parts, not-true, ℕ, List, App, app_of, rule_of, app_of_fields, on_top, Command}
 use Rattle.std.specs.Borrow.{Bor}
-use Rattle.std.specs.Prelude.{ℕ, List}
-use Rattle.clap.specs.Words.{App, app_of, rule_of}
-use Rattle.clap.specs.Simple.{app_of_fields, on_top}
 use Rattle.clap.specs.declared.builder.texts.Texts.TheVariants.{One}
 use Rattle.clap.specs.declared.builder.action.ArgAction.{ArgAction}
 use Rattle.clap.specs.declared.builder.arg.Arg.{Arg}
-use Rattle.clap.specs.declared.builder.command.Command.{Command}
 use Rattle.clap.specs.declared.builder.command.Command.TheViews.{out-Command}
 
 -- ---- arguments

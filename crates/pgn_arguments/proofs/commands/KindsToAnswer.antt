@@ -1,13 +1,5 @@
 -- How an answer follows from the kinds that a parse may fail by.
-use Rattle.std.proofs.lemmas.Grind.{common_steps}
-use Rattle.std.proofs.Common.{arith, ◌≡◌, Bool, true, true≢false, inl, inr, ◌⊎◌, [], ◌∷◌}
-use Rattle.std.proofs.lemmas.Bool.{or_left, or_right}
-use Rattle.std.specs.Prelude.{Err, IfErr, Option, Result, List}
-use Rattle.std.specs.List.{list_any}
-use Rattle.clap.specs.Words.{IsAmong, Kinds, Text}
-use Rattle.clap.specs.declared.error.kind.ErrorKind.{ErrorKind}
-use Rattle.clap.specs.declared.error.kind.ErrorKind.TheVariants.{OutOfMemory}
-use Rattle.pgn_arguments.specs.Requests.{AnswersBy, AnswersError, LacksFile, Request, refusals, request_in}
+use Rattle.pgn_arguments.proofs.Words.{common_steps, arith, ◌≡◌, Bool, true, true≢false, inl, inr, ◌⊎◌, [], ◌∷◌, or_left, or_right, Err, IfErr, Option, Result, List, list_any, IsAmong, Kinds, Text, ErrorKind, OutOfMemory, AnswersBy, AnswersError, LacksFile, Request, refusals, request_in}
 use Rattle.pgn_arguments.specs.declared.arguments.Task.{Task}
 use Rattle.pgn_arguments.specs.declared.arguments.ParseFault.{ParseFault}
 

@@ -1,20 +1,10 @@
 -- The subcommand that a parse meets, and the request that it makes.
-use Rattle.std.proofs.lemmas.Grind.{common_steps}
-use Rattle.std.proofs.Common.{arith, ◌≡◌, ◌≢◌, ◌∙◌, ◌||◌, ap, ap₂, Bool, true, false, true≢false, refl, sym, List, [], ◌∷◌, Option, Some, None, option_map, codes, bytes_eq}
-use Rattle.std.specs.Prelude.{IsSome, find, is_some, unwrap_or}
-use Rattle.std.specs.List.{list_all}
-use Rattle.std.specs.Option.{option_map_or}
+use Rattle.pgn_arguments.proofs.Words.{common_steps, arith, ◌≡◌, ◌≢◌, ◌∙◌, ◌||◌, ap, ap₂, Bool, true, false, true≢false, refl, sym, List, [], ◌∷◌, Option, Some, None, option_map, codes, bytes_eq, IsSome, find, is_some, unwrap_or, list_all, option_map_or, and_parts, App, HasMatchesOf, IsParsedFrom, ReadsOne, Row, Shape, Text, app_of, built, has_subcommand, is_simple, subcommand_name_of, subcommand_of, subcommand_rows_of, entered, rows_at, is_simple_and_free, Command, ArgMatches, request_named}
 use Rattle.std.specs.Str.Parse.{ParsesBool}
-use Rattle.std.proofs.lemmas.Bool.{and_parts}
 use Rattle.std.proofs.lemmas.Slice.Eq.{bytes_eq-Decides}
-use Rattle.clap.specs.Words.{App, HasMatchesOf, IsParsedFrom, ReadsOne, Row, Shape, Text, app_of, built, has_subcommand, is_simple, subcommand_name_of, subcommand_of, subcommand_rows_of}
-use Rattle.clap.specs.Simple.{entered, rows_at}
-use Rattle.clap.specs.Faults.{is_simple_and_free}
-use Rattle.clap.specs.declared.builder.command.Command.{Command}
-use Rattle.clap.specs.declared.parser.matches.ArgMatches.{ArgMatches}
 use Rattle.clap.proofs.OnLiterals.{clap_on_literals}
 use Rattle.pgn_arguments.specs.CommandLine.{bare_program, check_command, checked_rule, command_line, dir_rule, export_command, file_rule, list_command, reduced_rule, split_command}
-use Rattle.pgn_arguments.specs.Requests.{request_from, request_named}
+use Rattle.pgn_arguments.specs.Requests.{request_from}
 use Rattle.pgn_arguments.proofs.commands.BuilderSteps.{is_local}
 
 unfoldable pub whole_line : Unit {0}

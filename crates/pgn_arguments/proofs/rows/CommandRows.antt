@@ -1,12 +1,8 @@
 -- The definitions at command lines that are written out.
+use Rattle.pgn_arguments.proofs.Words.{◌≡◌, ℕ, List, refl, codes, true, false, [], ◌∷◌, ◌++◌, Some, None, ◌==◌, if◌then◌else◌, Text, ErrorKind, ArgumentConflict, DisplayHelp, DisplayVersion, InvalidSubcommand, MissingRequiredArgument, MissingSubcommand, UnknownArgument, Request, check, checked, export, listing, splitting}
 use Prim.Native.String.{String}
-use Rattle.std.proofs.Common.{◌≡◌, ℕ, List, refl, codes, true, false, [], ◌∷◌, ◌++◌, Some, None}
-use Rattle.std.specs.Prelude.{◌==◌, if◌then◌else◌}
-use Rattle.clap.specs.Words.{Text}
-use Rattle.clap.specs.declared.error.kind.ErrorKind.{ErrorKind}
-use Rattle.clap.specs.declared.error.kind.ErrorKind.TheVariants.{ArgumentConflict, DisplayHelp, DisplayVersion, InvalidSubcommand, MissingRequiredArgument, MissingSubcommand, UnknownArgument}
 use Rattle.pgn_arguments.proofs.commands.SubcommandToRequest.{whole_line}
-use Rattle.pgn_arguments.specs.Requests.{Request, check, checked, export, listing, splitting, refusals, request_from, request_in}
+use Rattle.pgn_arguments.specs.Requests.{refusals, request_from, request_in}
 
 unfoldable line_on_words : Unit {0}
 unfolding whole_line refusals request_from request_in

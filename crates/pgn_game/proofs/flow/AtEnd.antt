@@ -2,7 +2,7 @@
 use Rattle.pgn_lexer.specs.Scanned.{token}
 use Rattle.pgn_lexer.specs.Stands.{Finishes as FinishesLexer}
 use Rattle.pgn_game.proofs.Words.{cases_order, coming, false≢true, inl, inr, lt-ltb, ltb-true, nat_lt, read, arith, ◌≤◌, ◌*◌, ◌^◌, waiting, Keeps, IsSound, common_steps, IsLastGame as IsLast, game_in_reader_if, ◌&&◌, Between, part_after, fault, ◌≡◌, ℕ, ◌+◌, ◌<◌, ◌↔◌, Bool, true, false, IsTrue, List, [], ◌∷◌, ◌++◌, length, Option, None, Some, Result, Ok, Err, refl, sym, ap, subst, ◌∙◌, Token, Game, Profile, Fault, LexFault, Lexical, Reason, Device, Converter, GameState, Standing, Stands, tokens_of, is_end, More, TakesToken, AfterFinish, Finishes, FinishesToFault, FinishedGame, game_in_reader, SameGames}
-use Rattle.pgn_game.specs.steps.TokenTaken.{EndsPlaced, TakesPlaced}
+use Rattle.pgn_game.specs.steps.TokenTaken.{FinishesPlaced, TakesPlaced}
 use Rattle.pgn_game.specs.steps.Flow.{Known, At, EndsGames, FinishesLeft, GoesAtEnd, ReadsOn, Start, StopsAt, ended, so_far, steps_until}
 use Rattle.pgn_game.proofs.stepping.AcceptedToConverter.{has_read_more, now_at, read_as, same_games}
 use Rattle.pgn_game.proofs.stepping.OneMoreToken.{read-passes}
@@ -77,7 +77,7 @@ module _ (lexer l : Standing) (reading new : GameState) (games : ℕ) (has : Boo
           (rw (no_more start s tokens here) (still_last (read start.profile tokens).progress.games reading new has between here.since.has_read.just_finished (λ b. takes.stays.0 (is_between b)))),
     )
 
-  left_game : is_end t.kind ≡ false → EndsPlaced reading t.kind t.at new d → ReadsOn old None (finished_at l new games) (Ok true) d
+  left_game : is_end t.kind ≡ false → FinishesPlaced reading t.kind t.at new d → ReadsOn old None (finished_at l new games) (Ok true) d
   left_game not_end takes start (so_far s) tokens ahead here = absurd ahead
   left_game not_end takes start (ended s) tokens ahead here = (
     tokens ++ t ∷ [],
@@ -98,7 +98,7 @@ module _ (lexer l : Standing) (reading new : GameState) (games : ℕ) (has over 
       → ReadsOn (view_of lexer reading games has over fault) None (view_of l new games (has && between) e fault) (Ok false) d
   left_on_at between e takes at is = rw (going, none) (left_on lexer l reading new games has t gives d between takes at e is)
 
-  pub left_game_at : is_end t.kind ≡ false → EndsPlaced reading t.kind t.at new d
+  pub left_game_at : is_end t.kind ≡ false → FinishesPlaced reading t.kind t.at new d
       → ReadsOn (view_of lexer reading games has over fault) None (view_of l new (games + 1) true over fault) (Ok true) d
   left_game_at not_end takes = rw (going, none) (left_game lexer l reading new games has t gives d not_end takes)
 

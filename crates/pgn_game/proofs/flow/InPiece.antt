@@ -2,7 +2,7 @@
 use Rattle.pgn_lexer.specs.Scanned.{Scanned, token}
 use Rattle.pgn_game.proofs.Words.{false≢true, ◌≡◌, ℕ, ◌+◌, ◌<◌, ◌≤◌, inl, List, [], ◌∷◌, ◌++◌, length, take, drop, Option, None, Some, refl, sym, ap, subst, ◌∙◌, arith, take-add, drop-drop, length-drop, length-append, take-append_seam, Token, Standing, Converter, GameState, AfterScan, StandsAfter, first, more, fault, LexFault, decided, Ok, Err, true, Device, Reason, More, TakesToken, Lexical, Follows, Scans, append-nil, false, AreNext, tokens_of, take-append-drop}
 use Rattle.pgn_lexer.specs.PartialToken.{refusal as refusal_token}
-use Rattle.pgn_game.specs.steps.TokenTaken.{EndsPlaced, TakesPlaced}
+use Rattle.pgn_game.specs.steps.TokenTaken.{FinishesPlaced, TakesPlaced}
 use Rattle.pgn_game.specs.steps.Flow.{At, AreAllDecided, HasGivenOf, ReadsOn, ended, so_far, Start}
 use Rattle.pgn_game.proofs.flow.Takes.{closes, finished_at, stops, stops_lexical, takes_game, takes_more}
 use Rattle.pgn_game.proofs.stepping.ReadsInText.{between}
@@ -127,7 +127,7 @@ module _ (old : Converter) (piece : List ℕ) where
       )
       reads_token takes start (ended s) tokens ahead here = absurd ahead
 
-      pub reads_game : EndsPlaced old.reading t.kind t.at new d → ReadsOn old (Some piece) (finished_at l new old.games) (Ok true) d
+      pub reads_game : FinishesPlaced old.reading t.kind t.at new d → ReadsOn old (Some piece) (finished_at l new old.games) (Ok true) d
       reads_game takes start (so_far s) tokens ahead here = (
         tokens ++ t ∷ [],
         takes_game start (so_far s) old tokens t l new d here.since takes

@@ -1,6 +1,6 @@
 -- What a missing Result is for a reader that writes, and the marker that its game has to end with.
 use Rattle.pgn_game.specs.declared.marker.PlacedMarker.{PlacedMarker}
-use Rattle.pgn_game.proofs.Words.{Profile, Missing, Token, Game, Part, Next, Read, counts_as, takes_the_marker, counting, marker_text, ◌≡◌, ◌&&◌, ◌==◌, ℕ, Bool, true, false, not, bytes_eq, bytes_eq-Decides, and_parts, not-false, List, [], ◌∷◌, ◌++◌, Option, None, Some, refl, sym, ap, subst, ◌∙◌, append_assoc, append-nil, Appends-nil, Appends-trans, Converter, HasRead, Gains, GameState, IsKnown, as_written, known_text, known_result, GainsAs, due_as, part_after, progress_with, read, refusal, next, whole, gain, text_next, torn, text_of_games as text_of, game_text, rules, arith, common_steps}
+use Rattle.pgn_game.proofs.Words.{Profile, Missing, Token, Game, Part, Next, Read, counts_as, takes_the_marker, counting, marker_text, ◌≡◌, ◌&&◌, ◌==◌, ℕ, Bool, true, false, not, bytes_eq, bytes_eq-Decides, and_parts, not-false, List, [], ◌∷◌, ◌++◌, Option, None, Some, refl, sym, ap, subst, ◌∙◌, append_assoc, append-nil, Appends-nil, Appends-trans, Converter, HasRead, Gains, GameState, IsKnown, as_written, announced_result, known_result, GainsAs, due_as, part_after, progress_with, read, refusal, next, whole, gain, text_next, torn, text_of_games as text_of, game_text, rules, arith, common_steps}
 use Rattle.pgn_game.specs.steps.Flow.{KnowsResult, Since, Start, profile_written}
 use Rattle.pgn_game.specs.steps.GameState.{expected_by, expected_of, is_unexpected}
 use Rattle.pgn_game.proofs.stepping.NextGrows.{next_is}
@@ -8,7 +8,7 @@ use Rattle.pgn_game.proofs.stepping.OneMoreToken.{read-passes, text_of-snoc, tor
 use Rattle.pgn_game.proofs.twice.MarkerCounts.{same_game_text}
 
 -- where a missing Result counts as a text, that is written, and no marker is expected
-known_is : (missing : Missing) (announced : Option PlacedMarker) → missing ≡ counts_as (known_result missing) → counts_as (known_text missing announced) ≡ missing
+known_is : (missing : Missing) (announced : Option PlacedMarker) → missing ≡ counts_as (known_result missing) → counts_as (announced_result missing announced) ≡ missing
 known_is (counts_as text) announced known = refl
 known_is takes_the_marker announced known = absurd (cc)
 

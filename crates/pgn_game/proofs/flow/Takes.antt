@@ -1,7 +1,7 @@
 -- One token that the lexer gave and the reader took, wherever it comes from.
 use Rattle.pgn_game.proofs.Words.{is_end, Between, Writing, WriteFault, le_refl, Token, Profile, Game, Part, Read, Next, Reason, ◌≡◌, ◌+◌, ◌∷◌, ◌++◌, ℕ, Bool, true, false, false≢true, inl, inr, List, [], Option, None, Some, Ok, Err, refl, sym, ap, subst, ◌∙◌, append_assoc, Device, Standing, GameState, Leads, More, Finished, Converter, IsBehind, part_after, TakesToken, game_in_reader, game_of, marker_of, next, whole, progress_with, refusal, as_written, LexFault, Lexical, Appends, Appends-nil, FinishedGame, gain, IsStopped, read}
 use Rattle.pgn_lexer.specs.PartialToken.{refusal as refusal_token}
-use Rattle.pgn_game.specs.steps.TokenTaken.{EndsPlaced, TakesPlaced}
+use Rattle.pgn_game.specs.steps.TokenTaken.{FinishesPlaced, TakesPlaced}
 use Rattle.pgn_game.specs.steps.GameState.{expected_of, is_unexpected, refused}
 use Rattle.pgn_game.specs.steps.Flow.{At, Closes, EndsThere, AreAllDecided, HasGivenOf, IsNextIn, KnowsResult, Known, Since, Start, StopsAt, profile_written}
 use Rattle.pgn_game.proofs.stepping.AcceptedToConverter.{due_more, finished_behind, has_read_game, has_read_more, lexical-refusal, now_at}
@@ -71,7 +71,7 @@ module _ (start : Start) (text : Known) (old : Converter) (given : List Token) (
       }
 
   -- it finishes the game
-  module _ (ends : EndsPlaced old.reading t.kind t.at new d) where
+  module _ (ends : FinishesPlaced old.reading t.kind t.at new d) where
     free : refusal start.profile (part_after start.profile given) t.kind ≡ None
     free = subst (λ q. refusal q (part_after start.profile given) t.kind ≡ None) here.has_read.profile
         ((ends.takes.accepts (part_after start.profile given) here.has_read.agrees).free)

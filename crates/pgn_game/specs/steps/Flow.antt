@@ -138,7 +138,7 @@ pub record IsAnother (expected : Option PlacedMarker) (t : Token) (reason : Reas
   pub why : reason ≡ ResultDiffers
   pub unwritten : after ≡ before
 
--- A token was not taken, which comes behind those that `now` has read: it is rejected, a write
+-- A token was not taken, which comes after those that `now` has read: it is rejected, a write
 -- failed, or another marker was announced. If a write failed at a marker, that was announced.
 pub record StopsAt (start : Start) (text : Known) (f : Fault) (new : Converter) (after : Option (List ℕ)) : Type 0 where
   pub now : Converter

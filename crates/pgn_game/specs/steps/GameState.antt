@@ -1,5 +1,5 @@
--- **Bookkeeping**: what a contract sees of the reader of games, and what it does with one token.
--- Letters: k is the kind of a token, g a game, p a profile. `old` and `new` are the reader before a
+-- **Bookkeeping**: the state of a `Game`, as contracts see it, and what one token makes of it.
+-- Letters: k is the kind of a token, g a game, p a profile. `old` and `new` are the state before a
 -- call and after it. `before` and `after` are the bytes that the sink has taken then, if it reports
 -- them.
 use Rattle.std.specs.Prelude.{◌≡◌, ℕ, ◌+◌, ◌-◌, codes, ◌<◌, ◌≤◌, ◌==◌, ◌&&◌, not, bytes_eq, nat_le, false, IsTrue, is_some, Bool, true, List, [], length, Option, None, Some, IsSomeAnd, Result, Ok, Err}
@@ -34,7 +34,7 @@ pub record Writing : Type 0 where
   pub announced : Option PlacedMarker
   pub is_silent : Bool
 
--- The profile, how the reader writes, the stage of the game, its pairs, its movetext, the number of
+-- The profile, how the game is written, the stage of the game, its pairs, its movetext, the number of
 -- moves outside variations of the games before it, the most pairs tried for a move, the line of
 -- movetext, and the marker that ended the game before, with its place.
 pub record GameState : Type 0 where
@@ -49,7 +49,7 @@ pub record GameState : Type 0 where
   pub marker : List ℕ
   pub marker_at : ℕ
 
--- a reader that has read no token, with room for so many pairs and levels
+-- no token was read yet, and there is room for so many pairs and levels
 abbrev pub unread : (tags levels : ℕ) → Mode → GameState
 unread tags levels mode = record {
   profile = record {
@@ -69,7 +69,7 @@ unread tags levels mode = record {
   marker_at = 0;
 }
 
--- the same reader before its first token
+-- the same before its first token
 abbrev pub restarted : GameState → GameState
 restarted reading = record reading {
   stage = Between;
@@ -79,28 +79,28 @@ restarted reading = record reading {
   most_probes = 0;
 }
 
--- the same of this game
+-- the mode in which this game is written, if it is
 abbrev pub mode_written : GameState → Option Mode
 mode_written reading = mode_unless reading.writing.is_silent reading.profile.mode
 
--- the reader to which this marker was announced
+-- this marker was announced
 abbrev pub with_announced : PlacedMarker → GameState → GameState
 with_announced marker reading = record reading { writing = record reading.writing { announced = Some marker } }
 
--- the reader that writes nothing from now on
+-- nothing is written from now on
 abbrev pub silenced : GameState → GameState
 silenced reading = record reading { writing = record reading.writing { is_silent = true } }
 
--- the sink of a reader before a call and after it, as the contracts see it
+-- the sink before a call and after it, as the contracts see it
 abbrev pub sink_of : {S : Type 0} → GameState → (S → Option (List ℕ)) → (S → ℕ) → S → S → Device
 sink_of reading bytes failures old new = seen reading.writing.is_silent (device bytes failures old new)
 
--- A call leaves the reader silent or not, as it was. If it is silent, the sink does not change.
+-- A call leaves the game silent or not, as it was. If it is silent, the sink does not change.
 pub record KeepsSilence {S : Type 0} (old new : GameState) (sink_old sink_new : S) : Type 0 where
   pub silent : new.writing.is_silent ≡ old.writing.is_silent
   pub untouched : IsTrue old.writing.is_silent → sink_new ≡ sink_old
 
--- `Takes` holds of the sink that contracts see. The call leaves the reader silent or not, as it
+-- `Takes` holds of the sink that contracts see. The call leaves the game silent or not, as it
 -- was.
 pub record GameCall {S : Type 0} (taken : S → Option (List ℕ)) (failures : S → ℕ)
     (old new : GameState) (sink_old sink_new : S) (Takes : Device → Type 0) : Type 0 where
@@ -130,14 +130,14 @@ HoldsText InMovetext reading part =
     HoldsItems (mode_written reading) (start_of part.pairs) part.items reading.text reading.line × (IsTrue (has_move part.items) → 0 < reading.most_probes)
 HoldsText _ reading part = (part.items ≡ []) × (reading.text ≡ movetext_from (start_of part.pairs)) × (reading.line ≡ [])
 
--- The reader agrees with a part: its stage, its pairs and its movetext are those of the part.
+-- The state agrees with a part: its stage, its pairs and its movetext are those of the part.
 -- Between games it may still hold the game before.
 pub record Agrees (reading : GameState) (part : Part) : Type 0 where
   pub stage : reading.stage ≡ part.stage
   pub pairs : HoldsPairs reading.stage reading.tags part
   pub text : HoldsText reading.stage reading part
 
--- The reader has just finished the game g, and still holds its pairs, its number of moves, its last
+-- The game g was just finished, and the state still has its pairs, its number of moves, its last
 -- position and its marker.
 pub record IsBehind (reading : GameState) (g : Game) : Type 0 where
   pub agrees : Agrees reading no_part
@@ -147,13 +147,13 @@ pub record IsBehind (reading : GameState) (g : Game) : Type 0 where
   pub marker : reading.marker ≡ g.marker
   pub probed : IsTrue (has_move g.items) → 0 < reading.most_probes
 
--- the number of moves outside variations of the finished games; between games the reader still
--- holds that of the last one
+-- the number of moves outside variations of the finished games; between games the state still
+-- has that of the last one
 abbrev pub plies_at_stage : Stage → ℕ → ℕ → ℕ
 plies_at_stage Between earlier plies = earlier + plies
 plies_at_stage _ earlier plies = earlier
 
--- the same, of a reader
+-- the same, of a state
 abbrev pub plies_of_finished_games : GameState → ℕ
 plies_of_finished_games reading = plies_at_stage reading.stage reading.earlier_plies reading.text.plies
 
@@ -167,36 +167,36 @@ pub data Accepted : Type 0 where
   More : Accepted
   Finished : Accepted
 
--- the reader after a token: it agrees with the part that the token leaves, or has just finished the
--- game
+-- after a token: the state agrees with the part that the token leaves, or the game was just
+-- finished
 abbrev pub Leads : Next → Accepted → GameState → Type 0
 Leads (going part) More new = Agrees new part
 Leads (going part) Finished new = ⊥
 Leads (whole g) More new = ⊥
 Leads (whole g) Finished new = IsBehind new g
 
--- The value by which a reader writes a missing Result: the text that it counts as. If it takes the
+-- The value by which a missing Result is written: the text that it counts as. If it takes the
 -- marker, it is the announced marker, or empty if none was announced.
-abbrev pub known_text : Missing → Option PlacedMarker → List ℕ
-known_text (counts_as text) announced = text
-known_text takes_the_marker None = []
-known_text takes_the_marker (Some m) = marker_text m.marker
+abbrev pub announced_result : Missing → Option PlacedMarker → List ℕ
+announced_result (counts_as text) announced = text
+announced_result takes_the_marker None = []
+announced_result takes_the_marker (Some m) = marker_text m.marker
 
--- the same, of a reader
+-- the same, of a state
 abbrev pub known_of : GameState → List ℕ
-known_of reading = known_text reading.profile.missing_result reading.writing.announced
+known_of reading = announced_result reading.profile.missing_result reading.writing.announced
 
--- the profile by which a reader writes: a missing Result counts as that value
+-- the profile by which a game is written: a missing Result counts as that value
 abbrev pub as_written : GameState → Profile
 as_written reading = counting reading.profile (known_of reading)
 
--- The marker that the game has to end with: the one that was announced to a reader that writes, and
--- whose missing Result takes the marker.
+-- The marker that the game has to end with: the one that was announced, where the game is
+-- written and a missing Result takes the marker.
 abbrev pub expected_by : Bool → Missing → Option PlacedMarker → Option PlacedMarker
 expected_by false takes_the_marker announced = announced
 expected_by _ _ announced = None
 
--- the same, of a reader
+-- the same, of a state
 abbrev pub expected_of : GameState → Option PlacedMarker
 expected_of reading = expected_by reading.writing.is_silent reading.profile.missing_result reading.writing.announced
 
@@ -220,7 +220,7 @@ pub record IsAccepted (old : GameState) (part : Part) (k : Kind) (new : GameStat
 
 -- A token is not accepted. The pairs tried for it are counted.
 -- - `refused`: a row of the fault table rejects it, and nothing is appended. If it is rejected as a
---   move, the reader still holds the position before it.
+--   move, the state still has the position before it.
 -- - `unwritten`: a write failed. A prefix of what the token adds was appended, and not all.
 pub data IsStopped (old : GameState) (part : Part) (k : Kind) (new : GameState)
     (before after : Option (List ℕ)) : Reason → Type 0 where
@@ -233,7 +233,7 @@ pub data IsStopped (old : GameState) (part : Part) (k : Kind) (new : GameState)
       → Raises (TriesUnwritten old.writing.is_silent old.profile part k) old.most_probes new.most_probes
       → IsStopped old part k new before after WriteFault
 
--- What the reader returns for a token after a part that it agrees with: the token is accepted, or
+-- What is returned for a token after a part with which the state agrees: the token is accepted, or
 -- it is not.
 abbrev pub Answers : GameState → Part → Kind → GameState → Result Accepted Reason → Option (List ℕ)
     → Option (List ℕ) → Type 0
@@ -241,7 +241,7 @@ Answers old part k new (Ok accepted) before after = IsAccepted old part k new ac
 Answers old part k new (Err reason) before after = IsStopped old part k new before after reason
 
 -- A token after which no game is begun, and that finished none, changes nothing. In movetext, one
--- that finishes no game leaves the reader there.
+-- that finishes no game leaves it there.
 abbrev pub Stays : GameState → GameState → Result Accepted Reason → Type 0
 Stays old new (Ok More) =
     (new.stage ≡ Between → new ≡ old) × (old.stage ≡ InMovetext → new.stage ≡ InMovetext)

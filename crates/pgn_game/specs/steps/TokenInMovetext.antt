@@ -1,4 +1,4 @@
--- **Bookkeeping**: what the reader makes of a token in movetext.
+-- **Bookkeeping**: what a game makes of a token in movetext.
 use Rattle.std.specs.Prelude.{◌≡◌, ℕ, ◌-◌, ◌^◌, ◌<◌, ◌&&◌, not, nat_le, ◌==◌, Bool, true, false, IsTrue, List, [], ◌++◌, codes, bytes_eq, Option, None, Some, Result, Ok, Err}
 use Rattle.chess_rules.specs.declared.position.Parts.{Parts}
 use Rattle.pgn_lexer.specs.Tokens as tokens
@@ -37,7 +37,7 @@ abbrev pub has_whole_pairs : Stage → Bool
 has_whole_pairs AfterName = false
 has_whole_pairs _ = true
 
--- the reader can take a move: movetext can begin or go on, and the move can be counted
+-- a move can be taken: movetext can begin or go on, and the move can be counted
 pub record MayTakeMove (reading : GameState) : Type 0 where
   pub few : reading.text.plies < 2 ^ 64 - 1
   pub stage : IsTrue (may_have_movetext reading.stage)
@@ -51,7 +51,7 @@ fen_position name value = elim (bytes_eq name (codes "FEN")) [
 
 -- Movetext.
 
--- The reader holds a part whose movetext it reads, or after whose pairs movetext can begin.
+-- The state has a part whose movetext is read, or after whose pairs movetext can begin.
 pub record IsOpen (reading : GameState) (part : Part) : Type 0 where
   pub stage : reading.stage ≡ part.stage
   pub pairs : reading.tags ≡ record { held = part.pairs; pending_name = None }

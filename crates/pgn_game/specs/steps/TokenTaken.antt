@@ -1,6 +1,6 @@
 -- **Bookkeeping**: what a game returns for a token of one stage, and what taking one does.
 -- Letters: k is the kind of a token, s the text of a symbol, r the result of a call, d the sink
--- before the call and after it. `old` and `new` are the reader before a call and after it.
+-- before the call and after it. `old` and `new` are the state before a call and after it.
 use Rattle.std.specs.Prelude.{◌≡◌, ℕ, ◌+◌, ◌≤◌, ◌<◌, ◌⊎◌, max, Bool, true, false, IsTrue, List, [], length, drop, Option, None, Some, Result, Ok, Err, IfOk, OnOk}
 use Rattle.std.specs.Io.KnownBytes.{Appends}
 use Rattle.std.specs.Option.{ok_or}
@@ -46,7 +46,7 @@ at_game_start old = record old {
   earlier_plies = old.earlier_plies + old.text.plies;
 }
 
--- What a call leaves as it was, or nearly: the profile, how the reader writes, the number of moves,
+-- What a call leaves as it was, or nearly: the profile, how the game is written, the number of moves,
 -- but for one more, and the most pairs tried, which does not fall.
 pub record Keeps (old new : GameState) : Type 0 where
   pub profile : new.profile ≡ old.profile
@@ -58,7 +58,7 @@ pub record Keeps (old new : GameState) : Type 0 where
 abbrev pub gain_to : Profile → Part → Next → List ℕ
 gain_to p part to = drop (length (torn p part)) (text_next p to)
 
--- the reader holds the part or the game that a token leads to, and what that adds was appended
+-- the state has the part or the game that a token leads to, and what that adds was appended
 pub record Goes (old : GameState) (part : Part) (to : Next) (new : GameState) (accepted : Accepted)
     (d : Device) : Type 0 where
   pub leads : Leads to accepted new
@@ -95,7 +95,7 @@ FinishesNone (Ok More) = Unit {0}
 FinishesNone (Ok Finished) = ⊥
 FinishesNone (Err reason) = Unit {0}
 
--- What the reader returns for a token, after each part that `IsOf` allows.
+-- What is returned for a token, after each part that `IsOf` allows.
 pub record Takes (old : GameState) (IsOf : Part → Type 0) (k : Kind) (new : GameState)
     (r : Result Accepted Reason) (d : Device) : Type 0 where
   pub accepts : (part : Part) → IsOf part → Answers old part k new r d.before d.after
@@ -104,7 +104,7 @@ pub record Takes (old : GameState) (IsOf : Part → Type 0) (k : Kind) (new : Ga
   pub finished : FinishesAtMarker k new r
   pub counted : CountsWrites r d
 
--- what the reader returns for a token after a part with which it agrees
+-- what is returned for a token after a part with which the state agrees
 abbrev pub TakesToken : GameState → Kind → GameState → Result Accepted Reason → Device → Type 0
 TakesToken old k new r d = Takes old (Agrees old) k new r d
 
@@ -126,7 +126,7 @@ abbrev pub unused : Option (List ℕ) → ℕ → Device
 unused taken failures =
     record { before = taken; after = taken; failures = failures; failures_after = failures }
 
--- what the reader returns for a token for which nothing is written
+-- what is returned for a token for which nothing is written
 abbrev pub TakesUnwritten : GameState → Kind → GameState → Result Accepted Reason → Type 0
 TakesUnwritten old k new r =
     (taken : Option (List ℕ)) (failures : ℕ) → TakesToken old k new r (unused taken failures)
@@ -140,8 +140,8 @@ pub record EntersPart (ready : GameState) (k : Kind) (part : Part) : Type 0 wher
   pub pairs : opened.pairs ≡ part.pairs
   pub items : opened.items ≡ part.items
 
--- A token belongs to movetext, and `ready` is a reader that can take it as such. That is the same
--- as to take it by `old`.
+-- A token belongs to movetext, and in the state `ready` it can be taken as such. That is the same as
+-- to take it in `old`.
 pub record EntersMovetext (old : GameState) (k : Kind) (ready : GameState) : Type 0 where
   pub stage : IsTrue (may_have_movetext ready.stage)
   pub profile : ready.profile ≡ old.profile
@@ -180,7 +180,7 @@ IsExpectedIf old k at reason =
     (text : List ℕ) → marker_of k ≡ Some text → reason ≡ WriteFault → is_unexpected (expected_of old) text at ≡ false
 
 -- The token at this place finished the game: it is the marker that was announced, if one was.
-pub record EndsAt (old : GameState) (IsOf : Part → Type 0) (k : Kind) (at : ℕ) (new : GameState) (d : Device) : Type 0 where
+pub record FinishesAt (old : GameState) (IsOf : Part → Type 0) (k : Kind) (at : ℕ) (new : GameState) (d : Device) : Type 0 where
   pub takes : Takes old IsOf k new (Ok Finished) d
   pub place : new.marker_at ≡ at
   pub text : List ℕ
@@ -190,25 +190,25 @@ pub record EndsAt (old : GameState) (IsOf : Part → Type 0) (k : Kind) (at : �
 -- The token at this place is taken, after each part that `IsOf` allows, and the result says whether
 -- it finished the game; or it is not taken.
 abbrev pub TakesAt : GameState → (Part → Type 0) → Kind → ℕ → GameState → Result Bool Reason → Device → Type 0
-TakesAt old IsOf k at new (Ok true) d = EndsAt old IsOf k at new d
+TakesAt old IsOf k at new (Ok true) d = FinishesAt old IsOf k at new d
 TakesAt old IsOf k at new (Ok false) d = Takes old IsOf k new (Ok More) d
 TakesAt old IsOf k at new (Err reason) d =
     (Takes old IsOf k new (Err reason) d × IsExpectedIf old k at reason) ⊎ MeetsAnother old k at new reason d
 
--- after a part with which the reader agrees
+-- after a part with which the state agrees
 abbrev pub TakesPlaced : GameState → Kind → ℕ → GameState → Result Bool Reason → Device → Type 0
 TakesPlaced old k at new r d = TakesAt old (Agrees old) k at new r d
 
-abbrev pub EndsPlaced : GameState → Kind → ℕ → GameState → Device → Type 0
-EndsPlaced old k at new d = EndsAt old (Agrees old) k at new d
+abbrev pub FinishesPlaced : GameState → Kind → ℕ → GameState → Device → Type 0
+FinishesPlaced old k at new d = FinishesAt old (Agrees old) k at new d
 
 -- the same for a token of movetext
 abbrev pub TakesEntryPlaced : GameState → Kind → ℕ → GameState → Result Bool Reason → Device → Type 0
 TakesEntryPlaced old k at new r d = TakesAt old (IsEntry old k) k at new r d
 
 -- the marker at this place ends the game, whatever token it is, or it is not taken
-abbrev pub EndsAtPlace : GameState → Marker → ℕ → GameState → Result Bool Reason → Device → Type 0
-EndsAtPlace old marker at new r d = (k : Kind) → marker_of k ≡ Some (marker_text marker) → TakesEntryPlaced old k at new r d
+abbrev pub FinishesAtPlace : GameState → Marker → ℕ → GameState → Result Bool Reason → Device → Type 0
+FinishesAtPlace old marker at new r d = (k : Kind) → marker_of k ≡ Some (marker_text marker) → TakesEntryPlaced old k at new r d
 
 -- Moves.
 
@@ -227,7 +227,7 @@ pub record NamesMove (p : Parts) (text : List ℕ) (r : Result Move Reason) (bef
   pub some : OnOk r (before < after)
   pub candidates : IfOk r (λ m. before + disambiguation_pairs p m ≤ after)
 
--- the reader with so many as the most pairs tried, unless there were more before
+-- the state with so many as the most pairs tried, unless there were more before
 abbrev pub counting_probes : GameState → ℕ → GameState
 counting_probes old n = record old { most_probes = max old.most_probes n }
 
@@ -258,7 +258,7 @@ abbrev pub section_due : Stage → Mode → List ℕ → List Pair → List ℕ
 section_due InMovetext mode result ps = []
 section_due _ mode result ps = tag_section mode result ps
 
--- the same, of a reader
+-- the same, of a state
 abbrev pub section_due_of : GameState → List ℕ
 section_due_of r = section_due r.stage r.profile.mode (known_of r) r.tags.held
 

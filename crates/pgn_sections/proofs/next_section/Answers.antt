@@ -1,7 +1,4 @@
-use Rattle.std.proofs.Common.{ℕ, List, ◌∙◌, ap₂}
-use Rattle.std.proofs.lemmas.List.{take_rest}
-use Rattle.pgn_sections.specs.declared.bad_game.BadGame.{BadGame}
-use Rattle.pgn_sections.specs.Lines.{lines_of, place_in}
+use Rattle.pgn_sections.proofs.Words.{ℕ, List, ◌∙◌, ap₂, take_rest, BadGame, lines_of, place_in}
 use Rattle.pgn_sections.proofs.LinesInPieces.{finds_all}
 use Rattle.pgn_sections.proofs.next_section.Goals as goal
 

@@ -1,6 +1,4 @@
-use Rattle.std.proofs.lemmas.Grind.{common_steps}
-use Rattle.std.proofs.Common.{arith, ap₂}
-use Rattle.clap.specs.Words.{with_rule}
+use Rattle.pgn_arguments.proofs.Words.{common_steps, arith, ap₂, with_rule}
 use Rattle.pgn_arguments.specs.CommandLine.{check_command}
 use Rattle.pgn_arguments.proofs.commands.BuilderSteps.{app_about}
 use Rattle.pgn_arguments.proofs.arguments.check_command.Goals as goal

@@ -1,7 +1,4 @@
-use Rattle.std.proofs.lemmas.Grind.{common_steps}
-use Rattle.std.proofs.Common.{arith, ◌≡◌, ◌∙◌, refl, ap, ap₂, true}
-use Rattle.std.proofs.lemmas.Result.{IfOk-weaker}
-use Rattle.clap.specs.Words.{App, app_of, with_subcommand}
+use Rattle.pgn_arguments.proofs.Words.{common_steps, arith, ◌≡◌, ◌∙◌, refl, ap, ap₂, true, IfOk-weaker, App, app_of, with_subcommand}
 use Rattle.pgn_arguments.specs.CommandLine.{bare_program, check_command, command_line, export_command, list_command, split_command}
 use Rattle.pgn_arguments.proofs.commands.BuilderSteps.{app_about, app_after_help, app_help_subcommand, app_required, app_version, is_local}
 use Rattle.pgn_arguments.proofs.arguments.command_line.Goals as goal

@@ -1,7 +1,4 @@
-use Rattle.std.proofs.lemmas.Grind.{common_steps}
-use Rattle.std.proofs.Common.{arith, rules, ◌≡◌, ◌∙◌, ap₂, false}
-use Rattle.std.proofs.lemmas.Result.{IfOk-weaker}
-use Rattle.clap.specs.Words.{rule_of, with_rule}
+use Rattle.pgn_arguments.proofs.Words.{common_steps, arith, rules, ◌≡◌, ◌∙◌, ap₂, false, IfOk-weaker, rule_of, with_rule}
 use Rattle.pgn_arguments.specs.CommandLine.{checked_rule, export_command, reduced_rule}
 use Rattle.pgn_arguments.proofs.commands.BuilderSteps.{app_about, rule_action, rule_help, rule_long}
 use Rattle.pgn_arguments.proofs.arguments.export_command.Goals as goal

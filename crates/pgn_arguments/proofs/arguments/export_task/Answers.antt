@@ -1,5 +1,4 @@
-use Rattle.std.proofs.Common.{rules, ◌≡◌, ap₂, Option, Some, option_map, string_bytes, String, Global, Bool, true}
-use Rattle.pgn_arguments.specs.Requests.{export_request}
+use Rattle.pgn_arguments.proofs.Words.{rules, ◌≡◌, ap₂, Option, Some, option_map, string_bytes, String, Global, Bool, true, export_request}
 use Rattle.pgn_arguments.proofs.arguments.export_task.Goals as goal
 
 pub returns-in_ok-from_str-in-None-clause-fault : goal.returns-in_ok-from_str-in-None-clause-fault

@@ -1,5 +1,4 @@
-use Rattle.std.proofs.lemmas.Grind.{common_steps}
-use Rattle.std.proofs.Common.{arith}
+use Rattle.pgn_arguments.proofs.Words.{common_steps, arith}
 use Rattle.pgn_arguments.specs.CommandLine.{file_rule}
 use Rattle.pgn_arguments.proofs.commands.BuilderSteps.{rule_help, rule_value_name}
 use Rattle.pgn_arguments.proofs.arguments.file_argument.Goals as goal

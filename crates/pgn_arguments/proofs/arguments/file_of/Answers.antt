@@ -1,6 +1,4 @@
-use Rattle.std.proofs.lemmas.Grind.{common_steps}
-use Rattle.std.proofs.Common.{arith}
-use Rattle.clap.proofs.WalkLemmas.{first_value-rows}
+use Rattle.pgn_arguments.proofs.Words.{common_steps, arith, first_value-rows}
 use Rattle.pgn_arguments.proofs.arguments.file_of.Goals as goal
 
 pub returns-in_ok-from_str-in-Some : goal.returns-in_ok-from_str-in-Some

@@ -1,7 +1,4 @@
-use Rattle.std.proofs.Common.{◌∙◌, ap, codes, false, bytes_eq}
-use Rattle.std.specs.Option.{option_map_or}
-use Rattle.clap.specs.Words.{found_of}
-use Rattle.clap.proofs.WalkLemmas.{one_text-rows}
+use Rattle.pgn_arguments.proofs.Words.{◌∙◌, ap, codes, false, bytes_eq, option_map_or, found_of, one_text-rows}
 use Rattle.pgn_arguments.proofs.commands.SubcommandToRequest.{flag_read}
 use Rattle.pgn_arguments.proofs.arguments.is_given.Goals as goal
 

@@ -1,9 +1,6 @@
-use Rattle.std.proofs.Common.{◌∙◌, ap, sym, subst, map}
-use Rattle.std.proofs.lemmas.Result.{IfOk-weaker}
-use Rattle.clap.specs.Words.{App, fault_of}
+use Rattle.pgn_arguments.proofs.Words.{◌∙◌, ap, sym, subst, map, IfOk-weaker, App, fault_of, is_simple_and_free, request_from}
 use Rattle.clap.specs.Kinds.{HasKind}
-use Rattle.clap.specs.Faults.{is_simple_and_free}
-use Rattle.pgn_arguments.specs.Requests.{refusals, request_from, request_in}
+use Rattle.pgn_arguments.specs.Requests.{refusals, request_in}
 use Rattle.pgn_arguments.proofs.commands.KindsToAnswer.{answers_by, answers_request}
 use Rattle.pgn_arguments.proofs.commands.SubcommandToRequest.{line_is_free, meets_known, rows_met}
 use Rattle.pgn_arguments.proofs.arguments.parse.Goals as goal

@@ -1,8 +1,4 @@
-use Rattle.std.proofs.Common.{◌≡◌, ◌∙◌, ap, ap₂, refl, sym, Bool, List, Option, Some, codes, option_map}
-use Rattle.std.proofs.lemmas.Result.{IfOk-weaker}
-use Rattle.clap.specs.Words.{Row, Text, first_of, found_of, rows_of, subcommand_name_of, subcommand_rows_of}
-use Rattle.clap.specs.declared.parser.matches.ArgMatches.{ArgMatches}
-use Rattle.pgn_arguments.specs.Requests.{check, export_request, is_given, listing, request_from, splitting}
+use Rattle.pgn_arguments.proofs.Words.{◌≡◌, ◌∙◌, ap, ap₂, refl, sym, Bool, List, Option, Some, codes, option_map, IfOk-weaker, Row, Text, first_of, found_of, rows_of, subcommand_name_of, subcommand_rows_of, ArgMatches, check, export_request, is_given, listing, request_from, splitting}
 use Rattle.pgn_arguments.proofs.commands.SubcommandToRequest.{no_other, none_met, request_met}
 use Rattle.pgn_arguments.proofs.arguments.task_of.Goals as goal
 

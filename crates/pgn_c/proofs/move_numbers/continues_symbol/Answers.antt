@@ -1,7 +1,7 @@
-use Rattle.std.proofs.Common.{refl}
+use Rattle.std.proofs.Common.{arith}
 use Rattle.pgn_lexer.specs.Bytes.{continues_symbol}
-use Rattle.pgn_c.proofs.NumbersRead.{table_at}
+use Rattle.std.proofs.lemmas.List.FromFn.{get_or-map-range_with_len}
 use Rattle.pgn_c.proofs.move_numbers.continues_symbol.Goals as goal
 
 pub returns : goal.returns
-returns c = table_at continues_symbol _ _ _ refl c.ranges.byte.fits
+returns c = get_or-map-range_with_len continues_symbol 0 256 c.args.byte c.args.byte _ c.ranges.byte.fits (omega arith)

@@ -1,5 +1,4 @@
-use Rattle.std.proofs.Common.{◌≡◌, ◌-◌, ◌≤◌, length, take}
-use Rattle.std.specs.Io.KnownBytes.{Appends}
+use Rattle.pgn_layout.proofs.Words.{◌≡◌, ◌-◌, ◌≤◌, length, take, Appends}
 use Rattle.pgn_layout.proofs.sink.write_all.Given as goal
 
 abbrev pub invariant-loop-written : goal.invariant-loop-written

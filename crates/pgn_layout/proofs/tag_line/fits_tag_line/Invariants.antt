@@ -1,5 +1,4 @@
-use Rattle.std.proofs.Common.{◌≡◌, ◌+◌, take, length}
-use Rattle.pgn_layout.specs.TagLine.{escaped}
+use Rattle.pgn_layout.proofs.Words.{◌≡◌, ◌+◌, take, length, escaped}
 use Rattle.pgn_layout.proofs.tag_line.fits_tag_line.Given as goal
 
 abbrev pub invariant-loop-byte : goal.invariant-loop-byte

@@ -1,5 +1,4 @@
-use Rattle.std.proofs.Common.{◌≡◌, drop}
-use Rattle.pgn_sections.specs.FirstLine.{line_from}
+use Rattle.pgn_sections.proofs.Words.{◌≡◌, drop, line_from}
 use Rattle.pgn_sections.proofs.lines.line_length.Given as goal
 
 -- no byte so far ends the line

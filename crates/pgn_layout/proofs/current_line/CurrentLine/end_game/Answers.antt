@@ -1,5 +1,4 @@
-use Rattle.std.proofs.Common.{◌<◌, length, arith}
-use Rattle.std.proofs.lemmas.Bool.Decides.{nat_tests}
+use Rattle.pgn_layout.proofs.Words.{◌<◌, length, arith, nat_tests}
 use Rattle.pgn_layout.proofs.OneWriteMore.{Writes-append, ended_line}
 use Rattle.pgn_layout.proofs.current_line.CurrentLine.end_game.Goals as goal
 

@@ -1,5 +1,4 @@
-use Rattle.std.proofs.Common.{◌≡◌, ◌≤◌, drop}
-use Rattle.pgn_sections.specs.Line.{line_begun, line_over}
+use Rattle.pgn_sections.proofs.Words.{◌≡◌, ◌≤◌, drop, line_begun, line_over}
 use Rattle.pgn_sections.proofs.bad_game.BadGame.line_of.Given as goal
 
 -- the rest of the bytes goes on from the line so far

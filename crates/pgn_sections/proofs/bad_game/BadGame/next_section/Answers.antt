@@ -1,8 +1,4 @@
-use Rattle.std.proofs.Common.{◌≡◌, ℕ, List, None, Some, ◌+◌, ◌-◌, ◌++◌, length, sym, ◌∙◌, ap, ◌≤◌, arith, drop}
-use Rattle.std.proofs.lemmas.List.{drop-drop, length-drop, length-take-le}
-use Rattle.pgn_sections.specs.declared.bad_game.BadGame.{BadGame}
-use Rattle.pgn_sections.specs.Lines.{lines_of, place_in}
-use Rattle.pgn_sections.specs.Pieces.{behind_lines}
+use Rattle.pgn_sections.proofs.Words.{◌≡◌, ℕ, List, None, Some, ◌+◌, ◌-◌, ◌++◌, length, sym, ◌∙◌, ap, ◌≤◌, arith, drop, drop-drop, length-drop, length-take-le, BadGame, lines_of, place_in, behind_lines}
 use Rattle.pgn_sections.proofs.LineOfBytes.{line_read, place_shown}
 use Rattle.pgn_sections.proofs.LinesInPieces.{no_line, no_whole_line, reads_on, reads_then, reads_whole, same_behind, shows, stops}
 use Rattle.pgn_sections.proofs.bad_game.BadGame.next_section.Goals as goal

@@ -1,6 +1,4 @@
-use Rattle.std.proofs.Common.{ℕ, List, ◌≡◌, ◌+◌, ◌-◌, ◌≤◌, ◌++◌, drop, length}
-use Rattle.pgn_sections.specs.Lines.{lines_of}
-use Rattle.pgn_sections.specs.Pieces.{CanFollow, IsSameGame, whole_lines}
+use Rattle.pgn_sections.proofs.Words.{ℕ, List, ◌≡◌, ◌+◌, ◌-◌, ◌≤◌, ◌++◌, drop, length, lines_of, CanFollow, IsSameGame, whole_lines}
 use Rattle.pgn_sections.proofs.LinesInPieces.{ReadsOn}
 use Rattle.pgn_sections.proofs.bad_game.BadGame.next_section.Given as goal
 

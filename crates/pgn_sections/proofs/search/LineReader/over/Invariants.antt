@@ -1,6 +1,5 @@
-use Rattle.std.proofs.Common.{◌≡◌, drop}
+use Rattle.pgn_sections.proofs.Words.{◌≡◌, drop, reader_over}
 use Rattle.pgn_sections.specs.LineReaders.{Reads}
-use Rattle.pgn_sections.specs.Search.{reader_over}
 use Rattle.pgn_sections.proofs.search.LineReader.over.Given as goal
 
 -- the rest of the piece goes on from the reader so far

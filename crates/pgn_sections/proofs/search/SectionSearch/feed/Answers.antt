@@ -1,7 +1,5 @@
-use Rattle.std.proofs.Common.{◌++◌, ◌∙◌, ap, refl}
+use Rattle.pgn_sections.proofs.Words.{◌++◌, ◌∙◌, ap, refl, place_behind, LineReader}
 use Rattle.pgn_sections.proofs.LinesOfReader.{found_so_far, found_stays, reads_piece}
-use Rattle.pgn_sections.specs.Search.{place_behind}
-use Rattle.pgn_sections.specs.declared.search.LineReader.{LineReader}
 use Rattle.pgn_sections.proofs.search.SectionSearch.feed.Goals as goal
 
 pub returns-clause-reads : goal.returns-clause-reads

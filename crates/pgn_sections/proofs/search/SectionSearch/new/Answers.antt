@@ -1,9 +1,5 @@
-use Rattle.std.proofs.Common.{◌∙◌, ap, true}
+use Rattle.pgn_sections.proofs.Words.{◌∙◌, ap, true, unread, place_behind, reader_of, BadGame, LineReader}
 use Rattle.pgn_sections.proofs.LinesOfReader.{finds_in_all, finds_place}
-use Rattle.pgn_sections.specs.BadGame.{unread}
-use Rattle.pgn_sections.specs.Search.{place_behind, reader_of}
-use Rattle.pgn_sections.specs.declared.bad_game.BadGame.{BadGame}
-use Rattle.pgn_sections.specs.declared.search.LineReader.{LineReader}
 use Rattle.pgn_sections.proofs.search.SectionSearch.new.Goals as goal
 
 pub returns-clause-found : goal.returns-clause-found
