@@ -45,7 +45,7 @@ enum {
     PGN_NO_MODE = 3, /* an argument has no such value, or is null; nothing was written */
     PGN_NO_GAME = 4, /* no game is left in the text */
     PGN_MORE = 5,    /* a fault if the text ends here: a caller who reads in chunks gives more */
-    PGN_BAD_PLACE = 6 /* the place is after the text or above 2^62; nothing was written */
+    PGN_BAD_PLACE = 6 /* a place or a length is too large, as the call says; nothing was written */
 };
 
 /* The modes of pgn_convert, pgn_next_game and pgn_read_game. */

@@ -1,4 +1,5 @@
 -- What a conversion leaves in a buffer.
+use Rattle.pgn_game.proofs.stepping.BytesWithinLimit.{shown_begins}
 use Rattle.pgn_c.proofs.Words.{◌≡◌, ℕ, ◌<◌, ◌≤◌, List, [], ◌∷◌, ◌++◌, length, take, drop, false, Some, OnOk, Result, Ok, Err, refl, sym, ap, subst, ◌∙◌, append-nil, append_assoc, arith, length-take-le, take-append-drop, Token, tokens_of, Device, Mode, Reason, WriteFault, Fault, Profile, due, output, IsFilled, profile_in, result_of, status_of}
 use Rattle.pgn_lexer.specs.Decided.{decided}
 use Rattle.pgn_lexer.specs.Laws.{DecidedIsPrefix}
@@ -33,15 +34,10 @@ before_full p nothing tokens at written grows stops =
           ∙ more.1 ∙ ap (λ l. l ++ more.0) (stops.due_for ∙ ap (λ l. l ++ stops.text) nothing),
     ))
 
--- a text begins with the tokens that it shows
-begins : (s : List ℕ) (ts : List Token) → AreShown s ts → (rest : List Token) × (tokens_of s ≡ ts ++ rest)
-begins s ts (AreShown.so_far front rest is short next) = ((next rest).0, ap tokens_of is ∙ (next rest).1)
-begins s ts (AreShown.at_end short rest cut) = (rest, cut)
-
 full_in_text : (p : Profile) → due p [] ≡ [] → (text : List ℕ) (tokens : List Token) (at : ℕ) (written : List ℕ) → DueGrows
     → AreShown text tokens → StopsWriting p [] tokens at (Some []) (Some written) → IsPrefix written (output p text)
 full_in_text p nothing text tokens at written grows shown stops =
-    let here = begins text tokens shown in
+    let here = shown_begins text tokens shown in
     let front = before_full p nothing tokens at written grows stops in
     let more = grows p tokens here.0 in (
       front.0 ++ more.0,

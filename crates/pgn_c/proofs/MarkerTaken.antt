@@ -1,7 +1,7 @@
 -- A game that is read by its marker is also read where a missing Result takes the marker.
+use Rattle.pgn_game.proofs.stepping.GamesInTurn.{passes_before}
 use Rattle.pgn_c.proofs.Words.{◌≡◌, ◌≢◌, ℕ, List, [], ◌∷◌, ◌++◌, length, None, Some, refl, sym, ap, subst, ◌∙◌, append-nil, Token, Marker, Mode, Reason, WriteFault, marker_text, game_text, text_of, Read, read, games_read, PgnGame, IsFilled, ConvertsNext, IsGame, NextOf, HasGameByMarker, game_result, profile_counting, profile_taking, status_for, text_from}
 use Rattle.pgn_game.specs.laws.MissingResults.{IsReadAlike, MissingResults, rejects_marker}
-use Rattle.pgn_c.proofs.ReadingGoesOn.{front_passes}
 
 -- no other result has status 0
 pub is_fault : (status : ℕ) (r : Reason) → status ≢ 0 → status_for status r ≢ 0
@@ -30,7 +30,7 @@ module _ (law : MissingResults) (mode : Mode) (marker : Marker) where
           marker = is.marker;
           game = is.game;
           shown = is.shown;
-          none_before = ap (λ (r : Read). r.progress.games) (alike is.tokens (front_passes (profile_counting mode marker) is.tokens (is.at ∷ []) is.passes)).same
+          none_before = ap (λ (r : Read). r.progress.games) (alike is.tokens (passes_before (profile_counting mode marker) is.tokens (is.at ∷ []) is.passes)).same
               ∙ is.none_before;
           passes = ap (λ (r : Read). r.fault) both.same ∙ is.passes;
           one_game = games;

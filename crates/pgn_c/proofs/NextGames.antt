@@ -1,4 +1,5 @@
 -- What a conversion of one game finds, from the calls of the converter.
+use Rattle.pgn_game.proofs.stepping.OneMoreToken.{torn-none, writing_more}
 use Rattle.pgn_c.proofs.Words.{◌≡◌, ℕ, ◌+◌, ◌-◌, ◌^◌, ◌<◌, ◌≤◌, Bool, true, false, List, [], ◌∷◌, ◌++◌, length, take, drop, Option, None, Some, Result, refl, sym, ap, subst, ◌∙◌, append-nil, append_assoc, length-append, arith, bytes_eq, codes, IsTrue, length-take-le, take-append-drop, take_at, bytes_eq-Decides, take-append-add, Kind, Token, EndsAt, tokens_of, Device, Marker, WhiteWins, BlackWins, Draw, Unknown, Mode, InputTooLong, Fault, marker_text, Profile, is_score, marker_of, game_text, text_of, read, due, games_read, FinishesGame, PgnGame, AreKnown, NextOf, Finds, fault_result, game_result, nothing, status_for}
 use Rattle.std.proofs.Common.{length-take}
 use Rattle.std.proofs.KnownBytes.{Appends-trans}
@@ -47,32 +48,8 @@ marks _ at end text marker ends = absurd (cc)
 
 -- ---- a write that fails
 
--- more was read and written before
-writing_more : (p : Profile) (x y tokens : List Token) (at : ℕ) (a b c : Option (List ℕ))
-    → Gains p x y a b → StopsWriting p y tokens at b c → StopsWriting p x tokens at a c
-writing_more p x y tokens at a b c first more =
-    record {
-      front = more.front;
-      token = more.token;
-      rest = more.rest;
-      cut = more.cut;
-      place = more.place;
-      passes = more.passes;
-      text = first.text ++ more.text;
-      due_for = more.due_for ∙ ap (λ l. l ++ more.text) first.due_for ∙ append_assoc (due p x) first.text more.text;
-      count = length first.text + more.count;
-      least = omega (arith, more.least, ap (length {A = ℕ}) first.due_for, length-append (due p x) first.text);
-      short = omega (arith, more.short, length-append first.text more.text);
-      appended = subst (Appends a c) (sym (take-append-add first.text more.text more.count)) (Appends-trans a b c _ _ first.appended more.appended);
-    }
-
--- nothing is due for no tokens
-torn_none : (missing : Missing) (mode : Mode) → torn_for missing mode no_part ≡ []
-torn_none (counts_as text) mode = refl
-torn_none takes_the_marker mode = refl
-
 due_is : (p : Profile) (ts : List Token) (a b : Option (List ℕ)) (gains : Gains p [] ts a b) → due p ts ≡ gains.text
-due_is p ts a b gains = gains.due_for ∙ ap (λ l. l ++ gains.text) (torn_none p.missing_result p.mode)
+due_is p ts a b gains = gains.due_for ∙ ap (λ l. l ++ gains.text) (torn-none p.missing_result p.mode)
 
 -- ---- what the bytes before place 2^62 show
 
@@ -344,7 +321,7 @@ module _ (p : Profile) (u piece : List ℕ) (before : Option (List ℕ)) (laws :
               at = at;
               tokens = tokens_of s;
               shown = AreShown.at_end (all_short few) [] (sym (append-nil (tokens_of s)));
-              stops = writing_more p [] fed.tokens (tokens_of s) at before middle after fed.gains writing;
+              stops = writing_more p [] before middle after fed.gains writing;
               no_game = none;
               is_result = is;
             }),

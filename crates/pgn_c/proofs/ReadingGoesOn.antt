@@ -44,13 +44,6 @@ none_lost p b (y ∷ ys) =
     by_row None later = omega (arith, games_with b.games (next b.part y.kind), later)
 
 -- The first tokens are not rejected if all of them are not.
-pub front_passes : (p : Profile) (xs ys : List Token) → (read p (xs ++ ys)).fault ≡ None → (read p xs).fault ≡ None
-front_passes p xs ys passes = by_fault (read p xs).fault refl
-  where
-    by_fault : (o : Option Fault) → (read p xs).fault ≡ o → o ≡ None
-    by_fault None is = refl
-    by_fault (Some f) is = absurd (let e = in_two p no_progress xs ys in cc)
-
 -- If they are rejected, nothing is read behind the fault.
 pub fault_ends : (p : Profile) (xs ys : List Token) (f : Fault) → (read p xs).fault ≡ Some f → read p (xs ++ ys) ≡ read p xs
 fault_ends p xs ys f is = let e = in_two p no_progress xs ys in cc

@@ -1,5 +1,6 @@
 -- A game that is found where a missing Result takes the marker is found again where a missing
 -- Result counts as this marker, unless the buffer is full.
+use Rattle.pgn_game.proofs.stepping.BytesWithinLimit.{shown_begins}
 use Rattle.pgn_c.proofs.Words.{◌≡◌, ◌⊎◌, inl, inr, ℕ, ◌^◌, ◌≤◌, ◌&&◌, Bool, true, IsTrue, List, [], ◌∷◌, ◌++◌, length, drop, Option, None, Some, refl, sym, ap, subst, ◌∙◌, append-nil, length-append, take_all, arith, bytes_eq-Decides, Token, tokens_of, Marker, Mode, marker_text, Read, read, games_read, PgnGame, AreKnown, ConvertsNext, IsGame, NextOf, profile_counting, profile_taking, text_from}
 use Rattle.pgn_game.specs.public.ConverterCalls.{AreShown, so_far, at_end}
 use Rattle.pgn_game.specs.games.Game.{Game}
@@ -21,11 +22,6 @@ game_of mode s piece found (NextOf.needs_more is) ok =
 game_of mode s piece found (NextOf.full is) ok = absurd (let e = ap (λ (r : PgnGame). r.status) is.is_result in cc)
 game_of mode s piece found (NextOf.too_long is) ok = absurd (let e = ap (λ (r : PgnGame). r.status) is.is_result in cc)
 
--- the tokens of a text begin with those that its bytes show
-begin_with : (s : List ℕ) (ts : List Token) → AreShown s ts → (later : List Token) × (tokens_of s ≡ ts ++ later)
-begin_with s ts (so_far front rest cut short next) = let after = next rest in (after.0, ap tokens_of cut ∙ after.1)
-begin_with s ts (at_end short rest are) = (rest, are)
-
 length_of : (text : List ℕ) (from : ℕ) → from ≤ length text → length (text_from text from) ≡ length text
 length_of text from within = length_from text from (in_first_column text from) within
 
@@ -43,7 +39,7 @@ module _ (law : MissingResults) (mode : Mode) (s : List ℕ) (found : PgnGame) (
   -- so the text has a game, if it is not too long
   has_game : games_read (profile_counting mode is.marker) (tokens_of s) ≡ [] → ⊥
   has_game none =
-      let all = begin_with s ts is.shown in
+      let all = shown_begins s ts is.shown in
       let passes : (read (profile_counting mode is.marker) ts).fault ≡ None = ap (λ (r : Read). r.fault) (sym alike.same) ∙ is.passes in
       let games : games_read (profile_counting mode is.marker) ts ≡ is.game ∷ [] = ap (λ (r : Read). r.progress.games) (sym alike.same) ∙ is.one_game in
       let more = games_stay (profile_counting mode is.marker) ts all.0 passes in

@@ -26,7 +26,8 @@ pub const BAD_PLACE: u32 = 6;
 #[derive(Clone, Copy)]
 pub struct PgnGame {
     /// 0: a game. 1: a fault. 2: the buffer is full. 3: an argument has no such value. 4: no game
-    /// is left. 5: the fault is there only if the text ends here. 6: `from` is after the text.
+    /// is left. 5: the fault is there only if the text ends here. 6: `from` is after the
+    /// text, or above 2^62.
     pub status: u32,
     /// The number of the fault, 1 to 52; 0 where there is none.
     pub fault: u32,

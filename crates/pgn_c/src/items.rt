@@ -60,7 +60,8 @@ pub fn fields_with_number(number: u32) -> Option<MoveFields>
 #[derive(Clone, Copy)]
 pub struct PgnItems {
     /// 0: all items were written, up to the game's marker. 1: there is a fault. 2: the buffer is
-    /// full. 3: there are no such fields. 4: no game is left. 6: the place is bad.
+    /// full. 3: there are no such fields. 4: no game is left. 6: `from` is after
+    /// the text, or the text has more than 2^62 bytes.
     pub status: u32,
     /// The number of the fault, 1 to 42, or 51 for a full buffer; 0 where there is none.
     pub fault: u32,

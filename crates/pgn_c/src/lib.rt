@@ -5,10 +5,8 @@
 //!
 //! # Safety
 //!
-//! A caller in C passes a slice as a pointer and a length. The pointer is not null, also where the
-//! length is 0, and points to so many bytes, at most 2^63 - 1, for the whole call. A buffer shares
-//! no byte with a text of the same call. No other thread writes a text meanwhile, or reads or
-//! writes the buffer. The check cannot see that callers keep to this.
+//! A caller in C passes a slice as a pointer and a length. `pgn.h` has the four conditions on a
+//! caller. The check cannot see that callers keep to them.
 #![tactic(auto)]
 
 ghost use Rattle.std.specs.Prelude.{◌≡◌};

@@ -156,7 +156,7 @@ fn is_unusual_number(byte: u8, length: usize) -> bool
     byte == b'0' && length == 4
 }
 
-// Whether a comment to the end of a line, an escape line, or a variation of marks begins.
+// Whether a comment to the end of a line, an escape line, or a variation of suffixes begins.
 #[inline(always)]
 fn is_unusual_other(byte: u8, behind: &[u8]) -> bool
     ensures { result ≡ parts.unusual_other byte behind.now }

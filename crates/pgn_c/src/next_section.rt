@@ -39,7 +39,8 @@ pub struct PgnBadGame {
 #[derive(Clone, Copy)]
 pub struct PgnSection {
     /// 0: there is a place. 4: it is not in this text. 5: more is to be read. 3: there are no such
-    /// ends. 6: the piece ends above 2^64.
+    /// ends. 6: the piece would end at 2^64 or
+    /// above.
     pub status: u32,
     /// The place: the offset of a byte, from 0; 0 where there is none.
     pub place: usize,

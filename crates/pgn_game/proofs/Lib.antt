@@ -17,5 +17,5 @@ mod pairs
 mod putting
 mod reading
 mod refusals
-mod stepping
+pub mod stepping
 mod twice

@@ -165,7 +165,8 @@ impl<const T: usize, const L: usize> ArchiveItems<T, L> {
     ///
     /// # Errors
     ///
-    /// - `Reason::ReadFault` if the source could not be set or read.
+    /// - `Reason::ReadFault` if the source could not be set or read, at the place up to which it
+    ///   was.
     /// - `Reason::InputTooLong` if no place is found before the byte at place 2^62.
     /// - The fault itself, if it is no game's: `next` could not read, or the input is too long.
     ///   Then the source is not touched.

@@ -121,7 +121,7 @@ impl<const T: usize, const L: usize> Converter<T, L> {
     ///
     /// It takes the bytes before for white space. So the place must be outside all tokens, comments
     /// and escape lines, and between two games. It is at most 2^62. Places count from the first
-    /// byte of the text, and so does `count`; `games` counts those finished since `place`. A byte
+    /// byte of the text, and so does `place`; `games` counts those finished from here on. A byte
     /// order mark is skipped at place 0 alone.
     ///
     /// `in_first_column` says whether the place is in the first column, where a percent sign begins
@@ -243,8 +243,9 @@ impl<const T: usize, const L: usize> Converter<T, L> {
             .count_missing_result_as(MissingResult::TakesTheMarker);
     }
 
-    /// Announces the marker that the next game has to end with. A missing Result that takes it is
-    /// written so, and another marker is rejected.
+    /// Announces the marker that a game has to end with from now on, at its place. It counts where
+    /// a missing Result takes the marker and the game is written: the Result is written so, and
+    /// another marker is rejected.
     pub(crate) fn announce_marker(&mut self, marker: PlacedMarker)
         ensures { self.new ≡ announcing marker self.old }
     {
@@ -499,7 +500,7 @@ impl<const T: usize, const L: usize> Converter<T, L> {
         self.game.plies_of_finished_games()
     }
 
-    /// Returns the place of the next byte: where it began, and how many bytes were used since.
+    /// Returns the place of the next byte: where this began, plus the bytes used since.
     ///
     /// `feed` raises it by the bytes that it used. On an error these are at most the whole piece.
     /// `finish` leaves it as it is, also on an error.
@@ -690,7 +691,7 @@ impl<const T: usize, const L: usize> Converter<T, L> {
     {
         let (used, token) = self.lexer.whole_token(piece, false);
         let Some(token) = token else {
-            // Mostly a text goes on, which began in an earlier piece.
+            // Mostly a token goes on that began in an earlier piece.
             if used == 0 {
                 return self.step_on(piece, out);
             }

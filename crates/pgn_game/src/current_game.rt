@@ -36,10 +36,10 @@ use pgn_layout::{Sink, WriteFault};
 use pgn_lexer::TokenKind;
 use std::marker::Model;
 
-/// The most bytes of a word (PGN 4.3).
+/// The most bytes of a word (PGN 8.2.1).
 const WORD_LENGTH: usize = 79;
 
-/// The game whose items are given.
+/// The current game of `Items`.
 #[derive(Drop)]
 pub struct CurrentGame<const T: usize, const L: usize> {
     reader: Reader<T, L>,

@@ -41,7 +41,7 @@ pub const WHOLE: u8 = 1;
 
 const COPIED: u8 = 2;
 
-/// The current game as it is read, and as it is written.
+/// The current game of a converter: its reader and its writer.
 #[derive(Drop)]
 pub struct Game<const T: usize, const L: usize> {
     reader: Reader<T, L>,
@@ -74,7 +74,7 @@ impl<const T: usize, const L: usize> Game<T, L> {
         }
     }
 
-    /// Returns the value of a name in the tag section of the game just read, defaults included.
+    /// Returns the value of a name in the tag section of the game just finished, defaults included.
     pub fn value(&self, name: &[u8]) -> Option<&[u8]>
         requires { self.now.stage ≡ Between }
         ensures { option_copied result
@@ -85,7 +85,7 @@ impl<const T: usize, const L: usize> Game<T, L> {
         self.reader.value(name)
     }
 
-    /// Writes the tag section of the game just read.
+    /// Writes the tag section of the game just finished.
     ///
     /// # Errors
     ///
@@ -106,14 +106,14 @@ impl<const T: usize, const L: usize> Game<T, L> {
         )
     }
 
-    /// Returns the marker of the game just read.
+    /// Returns the marker of the game just finished.
     pub fn marker(&self) -> Marker
         ensures { marker_text result ≡ self.now.marker }
     {
         self.reader.marker()
     }
 
-    /// Returns the marker of the game just read, and its place.
+    /// Returns the marker of the game just finished, and its place.
     pub fn placed_marker(&self) -> PlacedMarker
         ensures marker { marker_text result.marker ≡ self.now.marker }
         ensures place { result.at ≡ self.now.marker_at }
@@ -131,7 +131,7 @@ impl<const T: usize, const L: usize> Game<T, L> {
         self.reader.plies()
     }
 
-    /// Returns the number of moves outside variations of all whole games so far.
+    /// Returns the number of moves outside variations of all games finished so far.
     pub fn plies_of_finished_games(&self) -> u64
         requires { self.now.earlier_plies + self.now.text.plies < 2 ^ 64 }
         ensures { result ≡ plies_of_finished_games self.now }

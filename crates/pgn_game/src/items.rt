@@ -380,7 +380,7 @@ impl<const T: usize, const L: usize> Items<T, L> {
         self.current.games()
     }
 
-    /// Returns the place of the next byte: how many were used.
+    /// Returns the place of the next byte: where this began, plus the bytes used since.
     ///
     /// After a `Marker` it is the place after the marker: `begin_at` reads on from there, with
     /// `in_first_column` false.
@@ -568,7 +568,7 @@ fn read_token<const T: usize, const L: usize>(
 {
     let (used, token) = lexer.whole_token(piece, current.is_in_movetext());
     let Some(token) = token else {
-        // Mostly a text goes on, which began in an earlier piece.
+        // Mostly a token goes on that began in an earlier piece.
         if used == 0 {
             return read_by_bytes(lexer, current, piece);
         }
@@ -581,7 +581,7 @@ fn read_token<const T: usize, const L: usize>(
     }
 }
 
-// Reads the next token of a piece as `read_token` does, but byte by byte.
+// Reads the next token of a piece as `read_token` does, but lets the lexer copy it.
 fn read_by_bytes<const T: usize, const L: usize>(
     lexer: &mut Lexer,
     current: &mut CurrentGame<T, L>,

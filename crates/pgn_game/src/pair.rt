@@ -5,7 +5,7 @@ ghost use Rattle.pgn_layout.specs.TagLine.{escaped};
 use arrayvec::ArrayVec;
 use std::marker::Model;
 
-/// The most bytes of a name and its value: their line has no room for more (PGN 4.3).
+/// The most bytes of a name and its value together: their line has no room for more (PGN 4.3).
 pub const NAME_OR_VALUE_LENGTH: usize = 249;
 
 /// A tag pair that fits on its line: the bytes of its name, then those of its value.

@@ -42,7 +42,7 @@ use pgn_layout::fits_tag_line;
 use pgn_lexer::TokenKind;
 use std::marker::Model;
 
-/// The current game: at most `T` tag pairs, and at most `L` levels of movetext.
+/// What was read of the current game: at most `T` tag pairs, and at most `L` levels of movetext.
 #[derive(Drop)]
 pub struct Reader<const T: usize, const L: usize> {
     // The large fields come first: with a gap of small ones before them, the toolchain makes them
@@ -105,7 +105,7 @@ impl<const T: usize, const L: usize> Reader<T, L> {
         }
     }
 
-    /// Returns the value of a name in the tag section of the game just read, defaults included.
+    /// Returns the value of a name in the tag section of the game just finished, defaults included.
     pub fn value(&self, name: &[u8]) -> Option<&[u8]>
         requires { self.now.stage ≡ Between }
         ensures { option_copied result
@@ -139,8 +139,8 @@ impl<const T: usize, const L: usize> Reader<T, L> {
         )
     }
 
-    /// Returns the tag pairs of the current game, or of the game just read, in the order of their
-    /// names.
+    /// Returns the tag pairs of the current game, or of the game just finished, in the order of
+    /// their names.
     pub fn pairs(&self) -> OrderedPairs<'_>
         requires { IsTrue (has_whole_pairs self.now.stage) }
         ensures { result ≡ self.now.tags.held }
@@ -169,7 +169,7 @@ impl<const T: usize, const L: usize> Reader<T, L> {
         self.missing_result
     }
 
-    /// Returns what a missing Result is in the game just read.
+    /// Returns what a missing Result is in the game just finished.
     pub fn shown_result(&self) -> MissingResult
         ensures { known_result (missing_of result)
             ≡ result_for self.now.profile.missing_result self.now.marker }
@@ -177,7 +177,7 @@ impl<const T: usize, const L: usize> Reader<T, L> {
         self.missing_result.with_marker(self.marker)
     }
 
-    /// Returns the marker of the game just read.
+    /// Returns the marker of the game just finished.
     pub fn marker(&self) -> Marker
         ensures { marker_text result ≡ self.now.marker }
     {
@@ -191,7 +191,7 @@ impl<const T: usize, const L: usize> Reader<T, L> {
         self.levels.plies()
     }
 
-    /// Returns the number of moves outside variations of all whole games so far.
+    /// Returns the number of moves outside variations of all games finished so far.
     pub fn plies_of_finished_games(&self) -> u64
         requires { self.now.earlier_plies + self.now.text.plies < 2 ^ 64 }
         ensures { result ≡ plies_of_finished_games self.now }
@@ -209,9 +209,9 @@ impl<const T: usize, const L: usize> Reader<T, L> {
         self.levels.position()
     }
 
-    /// Returns the most pairs that were tried for one move so far.
+    /// Returns the most probes for one move so far.
     ///
-    /// If nothing is written, these are the pairs tried to find it.
+    /// If nothing is written, these are the probes that find it.
     pub fn most_probes(&self) -> u32
         ensures value { result ≡ self.now.most_probes }
         ensures bound { result ≤ 1040 }
@@ -235,7 +235,8 @@ impl<const T: usize, const L: usize> Reader<T, L> {
         self.missing_result = missing;
     }
 
-    /// Forgets the current game and those before it. What a missing Result counts as stays.
+    /// Forgets the current game and those before it. It keeps what a missing Result counts
+    /// as.
     pub fn restart(&mut self)
         ensures { self.new ≡ restarted self.old }
     {
@@ -401,7 +402,7 @@ impl<const T: usize, const L: usize> Reader<T, L> {
         self.tags.value(b"SetUp").unwrap_or(b"") == b"1".as_slice() && !self.has_fen()
     }
 
-    // Counts the pairs that find the move of a token which SetUp rejects.
+    // Counts the probes that find the move of a token which SetUp rejects.
     fn count_move(&mut self, kind: TokenKind<'_>)
         requires { self.old.stage ≡ AfterTags }
         ensures { (w : Writer) → CountsMove (game_at false w self.old) (kind_of kind.entry)

@@ -19,7 +19,7 @@ pub trait Source {
     // The bytes that are left, if the source reports them.
     ghost left: { Self → Option (List ℕ) };
 
-    // How many calls have failed; the count stays at 2^64 - 1.
+    // How many calls have failed; the count stops at 2^64 - 1.
     ghost failures: { Self → ℕ };
 
     // The whole text, from its first byte, if the source reports it. Reading keeps it.

@@ -31,7 +31,7 @@ use pgn_layout::{CurrentLine, Sink, WriteFault};
 pub struct Writer {
     pub line: CurrentLine,
     pub written: Written,
-    // The marker that the next game has to end with, if it was announced.
+    // The marker that a game has to end with from now on, if it was announced.
     pub announced: Option<PlacedMarker>,
     // Whether a move was written last.
     pub is_after_move: bool,
@@ -62,8 +62,8 @@ impl Writer {
         self.written = Written::Nothing;
     }
 
-    /// Announces the marker that the next game has to end with. A missing Result that takes it is
-    /// written so, where it would be written as nothing.
+    /// Announces the marker that a game has to end with from now on. A missing Result that takes it
+    /// is written so, where it would be written as nothing.
     pub fn announce_marker(&mut self, marker: PlacedMarker)
         ensures { self.new ≡ record self.old { announced = Some marker } }
     {
@@ -86,8 +86,8 @@ impl Writer {
     ) -> Result<(), WriteFault>
         requires { has_fen ≡ has_pair pairs.now (codes "FEN") }
         ensures section { ItemCall self.old.written W.taken W.failures out.old out.new
-            (λ by d. WritesText d result (tag_section mode (announced_result (missing_of missing_result)
-            self.old.announced) pairs.now)) }
+            (λ by d. WritesText d result (tag_section mode (announced_result
+            (missing_of missing_result) self.old.announced) pairs.now)) }
         ensures writer { self.new ≡ record self.old { is_after_move = false } }
     {
         self.is_after_move = false;

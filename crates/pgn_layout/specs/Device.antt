@@ -3,7 +3,7 @@
 use Rattle.std.specs.Prelude.{◌≡◌, ℕ, ◌+◌, ◌-◌, ◌^◌, ◌<◌, min, List, [], length, take, Option, None, Some, Result, MatchResult}
 use Rattle.std.specs.Io.KnownBytes.{Appends}
 
--- one more failure; the count stays at 2^64 - 1
+-- one more failure; the count stops at 2^64 - 1
 abbrev pub one_more : ℕ → ℕ
 one_more n = min (n + 1) (2 ^ 64 - 1)
 

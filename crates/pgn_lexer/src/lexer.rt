@@ -63,7 +63,7 @@ impl Lexer {
     /// Returns a lexer that reads the rest of a text, from the byte at this place on.
     ///
     /// It takes the bytes before for white space. So the place must be outside all tokens, comments
-    /// and escape lines. Places count from the first byte of the text, and so does `count`. A byte
+    /// and escape lines. Places count from the first byte of the text, and so does `place`. A byte
     /// order mark is skipped at place 0 alone.
     ///
     /// `in_first_column` says whether the place is in the first column, where a percent sign begins
@@ -81,7 +81,7 @@ impl Lexer {
         }
     }
 
-    /// Returns the place of the next byte: where it began, and how many bytes were used since.
+    /// Returns the place of the next byte: where this began, plus the bytes used since.
     pub fn place(&self) -> u64
         ensures { result ≡ self.now.count }
     {
@@ -93,7 +93,7 @@ impl Lexer {
     ///
     /// After a token, pass the rest of the piece. If a byte after the token was not used, it must
     /// come next. The result is `NeedMore` if no token ends in the piece; the whole piece is then
-    /// used. `count` and the length of the piece must be together at most 2^62. `finish` ends the
+    /// used. `place` and the length of the piece must be together at most 2^62. `finish` ends the
     /// current token, so bytes that come after it no longer continue the text.
     ///
     /// # Errors
@@ -136,7 +136,7 @@ impl Lexer {
     ///
     /// With `None` the bytes used were passed, and what comes is left to `next`. It began in an
     /// earlier piece or may go on after this one. Or it has an escape, is rejected, is an escape
-    /// line, or is the start of the text. `count` and the length of the piece must be together at
+    /// line, or is the start of the text. `place` and the length of the piece must be together at
     /// most 2^62.
     ///
     /// # Examples

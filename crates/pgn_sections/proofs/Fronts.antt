@@ -1,11 +1,9 @@
 -- What is skipped at the front of a text, by its first byte.
-use Rattle.pgn_sections.proofs.Words.{◌≡◌, ℕ, ◌+◌, Bool, true, false, List, [], ◌∷◌, None, Some, drop, take, refl, ◌∙◌, ap, arith, cond, suc, nat_le, if◌then◌else◌, prefix_len, is_space, behind_name, behind_space, is_name_byte, name_length}
+use Rattle.pgn_sections.proofs.Words.{◌≡◌, ℕ, ◌+◌, Bool, true, false, List, [], ◌∷◌, None, Some, drop, take, refl, ◌∙◌, ap, arith, cond, suc, nat_le, if◌then◌else◌, prefix_len, is_space, behind_name, behind_space, is_name_byte, name_length, common_steps}
 
 -- one byte more
 pub longer : (p : ℕ → Bool) (b : ℕ) (s : List ℕ) → p b ≡ true → prefix_len p (b ∷ s) ≡ suc (prefix_len p s)
-longer p b s e =
-    let n : 1 + prefix_len p s ≡ suc (prefix_len p s) = omega arith in
-    ap (λ (t : Bool). cond t (1 + prefix_len p s) 0) e ∙ n
+longer p b s e = grind (arith, common_steps)
 
 pub none : (p : ℕ → Bool) (b : ℕ) (s : List ℕ) → p b ≡ false → prefix_len p (b ∷ s) ≡ 0
 none p b s e = ap (λ (t : Bool). cond t (1 + prefix_len p s) 0) e
@@ -30,9 +28,7 @@ space_none b s e = drop_none is_space b s e
 
 -- a text that begins with the byte of a name, or with another
 pub name_more : (b : ℕ) (s : List ℕ) → is_name_byte b ≡ true → behind_name (b ∷ s) ≡ Some (drop (name_length s) s)
-name_more b s e = ap (λ (n : ℕ). if nat_le 1 n then Some (drop n (b ∷ s)) else None) (longer is_name_byte b s e) ∙ at_least (name_length s) s where
-  at_least : (n : ℕ) (s : List ℕ) → (if nat_le 1 (suc n) then Some (drop n s) else None) ≡ Some (drop n s)
-  at_least n s = let h : nat_le 1 (suc n) ≡ true = grind arith in rw h refl
+name_more b s e = grind (arith, common_steps, longer)
 
 pub name_none : (b : ℕ) (s : List ℕ) → is_name_byte b ≡ false → behind_name (b ∷ s) ≡ None
 name_none b s e = ap (λ (n : ℕ). if nat_le 1 n then Some (drop n (b ∷ s)) else None) (none is_name_byte b s e)

@@ -1,4 +1,5 @@
 -- What the code keeps of a line, byte by byte, shows what the line shows.
+use Rattle.std.proofs.Common.{rules}
 use Rattle.pgn_sections.proofs.Words.{and-false, ◌≡◌, ℕ, ◌+◌, ◌-◌, ◌≤◌, Bool, true, false, List, [], ◌∷◌, Option, None, Some, length, drop, refl, sym, ◌∙◌, ap, ap₂, arith, true≢false, common_steps, length-drop, ◌&&◌, ◌||◌, ◌==◌, not, nat_le, is_some, if◌then◌else◌, list_all, option_and_then, is_space, has_mark, before_escapes, behind_line, behind_mark, behind_tags, end_at, end_by, end_in_comment, end_outside, first_escape, place_above, place_on, with_text, with_text_line, begins_with, end_before, front_in, has_mark_at, is_whole_mark, line_begun, line_over, line_with, ends_with_tag, is_byte, last_text, open_comment, outside_text, without_comments, front_with, behind_pair, behind_stray, tag_line, tag_found, comment_of, nothing_read, outside_of, text_from, BadGame, Anywhere, InComments, Nowhere, Line, Braces, Closed, FrontOfLine, Missing, TagLine, TagSearch, Text}
 use Rattle.pgn_sections.proofs.MarkOfLine.{mark_is, mark_over}
 use Rattle.pgn_sections.proofs.PairsOfLine.{front_outside, front_over, none_ends, pairs_short}
@@ -42,15 +43,13 @@ first_stays l b (c ∷ s) e =
     first_stays (line_with l c) b s (ap (λ (o : Option ℕ). if is_some o then o else Some c) e)
 
 first_is : (g : BadGame) (line : List ℕ) → is_byte 37 (line_over (line_begun g) line).first ≡ begins_with 37 line
-first_is g [] = refl
-first_is g (b ∷ s) = ap (λ (o : Option ℕ). is_byte 37 o) (first_stays (line_with (line_begun g) b) b s refl)
+first_is g v1 = search (rules, first_stays)
 
 -- a line is empty if it has no byte but white space
 
 text_or : (t : Bool) (b c : ℕ) (s : List ℕ) → is_some (last_text (Some b) s) ≡ true → is_some (last_text (Some c) s) ≡ true
     → is_some (last_text (if t then Some b else Some c) s) ≡ true
-text_or true b c s h k = h
-text_or false b c s h k = k
+text_or v0 b c s h k = grind (arith, common_steps)
 
 text_stays : (b : ℕ) (s : List ℕ) → is_some (last_text (Some b) s) ≡ true
 text_stays b [] = refl
@@ -58,8 +57,7 @@ text_stays b (c ∷ s) = text_or (is_space c) b c s (text_stays b s) (text_stays
 
 blank_or : (t : Bool) (b : ℕ) (s : List ℕ) → not (is_some (last_text None s)) ≡ list_all is_space s
     → not (is_some (last_text (if t then None else Some b) s)) ≡ (t && list_all is_space s)
-blank_or true b s h = h
-blank_or false b s h = ap (λ (t : Bool). not t) (text_stays b s)
+blank_or v0 b s h = grind (arith, common_steps, text_stays)
 
 blank_is : (line : List ℕ) → not (is_some (last_text None line)) ≡ list_all is_space line
 blank_is [] = refl
@@ -111,8 +109,7 @@ game_is g line =
 -- Where the game ends: before the line or at its tag.
 
 outside_same : (g : BadGame) (line : List ℕ) (o : Option TagLine) → kept.end_outside g (ends_with_tag line) o ≡ end_outside g line o
-outside_same g line None = refl
-outside_same g line (Some tag) = refl
+outside_same g line v2 = grind (arith, common_steps)
 
 module _ (g : BadGame) (line : List ℕ) where
   abbrev l : Line
@@ -125,19 +122,14 @@ module _ (g : BadGame) (line : List ℕ) where
   bracket_is = ap (λ (o : Option ℕ). is_byte 93 o) (last_kept (line_begun g) line)
 
   end_is : (e : Ends) → kept.end_by e g l ≡ end_by e g line
-  end_is Anywhere =
-      ap₂ (λ (t : Bool) (o : Option TagLine). if is_some g.comment_at then end_in_comment g o else kept.end_outside g t o) bracket_is tag_is
-      ∙ ap (λ (o : Option ℕ). if is_some g.comment_at then end_in_comment g (tag_line line) else o) (outside_same g line (tag_line line))
-  end_is InComments = ap (λ (o : Option TagLine). if is_some g.comment_at then end_in_comment g o else None) tag_is
-  end_is Nowhere = refl
+  end_is v0 = grind (arith, common_steps, is_some, bracket_is, tag_is, outside_same)
 
 data EndsAt (g : BadGame) (o : Option TagLine) (end : ℕ) : Type 0 where
   before : end ≡ end_before g → EndsAt g o end
   at_tag : (tag : TagLine) → o ≡ Some tag → end ≡ g.at + tag.at → EndsAt g o end
 
 is_end : (t : Bool) (a end : ℕ) → (if t then Some a else None) ≡ Some end → end ≡ a
-is_end true a end e = cc
-is_end false a end e = absurd cc
+is_end v0 a end e = grind (arith, common_steps)
 
 comment_ends : (g : BadGame) (o : Option TagLine) (end : ℕ) → end_in_comment g o ≡ Some end → EndsAt g o end
 comment_ends g None end e = absurd cc
@@ -149,8 +141,7 @@ escapes_end g tag end None h e = at_tag tag refl e
 escapes_end g tag end (Some place) h e = by_fault (nat_le place g.fault) refl where
   by_fault : (t : Bool) → nat_le place g.fault ≡ t → EndsAt g (Some tag) end
   by_fault true k = at_tag tag refl (e ∙ ap (λ (t : Bool). if t then g.at + tag.at else place) k)
-  by_fault false k =
-      before (e ∙ ap (λ (t : Bool). if t then g.at + tag.at else place) k ∙ sym (ap (λ (t : Bool). if t then g.at else place) k) ∙ ap (λ (o : Option ℕ). before_escapes g.fault o g.at) h)
+  by_fault false k = grind (arith, common_steps)
 
 outside_ends : (g : BadGame) (line : List ℕ) (o : Option TagLine) (end : ℕ) → end_outside g line o ≡ Some end → EndsAt g o end
 outside_ends g line None end e = before (is_end (g.has_movetext && g.is_behind_empty_line && ends_with_tag line) (end_before g) end e)
@@ -168,9 +159,7 @@ if_ends true g o x y end h k e = h e
 if_ends false g o x y end h k e = k e
 
 ends_at : (e : Ends) (g : BadGame) (line : List ℕ) (end : ℕ) → end_by e g line ≡ Some end → EndsAt g (tag_line line) end
-ends_at Anywhere g line end h =
-    if_ends (is_some g.comment_at) g (tag_line line) (end_in_comment g (tag_line line)) (end_outside g line (tag_line line)) end
-    (comment_ends g (tag_line line) end) (outside_ends g line (tag_line line) end) h
+ends_at Anywhere g line end h = search (rules, if_ends, is_some, comment_ends, outside_ends)
 ends_at InComments g line end h =
     if_ends (is_some g.comment_at) g (tag_line line) (end_in_comment g (tag_line line)) None end
     (comment_ends g (tag_line line) end) (λ k. absurd cc) h
@@ -179,10 +168,7 @@ ends_at Nowhere g line end h = absurd cc
 -- a mark lies on the line
 
 mark_long : (s : List ℕ) → has_mark s ≡ true → 3 ≤ length s
-mark_long [] h = absurd (true≢false (sym h))
-mark_long (a ∷ []) h = absurd (true≢false (sym h))
-mark_long (a ∷ b ∷ []) h = absurd (true≢false (sym h))
-mark_long (a ∷ b ∷ c ∷ s) h = omega arith
+mark_long v0 h = grind (arith, common_steps, true≢false)
 
 mark_within : (n : ℕ) (line : List ℕ) → (nat_le (n + 3) (length line) && has_mark (drop n line)) ≡ has_mark (drop n line)
 mark_within n line = by_mark (has_mark (drop n line)) refl where
@@ -199,11 +185,7 @@ module _ (g : BadGame) (line : List ℕ) where
   seen = line_over (line_begun g) line
 
   sought : is_whole_mark seen.mark ≡ has_mark (drop (end_before g - g.at) line)
-  sought =
-      let n : end_before g - g.at - 0 ≡ end_before g - g.at = omega arith in
-      ap is_whole_mark (mark_kept (line_begun g) line)
-      ∙ mark_is (end_before g - g.at) 0 line (omega arith)
-      ∙ ap (λ (k : ℕ). has_mark (drop k line)) n
+  sought = grind (arith, common_steps, mark_kept, mark_is)
 
   -- The mark at this place of the line is the one that was looked for, or that of the tag.
   at_place : (n : ℕ) → ((n == (end_before g - g.at)) ≡ false → seen.tag.is_marked ≡ has_mark (drop n line)) → has_mark_at seen n ≡ has_mark (drop n line)
@@ -213,16 +195,10 @@ module _ (g : BadGame) (line : List ℕ) where
       ∙ ap (λ (t : Bool). nat_le (n + 3) (length line) && t) (by_place (n == (end_before g - g.at)) refl)
       ∙ mark_within n line where
         by_place : (t : Bool) → (n == (end_before g - g.at)) ≡ t → (if t then is_whole_mark seen.mark else seen.tag.is_marked) ≡ has_mark (drop n line)
-        by_place true e =
-            let same : end_before g - g.at ≡ n = grind (arith, common_steps) in
-            sought ∙ ap (λ (k : ℕ). has_mark (drop k line)) same
-        by_place false e = other e
+        by_place v0 e = grind (arith, common_steps, sought)
 
   mark_at_end : (end : ℕ) → EndsAt g (tag_line line) end → has_mark_at seen (end - g.at) ≡ has_mark (drop (end - g.at) line)
-  mark_at_end end (before e) =
-      at_place (end - g.at) (λ h. absurd (true≢false (sym (same_place (end - g.at) (end_before g - g.at) (ap (λ (k : ℕ). k - g.at) e)) ∙ h))) where
-        same_place : (a b : ℕ) → a ≡ b → (a == b) ≡ true
-        same_place a b e = grind (arith, common_steps)
+  mark_at_end end (before e) = grind (arith, common_steps, at_place, true≢false)
   mark_at_end end (at_tag tag found e) =
       let n : end - g.at ≡ tag.at = omega (arith, e) in
       let f = finds_tag line in

@@ -1,4 +1,5 @@
 -- The lines of a text are the first whole line of a piece, and those behind it.
+use Rattle.std.proofs.Common.{rules}
 use Rattle.pgn_sections.proofs.Words.{common_steps, ◌≡◌, ℕ, ◌+◌, ◌-◌, ◌<◌, Bool, true, false, List, [], ◌∷◌, ◌++◌, Option, None, Some, length, drop, take, refl, sym, ◌∙◌, ap, arith, append-nil, false≢true, lt-ltb, drop_all, IsTrue, is_some, not, ◌&&◌, ◌||◌, ◌==◌, if◌then◌else◌, list_all, behind_line, place_on, with_line, is_space, begins_with, line_from, line_to_return, ends_line, lines_of, place_in, with_first, CanFollow, FindsPlace, IsSameGame, behind_lines, ends_with_line_feed, whole_lines, BadGame}
 
 -- The first line of a piece and what follows it. So many bytes of it are before the piece.
@@ -64,8 +65,7 @@ no_line false u h e = absurd (false≢true h)
 
 -- a line ends with an LF if its rest does
 feed_longer : (b : ℕ) (u : List ℕ) → ends_with_line_feed u ≡ true → ends_with_line_feed (b ∷ u) ≡ true
-feed_longer b [] e = absurd (false≢true e)
-feed_longer b (c ∷ u) e = e
+feed_longer b v1 e = grind (arith, common_steps)
 
 -- A first line that is a whole piece ends with an LF, if the text goes on: at its first byte, ..
 feed_at_once : (before b end : ℕ) (u : List ℕ) → (b == 10) ≡ true → end ≡ before + 1 → drop (end - before) (b ∷ u) ≡ []
@@ -75,8 +75,7 @@ feed_at_once before b end u is k none = grind (arith, common_steps)
 -- .. behind a CR, ..
 feed_behind_return : (before b end : ℕ) (u : List ℕ) → line_to_return false before u ≡ Some end → drop (end - before) (b ∷ u) ≡ []
     → ends_with_line_feed (take (end - before) (b ∷ u)) ≡ true
-feed_behind_return before b end [] e none = absurd cc
-feed_behind_return before b end (c ∷ u) e none = grind (arith, common_steps)
+feed_behind_return before b end v3 e none = grind (arith, common_steps)
 
 -- .. or behind other bytes
 feed_further : (before b end : ℕ) (u : List ℕ) → before + 1 < end
@@ -96,17 +95,12 @@ feed_at_end before (b ∷ u) end e none =
 
 -- a text with a byte has a line
 pub a_line : (b : ℕ) (s : List ℕ) → lines_of (b ∷ s) ≡ [] → ⊥
-a_line b s e = some_of (ends_line b s) b (lines_of s) (lines_of s) e where
-  some_of : (is_end : Bool) (b : ℕ) (more lines : List (List ℕ)) → (if is_end then (b ∷ []) ∷ more else with_first b lines) ≡ [] → ⊥
-  some_of true b more lines e = absurd cc
-  some_of false b more [] e = absurd cc
-  some_of false b more (line ∷ lines) e = absurd cc
+a_line b s e = search rules
 
 -- the whole lines behind a first one
 pub whole_behind : (is_last : Bool) (line : List ℕ) (lines : List (List ℕ)) → (lines ≡ [] → (is_last || ends_with_line_feed line) ≡ true)
     → whole_lines is_last (line ∷ lines) ≡ line ∷ whole_lines is_last lines
-whole_behind is_last line [] h = rw (h refl) refl
-whole_behind is_last line (next ∷ lines) h = refl
+whole_behind is_last line v2 h = grind (arith, common_steps)
 
 no_lines : (s : List ℕ) → lines_of s ≡ [] → s ≡ []
 no_lines [] e = refl
@@ -127,24 +121,16 @@ whole_first is_last u n e =
 
 -- one byte more before what has no whole line
 none_longer : (b : ℕ) (lines : List (List ℕ)) → (b == 10) ≡ false → whole_lines false lines ≡ [] → whole_lines false (with_first b lines) ≡ []
-none_longer b [] n h = rw n refl
-none_longer b ([] ∷ []) n h = rw n refl
-none_longer b ((c ∷ line) ∷ []) n h = grind (arith, common_steps)
-none_longer b (line ∷ next ∷ lines) n h = absurd cc
+none_longer b v1 n h = grind (arith, common_steps)
 
 none_whole : (before : ℕ) (u : List ℕ) → line_from false before u ≡ None → whole_lines false (lines_of u) ≡ []
 none_whole before [] e = refl
-none_whole before (b ∷ []) e = none_alone b (line_to_return false before []) (line_from false (before + 1) []) e where
-  none_alone : (b : ℕ) (behind_return further : Option ℕ)
-      → (if b == 10 then Some (before + 1) else if b == 13 then behind_return else further) ≡ None
-      → whole_lines false (lines_of (b ∷ [])) ≡ []
-  none_alone b behind_return further e = grind (arith, common_steps)
+none_whole before (b ∷ []) e = grind (arith, common_steps)
 none_whole before (b ∷ c ∷ u) e = grind (arith, common_steps, none_longer, none_whole (before + 1) (c ∷ u))
 
 -- a piece without a first whole line has none
 pub no_whole_line : (is_last : Bool) (u : List ℕ) → line_from is_last 0 u ≡ None → whole_lines is_last (lines_of u) ≡ []
-no_whole_line true u e = rw (no_line true u refl e) refl
-no_whole_line false u e = none_whole 0 u e
+no_whole_line v0 u e = grind (arith, common_steps, no_line, none_whole)
 
 -- A game and lines to read lead to the place and the game to which another game and other lines
 -- lead.
@@ -184,18 +170,13 @@ module _ (g : BadGame) (is_last : Bool) (u line : List ℕ) (n : ℕ) (first : l
   stops place shown = stops_first g _ (whole_lines is_last (lines_of (drop n u))) line place (whole_first is_last u n first ∙ rw is_line refl) shown
 
   pub shows : (place : ℕ) (s : List ℕ) → CanFollow is_last s → place_on g line ≡ Some place → place_in g (lines_of (u ++ s)) ≡ Some place
-  shows place s follow shown =
-      (stops_first g _ (lines_of (drop n u ++ s)) line place (whole_line is_last u s n follow first ∙ rw is_line refl) shown).found
+  shows place s follow shown = grind (arith, common_steps, stops_first, whole_line)
 
 same_of_both : (b : Bool) (g x y : BadGame) → IsSameGame g x → IsSameGame g y → IsSameGame g (if b then x else y)
-same_of_both true g x y p q = p
-same_of_both false g x y p q = q
+same_of_both v0 g x y p q = grind (arith, common_steps)
 
 kept : (g : BadGame) (line : List ℕ) → IsSameGame g (with_line g line)
-kept g line =
-    same_of_both (list_all is_space line) g _ _ (record { begin = refl; fault = refl; ends = refl })
-    (same_of_both (not (is_some g.comment_at) && begins_with 37 line) g _ _ (record { begin = refl; fault = refl; ends = refl })
-    (same_of_both (is_some g.comment_at) g _ _ (record { begin = refl; fault = refl; ends = refl }) (record { begin = refl; fault = refl; ends = refl })))
+kept g line = search (rules, same_of_both, is_some)
 
 -- a line leaves the game the same
 pub same_behind : (first g new : BadGame) (line : List ℕ) → new ≡ behind_line g line → IsSameGame first g → IsSameGame first new

@@ -25,30 +25,20 @@ put_none b [] = refl
 put_none b (c ∷ u) = ap (λ (x : List (List ℕ)). with_first b x) (put_none c u)
 
 both_left : (t u : Bool) → (t && u) ≡ true → t ≡ true
-both_left true u h = refl
-both_left false u h = h
+both_left v0 u h = grind (arith, common_steps)
 
 both_right : (t u : Bool) → (t && u) ≡ true → u ≡ true
-both_right true u h = h
-both_right false u h = absurd (true≢false (sym h))
+both_right v0 u h = grind (arith, common_steps, true≢false)
 
 ends_none : (t u v : Bool) → not (t || u) ≡ true → (t || (u && v)) ≡ false
-ends_none true u v h = absurd (true≢false (sym h))
-ends_none false true v h = absurd (true≢false (sym h))
-ends_none false false v h = refl
+ends_none v0 u v h = grind (arith, common_steps, true≢false)
 
 plain_lines : (u s : List ℕ) → are_plain u ≡ true → lines_of (u ++ s) ≡ put u (lines_of s)
 plain_lines [] s h = refl
-plain_lines (b ∷ u) s h =
-    ap (λ (t : Bool). if t then (b ∷ []) ∷ lines_of (u ++ s) else with_first b (lines_of (u ++ s)))
-    (ends_none (b == 10) (b == 13) (not (begins_with 10 (u ++ s))) (both_left (is_plain b) (are_plain u) h))
-    ∙ ap (λ (x : List (List ℕ)). with_first b x) (plain_lines u s (both_right (is_plain b) (are_plain u) h))
+plain_lines (b ∷ u) s h = grind (arith, common_steps, ends_none, both_left, both_right, (plain_lines u s (both_right (is_plain b) (are_plain u) h)))
 
 plain_more : (u : List ℕ) (b : ℕ) → are_plain u ≡ true → is_plain b ≡ true → are_plain (u ++ b ∷ []) ≡ true
-plain_more [] b h k = ap (λ (t : Bool). t && true) k
-plain_more (c ∷ u) b h k =
-    ap (λ (t : Bool). t && are_plain (u ++ b ∷ [])) (both_left (is_plain c) (are_plain u) h)
-    ∙ plain_more u b (both_right (is_plain c) (are_plain u) h) k
+plain_more v0 b h k = grind (arith, common_steps, both_left, both_right)
 
 line_more : (l : Line) (u : List ℕ) (b : ℕ) → line_over l (u ++ b ∷ []) ≡ line_with (line_over l u) b
 line_more l [] b = refl
@@ -60,10 +50,7 @@ feed_behind (c ∷ []) b = refl
 feed_behind (c ∷ d ∷ u) b = feed_behind (d ∷ u) b
 
 plain_feeds : (b : ℕ) (u : List ℕ) → are_plain (b ∷ u) ≡ true → ends_with_line_feed (b ∷ u) ≡ false
-plain_feeds b [] h = not_first (b == 10) (b == 13) (both_left (is_plain b) true h) where
-  not_first : (t u : Bool) → not (t || u) ≡ true → t ≡ false
-  not_first true u h = absurd (true≢false (sym h))
-  not_first false u h = refl
+plain_feeds b [] h = grind (arith, common_steps, both_left, true≢false)
 plain_feeds b (c ∷ u) h = plain_feeds c u (both_right (is_plain b) (are_plain (c ∷ u)) h)
 
 -- a reader in a line of a game
@@ -76,8 +63,7 @@ Finds is_last r g s lines = place_behind r is_last s ≡ place_in g (whole_lines
 -- the end of the text
 
 first_or_none : (o : Option ℕ) → o ≡ first_place o None
-first_or_none None = refl
-first_or_none (Some place) = refl
+first_or_none v0 = grind (arith, common_steps)
 
 no_bytes : (is_last : Bool) (g : BadGame) (r : Bool) → place_at_end is_last (at_line g [] r) ≡ None
 no_bytes is_last g r = ap (λ (t : Bool). if t then kept.place_on g (line_begun g) else None) (and-false is_last)
@@ -124,9 +110,7 @@ line_and_more : (is_last : Bool) (g : BadGame) (u : List ℕ) (r : Bool) (s : Li
     → Finds is_last (reader_of (behind_line g u)) (behind_line g u) s rest
     → (rest ≡ [] → (is_last || ends_with_line_feed u) ≡ true) → lines ≡ u ∷ rest
     → Finds is_last (line_ended (at_line g u r)) g s lines
-line_and_more is_last g u r s lines rest on whole e =
-    line_done is_last g u r s (whole_lines is_last rest) on
-    ∙ ap (λ (x : List (List ℕ)). place_in g x) (sym (ap (λ (x : List (List ℕ)). whole_lines is_last x) e ∙ whole_behind is_last u rest whole))
+line_and_more is_last g u r s lines rest on whole e = grind (arith, common_steps, line_done, whole_behind)
 
 feed_whole : (is_last : Bool) (u : List ℕ) (b : ℕ) → (b == 10) ≡ true → (is_last || ends_with_line_feed (u ++ b ∷ [])) ≡ true
 feed_whole is_last u b h = ap (λ (t : Bool). is_last || t) (feed_behind u b ∙ h) ∙ or-true is_last
@@ -154,15 +138,11 @@ taken is_last g u b s h on =
           let here = on.behind_return g u h in
           subst (λ (c : ℕ). Finds is_last (at_line g (u ++ c ∷ []) true) g s (lines_of (u ++ c ∷ s))) is
           (subst (λ (text : List ℕ). Finds is_last (at_line g (u ++ 13 ∷ []) true) g s (lines_of text)) (append_assoc u (13 ∷ []) s) here)
-      by_byte false false e k =
-          let plain_b : is_plain b ≡ true = rw (e, k) refl in
-          subst (λ (text : List ℕ). Finds is_last (at_line g (u ++ b ∷ []) false) g s (lines_of text)) (append_assoc u (b ∷ []) s)
-          (on.plain g (u ++ b ∷ []) (plain_more u b h plain_b))
+      by_byte false false e k = grind (arith, common_steps, append_assoc, plain_more)
 
 -- behind the end of a line a byte ends no other
 ended_goes : (o : Option ℕ) (r : LineReader) (b : ℕ) → byte_taken_if (ended_at o r) b ≡ reader_with (ended_at o r) b
-ended_goes None r b = refl
-ended_goes (Some place) r b = refl
+ended_goes v0 r b = grind (arith, common_steps)
 
 -- a byte behind a CR
 behind_a_return : (is_last : Bool) (g : BadGame) (u : List ℕ) (b : ℕ) (s : List ℕ) → are_plain u ≡ true → GoesOn is_last s
@@ -216,15 +196,11 @@ at_end is_last =
       some_line g (b ∷ u) h some = last_line is_last g b u true h
 
       not_empty : (u : List ℕ) (b : ℕ) → u ++ b ∷ [] ≡ [] → ⊥
-      not_empty [] b e = absurd cc
-      not_empty (c ∷ u) b e = absurd cc
+      not_empty v0 b e = grind (arith, common_steps)
 
       return_end : (g : BadGame) (u : List ℕ) → are_plain u ≡ true
           → Finds is_last (at_line g (u ++ 13 ∷ []) true) g [] (lines_of ((u ++ 13 ∷ []) ++ []))
-      return_end g u h =
-          some_line g (u ++ 13 ∷ []) (feed_behind u 13) (not_empty u 13)
-          ∙ ap (λ (x : List (List ℕ)). place_in g (whole_lines is_last x))
-          (sym (ap (λ (text : List ℕ). lines_of text) (append_assoc u (13 ∷ []) []) ∙ plain_lines u (13 ∷ []) h ∙ put_line u (13 ∷ []) []))
+      return_end g u h = grind (arith, common_steps, some_line, feed_behind, append_assoc, plain_lines, put_line)
 
 goes_on : (is_last : Bool) (s : List ℕ) → GoesOn is_last s
 goes_on is_last [] = at_end is_last
@@ -246,8 +222,7 @@ over_append r (b ∷ u) s = over_append (reader_with r b) u s
 -- a piece, and the text behind it
 pub reads_piece : (old new : LineReader) (is_last : Bool) (piece text : List ℕ) → new ≡ reader_over old piece
     → place_behind new is_last text ≡ place_behind old is_last (piece ++ text)
-reads_piece old new is_last piece text e =
-    ap (λ (r : LineReader). place_behind r is_last text) e ∙ ap (λ (r : LineReader). place_at_end is_last r) (over_append old piece text)
+reads_piece old new is_last piece text e = grind (arith, common_steps, over_append)
 
 -- the place so far
 pub found_so_far : (r : LineReader) → r.found ≡ place_behind r false []

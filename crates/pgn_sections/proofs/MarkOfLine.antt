@@ -20,35 +20,16 @@ has_rest Whole s = true
 has_rest Missing s = false
 
 if_and : (m n : MarkSearch) (t u : Bool) (s : List ℕ) → has_rest m s ≡ u → has_rest n s ≡ false → has_rest (if t then m else n) s ≡ (t && u)
-if_and m n true u s e h = e
-if_and m n false u s e h = h
+if_and m n v2 u s e h = grind (arith, common_steps)
 
 first_byte : (b : ℕ) (s : List ℕ) → has_mark (b ∷ s) ≡ ((b == 239) && second s)
-first_byte b [] = sym (and-false (b == 239))
-first_byte b (c ∷ []) = sym (and_falses (b == 239) (c == 187)) where
-  and_falses : (t u : Bool) → (t && (u && false)) ≡ false
-  and_falses true true = refl
-  and_falses true false = refl
-  and_falses false u = refl
-first_byte b (c ∷ d ∷ s) = and_and (b == 239) (c == 187) (d == 191) where
-  and_and : (t u v : Bool) → (t && u && v) ≡ (t && (u && v))
-  and_and true true v = refl
-  and_and true false v = refl
-  and_and false u v = refl
+first_byte b v1 = grind (arith, common_steps, and-false)
 
 one_byte : (m : MarkSearch) (b : ℕ) (s : List ℕ) → has_rest (mark_with m b) s ≡ has_rest m (b ∷ s)
-one_byte Begin b s = if_and BehindFirst Missing (b == 239) (second s) s refl refl ∙ sym (first_byte b s)
-one_byte BehindFirst b s = if_and BehindSecond Missing (b == 187) (third s) s refl refl
-one_byte BehindSecond b s = if_and Whole Missing (b == 191) true s refl refl ∙ and-true (b == 191)
-one_byte Whole b s = refl
-one_byte Missing b s = refl
+one_byte v0 b s = grind (arith, common_steps, if_and, first_byte, and-true)
 
 no_byte : (m : MarkSearch) → is_whole_mark m ≡ has_rest m []
-no_byte Begin = refl
-no_byte BehindFirst = refl
-no_byte BehindSecond = refl
-no_byte Whole = refl
-no_byte Missing = refl
+no_byte v0 = grind (arith, common_steps)
 
 -- the mark behind the bytes of a text, so many of the line before it
 abbrev pub mark_over : ℕ → MarkSearch → ℕ → List ℕ → MarkSearch
@@ -64,9 +45,7 @@ at_mark n m i (b ∷ s) h =
     ∙ one_byte m b s
 
 pub mark_is : (n i : ℕ) (s : List ℕ) → i ≤ n → is_whole_mark (mark_over n Begin i s) ≡ has_mark (drop (n - i) s)
-mark_is n i [] h = no_mark (n - i) where
-  no_mark : (k : ℕ) → false ≡ has_mark (drop k [])
-  no_mark k = grind (arith, common_steps)
+mark_is n i [] h = grind (arith, common_steps)
 mark_is n i (b ∷ s) h = by_place (nat_lt i n) refl (λ k. mark_is n (i + 1) s k) where
   by_place : (t : Bool) → nat_lt i n ≡ t → (i + 1 ≤ n → is_whole_mark (mark_over n Begin (i + 1) s) ≡ has_mark (drop (n - (i + 1)) s))
       → is_whole_mark (mark_over n Begin i (b ∷ s)) ≡ has_mark (drop (n - i) (b ∷ s))
@@ -76,7 +55,4 @@ mark_is n i (b ∷ s) h = by_place (nat_lt i n) refl (λ k. mark_is n (i + 1) s 
       ap (λ (t : Bool). is_whole_mark (mark_over n (if t then Begin else mark_with Begin b) (i + 1) s)) e
       ∙ rest (omega arith)
       ∙ sym (ap (λ (k : ℕ). has_mark (drop k (b ∷ s))) k)
-  by_place false e rest =
-      let behind : n ≤ i = grind (arith, common_steps) in
-      let k : n - i ≡ 0 = omega arith in
-      at_mark n Begin i (b ∷ s) behind ∙ sym (ap (λ (k : ℕ). has_mark (drop k (b ∷ s))) k)
+  by_place false e rest = grind (arith, common_steps, at_mark)

@@ -1,4 +1,5 @@
 -- What the code reads of tag pairs at the front of a line, byte by byte, is what the line has.
+use Rattle.std.proofs.Common.{rules}
 use Rattle.pgn_sections.proofs.Words.{or-true, or-false, ◌≡◌, ℕ, ◌+◌, ◌-◌, ◌≤◌, Bool, true, false, List, [], ◌∷◌, Option, None, Some, length, drop, refl, sym, ◌∙◌, ap, subst, arith, true≢false, common_steps, length-drop, ◌||◌, ◌==◌, suc, zero, is_some, option_map, if◌then◌else◌, option_and_then, prefix_len, is_line_end, is_space, behind_byte, behind_name, behind_space, is_name_byte, name_length, at_pair, front_at, front_with, is_between, is_whole, pair_after, behind_left_bracket, behind_pair, behind_pairs, behind_quote, behind_right_bracket, behind_some_pairs, behind_stray, behind_tag_name, behind_value, is_stray_or_mark, nothing_read, text_with, FrontOfLine, Stray, BehindLeft, InName, BehindName, InValue, BehindBackslash, BehindValue, Whole, Missing, Text}
 use Rattle.pgn_lexer.specs.Lexes.{is_escaped}
 use Rattle.pgn_sections.proofs.Fronts.{drop_more, drop_none, name_more, name_none, space_more, space_none}
@@ -22,54 +23,36 @@ behind_rest Missing s = None
 
 in_left : (t u : Bool) (b : ℕ) (s : List ℕ) → is_space b ≡ t → is_name_byte b ≡ u
     → behind_left_bracket (b ∷ s) ≡ behind_rest (if t then BehindLeft else if u then InName else Missing) s
-in_left true u b s e h = ap (λ (r : List ℕ). option_and_then (λ rest. behind_tag_name rest) (behind_name r)) (space_more b s e)
-in_left false true b s e h =
-    ap (λ (r : List ℕ). option_and_then (λ rest. behind_tag_name rest) (behind_name r)) (space_none b s e)
-    ∙ ap (λ (o : Option (List ℕ)). option_and_then (λ rest. behind_tag_name rest) o) (name_more b s h)
-in_left false false b s e h =
-    ap (λ (r : List ℕ). option_and_then (λ rest. behind_tag_name rest) (behind_name r)) (space_none b s e)
-    ∙ ap (λ (o : Option (List ℕ)). option_and_then (λ rest. behind_tag_name rest) o) (name_none b s h)
+in_left v0 u b s e h = grind (arith, common_steps, space_more, space_none, name_more, name_none)
 
 at_quote : (u : Bool) (s : List ℕ)
     → option_and_then (λ rest. behind_quote rest) (if u then Some s else None) ≡ behind_rest (if u then InValue else Missing) s
-at_quote true s = refl
-at_quote false s = refl
+at_quote v0 s = grind (arith, common_steps)
 
 behind_a_name : (t : Bool) (b : ℕ) (s : List ℕ) → is_space b ≡ t
     → behind_tag_name (b ∷ s) ≡ behind_rest (if t then BehindName else if b == 34 then InValue else Missing) s
-behind_a_name true b s e = ap (λ (r : List ℕ). option_and_then (λ rest. behind_quote rest) (behind_byte 34 r)) (space_more b s e)
-behind_a_name false b s e =
-    ap (λ (r : List ℕ). option_and_then (λ rest. behind_quote rest) (behind_byte 34 r)) (space_none b s e) ∙ at_quote (b == 34) s
+behind_a_name v0 b s e = grind (arith, common_steps, space_more, space_none, at_quote)
 
 in_name : (t : Bool) (b : ℕ) (s : List ℕ) → is_name_byte b ≡ t
     → behind_tag_name (drop (name_length (b ∷ s)) (b ∷ s)) ≡ behind_rest (if t then InName else spec.behind_name b) s
-in_name true b s e = ap (λ (r : List ℕ). behind_tag_name r) (drop_more is_name_byte b s e)
-in_name false b s e = ap (λ (r : List ℕ). behind_tag_name r) (drop_none is_name_byte b s e) ∙ behind_a_name (is_space b) b s refl
+in_name v0 b s e = search (rules, drop_more, drop_none, behind_a_name)
 
 in_value : (t u v : Bool) (s : List ℕ)
     → option_and_then (λ rest. behind_right_bracket rest) (if t then Some s else if u then None else behind_value v s)
     ≡ behind_rest (if t then BehindValue else if u then Missing else if v then BehindBackslash else InValue) s
-in_value true u v s = refl
-in_value false true v s = refl
-in_value false false true s = refl
-in_value false false false s = refl
+in_value v0 u v s = grind (arith, common_steps)
 
 behind_backslash : (t u : Bool) (s : List ℕ)
     → option_and_then (λ rest. behind_right_bracket rest) (if t then behind_value false s else if u then None else behind_value false s)
     ≡ behind_rest (if t then InValue else if u then Missing else InValue) s
-behind_backslash true u s = refl
-behind_backslash false true s = refl
-behind_backslash false false s = refl
+behind_backslash v0 u s = grind (arith, common_steps)
 
 at_right : (u : Bool) (s : List ℕ) → option_map (λ rest. behind_space rest) (if u then Some s else None) ≡ behind_rest (if u then Whole else Missing) s
-at_right true s = refl
-at_right false s = refl
+at_right v0 s = grind (arith, common_steps)
 
 behind_a_value : (t : Bool) (b : ℕ) (s : List ℕ) → is_space b ≡ t
     → behind_right_bracket (b ∷ s) ≡ behind_rest (if t then BehindValue else if b == 93 then Whole else Missing) s
-behind_a_value true b s e = ap (λ (r : List ℕ). option_map (λ rest. behind_space rest) (behind_byte 93 r)) (space_more b s e)
-behind_a_value false b s e =
-    ap (λ (r : List ℕ). option_map (λ rest. behind_space rest) (behind_byte 93 r)) (space_none b s e) ∙ at_right (b == 93) s
+behind_a_value v0 b s e = grind (arith, common_steps, space_more, space_none, at_right)
 
 -- one byte of a pair that is not whole
 one_byte : (x : PairProgress) (b : ℕ) (s : List ℕ) → is_between x ≡ false → behind_rest x (b ∷ s) ≡ behind_rest (pair_after x b) s
@@ -84,51 +67,23 @@ one_byte Whole b s h = absurd (true≢false h)
 one_byte Missing b s h = refl
 
 no_byte : (x : PairProgress) → is_between x ≡ false → behind_rest x [] ≡ None
-no_byte Stray h = absurd (true≢false h)
-no_byte BehindLeft h = refl
-no_byte InName h = refl
-no_byte BehindName h = refl
-no_byte InValue h = refl
-no_byte BehindBackslash h = refl
-no_byte BehindValue h = refl
-no_byte Whole h = absurd (true≢false h)
-no_byte Missing h = refl
+no_byte v0 h = grind (arith, common_steps, true≢false)
 
 -- behind a byte of a pair the text begins anew only if the pair is whole
 abbrev EndsWhole : PairProgress → Type 0
 EndsWhole x = is_between x ≡ is_whole x
 
 ends_three : (t u : Bool) (x y z : PairProgress) → EndsWhole x → EndsWhole y → EndsWhole z → EndsWhole (if t then x else if u then y else z)
-ends_three true u x y z h k l = h
-ends_three false true x y z h k l = k
-ends_three false false x y z h k l = l
+ends_three v0 u x y z h k l = grind (arith, common_steps)
 
 ends_two : (t : Bool) (x y : PairProgress) → EndsWhole x → EndsWhole y → EndsWhole (if t then x else y)
-ends_two true x y h k = h
-ends_two false x y h k = k
+ends_two v0 x y h k = grind (arith, common_steps)
 
 ends_whole : (x : PairProgress) (b : ℕ) → is_between x ≡ false → EndsWhole (pair_after x b)
-ends_whole Stray b h = absurd (true≢false h)
-ends_whole BehindLeft b h = ends_three (is_space b) (is_name_byte b) BehindLeft InName Missing refl refl refl
-ends_whole InName b h = ends_two (is_name_byte b) InName (spec.behind_name b) refl (ends_three (is_space b) (b == 34) BehindName InValue Missing refl refl refl)
-ends_whole BehindName b h = ends_three (is_space b) (b == 34) BehindName InValue Missing refl refl refl
-ends_whole InValue b h =
-    ends_three (b == 34) (is_line_end b) BehindValue Missing (if b == 92 then BehindBackslash else InValue) refl refl (ends_two (b == 92) BehindBackslash InValue refl refl)
-ends_whole BehindBackslash b h = ends_three (is_escaped b) (is_line_end b) InValue Missing InValue refl refl refl
-ends_whole BehindValue b h = ends_three (is_space b) (b == 93) BehindValue Whole Missing refl refl refl
-ends_whole Whole b h = absurd (true≢false h)
-ends_whole Missing b h = refl
+ends_whole v0 b h = grind (arith, common_steps, true≢false, ends_three, ends_two)
 
 is_the_whole : (x : PairProgress) → is_whole x ≡ true → x ≡ Whole
-is_the_whole Stray h = absurd cc
-is_the_whole BehindLeft h = absurd cc
-is_the_whole InName h = absurd cc
-is_the_whole BehindName h = absurd cc
-is_the_whole InValue h = absurd cc
-is_the_whole BehindBackslash h = absurd cc
-is_the_whole BehindValue h = absurd cc
-is_the_whole Whole h = refl
-is_the_whole Missing h = absurd cc
+is_the_whole v0 h = grind (arith, common_steps)
 
 -- with the bytes of a text, from a place on
 abbrev pub front_over : FrontOfLine → ℕ → List ℕ → FrontOfLine
@@ -180,12 +135,7 @@ spaces p q (b ∷ s) e = by_space (is_space b) refl (spaces (p + 1) q s) where
       → (q + length (behind_space s) ≡ p + 1 + length s
       → front_over (front Whole true nothing_read) (p + 1) s ≡ front_over (front Whole true nothing_read) q (behind_space s))
       → front_over (front Whole true nothing_read) p (b ∷ s) ≡ front_over (front Whole true nothing_read) q (behind_space (b ∷ s))
-  by_space true h more =
-      let rest = space_more b s h in
-      let n : q + length (behind_space s) ≡ p + 1 + length s = omega (arith, sym (ap (λ (r : List ℕ). length r) rest), e) in
-      ap (λ (t : Bool). front_over (front_at (if t then Whole else at_pair b) (front Whole true nothing_read) p b) (p + 1) s) h
-      ∙ more n
-      ∙ ap (λ (r : List ℕ). front_over (front Whole true nothing_read) q r) (sym rest)
+  by_space true h more = grind (arith, common_steps, space_more, length)
   by_space false h more =
       let rest = space_none b s h in
       let n : p ≡ q = omega (arith, ap (λ (r : List ℕ). length r) rest, e) in
@@ -230,12 +180,7 @@ record Rest (s rest : List ℕ) : Type 0 where
 
 rest_behind_space : (s : List ℕ) → Rest s (behind_space s)
 rest_behind_space [] = record { short = omega arith; text = refl }
-rest_behind_space (b ∷ s) = by_space (is_space b) refl (rest_behind_space s) where
-  by_space : (t : Bool) → is_space b ≡ t → Rest s (behind_space s) → Rest (b ∷ s) (behind_space (b ∷ s))
-  by_space true h r =
-      subst (λ (rest : List ℕ). Rest (b ∷ s) rest) (sym (space_more b s h)) (record { short = omega (arith, r.short); text = r.text })
-  by_space false h r =
-      subst (λ (rest : List ℕ). Rest (b ∷ s) rest) (sym (space_none b s h)) (record { short = omega arith; text = h })
+rest_behind_space (b ∷ s) = grind (arith, common_steps, space_more, space_none, (rest_behind_space s))
 
 rest_of : (x : PairProgress) (s rest : List ℕ) → is_between x ≡ false → behind_rest x s ≡ Some rest → Rest s rest
 rest_of x [] rest apart found = absurd (cc (sym (no_byte x apart) ∙ found))
@@ -254,8 +199,7 @@ rest_of x (b ∷ s) rest apart found = behind_byte_of (is_whole (pair_after x b)
       record { short = omega (arith, r.short); text = r.text }
 
 no_pairs : (n : ℕ) → behind_some_pairs n [] ≡ []
-no_pairs zero = refl
-no_pairs (suc n) = refl
+no_pairs v0 = grind (arith, common_steps)
 
 -- the text behind as many pairs, if it begins with this one
 abbrev behind_first : ℕ → List ℕ → Option (List ℕ) → List ℕ
@@ -274,8 +218,7 @@ Pairs n =
 pairs_behind : (n p q : ℕ) (rest : List ℕ) → Pairs n → begins_with_space rest ≡ false → length rest ≤ n
     → q + length (behind_some_pairs n rest) ≡ p + length rest
     → Keeps (front_over (front Whole true nothing_read) p rest) true (text_over nothing_read q (behind_some_pairs n rest))
-pairs_behind n p q [] more text fits e =
-    record { has_pair = refl; text = sym (ap (λ (r : List ℕ). text_over nothing_read q r) (no_pairs n)) }
+pairs_behind n p q [] more text fits e = grind (arith, common_steps, no_pairs)
 pairs_behind n p q (b ∷ s) more text fits e =
     subst (λ (t : Bool). Keeps (front_over (front_at (if t then Whole else at_pair b) (front Whole true nothing_read) p b) (p + 1) s) true
     (text_over nothing_read q (behind_some_pairs n (b ∷ s)))) (sym text) (more Whole true p q b s text fits e)
@@ -351,9 +294,7 @@ some_short : (n : ℕ) (s : List ℕ) → length (behind_some_pairs n s) ≤ len
 some_short zero s = omega arith
 some_short (suc n) s = behind_one (behind_pair s) refl (some_short n) where
   behind_one : (o : Option (List ℕ)) → behind_pair s ≡ o → ((rest : List ℕ) → length (behind_some_pairs n rest) ≤ length rest) → length (behind_first n s o) ≤ length s
-  behind_one None e more = omega arith
-  behind_one (Some rest) e more = omega (arith, more rest, pair_short s rest e)
+  behind_one v0 e more = grind (arith, common_steps, pair_short)
 
 pub pairs_short : (s : List ℕ) → length (behind_pairs (behind_stray s)) ≤ length s
-pairs_short s =
-    omega (arith, some_short (length (behind_stray s)) (behind_stray s), length-drop (prefix_len is_stray_or_mark s) s)
+pairs_short s = grind (arith, common_steps, some_short, length, length-drop)

@@ -1,4 +1,5 @@
 -- The tag that the code finds at the front of a line, byte by byte, is the one that the line has.
+use Rattle.std.proofs.Common.{rules}
 use Rattle.pgn_sections.proofs.Words.{and-false, and-true, ◌≡◌, ℕ, ◌+◌, ◌-◌, Bool, true, false, List, [], ◌∷◌, Option, None, Some, length, drop, take, refl, sym, ◌∙◌, ap, ap₂, subst, arith, true≢false, common_steps, ◌&&◌, ◌==◌, suc, zero, nat_le, is_some, bytes_eq, codes, if◌then◌else◌, option_and_then, is_space, has_mark, behind_byte, behind_space, is_name_byte, is_stray, name_length, bytes_before_bracket, has_quoted_value, is_at_bracket, is_event, mark_after, one_more, tag_begin, tag_line, tag_line_behind, at_front, begin_of_tag, is_event_name, is_front, is_marked_after, name_with, no_tag_read, tag_after, tag_found, tag_of, tag_with, TagLine, TagSearch}
 use Rattle.pgn_sections.proofs.Fronts.{drop_more, drop_none, name_more, name_none, space_more, space_none, take_more, take_none}
 use Rattle.pgn_sections.specs.TagProgress as spec
@@ -38,26 +39,13 @@ is_rest_of_event e w = can_be_event e && bytes_eq w (letters_left e)
 
 if_letter : (t : Bool) (e : EventName) (w : List ℕ)
     → is_rest_of_event (if t then e else Other) w ≡ (t && is_rest_of_event e w)
-if_letter true e w = refl
-if_letter false e w = refl
+if_letter v0 e w = grind (arith, common_steps)
 
 letter : (e : EventName) (b : ℕ) (w : List ℕ) → is_rest_of_event (name_with e b) w ≡ is_rest_of_event e (b ∷ w)
-letter Empty b w = if_letter (b == 69) E w
-letter E b w = if_letter (b == 118) Ev w
-letter Ev b w = if_letter (b == 101) Eve w
-letter Eve b w = if_letter (b == 110) Even w
-letter Even b w = if_letter (b == 116) Event w
-letter Event b w = refl
-letter Other b w = refl
+letter v0 b w = grind (arith, common_steps, if_letter)
 
 no_letter : (e : EventName) → is_event_name e ≡ is_rest_of_event e []
-no_letter Empty = refl
-no_letter E = refl
-no_letter Ev = refl
-no_letter Eve = refl
-no_letter Even = refl
-no_letter Event = refl
-no_letter Other = refl
+no_letter v0 = grind (arith, common_steps)
 
 name_is : (e : EventName) (w : List ℕ) → is_event_name (name_over e w) ≡ is_rest_of_event e w
 name_is e [] = no_letter e
@@ -84,22 +72,16 @@ tag_behind n Missing s = None
 
 at_quote : (n : ℕ) (e : EventName) (t : Bool) (s : List ℕ)
     → tag_if n (is_some {T = List ℕ} (if t then Some s else None)) (is_event_name e) ≡ tag_behind n (if t then Quoted e else Unquoted) s
-at_quote n e true s = refl
-at_quote n e false s = refl
+at_quote n e v2 s = grind (arith, common_steps)
 
 behind_a_name : (n : ℕ) (e : EventName) (t : Bool) (b : ℕ) (s : List ℕ) → is_space b ≡ t
     → tag_if n (has_quote (b ∷ s)) (is_event_name e) ≡ tag_behind n (if t then BehindName e else if b == 34 then Quoted e else Unquoted) s
-behind_a_name n e true b s h = ap (λ (r : List ℕ). tag_if n (is_some (behind_byte 34 r)) (is_event_name e)) (space_more b s h)
-behind_a_name n e false b s h =
-    ap (λ (r : List ℕ). tag_if n (is_some (behind_byte 34 r)) (is_event_name e)) (space_none b s h) ∙ at_quote n e (b == 34) s
+behind_a_name n e v2 b s h = grind (arith, common_steps, is_some, space_more, space_none, at_quote)
 
 in_a_name : (n : ℕ) (e : EventName) (t : Bool) (b : ℕ) (s : List ℕ) → is_name_byte b ≡ t
     → tag_behind n (InName e) (b ∷ s) ≡ tag_behind n (if t then InName (name_with e b) else spec.behind_name e b) s
-in_a_name n e true b s h =
-    ap₂ (λ (r w : List ℕ). tag_if n (has_quote r) (is_event_name (name_over e w))) (drop_more is_name_byte b s h) (take_more is_name_byte b s h)
-in_a_name n e false b s h =
-    ap₂ (λ (r w : List ℕ). tag_if n (has_quote r) (is_event_name (name_over e w))) (drop_none is_name_byte b s h) (take_none is_name_byte b s h)
-    ∙ behind_a_name n e (is_space b) b s refl
+in_a_name n e true b s h = search (rules, drop_more, take_more)
+in_a_name n e false b s h = grind (arith, common_steps, drop_none, take_none, behind_a_name)
 
 -- the byte behind a bracket and white space: a percent sign, the first of a name, or another one
 at_name : (n : ℕ) (t u : Bool) (b : ℕ) (s : List ℕ) → is_name_byte b ≡ u
@@ -112,72 +94,36 @@ at_name n false true b s h =
     let event : bytes_eq (take (name_length (b ∷ s)) (b ∷ s)) (codes "Event") ≡ is_event_name (name_over (name_with Empty b) (take (name_length s) s)) =
     ap (λ (w : List ℕ). bytes_eq w (codes "Event")) (take_more is_name_byte b s h) ∙ sym (name_is Empty (b ∷ take (name_length s) s)) in
     ap₂ (λ (q e : Bool). tag_if n q e) quoted event
-at_name n false false b s h =
-    let quoted : has_quoted_value (b ∷ s) ≡ false =
-    ap (λ (o : Option (List ℕ)). is_some (option_and_then (λ rest. behind_byte 34 (behind_space rest)) o)) (name_none b s h) in
-    ap (λ (q : Bool). tag_if n q (bytes_eq (take (name_length (b ∷ s)) (b ∷ s)) (codes "Event"))) quoted
+at_name n false false b s h = grind (arith, common_steps, is_some, name_none, take, codes)
 
 behind_a_bracket : (n : ℕ) (t : Bool) (b : ℕ) (s : List ℕ) → is_space b ≡ t
     → tag_line_behind n (behind_space (b ∷ s))
     ≡ tag_behind n (if t then BehindBracket else if b == 37 then Missing else if is_name_byte b then InName (name_with Empty b) else Unquoted) s
-behind_a_bracket n true b s h = ap (λ (r : List ℕ). tag_line_behind n r) (space_more b s h)
-behind_a_bracket n false b s h =
-    ap (λ (r : List ℕ). tag_line_behind n r) (space_none b s h) ∙ at_name n (b == 37) (is_name_byte b) b s refl
+behind_a_bracket n v1 b s h = grind (arith, common_steps, space_more, space_none, at_name)
 
 one_byte : (n : ℕ) (x : TagProgress) (b : ℕ) (s : List ℕ) → is_front x ≡ false → tag_behind n x (b ∷ s) ≡ tag_behind n (tag_after x b) s
-one_byte n (Front m) b s h = absurd (true≢false h)
-one_byte n BehindBracket b s h = behind_a_bracket n (is_space b) b s refl
-one_byte n (InName e) b s h = in_a_name n e (is_name_byte b) b s refl
-one_byte n (BehindName e) b s h = behind_a_name n e (is_space b) b s refl
-one_byte n (Quoted e) b s h = refl
-one_byte n Unquoted b s h = refl
-one_byte n Missing b s h = refl
+one_byte n v1 b s h = grind (arith, common_steps, true≢false, behind_a_bracket, in_a_name, behind_a_name)
 
 no_byte : (n : ℕ) (x : TagProgress) → tag_of x n ≡ tag_behind n x []
-no_byte n (Front m) = refl
-no_byte n BehindBracket = refl
-no_byte n (InName e) = refl
-no_byte n (BehindName e) = refl
-no_byte n (Quoted e) = refl
-no_byte n Unquoted = refl
-no_byte n Missing = refl
+no_byte n v1 = grind (arith, common_steps)
 
 abbrev IsBehind : TagProgress → Type 0
 IsBehind x = is_front x ≡ false
 
 one_of_two : (t : Bool) (x y : TagProgress) → IsBehind x → IsBehind y → IsBehind (if t then x else y)
-one_of_two true x y h k = h
-one_of_two false x y h k = k
+one_of_two v0 x y h k = grind (arith, common_steps)
 
 one_of_three : (t u : Bool) (x y z : TagProgress) → IsBehind x → IsBehind y → IsBehind z → IsBehind (if t then x else if u then y else z)
-one_of_three true u x y z h k l = h
-one_of_three false true x y z h k l = k
-one_of_three false false x y z h k l = l
+one_of_three v0 u x y z h k l = grind (arith, common_steps)
 
 stays_behind : (x : TagProgress) (b : ℕ) → is_front x ≡ false → IsBehind (tag_after x b)
-stays_behind (Front m) b h = absurd (true≢false h)
-stays_behind BehindBracket b h =
-    one_of_three (is_space b) (b == 37) BehindBracket Missing (if is_name_byte b then InName (name_with Empty b) else Unquoted) refl refl
-    (one_of_two (is_name_byte b) (InName (name_with Empty b)) Unquoted refl refl)
-stays_behind (InName e) b h =
-    one_of_two (is_name_byte b) (InName (name_with e b)) (spec.behind_name e b) refl
-    (one_of_three (is_space b) (b == 34) (BehindName e) (Quoted e) Unquoted refl refl refl)
-stays_behind (BehindName e) b h = one_of_three (is_space b) (b == 34) (BehindName e) (Quoted e) Unquoted refl refl refl
-stays_behind (Quoted e) b h = refl
-stays_behind Unquoted b h = refl
-stays_behind Missing b h = refl
+stays_behind v0 b h = grind (arith, common_steps, true≢false, one_of_three, one_of_two)
 
 abbrev search_of : TagProgress → ℕ → Bool → TagSearch
 search_of x n is_marked = record { progress = x; at = n; is_marked = is_marked }
 
 keeps_place : (x : TagProgress) (n : ℕ) (k : Bool) (i b : ℕ) → is_front x ≡ false → tag_with (search_of x n k) i b ≡ search_of (tag_after x b) n k
-keeps_place (Front m) n k i b h = absurd (true≢false h)
-keeps_place BehindBracket n k i b h = refl
-keeps_place (InName e) n k i b h = refl
-keeps_place (BehindName e) n k i b h = refl
-keeps_place (Quoted e) n k i b h = refl
-keeps_place Unquoted n k i b h = refl
-keeps_place Missing n k i b h = refl
+keeps_place v0 n k i b h = grind (arith, common_steps, true≢false)
 
 -- with the bytes of a text, so many of the line before it
 abbrev pub tag_over : TagSearch → ℕ → List ℕ → TagSearch
@@ -196,26 +142,13 @@ place_in : (n : ℕ) (q v : Bool) (tag : TagLine) → Some (record { at = n; is_
 place_in n q v tag e = let is_tag : record { at = n; is_quoted = q; is_event = v } ≡ tag = cc in sym (ap (λ (t : TagLine). t.at) is_tag)
 
 place_of_tag : (x : TagProgress) (n : ℕ) (tag : TagLine) → tag_of x n ≡ Some tag → tag.at ≡ n
-place_of_tag (Front m) n tag e = absurd cc
-place_of_tag BehindBracket n tag e = place_in n false false tag e
-place_of_tag (InName x) n tag e = place_in n false false tag e
-place_of_tag (BehindName x) n tag e = place_in n false false tag e
-place_of_tag (Quoted x) n tag e = place_in n true (is_event_name x) tag e
-place_of_tag Unquoted n tag e = place_in n false false tag e
-place_of_tag Missing n tag e = absurd cc
+place_of_tag v0 n tag e = grind (arith, common_steps)
 
 -- behind the bracket, or without one
 finds_behind : (x : TagProgress) (n : ℕ) (k : Bool) (i : ℕ) (s line : List ℕ) → is_front x ≡ false → k ≡ has_mark (drop (begin_at n k) line)
     → Finds (tag_over (search_of x n k) i s) (tag_behind (begin_at n k) x s) line
-finds_behind x n k i [] line h e =
-    record {
-      tag = no_byte (begin_at n k) x;
-      mark = λ tag found. e ∙ sym (ap (λ (a : ℕ). has_mark (drop a line)) (place_of_tag x (begin_at n k) tag found));
-    }
-finds_behind x n k i (b ∷ s) line h e =
-    subst (λ (t : TagSearch). Finds (tag_over t (i + 1) s) (tag_behind (begin_at n k) x (b ∷ s)) line) (sym (keeps_place x n k i b h))
-    (subst (λ (o : Option TagLine). Finds (tag_over (search_of (tag_after x b) n k) (i + 1) s) o line) (sym (one_byte (begin_at n k) x b s h))
-    (finds_behind (tag_after x b) n k (i + 1) s line (stays_behind x b h) e))
+finds_behind x n k i [] line h e = grind (arith, common_steps, no_byte, place_of_tag)
+finds_behind x n k i (b ∷ s) line h e = grind (arith, common_steps, keeps_place, one_byte, stays_behind, (finds_behind (tag_after x b) n k (i + 1) s line (stays_behind x b h) e))
 
 -- Before the bracket. The bytes so far are listed from the last one on.
 
@@ -245,13 +178,7 @@ AreRead BehindFirst k r = (u : List ℕ) × (r ≡ 239 ∷ u)
 AreRead BehindSecond k r = (u : List ℕ) × (r ≡ 187 ∷ 239 ∷ u)
 
 no_mark_behind : (b : ℕ) (r : List ℕ) → (b == 191) ≡ false → is_behind_mark (b ∷ r) ≡ false
-no_mark_behind b [] h = refl
-no_mark_behind b (c ∷ []) h = refl
-no_mark_behind b (c ∷ d ∷ r) h = rw h (both_false (d == 239) (c == 187)) where
-  both_false : (t u : Bool) → (t && u && false) ≡ false
-  both_false true true = refl
-  both_false true false = refl
-  both_false false u = refl
+no_mark_behind b v1 h = grind (arith, common_steps)
 
 stray_ends_none : (b : ℕ) → is_stray b ≡ true → ((b == 191) ≡ false) × ((b == 91) ≡ false)
 stray_ends_none b h = grind (arith, common_steps)
@@ -264,34 +191,20 @@ same b c h = grind (arith, common_steps)
 
 read_first : (k : Bool) (b : ℕ) (r : List ℕ) (n : MarkProgress) (t u : Bool) → is_stray b ≡ t → (b == 239) ≡ u
     → (if t then Some Outside else if u then Some BehindFirst else None) ≡ Some n → AreRead n (k && (b == 91)) (b ∷ r)
-read_first k b r Outside true u h e found = read_stray k b r h
-read_first k b r BehindFirst true u h e found = absurd cc
-read_first k b r BehindSecond true u h e found = absurd cc
-read_first k b r Outside false true h e found = absurd cc
-read_first k b r BehindFirst false true h e found = (r, ap (λ (c : ℕ). c ∷ r) (same b 239 e))
-read_first k b r BehindSecond false true h e found = absurd cc
-read_first k b r n false false h e found = absurd cc
+read_first k b r n v4 u h e found = grind (arith, common_steps, read_stray)
 
 read_second : (b : ℕ) (r : List ℕ) (n : MarkProgress) (k t : Bool) → (b == 187) ≡ t → (u : List ℕ) × (r ≡ 239 ∷ u)
     → (if t then Some BehindSecond else None) ≡ Some n → AreRead n k (b ∷ r)
-read_second b r Outside k true h e found = absurd cc
-read_second b r BehindFirst k true h e found = absurd cc
-read_second b r BehindSecond k true h e found = (e.0, ap (λ (c : ℕ). c ∷ r) (same b 187 h) ∙ ap (λ (v : List ℕ). 187 ∷ v) e.1)
-read_second b r n k false h e found = absurd cc
+read_second b r n k v4 h e found = grind (arith, common_steps)
 
 read_third : (b : ℕ) (r : List ℕ) (n : MarkProgress) (t : Bool) → (b == 191) ≡ t → (u : List ℕ) × (r ≡ 187 ∷ 239 ∷ u)
     → (if t then Some Outside else None) ≡ Some n → AreRead n (b == 191) (b ∷ r)
-read_third b r Outside true h e found = sym (ap (λ (v : List ℕ). is_behind_mark (b ∷ v)) e.1)
-read_third b r BehindFirst true h e found = absurd cc
-read_third b r BehindSecond true h e found = absurd cc
-read_third b r n false h e found = absurd cc
+read_third b r n v3 h e found = grind (arith, common_steps)
 
 -- one byte of what is stray, or of marks
 read_more : (m : MarkProgress) (k : Bool) (b : ℕ) (r : List ℕ) (n : MarkProgress) → mark_after m b ≡ Some n → AreRead m k r
     → AreRead n (is_marked_after m k b) (b ∷ r)
-read_more Outside k b r n found e = read_first k b r n (is_stray b) (b == 239) refl refl found
-read_more BehindFirst k b r n found e = read_second b r n false (b == 187) refl e found
-read_more BehindSecond k b r n found e = read_third b r n (b == 191) refl e found
+read_more v0 k b r n found e = grind (arith, common_steps, read_first, read_second, read_third)
 
 -- at the bracket
 
@@ -306,9 +219,7 @@ begin_is (c ∷ b ∷ a ∷ r) s =
     ap₂ (λ (t : Bool) (v : List ℕ). if t && has_mark v then length (c ∷ b ∷ a ∷ r) - 3 else length (c ∷ b ∷ a ∷ r)) long there
 
 no_mark : (b : ℕ) (s : List ℕ) → (b == 239) ≡ false → has_mark (b ∷ s) ≡ false
-no_mark b [] h = refl
-no_mark b (c ∷ []) h = refl
-no_mark b (c ∷ d ∷ s) h = ap (λ (t : Bool). t && (c == 187) && (d == 191)) h
+no_mark b v1 h = grind (arith, common_steps)
 
 mark_there : (r s : List ℕ) (b : ℕ) (t : Bool) → is_behind_mark r ≡ t → (b == 239) ≡ false
     → t ≡ has_mark (drop (begin_at (length r) t) (onto r (b ∷ s)))
@@ -328,8 +239,7 @@ abbrev found_in : Option ℕ → List ℕ → Option TagLine
 found_in o line = option_and_then (λ n. tag_line_behind (tag_begin n line) (behind_space (drop (n + 1) line))) o
 
 counted_more : (b : ℕ) (r : List ℕ) (o : Option ℕ) → counted_from (length (b ∷ r)) o ≡ counted_from (length r) (one_more o)
-counted_more b r None = refl
-counted_more b r (Some m) = let n : length (b ∷ r) + m ≡ length r + (m + 1) = omega arith in ap (λ (k : ℕ). Some k) n
+counted_more b r v2 = grind (arith, common_steps, length)
 
 finds_none : (n : ℕ) (k : Bool) (i : ℕ) (s line : List ℕ) → Finds (tag_over (search_of Missing n k) i s) None line
 finds_none n k i [] line = record { tag = refl; mark = λ tag found. absurd cc }
@@ -379,8 +289,7 @@ tag_from m n k r (b ∷ s) i e h = by_mark (mark_after m b) refl (λ next. tag_f
       (more next (read_more m k b r next found e) j)
 
 counted_from_0 : (o : Option ℕ) → counted_from 0 o ≡ o
-counted_from_0 None = refl
-counted_from_0 (Some n) = let e : 0 + n ≡ n = omega arith in ap (λ (k : ℕ). Some k) e
+counted_from_0 v0 = grind (arith, common_steps)
 
 -- a whole line
 pub finds_tag : (line : List ℕ) → Finds (tag_over no_tag_read 0 line) (tag_line line) line

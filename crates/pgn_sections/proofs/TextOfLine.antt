@@ -1,4 +1,5 @@
 -- What the code keeps of a text has what is seen of the text.
+use Rattle.std.proofs.Common.{rules}
 use Rattle.pgn_sections.proofs.Words.{and-true, and-false, common_steps, ◌≡◌, ℕ, ◌+◌, ◌-◌, ◌≤◌, Bool, true, false, List, [], ◌∷◌, ◌++◌, Option, None, Some, length, drop, refl, sym, ◌∙◌, ap, ap₂, arith, drop_all, length-append, ◌&&◌, ◌==◌, if◌then◌else◌, codes, cons_option, ends_with, is_space, comment_after, is_closed, last_word, open_comment, outside_byte, outside_text, without_comments, begun, shape_over, text_of_shape, comment_in, comment_of, fronts_with, has_marker, no_fronts, outside_of, shape_with_seen, text_from, text_with, word_with, word_with_seen, Closed, Braces, RestOfLine, Shape, Text}
 use lib.Pointwise.{pointwise}
 use Rattle.pgn_sections.proofs.ShapeOfText.{text_is}
@@ -12,23 +13,18 @@ text_over t p [] = t
 text_over t p (b ∷ s) = text_over (text_with t p b) (p + 1) s
 
 comment_at_end : (c : Comment) (o : Option ℕ) (p : ℕ) → comment_in c o ≡ open_comment c o p []
-comment_at_end Closed o p = refl
-comment_at_end Braces o p = refl
-comment_at_end RestOfLine o p = refl
+comment_at_end v0 o p = grind (arith, common_steps)
 
 comment_behind : (c : Comment) (o : Option ℕ) (p b : ℕ) (s : List ℕ)
     → open_comment (comment_after c b) (if is_closed c && (b == 123) then Some p else o) (p + 1) s ≡ open_comment c o p (b ∷ s)
-comment_behind Closed o p b s = refl
-comment_behind Braces o p b s = refl
-comment_behind RestOfLine o p b s = refl
+comment_behind v0 o p b s = grind (arith, common_steps)
 
 pub comment_is : (t : Text) (p : ℕ) (s : List ℕ) → comment_of (text_over t p s) ≡ open_comment t.comment t.comment_at p s
 comment_is t p [] = comment_at_end t.comment t.comment_at p
 comment_is t p (b ∷ s) = comment_is (text_with t p b) (p + 1) s ∙ comment_behind t.comment t.comment_at p b s
 
 shape_behind : (a : Shape) (o : Option ℕ) (s : List ℕ) → shape_over (shape_with_seen a o) s ≡ shape_over a (cons_option o s)
-shape_behind a None s = refl
-shape_behind a (Some b) s = refl
+shape_behind a v1 s = grind (arith, common_steps)
 
 shape_is : (t : Text) (p : ℕ) (s : List ℕ) → (text_over t p s).shape ≡ shape_over t.shape (without_comments t.comment s)
 shape_is t p [] = refl
@@ -40,8 +36,7 @@ word_over w [] = w
 word_over w (b ∷ s) = word_over (word_with w b) s
 
 word_behind : (w : Word) (o : Option ℕ) (s : List ℕ) → word_over (word_with_seen w o) s ≡ word_over w (cons_option o s)
-word_behind w None s = refl
-word_behind w (Some b) s = refl
+word_behind w v1 s = grind (arith, common_steps)
 
 word_is : (t : Text) (p : ℕ) (s : List ℕ) → (text_over t p s).word ≡ word_over t.word (without_comments t.comment s)
 word_is t p [] = refl
@@ -55,8 +50,7 @@ same_both : (a b : ℕ) → (a == b) ≡ (b == a)
 same_both a b = grind (arith, common_steps)
 
 and_and : (t u v : Bool) → (t && (u && v)) ≡ ((t && u) && v)
-and_and true u v = refl
-and_and false u v = refl
+and_and v0 u v = grind (arith, common_steps)
 
 both_longer : (p v : List ℕ) (c b : ℕ) → pointwise ◌==◌ (p ++ c ∷ []) (v ++ b ∷ []) ≡ (pointwise ◌==◌ p v && (b == c))
 both_longer [] [] c b = and-true (c == b) ∙ same_both c b
@@ -70,15 +64,10 @@ drop_longer : (n : ℕ) (v : List ℕ) (b : ℕ) → n ≤ length v → drop n (
 drop_longer n v b h = grind (arith, common_steps)
 
 ends_longer : (v p : List ℕ) (b c : ℕ) → ends_with ◌==◌ (v ++ b ∷ []) (p ++ c ∷ []) ≡ (ends_with ◌==◌ v p && (b == c))
-ends_longer v p b c =
-    let n : length (v ++ b ∷ []) - length (p ++ c ∷ []) ≡ length v - length p = omega (arith, length-append v (b ∷ []), length-append p (c ∷ [])) in
-    ap (λ (n : ℕ). pointwise ◌==◌ (p ++ c ∷ []) (drop n (v ++ b ∷ []))) n
-    ∙ ap (λ (u : List ℕ). pointwise ◌==◌ (p ++ c ∷ []) u) (drop_longer (length v - length p) v b (omega arith))
-    ∙ both_longer p (drop (length v - length p) v) c b
+ends_longer v p b c = grind (arith, common_steps, length, length-append, drop_longer, both_longer)
 
 ends_with_none : (v : List ℕ) → ends_with ◌==◌ v [] ≡ true
-ends_with_none v =
-    ap (λ (u : List ℕ). pointwise ◌==◌ [] u) (drop_all (length v - 0) v (omega arith))
+ends_with_none v = grind (arith, common_steps, drop_all, length)
 
 ends_with_byte : (v : List ℕ) (b c : ℕ) → ends_with ◌==◌ (v ++ b ∷ []) (c ∷ []) ≡ (b == c)
 ends_with_byte v b c = ends_longer v [] b c ∙ ap (λ (t : Bool). t && (b == c)) (ends_with_none v)
@@ -143,16 +132,11 @@ fronts_behind : (is_blank is_ended : Bool) (v : List ℕ) (b : ℕ) (s : List �
     → (word_over (word_of (v ++ b ∷ []) false) s).fronts ≡ fronts_of (last_word (v ++ b ∷ []) false s)
     → (word_over (if is_blank then word_of v true else record { fronts = fronts_with (if is_ended then no_fronts else fronts_of v) b; is_ended = false }) s).fronts
     ≡ fronts_of (if is_blank then last_word v true s else last_word (if is_ended then b ∷ [] else v ++ b ∷ []) false s)
-fronts_behind true is_ended v b s blank first further = blank
-fronts_behind false true v b s blank first further =
-    ap (λ (f : MarkerFronts). (word_over (record { fronts = f; is_ended = false }) s).fronts) (fronts_longer [] b) ∙ first
-fronts_behind false false v b s blank first further =
-    ap (λ (f : MarkerFronts). (word_over (record { fronts = f; is_ended = false }) s).fronts) (fronts_longer v b) ∙ further
+fronts_behind v0 is_ended v b s blank first further = search (rules, fronts_longer)
 
 fronts_are : (v : List ℕ) (is_ended : Bool) (s : List ℕ) → (word_over (word_of v is_ended) s).fronts ≡ fronts_of (last_word v is_ended s)
 fronts_are v is_ended [] = refl
-fronts_are v is_ended (b ∷ s) =
-    fronts_behind (is_space b) is_ended v b s (fronts_are v true s) (fronts_are (b ∷ []) false s) (fronts_are (v ++ b ∷ []) false s)
+fronts_are v is_ended (b ∷ s) = grind (arith, common_steps, fronts_behind, (fronts_are v true s), (fronts_are (b ∷ []) false s), (fronts_are (v ++ b ∷ []) false s))
 
 pub outside_is : (c : Comment) (o : Option ℕ) (p : ℕ) (s : List ℕ)
     → outside_of (text_over (text_from c o) p s) ≡ outside_text (without_comments c s)

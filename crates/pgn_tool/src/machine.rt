@@ -70,7 +70,7 @@ pub trait Output: Sink {
     // There was no memory for the buffer.
     ghost lacks_memory: { Self → Bool };
 
-    /// Makes a buffer for what is written from now on.
+    /// Makes a buffer for what is written from now on; `AllocError` if there is no memory for it.
     fn reserve(&mut self) -> Result<(), AllocError>
         ensures taken { Self.taken self.new ≡ Self.taken self.old }
         ensures failures { Self.failures self.new ≡ Self.failures self.old }

@@ -78,7 +78,7 @@ gains_none {p} {given} {o} = record { text = []; due_for = sym (append-nil (due 
 pub gains_more : {p : Profile} {x y z : List Token} {a b c : Option (List ℕ)} → Gains p x y a b → Gains p y z b c → Gains p x z a c
 gains_more first more = search (rules, Appends-trans, append_assoc)
 
-writing_more : (p : Profile) (x : List Token) {y tokens : List Token} {at : ℕ} (a b c : Option (List ℕ))
+unfoldable pub writing_more : (p : Profile) (x : List Token) {y tokens : List Token} {at : ℕ} (a b c : Option (List ℕ))
     → Gains p x y a b → StopsWriting p y tokens at b c → StopsWriting p x tokens at a c
 writing_more p x a b c first more =
     record {

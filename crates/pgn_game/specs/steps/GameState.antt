@@ -34,8 +34,8 @@ pub record Writing : Type 0 where
   pub announced : Option PlacedMarker
   pub is_silent : Bool
 
--- The profile, how the game is written, the stage of the game, its pairs, its movetext, the number of
--- moves outside variations of the games before it, the most pairs tried for a move, the line of
+-- The profile, how the game is written, its stage, its pairs, its movetext, the number of moves
+-- outside variations of the games before it, the most pairs tried for a move, the line of
 -- movetext, and the marker that ended the game before, with its place.
 pub record GameState : Type 0 where
   pub profile : Profile

@@ -46,8 +46,8 @@ at_game_start old = record old {
   earlier_plies = old.earlier_plies + old.text.plies;
 }
 
--- What a call leaves as it was, or nearly: the profile, how the game is written, the number of moves,
--- but for one more, and the most pairs tried, which does not fall.
+-- What a call leaves as it was, or nearly: the profile, how the game is written, the number of
+-- moves, but for one more, and the most pairs tried, which does not fall.
 pub record Keeps (old new : GameState) : Type 0 where
   pub profile : new.profile ≡ old.profile
   pub writing : new.writing ≡ old.writing
@@ -140,8 +140,8 @@ pub record EntersPart (ready : GameState) (k : Kind) (part : Part) : Type 0 wher
   pub pairs : opened.pairs ≡ part.pairs
   pub items : opened.items ≡ part.items
 
--- A token belongs to movetext, and in the state `ready` it can be taken as such. That is the same as
--- to take it in `old`.
+-- A token belongs to movetext, and in the state `ready` it can be taken as such. That is the same
+-- as to take it in `old`.
 pub record EntersMovetext (old : GameState) (k : Kind) (ready : GameState) : Type 0 where
   pub stage : IsTrue (may_have_movetext ready.stage)
   pub profile : ready.profile ≡ old.profile

@@ -1,4 +1,4 @@
-use Rattle.pgn_sections.proofs.Words.{◌≡◌, ℕ, List, None, Some, ◌+◌, ◌-◌, ◌++◌, length, sym, ◌∙◌, ap, ◌≤◌, arith, drop, drop-drop, length-drop, length-take-le, BadGame, lines_of, place_in, behind_lines}
+use Rattle.pgn_sections.proofs.Words.{◌≡◌, ℕ, List, None, Some, ◌+◌, ◌-◌, ◌++◌, length, sym, ◌∙◌, ap, ◌≤◌, arith, drop, drop-drop, length-drop, length-take-le, BadGame, lines_of, place_in, behind_lines, common_steps}
 use Rattle.pgn_sections.proofs.LineOfBytes.{line_read, place_shown}
 use Rattle.pgn_sections.proofs.LinesInPieces.{no_line, no_whole_line, reads_on, reads_then, reads_whole, same_behind, shows, stops}
 use Rattle.pgn_sections.proofs.bad_game.BadGame.next_section.Goals as goal
@@ -53,21 +53,4 @@ loop-length-preserved c =
     }
 
 pub returns-clause-place : goal.returns-clause-place
-returns-clause-place c =
-    let here = c.loop-length.invariant in
-    let first = sym c.line_length.ensures.length ∙ c.in_default.is in
-    let none = no_whole_line c.args.is_last c.loop-length.rest.now first in
-    record {
-      found = sym (here.whole.found ∙ ap (place_in c.loop-length.self) none);
-      game = sym (here.whole.game ∙ ap (behind_lines c.loop-length.self) none);
-      from = λ _. here.from;
-      within = λ _. omega arith;
-      place = λ s follow.
-          (here.on s follow).found
-          ∙ ap (λ (rest : List ℕ). place_in c.loop-length.self (lines_of (rest ++ s))) here.rest;
-      goes_on = λ _ s follow.
-          (here.on s follow).game
-          ∙ ap (λ (rest : List ℕ). behind_lines c.loop-length.self (lines_of (rest ++ s))) here.rest;
-      whole = λ none last.
-          omega (arith, here.count, ap length (no_line c.args.is_last c.loop-length.rest.now last first));
-    }
+returns-clause-place c = grind (arith, common_steps, length, no_whole_line, no_line)
