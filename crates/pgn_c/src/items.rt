@@ -174,11 +174,11 @@ pub fn write_items(
     let mut source = SliceSource {
         left: &text[from..],
     };
-    write_game(&mut items, &mut source, first, fields, buffer)
+    write_items_to_marker(&mut items, &mut source, first, fields, buffer)
 }
 
 // Writes the items up to a marker.
-fn write_game(
+fn write_items_to_marker(
     items: &mut Items<TAGS, LEVELS>,
     source: &mut SliceSource<'_>,
     first: u64,

@@ -55,14 +55,14 @@ pub fn list_games<R: Source, O: Sink>(source: &mut R, out: &mut O) -> Result<(),
             Ok(false) => return Ok(()),
             Err(fault) => return Err(Stopped::Refused(fault)),
         }
-        if let Err(WriteFault) = write_game(&games, out) {
+        if let Err(WriteFault) = list_game(&games, out) {
             return Err(Stopped::Unwritten);
         }
     }
 }
 
 // Writes the line of the game just finished, or nothing if there is none.
-fn write_game<O: Sink>(games: &Lister, out: &mut O) -> Result<(), WriteFault>
+fn list_game<O: Sink>(games: &Lister, out: &mut O) -> Result<(), WriteFault>
     ensures written { Writes (O.taken out.old) (O.taken out.new) result
         (line_just_finished games.now.converter) }
     ensures failures { Counts result (O.failures out.old) (O.failures out.new) }

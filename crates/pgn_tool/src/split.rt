@@ -78,12 +78,12 @@ fn split_game<R: Source, F: GameFiles>(
         (device R.left R.failures source.old source.new)
         (F.log files.old) (F.log files.new) result }
 {
-    let (_, result) = write_game::<Brand, R, F>(games, source, files);
+    let (_, result) = write_to_file::<Brand, R, F>(games, source, files);
     result
 }
 
 // Writes the next game to a file of its own. Gives back the files that were borrowed for it.
-fn write_game<'a, K: GameBefore, R: Source, F: GameFiles>(
+fn write_to_file<'a, K: GameBefore, R: Source, F: GameFiles>(
     games: &mut Splitter,
     source: &mut R,
     files: &'a mut F,

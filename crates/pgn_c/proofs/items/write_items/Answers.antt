@@ -17,9 +17,9 @@ returns c =
       ];
       writes = λ within short.
           let rest = take_rest text from in
-          subst (λ (column : Bool). WritesItems c.args.fields (white_space from column ++ drop from text) c.args.first c.args.buffer.now c.write_game.new.buffer c.write_game.result)
+          subst (λ (column : Bool). WritesItems c.args.fields (white_space from column ++ drop from text) c.args.first c.args.buffer.now c.write_items_to_marker.new.buffer c.write_items_to_marker.result)
           c.is_first_column.ensures
-          (subst (λ (xs : List ℕ). WritesItems c.args.fields (white_space from first ++ xs) c.args.first c.args.buffer.now c.write_game.new.buffer c.write_game.result) rest
-          (c.write_game.ensures (white_space from first) (c.begin_at-items.ensures.begins _)
+          (subst (λ (xs : List ℕ). WritesItems c.args.fields (white_space from first ++ xs) c.args.first c.args.buffer.now c.write_items_to_marker.new.buffer c.write_items_to_marker.result) rest
+          (c.write_items_to_marker.ensures (white_space from first) (c.begin_at-items.ensures.begins _)
           (omega (arith, short, length_from text from first within, ap (λ (xs : List ℕ). length (white_space from first ++ xs)) rest))));
     }

@@ -35,13 +35,13 @@ returns-in-Err-clause-lists g c =
     (silently (λ (d : Device). CountsResult {A = Bool} (Err c.in-Err.fault) source d) _ nowhere c.loop-fault.invariant.silent
     (c.in-Err.ensures.counted c.loop-fault.invariant.fault))
 
-pub returns-in-Err-write_game-clause-lists : goal.returns-in-Err-write_game-clause-lists
-returns-in-Err-write_game-clause-lists g c =
+pub returns-in-Err-list_game-clause-lists : goal.returns-in-Err-list_game-clause-lists
+returns-in-Err-list_game-clause-lists g c =
     let so = c.loop-fault.invariant.read in
     let source = device g.R.Source.left g.R.Source.failures c.loop-fault.source c.next.new.source in
     let next = silently (λ (d : Device). ReadsNext c.loop-fault.games c.next.new.self (Ok true) source d) _ nowhere
     c.loop-fault.invariant.silent (rw c.in-Ok-true.field-0-test at c.in-Ok-true.ensures.reads) in
-    game_cut _ _ _ c.loop-fault.games c.next.new.self _ _ so (next _ _ _ so.have_read) _ c.in-Err-write_game.ensures.written
+    game_cut _ _ _ c.loop-fault.games c.next.new.self _ _ so (next _ _ _ so.have_read) _ c.in-Err-list_game.ensures.written
 
 pub loop-fault-preserved : goal.loop-fault-preserved
 loop-fault-preserved g c =

@@ -1,6 +1,6 @@
 use Rattle.pgn_tool.proofs.Words.{◌∙◌, ap, decimal}
 use Rattle.pgn_tool.proofs.runs.PartsOfText.{line_told}
-use Rattle.pgn_tool.proofs.list.write_game.Goals as goal
+use Rattle.pgn_tool.proofs.list.list_game.Goals as goal
 
 pub returns-clause-written : goal.returns-clause-written
 returns-clause-written g c =

@@ -1,6 +1,6 @@
 use Rattle.pgn_game.specs.public.ItemsCalls.{items_ahead}
 use Rattle.pgn_c.specs.ItemSteps.{WritesSoFar}
-use Rattle.pgn_c.proofs.items.write_game.Given as goal
+use Rattle.pgn_c.proofs.items.write_items_to_marker.Given as goal
 
 abbrev pub invariant-loop-fault : goal.invariant-loop-fault
 invariant-loop-fault l = WritesSoFar l.fn.fields l.fn.first l.fn.items l.fn.source.left.now l.fn.buffer l.buffer l.items l.source.left.now l.lines

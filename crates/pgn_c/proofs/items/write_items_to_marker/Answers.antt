@@ -3,7 +3,7 @@ use Rattle.pgn_game.specs.public.ItemsCalls.{GivesItem}
 use Rattle.pgn_game.specs.declared.mode.Mode.TheVariants.{Full}
 use Rattle.pgn_c.specs.Results.{profile_in}
 use Rattle.pgn_c.proofs.ItemsGiven.{all_given_written, buffer_full, fault_written, game_written, more, room_after}
-use Rattle.pgn_c.proofs.items.write_game.Goals as goal
+use Rattle.pgn_c.proofs.items.write_items_to_marker.Goals as goal
 
 pub returns-in-Err : goal.returns-in-Err
 returns-in-Err c u have short =

@@ -1,5 +1,5 @@
 use Rattle.pgn_tool.proofs.Words.{rules, Bool, Device, FileStep, GameFile, List, NotMade, Option, None, Some, bytes_in, failures_in, added, ap, append_assoc, ◌∙◌, ◌++◌, ◌≡◌, ℕ, device, false, subst, ReadsNext, seen, file_sink, CountsResult}
-use Rattle.pgn_tool.proofs.split.write_game.Goals as goal
+use Rattle.pgn_tool.proofs.split.write_to_file.Goals as goal
 
 -- the sink of games that are written, as it is
 openly : (P : Device → Type 0) (silent : Bool) (d e : Device) → silent ≡ false → d ≡ e → P (seen silent d) → P e
