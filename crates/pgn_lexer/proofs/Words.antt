@@ -33,7 +33,7 @@ pub use Rattle.pgn_lexer.specs.Class.{Class, Single, Alone, Dollar, LineEnd, Ope
 pub use Rattle.pgn_lexer.specs.CommentClass.{CommentClass}
 pub use Rattle.pgn_lexer.specs.declared.class.Set.{Set}
 pub use Rattle.pgn_lexer.specs.StringClass.{StringClass}
-pub use Rattle.pgn_lexer.specs.declared.partial_token.Close.{Close}
+pub use Rattle.pgn_lexer.specs.declared.partial_token.CommentEnd.{CommentEnd}
 pub use Rattle.pgn_lexer.specs.declared.partial_token.LexMode.{LexMode}
 pub use Rattle.pgn_lexer.specs.declared.partial_token.LexMode.TheVariants.{AfterBackslash, Failed, LineStart, Outside, Start, Glyph}
 pub use Rattle.pgn_lexer.specs.declared.partial_token.ByteResult.{ByteResult}

@@ -4,8 +4,8 @@ use Rattle.pgn_lexer.specs.Class.{Class}
 use Rattle.pgn_lexer.specs.Class as classes
 use Rattle.pgn_lexer.specs.CommentClass.{CommentClass}
 use Rattle.pgn_lexer.specs.CommentClass as comment_classes
-use Rattle.pgn_lexer.specs.declared.partial_token.Close.{Close}
-use Rattle.pgn_lexer.specs.declared.partial_token.Close.TheVariants as closes
+use Rattle.pgn_lexer.specs.declared.partial_token.CommentEnd.{CommentEnd}
+use Rattle.pgn_lexer.specs.declared.partial_token.CommentEnd.TheVariants as closes
 use Rattle.pgn_lexer.specs.declared.partial_token.LexMode.TheVariants.{LineStart, Outside, Comment}
 use Rattle.pgn_lexer.specs.declared.partial_token.Sign.TheVariants as signs
 use Rattle.pgn_lexer.specs.declared.partial_token.Text.TheVariants as texts
@@ -33,7 +33,7 @@ begins_outside (classes.Alone classes.Asterisk) = Alone signs.Asterisk Outside
 begins_outside (classes.Refused reason) = Refused reason
 
 -- between the words of a comment
-abbrev pub begins_in_comment : Close → CommentClass → Begins
+abbrev pub begins_in_comment : CommentEnd → CommentClass → Begins
 begins_in_comment closes.Brace comment_classes.CloseBrace = Alone signs.CommentClose Outside
 begins_in_comment closes.LineEnd comment_classes.LineEnd = Alone signs.CommentClose LineStart
 begins_in_comment closes.LineEnd comment_classes.CloseBrace = Refused BraceInLineComment

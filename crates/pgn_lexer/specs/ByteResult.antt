@@ -10,7 +10,7 @@ use Rattle.pgn_lexer.specs.StringClass.{StringClass}
 use Rattle.pgn_lexer.specs.StringClass as string_classes
 use Rattle.pgn_lexer.specs.declared.partial_token.LexMode.{LexMode}
 use Rattle.pgn_lexer.specs.declared.partial_token.LexMode.TheVariants.{Start, AfterEf, AfterEfBb, LineStart, Outside, EscapeLine, Text, AfterBackslash, Dollar, Glyph, Comment, Failed}
-use Rattle.pgn_lexer.specs.declared.partial_token.Close.TheVariants as closes
+use Rattle.pgn_lexer.specs.declared.partial_token.CommentEnd.TheVariants as closes
 use Rattle.pgn_lexer.specs.declared.partial_token.Text.{Text as TextKind}
 use Rattle.pgn_lexer.specs.declared.partial_token.Text.TheVariants as texts
 use Rattle.pgn_lexer.specs.declared.partial_token.TokenForm.TheVariants as token_forms

@@ -184,7 +184,7 @@ impl Lexer {
     pub fn finish(&mut self) -> Outcome<'_>
         ensures* after { sem 𝓛 (Leaves self.entry (λ new. Finishes self.old new (scanned result))) }
     {
-        match self.partial.close(self.count) {
+        match self.partial.end_text(self.count) {
             ByteResult::Used => Outcome::Token(Token {
                 at: self.count,
                 kind: TokenKind::End,

@@ -26,7 +26,7 @@ const LONGEST_SUFFIX: usize = 2;
 
 /// What ends a comment (PGN 5).
 #[derive(Clone, Copy)]
-pub(crate) enum Close {
+pub(crate) enum CommentEnd {
     Brace,
     LineEnd,
 }
@@ -39,7 +39,7 @@ pub(crate) enum Text {
     /// A run of `!` and `?`.
     Suffix,
     /// A word of a comment that ends so.
-    Word(Close),
+    Word(CommentEnd),
 }
 
 /// What the next byte is inside of.
@@ -65,7 +65,7 @@ pub(crate) enum LexMode {
     /// After digits, of this value, after a dollar sign.
     Glyph(u8),
     /// Between the words of a comment that ends so.
-    Comment(Close),
+    Comment(CommentEnd),
     /// The text is rejected for this reason. The place of the fault is that of the partial token.
     Failed(LexReason),
 }

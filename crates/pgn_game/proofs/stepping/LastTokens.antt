@@ -1,6 +1,6 @@
 -- The tokens that a lexer has left at the end of the input: they finish at most one game, and if
 -- they pass, they leave none begun.
-use Rattle.pgn_lexer.specs.declared.partial_token.Close.TheVariants as closes
+use Rattle.pgn_lexer.specs.declared.partial_token.CommentEnd.TheVariants as closes
 use Rattle.pgn_lexer.specs.declared.partial_token.LexMode.{LexMode}
 use Rattle.pgn_lexer.specs.declared.partial_token.LexMode.TheVariants as modes
 use Rattle.pgn_lexer.specs.declared.partial_token.Text.TheVariants as texts

@@ -1,5 +1,5 @@
 -- How a text is cut, and its tokens.
-use Rattle.pgn_lexer.proofs.Words.{Close, ◌≡◌, ℕ, ◌+◌, ◌<◌, ◌≤◌, Bool, true, false, List, [], ◌∷◌, ◌++◌, length, refl, sym, ap, ◌∙◌, append-nil, append_assoc, arith, length-append, ◌||◌, not, take_while, false≢true, LexReason, ControlByte, BadSuffix, Class, CommentClass, is_line_end, is_space, is_control, is_digit, starts_symbol, continues_symbol, is_suffix, continues_word, Kind, Token, class, comment_class, symbol_at, word_at, glyph_at, suffix_at, Within, begins_class, begins_brace, begins_line, after_class, after_brace, after_line, onto, tokens_from, StopsAt, IsRun, IsSingle, IsSuffix, SpellsToken, Refuses, Where, Cuts, both_true, string_at, reading, with_front, Data, or_cases, and_parts, not-true, common_steps, outside, column, in_suffix, in_escape_line, line, quotes, begins_first, after_first, refused, comment_close, str, glyph, number_of, rules}
+use Rattle.pgn_lexer.proofs.Words.{CommentEnd, ◌≡◌, ℕ, ◌+◌, ◌<◌, ◌≤◌, Bool, true, false, List, [], ◌∷◌, ◌++◌, length, refl, sym, ap, ◌∙◌, append-nil, append_assoc, arith, length-append, ◌||◌, not, take_while, false≢true, LexReason, ControlByte, BadSuffix, Class, CommentClass, is_line_end, is_space, is_control, is_digit, starts_symbol, continues_symbol, is_suffix, continues_word, Kind, Token, class, comment_class, symbol_at, word_at, glyph_at, suffix_at, Within, begins_class, begins_brace, begins_line, after_class, after_brace, after_line, onto, tokens_from, StopsAt, IsRun, IsSingle, IsSuffix, SpellsToken, Refuses, Where, Cuts, both_true, string_at, reading, with_front, Data, or_cases, and_parts, not-true, common_steps, outside, column, in_suffix, in_escape_line, line, quotes, begins_first, after_first, refused, comment_close, str, glyph, number_of, rules}
 use Rattle.pgn_lexer.specs.Lexes as lexes
 use Rattle.pgn_lexer.proofs.stepping.RunOfBytes.{take_while-true, take_while-false, suffix_goes}
 use Rattle.pgn_lexer.proofs.bytes.ClassToTest.{stray_class, line_end_class, blank_class, line_end_comment, suffix_class, reserved_class, control_class, control_comment}
@@ -95,8 +95,8 @@ unfolding comment_tokens
 word_goes braces at b s h1 = grind arith
 
 word_stops : (braces : Bool) (at : ℕ) (s : List ℕ) → StopsAt continues_word s → tokens_from at (word_within braces) s ≡ inner braces at s
-word_stops true at s h1 = grind (arith, word_class, word_ends Close.Brace)
-word_stops false at s h1 = grind (arith, word_class, word_ends Close.LineEnd)
+word_stops true at s h1 = grind (arith, word_class, word_ends CommentEnd.Brace)
+word_stops false at s h1 = grind (arith, word_class, word_ends CommentEnd.LineEnd)
 
 letter_first : (braces : Bool) (at b : ℕ) (s : List ℕ) → continues_word b ≡ true
     → inner braces at (b ∷ s) ≡ onto at (word_at at (b ∷ take_while continues_word s)) (tokens_from (at + 1) (word_within braces) s)

@@ -1,5 +1,5 @@
 -- Each byte, and the end of the text, gives the tokens that come.
-use Rattle.pgn_lexer.proofs.Words.{◌≡◌, ◌⊎◌, inl, inr, ℕ, ◌<◌, ◌≤◌, List, [], ◌∷◌, length, refl, arith, Some, LexFault, Close, LexMode, LexReason, TokenForm, HasLength, end, PartialToken, IsSound, HasNotFailed, tokens_to_come, kind_in, kind_of_text, token_of, refusal, pending, fault_met, fault_in_mode, after_byte, after_byte_in, after_end, after_end_in, AfterByte, IsAfterByte, bytes_of, false, in_text, is_in, Text, ByteResult, Used, Ends, EndsBefore, Fault, common_steps}
+use Rattle.pgn_lexer.proofs.Words.{◌≡◌, ◌⊎◌, inl, inr, ℕ, ◌<◌, ◌≤◌, List, [], ◌∷◌, length, refl, arith, Some, LexFault, CommentEnd, LexMode, LexReason, TokenForm, HasLength, end, PartialToken, IsSound, HasNotFailed, tokens_to_come, kind_in, kind_of_text, token_of, refusal, pending, fault_met, fault_in_mode, after_byte, after_byte_in, after_end, after_end_in, AfterByte, IsAfterByte, bytes_of, false, in_text, is_in, Text, ByteResult, Used, Ends, EndsBefore, Fault, common_steps}
 use Rattle.pgn_lexer.proofs.stepping.StepGives.{Gives, GivesIn, front_of, holds}
 use Rattle.pgn_lexer.proofs.stepping.RunOfBytes.{run_closes}
 use Rattle.pgn_lexer.proofs.stepping.ByteOutside.{begin_gives, begin_line_gives, start_gives, escape_line_gives}
@@ -98,17 +98,17 @@ closes_token place h new answer form sound t (inr e) = rw e at (closes_gives pla
 
 -- a line feed does the same, but for these modes
 by_line_feed : (m : LexMode) (place : ℕ) (h : PartialToken) → (m ≡ LexMode.Start → ⊥) → (m ≡ LexMode.LineStart → ⊥) → (m ≡ LexMode.Outside → ⊥)
-    → (m ≡ LexMode.EscapeLine → ⊥) → ((close : Close) → m ≡ LexMode.Comment close → ⊥) → after_byte_in m place h 10 ≡ after_end_in m place h
+    → (m ≡ LexMode.EscapeLine → ⊥) → ((close : CommentEnd) → m ≡ LexMode.Comment close → ⊥) → after_byte_in m place h 10 ≡ after_end_in m place h
 by_line_feed m place h h1 h2 h3 h4 h5 = grind arith
 
 module _ (place : ℕ) (inside h new : PartialToken) (answer : ByteResult) (view_is : inside ≡ h) where
   pub takes_line_feed : (inside.mode ≡ LexMode.Start → ⊥) → (inside.mode ≡ LexMode.LineStart → ⊥) → (inside.mode ≡ LexMode.Outside → ⊥)
-      → (inside.mode ≡ LexMode.EscapeLine → ⊥) → ((close : Close) → inside.mode ≡ LexMode.Comment close → ⊥)
+      → (inside.mode ≡ LexMode.EscapeLine → ⊥) → ((close : CommentEnd) → inside.mode ≡ LexMode.Comment close → ⊥)
       → IsAfterByte (after_byte place h 10) new answer → IsAfterByte (after_end place h) new answer
   unfolding after_byte after_end
   takes_line_feed h1 h2 h3 h4 h5 t = rw (← view_is) (rw (← view_is, by_line_feed inside.mode place inside h1 h2 h3 h4 h5) at t)
 
-  pub takes_comment_end : (close : Close) → inside.mode ≡ LexMode.Comment close → close ≡ Close.LineEnd
+  pub takes_comment_end : (close : CommentEnd) → inside.mode ≡ LexMode.Comment close → close ≡ CommentEnd.LineEnd
       → IsAfterByte (after_byte place h 10) new answer → IsAfterByte (after_end place h) new answer
   unfolding after_byte after_end
   takes_comment_end close e line t = rw (← view_is, e, line) (rw (← view_is, e, line) at t)

@@ -2,7 +2,7 @@
 use Rattle.pgn_lexer.specs.declared.partial_token.LexMode.TheVariants.{Comment, Dollar}
 use Rattle.pgn_lexer.specs.PartialToken.{HasRoom}
 use Rattle.pgn_lexer.specs.RunResult.{RunGives}
-use Rattle.pgn_lexer.proofs.Words.{Begins, CommentClass, Fits, IsBetween, begins_outside, Close, Sign, begin_outside, begins_in_comment, before_last, comment_close, is_space, kind_of_sign, AfterBackslash, Text, bytes_of, longest_of, mode_behind, in_text, is_in, is_plain, length-append, is_escaped, ◌≡◌, Bool, ℕ, suc, ◌+◌, ◌-◌, ◌*◌, ◌<◌, ◌≤◌, inl, inr, List, [], ◌∷◌, ◌++◌, length, get_or, take, drop, refl, sym, ap, ◌∙◌, add-one, arith, ◌⊎◌, true, false, Some, take_all, drop-cons, LexFault, LexMode, LexReason, Class, StringClass, Outside, Failed, is_digit, class, comment_class, string_class, TokenForm, ByteResult, Used, Ends, EndsBefore, Fault, PartialToken, tokens_to_come, token_of, IsSound, HasNotFailed, pending, fault_met, fault_in_mode, begin, begin_line, string, after_byte, IsAfterByte, IsOutside, Ran, RunsOut, StoodAt, RunsToToken, RunsToFault, common_steps, Glyph}
+use Rattle.pgn_lexer.proofs.Words.{Begins, CommentClass, Fits, IsBetween, begins_outside, CommentEnd, Sign, begin_outside, begins_in_comment, before_last, comment_close, is_space, kind_of_sign, AfterBackslash, Text, bytes_of, longest_of, mode_behind, in_text, is_in, is_plain, length-append, is_escaped, ◌≡◌, Bool, ℕ, suc, ◌+◌, ◌-◌, ◌*◌, ◌<◌, ◌≤◌, inl, inr, List, [], ◌∷◌, ◌++◌, length, get_or, take, drop, refl, sym, ap, ◌∙◌, add-one, arith, ◌⊎◌, true, false, Some, take_all, drop-cons, LexFault, LexMode, LexReason, Class, StringClass, Outside, Failed, is_digit, class, comment_class, string_class, TokenForm, ByteResult, Used, Ends, EndsBefore, Fault, PartialToken, tokens_to_come, token_of, IsSound, HasNotFailed, pending, fault_met, fault_in_mode, begin, begin_line, string, after_byte, IsAfterByte, IsOutside, Ran, RunsOut, StoodAt, RunsToToken, RunsToFault, common_steps, Glyph}
 use Rattle.pgn_lexer.proofs.stepping.StepGives.{StepGives, front_of}
 use Rattle.pgn_lexer.proofs.stepping.ByteGives.{step_gives}
 use Rattle.pgn_lexer.proofs.stepping.ByteInString.{plain_class}
@@ -196,26 +196,26 @@ takes_glyph_end place b h new n e ends is = rw (e, ends) (record { held = is; st
 
 -- ---- in a comment
 
-pub takes_between : (l : Close) (place b : ℕ) (h new : PartialToken) (answer : ByteResult) (begun : Begins) → h.mode ≡ Comment l
+pub takes_between : (l : CommentEnd) (place b : ℕ) (h new : PartialToken) (answer : ByteResult) (begun : Begins) → h.mode ≡ Comment l
     → begins_in_comment l (comment_class b) ≡ begun → IsAfterByte (begin place h b begun) new answer → IsAfterByte (after_byte place h b) new answer
 unfolding after_byte
 takes_between l place b h new answer begun e is t = rw (e, is) t
 
 -- what begins there
-gap_of_class : (l : Close) (c : CommentClass) (m : LexMode) → begins_in_comment l c ≡ Begins.Gap m
+gap_of_class : (l : CommentEnd) (c : CommentClass) (m : LexMode) → begins_in_comment l c ≡ Begins.Gap m
     → (m ≡ Comment l) × ((c ≡ CommentClass.LineEnd) ⊎ (c ≡ CommentClass.Space))
 gap_of_class l c m is = grind arith
 
 space_of_class : (b : ℕ) → (comment_class b ≡ CommentClass.LineEnd) ⊎ (comment_class b ≡ CommentClass.Space) → is_space b ≡ true
 space_of_class b is = grind arith
 
-pub gap_begun : (l : Close) (b : ℕ) (m : LexMode) → begins_in_comment l (comment_class b) ≡ Begins.Gap m → (m ≡ Comment l) × (is_space b ≡ true)
+pub gap_begun : (l : CommentEnd) (b : ℕ) (m : LexMode) → begins_in_comment l (comment_class b) ≡ Begins.Gap m → (m ≡ Comment l) × (is_space b ≡ true)
 gap_begun l b m is = let of = gap_of_class l _ m is in (of.0, space_of_class b of.1)
 
-pub word_begun : (l : Close) (c : CommentClass) (t : Text) → begins_in_comment l c ≡ Begins.Text t → Text.Word l ≡ t
+pub word_begun : (l : CommentEnd) (c : CommentClass) (t : Text) → begins_in_comment l c ≡ Begins.Text t → Text.Word l ≡ t
 word_begun l c t is = grind arith
 
-pub close_begun : (l : Close) (c : CommentClass) (k : Sign) (m : LexMode) → begins_in_comment l c ≡ Begins.Alone k m
+pub close_begun : (l : CommentEnd) (c : CommentClass) (k : Sign) (m : LexMode) → begins_in_comment l c ≡ Begins.Alone k m
     → (kind_of_sign k ≡ comment_close) × IsBetween m
 close_begun l c k m is = grind arith
 

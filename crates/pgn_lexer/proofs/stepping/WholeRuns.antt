@@ -3,7 +3,7 @@ use Rattle.pgn_lexer.specs.Class as classes
 use Rattle.pgn_lexer.specs.Class.{Period}
 use Rattle.pgn_lexer.specs.declared.partial_token.LexMode.TheVariants as modes
 use Rattle.pgn_lexer.specs.Scanned.{token as token_scanned}
-use Rattle.pgn_lexer.proofs.Words.{Begins, Close, Sign, longer_number, if◌then◌else◌, leb-true, nat_le, IfSome, IsText, None, Option, Some, begin_outside, begins_in_comment, begins_outside, comment_class, kind_of_sign, ◌≡◌, Bool, ℕ, zero, suc, ◌+◌, ◌-◌, ◌*◌, ◌<◌, ◌≤◌, inl, inr, List, [], ◌∷◌, ◌++◌, length, get_or, take, drop, refl, sym, ap, subst, ◌∙◌, add-one, arith, true, false, take_all, length-take-le, LexMode, Class, LineEnd, Space, SymbolStart, Alone, LineStart, Outside, is_digit, is_space, class, str, glyph, Token, TokenForm, ByteResult, Ends, Kind, PartialToken, tokens_to_come, token_of, IsSound, HasNotFailed, begin_line, IsOutside, IsAfterByte, after_byte, Ran, RunsOut, RunsToToken, Standing, standing_at, Scans, IsRunIn, IsNumberIn, Set, Text, string_class, rules, take-suc, get_or-take, get_or-drop, length-drop, IsTrue, IsFalse, list_all, bytes_of, kind_of_text, longest_of, mode_behind, tokens_to_come_in, pending_in, IsBetween, IsWhole, Passes, ReadsBehind, is_passed, BeginsUnpassed, and_parts, eqb-true, none, over_space, over_token}
+use Rattle.pgn_lexer.proofs.Words.{Begins, CommentEnd, Sign, longer_number, if◌then◌else◌, leb-true, nat_le, IfSome, IsText, None, Option, Some, begin_outside, begins_in_comment, begins_outside, comment_class, kind_of_sign, ◌≡◌, Bool, ℕ, zero, suc, ◌+◌, ◌-◌, ◌*◌, ◌<◌, ◌≤◌, inl, inr, List, [], ◌∷◌, ◌++◌, length, get_or, take, drop, refl, sym, ap, subst, ◌∙◌, add-one, arith, true, false, take_all, length-take-le, LexMode, Class, LineEnd, Space, SymbolStart, Alone, LineStart, Outside, is_digit, is_space, class, str, glyph, Token, TokenForm, ByteResult, Ends, Kind, PartialToken, tokens_to_come, token_of, IsSound, HasNotFailed, begin_line, IsOutside, IsAfterByte, after_byte, Ran, RunsOut, RunsToToken, Standing, standing_at, Scans, IsRunIn, IsNumberIn, Set, Text, string_class, rules, take-suc, get_or-take, get_or-drop, length-drop, IsTrue, IsFalse, list_all, bytes_of, kind_of_text, longest_of, mode_behind, tokens_to_come_in, pending_in, IsBetween, IsWhole, Passes, ReadsBehind, is_passed, BeginsUnpassed, and_parts, eqb-true, none, over_space, over_token}
 use Rattle.pgn_lexer.proofs.bytes.ClassToTest.{ClassSays, class_says}
 use Rattle.pgn_lexer.proofs.stepping.PieceByByte.{ran_none, ran_uses, ran_ends, ran_ends_before, takes_outside, takes_more, takes_text_end, takes_quote, takes_dollar, takes_digit, takes_glyph_end, takes_between, gap_begun, word_begun, close_begun}
 use Rattle.pgn_lexer.proofs.stepping.ByteInText.{IsNoString}
@@ -33,7 +33,7 @@ outside_between m h = grind arith
 between_behind : (t : Text) → IsBetween (mode_behind t)
 between_behind t = grind arith
 
-comment_between : (l : Close) → IsBetween (LexMode.Comment l)
+comment_between : (l : CommentEnd) → IsBetween (LexMode.Comment l)
 comment_between l = grind arith
 
 module _ (place : ℕ) (old : PartialToken) (piece : List ℕ) (used : ℕ) (m : LexMode) (between : IsBetween m) (a b : ℕ) (x y : List ℕ)
@@ -152,7 +152,7 @@ module _ (place : ℕ) (old : PartialToken) (piece : List ℕ) where
     glyph_runs n number within ends ran =
         ran_ends_before place old piece _ n (get_or piece n 0) within refl ran (TokenForm.Glyph number) _ (takes_glyph_end _ _ _ _ number refl ends refl)
 
-  module _ (sound : IsSound place old) (l : Close) (in_comment : old.mode ≡ LexMode.Comment l) where
+  module _ (sound : IsSound place old) (l : CommentEnd) (in_comment : old.mode ≡ LexMode.Comment l) where
     at_start_comment : Ran place old piece old 0
     at_start_comment = grind (arith, comment_between, not_failed_between, place, ran_none, sound)
 
@@ -307,7 +307,7 @@ alone_unpassed c b k m is begins no_period = grind arith
 pub sound_outside : (place : ℕ) (h : PartialToken) → IsOutside h.mode → length h.text ≤ 255 → IsSound place h
 sound_outside place h outside room = sound_between h.mode (outside_between h.mode outside) place h.at h.text room
 
-pub sound_in_comment : (l : Close) (place : ℕ) (h : PartialToken) → h.mode ≡ LexMode.Comment l → length h.text ≤ 255 → IsSound place h
+pub sound_in_comment : (l : CommentEnd) (place : ℕ) (h : PartialToken) → h.mode ≡ LexMode.Comment l → length h.text ≤ 255 → IsSound place h
 sound_in_comment l place h in_comment room = sound_between h.mode (rw in_comment (comment_between l)) place h.at h.text room
 
 white_line_end : (b : ℕ) → class b ≡ LineEnd → is_space b ≡ true
@@ -415,7 +415,7 @@ module _ (skips : Bool) (before : Standing) (place : ℕ) (h : PartialToken) (pi
           over n _ Outside is.run.some (held_as (place + m) h rest _ Outside _ n tt (text_runs (place + m) h rest sound outside Text.Symbol tt SymbolStart n (rw (digit_starts (get_or rest 0 0) is.first) refl) refl refl (symbol_in rest n is)) h.at h.text room)
           skipped (all_digits n rest (digits_in rest n is))
 
-    module _ (l : Close) (in_comment : h.mode ≡ LexMode.Comment l) where
+    module _ (l : CommentEnd) (in_comment : h.mode ≡ LexMode.Comment l) where
       sound_there : IsSound (place + m) h
       sound_there = sound_in_comment l (place + m) h in_comment room
 

@@ -5,7 +5,7 @@ ghost use Rattle.pgn_lexer.specs.Begins as spec;
 ghost use Rattle.pgn_lexer.specs.Spelling as spelling;
 
 use crate::class::{Set, is_in};
-use crate::partial_token::{Close, LexMode, Sign, Text};
+use crate::partial_token::{CommentEnd, LexMode, Sign, Text};
 use crate::token::LexReason;
 
 /// What a byte between tokens begins.
@@ -39,8 +39,8 @@ pub(crate) fn begins_outside(byte: u8) -> Begins
         b'!' | b'?' => Begins::Text(Text::Suffix),
         b'"' => Begins::Str,
         b'$' => Begins::Dollar,
-        b'{' => Begins::Alone(Sign::CommentOpen, LexMode::Comment(Close::Brace)),
-        b';' => Begins::Alone(Sign::CommentOpen, LexMode::Comment(Close::LineEnd)),
+        b'{' => Begins::Alone(Sign::CommentOpen, LexMode::Comment(CommentEnd::Brace)),
+        b';' => Begins::Alone(Sign::CommentOpen, LexMode::Comment(CommentEnd::LineEnd)),
         b'[' => Begins::Alone(Sign::LeftBracket, LexMode::Outside),
         b']' => Begins::Alone(Sign::RightBracket, LexMode::Outside),
         b'(' => Begins::Alone(Sign::LeftParen, LexMode::Outside),
@@ -55,15 +55,15 @@ pub(crate) fn begins_outside(byte: u8) -> Begins
 
 /// What the byte begins in a comment that ends so.
 #[inline(always)]
-pub(crate) fn begins_in_comment(byte: u8, close: Close) -> Begins
+pub(crate) fn begins_in_comment(byte: u8, close: CommentEnd) -> Begins
     ensures { result ≡ spec.begins_in_comment close (spelling.comment_class byte) }
 {
     if is_in(byte, Set::Word) {
         return Begins::Text(Text::Word(close));
     }
     match close {
-        Close::Brace if byte == b'}' => Begins::Alone(Sign::CommentClose, LexMode::Outside),
-        Close::LineEnd if is_in(byte, Set::LineEnd) => Begins::Alone(
+        CommentEnd::Brace if byte == b'}' => Begins::Alone(Sign::CommentClose, LexMode::Outside),
+        CommentEnd::LineEnd if is_in(byte, Set::LineEnd) => Begins::Alone(
             Sign::CommentClose,
             LexMode::LineStart,
         ),

@@ -7,7 +7,7 @@ ghost use Rattle.pgn_lexer.specs.StringClass as string_classes;
 use crate::class::{Set, is_escaped, is_in};
 use crate::partial_token::begins::{Begins, begins_in_comment, begins_outside};
 use crate::partial_token::{
-    ByteResult, Close, LexMode, PartialToken, Text, TokenForm, clear, longer_number,
+    ByteResult, CommentEnd, LexMode, PartialToken, Text, TokenForm, clear, longer_number,
 };
 use crate::token::LexReason;
 
@@ -51,13 +51,13 @@ impl PartialToken {
     /// Ends the text at the place: gives a token that is left, after which there may be more, or
     /// the end. It ends a token as a line feed does.
     #[tactic(auto, unfolding(crate::specs::ByteResult::after_end))]
-    pub(crate) fn close(&mut self, place: u64) -> ByteResult
+    pub(crate) fn end_text(&mut self, place: u64) -> ByteResult
         ensures { IsAfterByte (byte_result.after_end place self.old) self.new result }
     {
         match self.mode {
             LexMode::Start | LexMode::LineStart | LexMode::Outside | LexMode::EscapeLine =>
                 ByteResult::Used,
-            LexMode::Comment(Close::Brace) => self.fail(place, LexReason::UnclosedComment),
+            LexMode::Comment(CommentEnd::Brace) => self.fail(place, LexReason::UnclosedComment),
             _ => self.take(b'\n', place),
         }
     }

@@ -12,7 +12,7 @@ ghost use Rattle.pgn_lexer.specs.declared.partial_token.begins.Begins.TheVariant
 
 use crate::class::{Set, is_in, run_length};
 use crate::partial_token::begins::{Begins, begins_in_comment, begins_outside};
-use crate::partial_token::{Close, LONGEST_TEXT, LexMode, PartialToken, Text, longer_number};
+use crate::partial_token::{CommentEnd, LONGEST_TEXT, LexMode, PartialToken, Text, longer_number};
 use crate::token::{Token, TokenKind};
 
 /// No byte of white space, of a number or of a period is above this one.
@@ -50,8 +50,16 @@ impl PartialToken {
                 skips_numbers,
             ),
             // Each of the two loops knows its closing byte.
-            LexMode::Comment(Close::Brace) => self.whole_in_comment(piece, place, Close::Brace),
-            LexMode::Comment(Close::LineEnd) => self.whole_in_comment(piece, place, Close::LineEnd),
+            LexMode::Comment(CommentEnd::Brace) => self.whole_in_comment(
+                piece,
+                place,
+                CommentEnd::Brace,
+            ),
+            LexMode::Comment(CommentEnd::LineEnd) => self.whole_in_comment(
+                piece,
+                place,
+                CommentEnd::LineEnd,
+            ),
             _ => (0, None),
         }
     }
@@ -130,7 +138,7 @@ impl PartialToken {
         &mut self,
         piece: &'a [u8],
         place: u64,
-        close: Close,
+        close: CommentEnd,
     ) -> (usize, Option<Token<'a>>)
         requires room { place + length piece.now ≤ 2 ^ 62 }
         requires sound { IsSound place self.old }

@@ -10,7 +10,7 @@ invariant_of-self c =
 
 pub invariant_of-self-in-Ends : goal.invariant_of-self-in-Ends
 invariant_of-self-in-Ends c =
-    let h = closes_token _ _ _ _ c.in-Ends.form c.self.invariant c.close.ensures c.in-Ends.is in h.sound
+    let h = closes_token _ _ _ _ c.in-Ends.form c.self.invariant c.end_text.ensures c.in-Ends.is in h.sound
 
 pub invariant_of-self-in-Fault : goal.invariant_of-self-in-Fault
 invariant_of-self-in-Fault c =
@@ -23,7 +23,7 @@ returns-in-Used c =
 
 pub returns-in-Ends : goal.returns-in-Ends
 returns-in-Ends c =
-    let h = closes_token _ _ _ _ c.in-Ends.form c.self.invariant c.close.ensures c.in-Ends.is in
+    let h = closes_token _ _ _ _ c.in-Ends.form c.self.invariant c.end_text.ensures c.in-Ends.is in
     ((refl, λ _. tt, finishes_of _ _ _ _ c.self.view_is (finishes_token _ _ _ _ _ c.token.ensures.at c.token.ensures.kind h)), record { after = tt })
 
 pub returns-in-Fault : goal.returns-in-Fault

@@ -1,7 +1,7 @@
 use Rattle.pgn_lexer.proofs.Words.{rules}
 use Rattle.pgn_lexer.proofs.stepping.ByteGives.{takes_comment_end, takes_line_feed}
-use Rattle.pgn_lexer.proofs.partial_token.PartialToken.close.Goals.{in_default-via-in-Comment+in_default, in_default-via-in_default}
-use Rattle.pgn_lexer.proofs.partial_token.PartialToken.close.Goals as goal
+use Rattle.pgn_lexer.proofs.partial_token.PartialToken.end_text.Goals.{in_default-via-in-Comment+in_default, in_default-via-in_default}
+use Rattle.pgn_lexer.proofs.partial_token.PartialToken.end_text.Goals as goal
 
 pub returns-in_default : goal.returns-in_default
 returns-in_default c =
