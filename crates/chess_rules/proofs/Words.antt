@@ -42,7 +42,7 @@ pub use Rattle.std.proofs.lemmas.Bool.{and_from, false_from_ne_true, false≢tru
 pub use Rattle.std.proofs.lemmas.Bool.Decides.{nat_tests}
 pub use Rattle.std.proofs.lemmas.Cmp.{nat_eq_equiv}
 pub use Rattle.std.proofs.lemmas.Grind.{get_or-set_at, common_steps}
-pub use Rattle.std.proofs.lemmas.List.{ext_get_or, get_or-set_other, get_or-set_same, take_all, take_more, take_more_set, drop-drop, length-drop, length-replicate, length-take, length-take-le, replicate-append-replicate, take-append-drop, take_at}
+pub use Rattle.std.proofs.lemmas.List.{ext_get_or, get_or-set_other, get_or-set_same, take_all, take_more, take_more_set, drop-drop, length-drop, length-replicate, length-take, length-take-le, replicate-append-replicate, take-append-drop, take_at, get_or-map, length-map, map-append}
 pub use Rattle.std.proofs.lemmas.List.Folds.{fold-map, list_all-append, list_any-append, list_any_at}
 pub use Rattle.std.proofs.lemmas.List.FromFn.{get_or-map-range_with_len, get_or-range_with_len, length-map-range_with_len, length-range_with_len}
 pub use Rattle.std.proofs.lemmas.List.Quantifiers.{position-Some}
@@ -56,6 +56,8 @@ pub use Rattle.std.specs.Cmp.{IsEquivalence}
 pub use Rattle.std.specs.Int.{bit_at, bit_not, leading_zeros, trailing_zeros}
 pub use Rattle.std.specs.List.{AllByRecursion, cons_option, filter, filter_map, flat_map, list_all, list_any, position_or_len, range_with_len, sum_by}
 unfoldable pub use Rattle.std.specs.List.{IsDistinct}
-pub use Rattle.std.specs.Prelude.{AllPairs, IfSome, count_by, if◌then◌else◌, is_none, is_some, nat_le, nat_lt, option_map, position, unwrap_or, ◌==◌}
+pub use Rattle.std.specs.Prelude.{AllPairs, IfSome, count_by, if◌then◌else◌, is_none, is_some, nat_le, nat_lt, option_map, position, unwrap_or, ◌==◌, Contains, ◌↔◌}
 pub use Rattle.chess_rules.specs.RankNumbers.{bytes_of_bits, bytes_of_runs, number_of_piece, numbers, word_of_bytes}
 pub use Rattle.std.specs.Int.Bits.{bit_and, bit_or}
+pub use Rattle.chess_rules.specs.declared.board.Board.TheInside.{Inside}
+pub use Rattle.std.proofs.lemmas.List.Elements.{filter_map-append, Contains-append_left, Contains-append_right}

@@ -3,7 +3,7 @@ pub use Rattle.std.proofs.Common.{Bool, List, [], add-one, ap, append-nil, appen
 pub use Rattle.std.proofs.lemmas.Bool.{and_from, and_left, and_parts, and_right, both_ways, cases_Bool, cases_lt, eq-eqb, eqb-true, cases_eq, leb-true, false_from_ne_true, false≢true, lt-ltb, ltb-true, not-false, not-true, or_cases, or_from, or_parts, or_right}
 pub use Rattle.std.proofs.lemmas.Bool.Decides.{nat_tests}
 pub use Rattle.std.proofs.lemmas.Fmt.{decimal_nonempty, digits_decimal, digits_value-decimal, length-decimal-le}
-pub use Rattle.std.proofs.lemmas.List.{append_cancel_left, drop_all, get_or-map, length-map, length-reverse, length-take, map-append, replicate_more, reverse-append, reverse-reverse, take-append-drop, take-replicate, take-take, take_all, take_more, take_more_set, take_rest, ext_get_or, get_or-replicate, get_or-set_other, length-replicate, replicate-append-replicate, take-set, take_at}
+pub use Rattle.std.proofs.lemmas.List.{append_cancel_left, drop_all, get_or-map, length-map, length-reverse, length-take, map-append, replicate_more, reverse-append, reverse-reverse, take-append-drop, take-replicate, take-take, take_all, take_more, take_more_set, take_rest, ext_get_or, get_or-replicate, get_or-set_other, length-replicate, replicate-append-replicate, take-set, take_at, take-append-le, length-set}
 pub use Rattle.std.proofs.lemmas.List.Concat.{flat_map-append}
 pub use Rattle.std.proofs.lemmas.List.Elements.{All-weaker, Contains-append_left, Contains-append_right, filter_map-append, filter_passes}
 pub use Rattle.std.proofs.lemmas.List.Folds.{Any-from_list_any, length-flat_map-take, list_all-append, list_all_at, list_any_at, list_any_more}
@@ -18,7 +18,7 @@ pub use Rattle.std.specs.Int.{abs_diff}
 pub use Rattle.std.specs.List.{All, Any, Contains, after_first, before_first, cons_option, filter, filter_map, join_with_byte, list_all, list_any, refill, onto_first, position_or_len, prefix_len, range_with_len, slice_split}
 pub use Rattle.std.specs.List.Sorted.{IsPermutation}
 pub use Rattle.std.specs.Option.{ok_or, option_to_list}
-pub use Rattle.std.specs.Prelude.{Err, IfSome, IsTrue, None, Ok, Option, Result, Some, bytes_eq, codes, count_by, decimal, find, flat_map, fold, if◌then◌else◌, is_err, is_none, is_ok, is_some, nat_lt, option_map, slice_index_or, slice_set, sum_by, ◌==◌, ◌↔◌, IfOk}
+pub use Rattle.std.specs.Prelude.{Err, IfSome, IsTrue, None, Ok, Option, Result, Some, bytes_eq, codes, count_by, decimal, find, flat_map, fold, if◌then◌else◌, is_err, is_none, is_ok, is_some, nat_lt, option_map, slice_index_or, slice_set, sum_by, ◌==◌, ◌↔◌, IfOk, IsOk}
 pub use Rattle.std.specs.Result.{OnOk}
 pub use Rattle.chess_rules.specs.Attacks.{attacks, cell_attacks, is_ahead}
 pub use Rattle.chess_rules.specs.Board.{Board, at, has_colour, has_piece, is_empty, other, same_kind}
@@ -28,7 +28,7 @@ pub use Rattle.chess_rules.specs.Legal.{every_promotion, if_safe, is_check, is_l
 pub use Rattle.chess_rules.specs.Position.{built_unless, initial, is_position, position_fault, target_fits}
 pub use Rattle.chess_rules.specs.Square.{Square, gap, is_adjacent, lines, on_board, same_square, square}
 unfoldable pub use Rattle.chess_rules.specs.Square.{squares}
-pub use Rattle.chess_rules.specs.Step.{Wing, captured_pawn, castles, castles_long, castles_short, crossed, double_rank, home, home_rank, is_en_passant, is_pawn_way, long_right, long_wing, own, pawn_rank, short_right, short_wing, step, after, board_after, carried, castled, en_passant_board, is_on_board, is_pawn_step, is_piece_step, promotion_fits, stand_ready}
+pub use Rattle.chess_rules.specs.Step.{Wing, captured_pawn, castles, castles_long, castles_short, crossed, double_rank, home, home_rank, is_en_passant, is_pawn_way, long_right, long_wing, own, pawn_rank, short_right, short_wing, step, after, board_after, carried, castled, en_passant_board, is_on_board, is_pawn_step, is_piece_step, promotion_fits, stand_ready, last_rank}
 pub use Rattle.chess_rules.specs.declared.piece.Colour.{Colour}
 pub use Rattle.chess_rules.specs.declared.piece.Colour.TheVariants.{Black, White}
 pub use Rattle.chess_rules.specs.declared.piece.Kind.{Kind}
@@ -66,3 +66,12 @@ pub use Rattle.chess_text.specs.declared.uci.UciFault.{UciFault}
 pub use Rattle.chess_text.specs.declared.uci.UciFault.TheVariants.{IllegalMove, NotAMove}
 pub use Rattle.std.proofs.Math.Seq.{drop-append-add, get_or-append_seam, take-append_seam}
 pub use Rattle.std.proofs.lemmas.Grind.{common_steps, get_or-set_at}
+pub use Rattle.chess_rules.proofs.lines.AttackToReach.{squares_same, none_or_all, kinds_same}
+pub use Rattle.chess_rules.proofs.moves.WaysToStep.{some_of, passing_means}
+pub use Rattle.chess_rules.proofs.positions.RulesOfPosition.{same_square-refl}
+pub use Rattle.chess_rules.proofs.sets.AllSquares.{same_tests, squares_long, first_true, second_true}
+pub use Rattle.chess_rules.proofs.sets.RanksToWords.{word-append, lanes_fit, lanes_nil, ranks_above}
+pub use Rattle.chess_rules.proofs.trying.FoundLists.{list_any-filter}
+pub use Rattle.chess_text.specs.Beside.{one_if, rank_behind, stands_on, takes_from, west_of}
+pub use Rattle.chess_text.specs.Key.{attackers, is_taken_on, position_key, usable_rights, usable_target, takes_en_passant, move_to, if_taken_on, pairs_on, key_pairs, KeysTell, SamePosition, SameMovesLegal, stand_at_home}
+pub use mathlib.Core.Bool.{and-false, or-false, or-true, and-true}

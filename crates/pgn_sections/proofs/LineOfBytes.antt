@@ -43,13 +43,13 @@ first_stays l b (c ∷ s) e =
     first_stays (line_with l c) b s (ap (λ (o : Option ℕ). if is_some o then o else Some c) e)
 
 first_is : (g : BadGame) (line : List ℕ) → is_byte 37 (line_over (line_begun g) line).first ≡ begins_with 37 line
-first_is g v1 = search (rules, first_stays)
+first_is g line = search (rules, first_stays)
 
 -- a line is empty if it has no byte but white space
 
 text_or : (t : Bool) (b c : ℕ) (s : List ℕ) → is_some (last_text (Some b) s) ≡ true → is_some (last_text (Some c) s) ≡ true
     → is_some (last_text (if t then Some b else Some c) s) ≡ true
-text_or v0 b c s h k = grind (arith, common_steps)
+text_or t b c s h k = grind (arith, common_steps)
 
 text_stays : (b : ℕ) (s : List ℕ) → is_some (last_text (Some b) s) ≡ true
 text_stays b [] = refl
@@ -57,7 +57,7 @@ text_stays b (c ∷ s) = text_or (is_space c) b c s (text_stays b s) (text_stays
 
 blank_or : (t : Bool) (b : ℕ) (s : List ℕ) → not (is_some (last_text None s)) ≡ list_all is_space s
     → not (is_some (last_text (if t then None else Some b) s)) ≡ (t && list_all is_space s)
-blank_or v0 b s h = grind (arith, common_steps, text_stays)
+blank_or t b s h = grind (arith, common_steps, text_stays)
 
 blank_is : (line : List ℕ) → not (is_some (last_text None line)) ≡ list_all is_space line
 blank_is [] = refl
@@ -109,7 +109,7 @@ game_is g line =
 -- Where the game ends: before the line or at its tag.
 
 outside_same : (g : BadGame) (line : List ℕ) (o : Option TagLine) → kept.end_outside g (ends_with_tag line) o ≡ end_outside g line o
-outside_same g line v2 = grind (arith, common_steps)
+outside_same g line o = grind (arith, common_steps)
 
 module _ (g : BadGame) (line : List ℕ) where
   abbrev l : Line
@@ -122,14 +122,14 @@ module _ (g : BadGame) (line : List ℕ) where
   bracket_is = ap (λ (o : Option ℕ). is_byte 93 o) (last_kept (line_begun g) line)
 
   end_is : (e : Ends) → kept.end_by e g l ≡ end_by e g line
-  end_is v0 = grind (arith, common_steps, is_some, bracket_is, tag_is, outside_same)
+  end_is e = grind (arith, common_steps, is_some, bracket_is, tag_is, outside_same)
 
 data EndsAt (g : BadGame) (o : Option TagLine) (end : ℕ) : Type 0 where
   before : end ≡ end_before g → EndsAt g o end
   at_tag : (tag : TagLine) → o ≡ Some tag → end ≡ g.at + tag.at → EndsAt g o end
 
 is_end : (t : Bool) (a end : ℕ) → (if t then Some a else None) ≡ Some end → end ≡ a
-is_end v0 a end e = grind (arith, common_steps)
+is_end t a end e = grind (arith, common_steps)
 
 comment_ends : (g : BadGame) (o : Option TagLine) (end : ℕ) → end_in_comment g o ≡ Some end → EndsAt g o end
 comment_ends g None end e = absurd cc
@@ -168,7 +168,7 @@ ends_at Nowhere g line end h = absurd cc
 -- a mark lies on the line
 
 mark_long : (s : List ℕ) → has_mark s ≡ true → 3 ≤ length s
-mark_long v0 h = grind (arith, common_steps, true≢false)
+mark_long s h = grind (arith, common_steps, true≢false)
 
 mark_within : (n : ℕ) (line : List ℕ) → (nat_le (n + 3) (length line) && has_mark (drop n line)) ≡ has_mark (drop n line)
 mark_within n line = by_mark (has_mark (drop n line)) refl where
@@ -195,7 +195,7 @@ module _ (g : BadGame) (line : List ℕ) where
       ∙ ap (λ (t : Bool). nat_le (n + 3) (length line) && t) (by_place (n == (end_before g - g.at)) refl)
       ∙ mark_within n line where
         by_place : (t : Bool) → (n == (end_before g - g.at)) ≡ t → (if t then is_whole_mark seen.mark else seen.tag.is_marked) ≡ has_mark (drop n line)
-        by_place v0 e = grind (arith, common_steps, sought)
+        by_place t e = grind (arith, common_steps, sought)
 
   mark_at_end : (end : ℕ) → EndsAt g (tag_line line) end → has_mark_at seen (end - g.at) ≡ has_mark (drop (end - g.at) line)
   mark_at_end end (before e) = grind (arith, common_steps, at_place, true≢false)

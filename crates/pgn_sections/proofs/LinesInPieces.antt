@@ -65,7 +65,7 @@ no_line false u h e = absurd (false≢true h)
 
 -- a line ends with an LF if its rest does
 feed_longer : (b : ℕ) (u : List ℕ) → ends_with_line_feed u ≡ true → ends_with_line_feed (b ∷ u) ≡ true
-feed_longer b v1 e = grind (arith, common_steps)
+feed_longer b u e = grind (arith, common_steps)
 
 -- A first line that is a whole piece ends with an LF, if the text goes on: at its first byte, ..
 feed_at_once : (before b end : ℕ) (u : List ℕ) → (b == 10) ≡ true → end ≡ before + 1 → drop (end - before) (b ∷ u) ≡ []
@@ -75,7 +75,7 @@ feed_at_once before b end u is k none = grind (arith, common_steps)
 -- .. behind a CR, ..
 feed_behind_return : (before b end : ℕ) (u : List ℕ) → line_to_return false before u ≡ Some end → drop (end - before) (b ∷ u) ≡ []
     → ends_with_line_feed (take (end - before) (b ∷ u)) ≡ true
-feed_behind_return before b end v3 e none = grind (arith, common_steps)
+feed_behind_return before b end u e none = grind (arith, common_steps)
 
 -- .. or behind other bytes
 feed_further : (before b end : ℕ) (u : List ℕ) → before + 1 < end
@@ -100,7 +100,7 @@ a_line b s e = search rules
 -- the whole lines behind a first one
 pub whole_behind : (is_last : Bool) (line : List ℕ) (lines : List (List ℕ)) → (lines ≡ [] → (is_last || ends_with_line_feed line) ≡ true)
     → whole_lines is_last (line ∷ lines) ≡ line ∷ whole_lines is_last lines
-whole_behind is_last line v2 h = grind (arith, common_steps)
+whole_behind is_last line lines h = grind (arith, common_steps)
 
 no_lines : (s : List ℕ) → lines_of s ≡ [] → s ≡ []
 no_lines [] e = refl
@@ -121,7 +121,7 @@ whole_first is_last u n e =
 
 -- one byte more before what has no whole line
 none_longer : (b : ℕ) (lines : List (List ℕ)) → (b == 10) ≡ false → whole_lines false lines ≡ [] → whole_lines false (with_first b lines) ≡ []
-none_longer b v1 n h = grind (arith, common_steps)
+none_longer b lines n h = grind (arith, common_steps)
 
 none_whole : (before : ℕ) (u : List ℕ) → line_from false before u ≡ None → whole_lines false (lines_of u) ≡ []
 none_whole before [] e = refl
@@ -130,7 +130,7 @@ none_whole before (b ∷ c ∷ u) e = grind (arith, common_steps, none_longer, n
 
 -- a piece without a first whole line has none
 pub no_whole_line : (is_last : Bool) (u : List ℕ) → line_from is_last 0 u ≡ None → whole_lines is_last (lines_of u) ≡ []
-no_whole_line v0 u e = grind (arith, common_steps, no_line, none_whole)
+no_whole_line is_last u e = grind (arith, common_steps, no_line, none_whole)
 
 -- A game and lines to read lead to the place and the game to which another game and other lines
 -- lead.
@@ -173,7 +173,7 @@ module _ (g : BadGame) (is_last : Bool) (u line : List ℕ) (n : ℕ) (first : l
   shows place s follow shown = grind (arith, common_steps, stops_first, whole_line)
 
 same_of_both : (b : Bool) (g x y : BadGame) → IsSameGame g x → IsSameGame g y → IsSameGame g (if b then x else y)
-same_of_both v0 g x y p q = grind (arith, common_steps)
+same_of_both b g x y p q = grind (arith, common_steps)
 
 kept : (g : BadGame) (line : List ℕ) → IsSameGame g (with_line g line)
 kept g line = search (rules, same_of_both, is_some)

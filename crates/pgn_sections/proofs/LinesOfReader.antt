@@ -25,20 +25,20 @@ put_none b [] = refl
 put_none b (c ∷ u) = ap (λ (x : List (List ℕ)). with_first b x) (put_none c u)
 
 both_left : (t u : Bool) → (t && u) ≡ true → t ≡ true
-both_left v0 u h = grind (arith, common_steps)
+both_left t u h = grind (arith, common_steps)
 
 both_right : (t u : Bool) → (t && u) ≡ true → u ≡ true
-both_right v0 u h = grind (arith, common_steps, true≢false)
+both_right t u h = grind (arith, common_steps, true≢false)
 
 ends_none : (t u v : Bool) → not (t || u) ≡ true → (t || (u && v)) ≡ false
-ends_none v0 u v h = grind (arith, common_steps, true≢false)
+ends_none t u v h = grind (arith, common_steps, true≢false)
 
 plain_lines : (u s : List ℕ) → are_plain u ≡ true → lines_of (u ++ s) ≡ put u (lines_of s)
 plain_lines [] s h = refl
 plain_lines (b ∷ u) s h = grind (arith, common_steps, ends_none, both_left, both_right, (plain_lines u s (both_right (is_plain b) (are_plain u) h)))
 
 plain_more : (u : List ℕ) (b : ℕ) → are_plain u ≡ true → is_plain b ≡ true → are_plain (u ++ b ∷ []) ≡ true
-plain_more v0 b h k = grind (arith, common_steps, both_left, both_right)
+plain_more u b h k = grind (arith, common_steps, both_left, both_right)
 
 line_more : (l : Line) (u : List ℕ) (b : ℕ) → line_over l (u ++ b ∷ []) ≡ line_with (line_over l u) b
 line_more l [] b = refl
@@ -63,7 +63,7 @@ Finds is_last r g s lines = place_behind r is_last s ≡ place_in g (whole_lines
 -- the end of the text
 
 first_or_none : (o : Option ℕ) → o ≡ first_place o None
-first_or_none v0 = grind (arith, common_steps)
+first_or_none o = grind (arith, common_steps)
 
 no_bytes : (is_last : Bool) (g : BadGame) (r : Bool) → place_at_end is_last (at_line g [] r) ≡ None
 no_bytes is_last g r = ap (λ (t : Bool). if t then kept.place_on g (line_begun g) else None) (and-false is_last)
@@ -142,7 +142,7 @@ taken is_last g u b s h on =
 
 -- behind the end of a line a byte ends no other
 ended_goes : (o : Option ℕ) (r : LineReader) (b : ℕ) → byte_taken_if (ended_at o r) b ≡ reader_with (ended_at o r) b
-ended_goes v0 r b = grind (arith, common_steps)
+ended_goes o r b = grind (arith, common_steps)
 
 -- a byte behind a CR
 behind_a_return : (is_last : Bool) (g : BadGame) (u : List ℕ) (b : ℕ) (s : List ℕ) → are_plain u ≡ true → GoesOn is_last s
@@ -196,7 +196,7 @@ at_end is_last =
       some_line g (b ∷ u) h some = last_line is_last g b u true h
 
       not_empty : (u : List ℕ) (b : ℕ) → u ++ b ∷ [] ≡ [] → ⊥
-      not_empty v0 b e = grind (arith, common_steps)
+      not_empty u b e = grind (arith, common_steps)
 
       return_end : (g : BadGame) (u : List ℕ) → are_plain u ≡ true
           → Finds is_last (at_line g (u ++ 13 ∷ []) true) g [] (lines_of ((u ++ 13 ∷ []) ++ []))

@@ -20,16 +20,16 @@ has_rest Whole s = true
 has_rest Missing s = false
 
 if_and : (m n : MarkSearch) (t u : Bool) (s : List ℕ) → has_rest m s ≡ u → has_rest n s ≡ false → has_rest (if t then m else n) s ≡ (t && u)
-if_and m n v2 u s e h = grind (arith, common_steps)
+if_and m n t u s e h = grind (arith, common_steps)
 
 first_byte : (b : ℕ) (s : List ℕ) → has_mark (b ∷ s) ≡ ((b == 239) && second s)
-first_byte b v1 = grind (arith, common_steps, and-false)
+first_byte b s = grind (arith, common_steps, and-false)
 
 one_byte : (m : MarkSearch) (b : ℕ) (s : List ℕ) → has_rest (mark_with m b) s ≡ has_rest m (b ∷ s)
-one_byte v0 b s = grind (arith, common_steps, if_and, first_byte, and-true)
+one_byte m b s = grind (arith, common_steps, if_and, first_byte, and-true)
 
 no_byte : (m : MarkSearch) → is_whole_mark m ≡ has_rest m []
-no_byte v0 = grind (arith, common_steps)
+no_byte m = grind (arith, common_steps)
 
 -- the mark behind the bytes of a text, so many of the line before it
 abbrev pub mark_over : ℕ → MarkSearch → ℕ → List ℕ → MarkSearch

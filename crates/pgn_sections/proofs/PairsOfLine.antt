@@ -23,36 +23,36 @@ behind_rest Missing s = None
 
 in_left : (t u : Bool) (b : ℕ) (s : List ℕ) → is_space b ≡ t → is_name_byte b ≡ u
     → behind_left_bracket (b ∷ s) ≡ behind_rest (if t then BehindLeft else if u then InName else Missing) s
-in_left v0 u b s e h = grind (arith, common_steps, space_more, space_none, name_more, name_none)
+in_left t u b s e h = grind (arith, common_steps, space_more, space_none, name_more, name_none)
 
 at_quote : (u : Bool) (s : List ℕ)
     → option_and_then (λ rest. behind_quote rest) (if u then Some s else None) ≡ behind_rest (if u then InValue else Missing) s
-at_quote v0 s = grind (arith, common_steps)
+at_quote u s = grind (arith, common_steps)
 
 behind_a_name : (t : Bool) (b : ℕ) (s : List ℕ) → is_space b ≡ t
     → behind_tag_name (b ∷ s) ≡ behind_rest (if t then BehindName else if b == 34 then InValue else Missing) s
-behind_a_name v0 b s e = grind (arith, common_steps, space_more, space_none, at_quote)
+behind_a_name t b s e = grind (arith, common_steps, space_more, space_none, at_quote)
 
 in_name : (t : Bool) (b : ℕ) (s : List ℕ) → is_name_byte b ≡ t
     → behind_tag_name (drop (name_length (b ∷ s)) (b ∷ s)) ≡ behind_rest (if t then InName else spec.behind_name b) s
-in_name v0 b s e = search (rules, drop_more, drop_none, behind_a_name)
+in_name t b s e = search (rules, drop_more, drop_none, behind_a_name)
 
 in_value : (t u v : Bool) (s : List ℕ)
     → option_and_then (λ rest. behind_right_bracket rest) (if t then Some s else if u then None else behind_value v s)
     ≡ behind_rest (if t then BehindValue else if u then Missing else if v then BehindBackslash else InValue) s
-in_value v0 u v s = grind (arith, common_steps)
+in_value t u v s = grind (arith, common_steps)
 
 behind_backslash : (t u : Bool) (s : List ℕ)
     → option_and_then (λ rest. behind_right_bracket rest) (if t then behind_value false s else if u then None else behind_value false s)
     ≡ behind_rest (if t then InValue else if u then Missing else InValue) s
-behind_backslash v0 u s = grind (arith, common_steps)
+behind_backslash t u s = grind (arith, common_steps)
 
 at_right : (u : Bool) (s : List ℕ) → option_map (λ rest. behind_space rest) (if u then Some s else None) ≡ behind_rest (if u then Whole else Missing) s
-at_right v0 s = grind (arith, common_steps)
+at_right u s = grind (arith, common_steps)
 
 behind_a_value : (t : Bool) (b : ℕ) (s : List ℕ) → is_space b ≡ t
     → behind_right_bracket (b ∷ s) ≡ behind_rest (if t then BehindValue else if b == 93 then Whole else Missing) s
-behind_a_value v0 b s e = grind (arith, common_steps, space_more, space_none, at_right)
+behind_a_value t b s e = grind (arith, common_steps, space_more, space_none, at_right)
 
 -- one byte of a pair that is not whole
 one_byte : (x : PairProgress) (b : ℕ) (s : List ℕ) → is_between x ≡ false → behind_rest x (b ∷ s) ≡ behind_rest (pair_after x b) s
@@ -67,23 +67,23 @@ one_byte Whole b s h = absurd (true≢false h)
 one_byte Missing b s h = refl
 
 no_byte : (x : PairProgress) → is_between x ≡ false → behind_rest x [] ≡ None
-no_byte v0 h = grind (arith, common_steps, true≢false)
+no_byte x h = grind (arith, common_steps, true≢false)
 
 -- behind a byte of a pair the text begins anew only if the pair is whole
 abbrev EndsWhole : PairProgress → Type 0
 EndsWhole x = is_between x ≡ is_whole x
 
 ends_three : (t u : Bool) (x y z : PairProgress) → EndsWhole x → EndsWhole y → EndsWhole z → EndsWhole (if t then x else if u then y else z)
-ends_three v0 u x y z h k l = grind (arith, common_steps)
+ends_three t u x y z h k l = grind (arith, common_steps)
 
 ends_two : (t : Bool) (x y : PairProgress) → EndsWhole x → EndsWhole y → EndsWhole (if t then x else y)
-ends_two v0 x y h k = grind (arith, common_steps)
+ends_two t x y h k = grind (arith, common_steps)
 
 ends_whole : (x : PairProgress) (b : ℕ) → is_between x ≡ false → EndsWhole (pair_after x b)
-ends_whole v0 b h = grind (arith, common_steps, true≢false, ends_three, ends_two)
+ends_whole x b h = grind (arith, common_steps, true≢false, ends_three, ends_two)
 
 is_the_whole : (x : PairProgress) → is_whole x ≡ true → x ≡ Whole
-is_the_whole v0 h = grind (arith, common_steps)
+is_the_whole x h = grind (arith, common_steps)
 
 -- with the bytes of a text, from a place on
 abbrev pub front_over : FrontOfLine → ℕ → List ℕ → FrontOfLine
@@ -199,7 +199,7 @@ rest_of x (b ∷ s) rest apart found = behind_byte_of (is_whole (pair_after x b)
       record { short = omega (arith, r.short); text = r.text }
 
 no_pairs : (n : ℕ) → behind_some_pairs n [] ≡ []
-no_pairs v0 = grind (arith, common_steps)
+no_pairs n = grind (arith, common_steps)
 
 -- the text behind as many pairs, if it begins with this one
 abbrev behind_first : ℕ → List ℕ → Option (List ℕ) → List ℕ
@@ -294,7 +294,7 @@ some_short : (n : ℕ) (s : List ℕ) → length (behind_some_pairs n s) ≤ len
 some_short zero s = omega arith
 some_short (suc n) s = behind_one (behind_pair s) refl (some_short n) where
   behind_one : (o : Option (List ℕ)) → behind_pair s ≡ o → ((rest : List ℕ) → length (behind_some_pairs n rest) ≤ length rest) → length (behind_first n s o) ≤ length s
-  behind_one v0 e more = grind (arith, common_steps, pair_short)
+  behind_one o e more = grind (arith, common_steps, pair_short)
 
 pub pairs_short : (s : List ℕ) → length (behind_pairs (behind_stray s)) ≤ length s
 pairs_short s = grind (arith, common_steps, some_short, length, length-drop)

@@ -39,13 +39,13 @@ is_rest_of_event e w = can_be_event e && bytes_eq w (letters_left e)
 
 if_letter : (t : Bool) (e : EventName) (w : List ℕ)
     → is_rest_of_event (if t then e else Other) w ≡ (t && is_rest_of_event e w)
-if_letter v0 e w = grind (arith, common_steps)
+if_letter t e w = grind (arith, common_steps)
 
 letter : (e : EventName) (b : ℕ) (w : List ℕ) → is_rest_of_event (name_with e b) w ≡ is_rest_of_event e (b ∷ w)
-letter v0 b w = grind (arith, common_steps, if_letter)
+letter e b w = grind (arith, common_steps, if_letter)
 
 no_letter : (e : EventName) → is_event_name e ≡ is_rest_of_event e []
-no_letter v0 = grind (arith, common_steps)
+no_letter e = grind (arith, common_steps)
 
 name_is : (e : EventName) (w : List ℕ) → is_event_name (name_over e w) ≡ is_rest_of_event e w
 name_is e [] = no_letter e
@@ -72,11 +72,11 @@ tag_behind n Missing s = None
 
 at_quote : (n : ℕ) (e : EventName) (t : Bool) (s : List ℕ)
     → tag_if n (is_some {T = List ℕ} (if t then Some s else None)) (is_event_name e) ≡ tag_behind n (if t then Quoted e else Unquoted) s
-at_quote n e v2 s = grind (arith, common_steps)
+at_quote n e t s = grind (arith, common_steps)
 
 behind_a_name : (n : ℕ) (e : EventName) (t : Bool) (b : ℕ) (s : List ℕ) → is_space b ≡ t
     → tag_if n (has_quote (b ∷ s)) (is_event_name e) ≡ tag_behind n (if t then BehindName e else if b == 34 then Quoted e else Unquoted) s
-behind_a_name n e v2 b s h = grind (arith, common_steps, is_some, space_more, space_none, at_quote)
+behind_a_name n e t b s h = grind (arith, common_steps, is_some, space_more, space_none, at_quote)
 
 in_a_name : (n : ℕ) (e : EventName) (t : Bool) (b : ℕ) (s : List ℕ) → is_name_byte b ≡ t
     → tag_behind n (InName e) (b ∷ s) ≡ tag_behind n (if t then InName (name_with e b) else spec.behind_name e b) s
@@ -99,31 +99,31 @@ at_name n false false b s h = grind (arith, common_steps, is_some, name_none, ta
 behind_a_bracket : (n : ℕ) (t : Bool) (b : ℕ) (s : List ℕ) → is_space b ≡ t
     → tag_line_behind n (behind_space (b ∷ s))
     ≡ tag_behind n (if t then BehindBracket else if b == 37 then Missing else if is_name_byte b then InName (name_with Empty b) else Unquoted) s
-behind_a_bracket n v1 b s h = grind (arith, common_steps, space_more, space_none, at_name)
+behind_a_bracket n t b s h = grind (arith, common_steps, space_more, space_none, at_name)
 
 one_byte : (n : ℕ) (x : TagProgress) (b : ℕ) (s : List ℕ) → is_front x ≡ false → tag_behind n x (b ∷ s) ≡ tag_behind n (tag_after x b) s
-one_byte n v1 b s h = grind (arith, common_steps, true≢false, behind_a_bracket, in_a_name, behind_a_name)
+one_byte n x b s h = grind (arith, common_steps, true≢false, behind_a_bracket, in_a_name, behind_a_name)
 
 no_byte : (n : ℕ) (x : TagProgress) → tag_of x n ≡ tag_behind n x []
-no_byte n v1 = grind (arith, common_steps)
+no_byte n x = grind (arith, common_steps)
 
 abbrev IsBehind : TagProgress → Type 0
 IsBehind x = is_front x ≡ false
 
 one_of_two : (t : Bool) (x y : TagProgress) → IsBehind x → IsBehind y → IsBehind (if t then x else y)
-one_of_two v0 x y h k = grind (arith, common_steps)
+one_of_two t x y h k = grind (arith, common_steps)
 
 one_of_three : (t u : Bool) (x y z : TagProgress) → IsBehind x → IsBehind y → IsBehind z → IsBehind (if t then x else if u then y else z)
-one_of_three v0 u x y z h k l = grind (arith, common_steps)
+one_of_three t u x y z h k l = grind (arith, common_steps)
 
 stays_behind : (x : TagProgress) (b : ℕ) → is_front x ≡ false → IsBehind (tag_after x b)
-stays_behind v0 b h = grind (arith, common_steps, true≢false, one_of_three, one_of_two)
+stays_behind x b h = grind (arith, common_steps, true≢false, one_of_three, one_of_two)
 
 abbrev search_of : TagProgress → ℕ → Bool → TagSearch
 search_of x n is_marked = record { progress = x; at = n; is_marked = is_marked }
 
 keeps_place : (x : TagProgress) (n : ℕ) (k : Bool) (i b : ℕ) → is_front x ≡ false → tag_with (search_of x n k) i b ≡ search_of (tag_after x b) n k
-keeps_place v0 n k i b h = grind (arith, common_steps, true≢false)
+keeps_place x n k i b h = grind (arith, common_steps, true≢false)
 
 -- with the bytes of a text, so many of the line before it
 abbrev pub tag_over : TagSearch → ℕ → List ℕ → TagSearch
@@ -138,11 +138,8 @@ pub record Finds (t : TagSearch) (o : Option TagLine) (line : List ℕ) : Type 0
 abbrev begin_at : ℕ → Bool → ℕ
 begin_at n k = if k then n - 3 else n
 
-place_in : (n : ℕ) (q v : Bool) (tag : TagLine) → Some (record { at = n; is_quoted = q; is_event = v }) ≡ Some tag → tag.at ≡ n
-place_in n q v tag e = let is_tag : record { at = n; is_quoted = q; is_event = v } ≡ tag = cc in sym (ap (λ (t : TagLine). t.at) is_tag)
-
 place_of_tag : (x : TagProgress) (n : ℕ) (tag : TagLine) → tag_of x n ≡ Some tag → tag.at ≡ n
-place_of_tag v0 n tag e = grind (arith, common_steps)
+place_of_tag x n tag e = grind (arith, common_steps)
 
 -- behind the bracket, or without one
 finds_behind : (x : TagProgress) (n : ℕ) (k : Bool) (i : ℕ) (s line : List ℕ) → is_front x ≡ false → k ≡ has_mark (drop (begin_at n k) line)
@@ -178,7 +175,7 @@ AreRead BehindFirst k r = (u : List ℕ) × (r ≡ 239 ∷ u)
 AreRead BehindSecond k r = (u : List ℕ) × (r ≡ 187 ∷ 239 ∷ u)
 
 no_mark_behind : (b : ℕ) (r : List ℕ) → (b == 191) ≡ false → is_behind_mark (b ∷ r) ≡ false
-no_mark_behind b v1 h = grind (arith, common_steps)
+no_mark_behind b r h = grind (arith, common_steps)
 
 stray_ends_none : (b : ℕ) → is_stray b ≡ true → ((b == 191) ≡ false) × ((b == 91) ≡ false)
 stray_ends_none b h = grind (arith, common_steps)
@@ -186,25 +183,22 @@ stray_ends_none b h = grind (arith, common_steps)
 read_stray : (k : Bool) (b : ℕ) (r : List ℕ) → is_stray b ≡ true → (k && (b == 91)) ≡ is_behind_mark (b ∷ r)
 read_stray k b r h = rw (stray_ends_none b h).1 (and-false k) ∙ sym (no_mark_behind b r (stray_ends_none b h).0)
 
-same : (b c : ℕ) → (b == c) ≡ true → b ≡ c
-same b c h = grind (arith, common_steps)
-
 read_first : (k : Bool) (b : ℕ) (r : List ℕ) (n : MarkProgress) (t u : Bool) → is_stray b ≡ t → (b == 239) ≡ u
     → (if t then Some Outside else if u then Some BehindFirst else None) ≡ Some n → AreRead n (k && (b == 91)) (b ∷ r)
-read_first k b r n v4 u h e found = grind (arith, common_steps, read_stray)
+read_first k b r n t u h e found = grind (arith, common_steps, read_stray)
 
 read_second : (b : ℕ) (r : List ℕ) (n : MarkProgress) (k t : Bool) → (b == 187) ≡ t → (u : List ℕ) × (r ≡ 239 ∷ u)
     → (if t then Some BehindSecond else None) ≡ Some n → AreRead n k (b ∷ r)
-read_second b r n k v4 h e found = grind (arith, common_steps)
+read_second b r n k t h e found = grind (arith, common_steps)
 
 read_third : (b : ℕ) (r : List ℕ) (n : MarkProgress) (t : Bool) → (b == 191) ≡ t → (u : List ℕ) × (r ≡ 187 ∷ 239 ∷ u)
     → (if t then Some Outside else None) ≡ Some n → AreRead n (b == 191) (b ∷ r)
-read_third b r n v3 h e found = grind (arith, common_steps)
+read_third b r n t h e found = grind (arith, common_steps)
 
 -- one byte of what is stray, or of marks
 read_more : (m : MarkProgress) (k : Bool) (b : ℕ) (r : List ℕ) (n : MarkProgress) → mark_after m b ≡ Some n → AreRead m k r
     → AreRead n (is_marked_after m k b) (b ∷ r)
-read_more v0 k b r n found e = grind (arith, common_steps, read_first, read_second, read_third)
+read_more m k b r n found e = grind (arith, common_steps, read_first, read_second, read_third)
 
 -- at the bracket
 
@@ -219,7 +213,7 @@ begin_is (c ∷ b ∷ a ∷ r) s =
     ap₂ (λ (t : Bool) (v : List ℕ). if t && has_mark v then length (c ∷ b ∷ a ∷ r) - 3 else length (c ∷ b ∷ a ∷ r)) long there
 
 no_mark : (b : ℕ) (s : List ℕ) → (b == 239) ≡ false → has_mark (b ∷ s) ≡ false
-no_mark b v1 h = grind (arith, common_steps)
+no_mark b s h = grind (arith, common_steps)
 
 mark_there : (r s : List ℕ) (b : ℕ) (t : Bool) → is_behind_mark r ≡ t → (b == 239) ≡ false
     → t ≡ has_mark (drop (begin_at (length r) t) (onto r (b ∷ s)))
@@ -239,7 +233,7 @@ abbrev found_in : Option ℕ → List ℕ → Option TagLine
 found_in o line = option_and_then (λ n. tag_line_behind (tag_begin n line) (behind_space (drop (n + 1) line))) o
 
 counted_more : (b : ℕ) (r : List ℕ) (o : Option ℕ) → counted_from (length (b ∷ r)) o ≡ counted_from (length r) (one_more o)
-counted_more b r v2 = grind (arith, common_steps, length)
+counted_more b r o = grind (arith, common_steps, length)
 
 finds_none : (n : ℕ) (k : Bool) (i : ℕ) (s line : List ℕ) → Finds (tag_over (search_of Missing n k) i s) None line
 finds_none n k i [] line = record { tag = refl; mark = λ tag found. absurd cc }
@@ -289,7 +283,7 @@ tag_from m n k r (b ∷ s) i e h = by_mark (mark_after m b) refl (λ next. tag_f
       (more next (read_more m k b r next found e) j)
 
 counted_from_0 : (o : Option ℕ) → counted_from 0 o ≡ o
-counted_from_0 v0 = grind (arith, common_steps)
+counted_from_0 o = grind (arith, common_steps)
 
 -- a whole line
 pub finds_tag : (line : List ℕ) → Finds (tag_over no_tag_read 0 line) (tag_line line) line

@@ -13,18 +13,18 @@ text_over t p [] = t
 text_over t p (b ∷ s) = text_over (text_with t p b) (p + 1) s
 
 comment_at_end : (c : Comment) (o : Option ℕ) (p : ℕ) → comment_in c o ≡ open_comment c o p []
-comment_at_end v0 o p = grind (arith, common_steps)
+comment_at_end c o p = grind (arith, common_steps)
 
 comment_behind : (c : Comment) (o : Option ℕ) (p b : ℕ) (s : List ℕ)
     → open_comment (comment_after c b) (if is_closed c && (b == 123) then Some p else o) (p + 1) s ≡ open_comment c o p (b ∷ s)
-comment_behind v0 o p b s = grind (arith, common_steps)
+comment_behind c o p b s = grind (arith, common_steps)
 
 pub comment_is : (t : Text) (p : ℕ) (s : List ℕ) → comment_of (text_over t p s) ≡ open_comment t.comment t.comment_at p s
 comment_is t p [] = comment_at_end t.comment t.comment_at p
 comment_is t p (b ∷ s) = comment_is (text_with t p b) (p + 1) s ∙ comment_behind t.comment t.comment_at p b s
 
 shape_behind : (a : Shape) (o : Option ℕ) (s : List ℕ) → shape_over (shape_with_seen a o) s ≡ shape_over a (cons_option o s)
-shape_behind a v1 s = grind (arith, common_steps)
+shape_behind a o s = grind (arith, common_steps)
 
 shape_is : (t : Text) (p : ℕ) (s : List ℕ) → (text_over t p s).shape ≡ shape_over t.shape (without_comments t.comment s)
 shape_is t p [] = refl
@@ -36,7 +36,7 @@ word_over w [] = w
 word_over w (b ∷ s) = word_over (word_with w b) s
 
 word_behind : (w : Word) (o : Option ℕ) (s : List ℕ) → word_over (word_with_seen w o) s ≡ word_over w (cons_option o s)
-word_behind w v1 s = grind (arith, common_steps)
+word_behind w o s = grind (arith, common_steps)
 
 word_is : (t : Text) (p : ℕ) (s : List ℕ) → (text_over t p s).word ≡ word_over t.word (without_comments t.comment s)
 word_is t p [] = refl
@@ -50,7 +50,7 @@ same_both : (a b : ℕ) → (a == b) ≡ (b == a)
 same_both a b = grind (arith, common_steps)
 
 and_and : (t u v : Bool) → (t && (u && v)) ≡ ((t && u) && v)
-and_and v0 u v = grind (arith, common_steps)
+and_and t u v = grind (arith, common_steps)
 
 both_longer : (p v : List ℕ) (c b : ℕ) → pointwise ◌==◌ (p ++ c ∷ []) (v ++ b ∷ []) ≡ (pointwise ◌==◌ p v && (b == c))
 both_longer [] [] c b = and-true (c == b) ∙ same_both c b
@@ -132,7 +132,7 @@ fronts_behind : (is_blank is_ended : Bool) (v : List ℕ) (b : ℕ) (s : List �
     → (word_over (word_of (v ++ b ∷ []) false) s).fronts ≡ fronts_of (last_word (v ++ b ∷ []) false s)
     → (word_over (if is_blank then word_of v true else record { fronts = fronts_with (if is_ended then no_fronts else fronts_of v) b; is_ended = false }) s).fronts
     ≡ fronts_of (if is_blank then last_word v true s else last_word (if is_ended then b ∷ [] else v ++ b ∷ []) false s)
-fronts_behind v0 is_ended v b s blank first further = search (rules, fronts_longer)
+fronts_behind is_blank is_ended v b s blank first further = search (rules, fronts_longer)
 
 fronts_are : (v : List ℕ) (is_ended : Bool) (s : List ℕ) → (word_over (word_of v is_ended) s).fronts ≡ fronts_of (last_word v is_ended s)
 fronts_are v is_ended [] = refl

@@ -109,7 +109,7 @@ pub with_second : (x y : Bool) → (x ≡ true → y ≡ true) → x ≡ (x && y
 with_second x y h = grind (arith, h)
 
 pub attack_is : (k : Kind) (c : Colour) (b : Board) (s t : Square) → kind_attacks k c b s t ≡ (reaches k c s t && is_clear b s t)
-attack_is v0 c b s t = grind (arith, common_steps, with_second, adjacent_clear, jump_clear, pawn_clear)
+attack_is k c b s t = grind (arith, common_steps, with_second, adjacent_clear, jump_clear, pawn_clear)
 
 pub cell_attack_is : (cell : Option Piece) (b : Board) (s t : Square) → cell_attacks cell b s t ≡ (reaches_from cell s t && is_clear b s t)
 cell_attack_is None b s t = refl
@@ -152,7 +152,7 @@ reach_of Pawn jump adjacent pawn line diagonal = pawn
 
 reach_is : (k : Kind) (c : Colour) (s t : Square)
     → reaches k c s t ≡ reach_of k (is_jump s t) (is_adjacent s t) (reaches Pawn c s t) (in_line s t) (on_diagonal s t)
-reach_is v0 c s t = grind (arith, common_steps)
+reach_is k c s t = grind (arith, common_steps)
 
 pub attacker_of : (c : Colour) (cell : Option Piece) (s t : Square)
     → (((((is_jump s t && has_kind Knight cell) || (is_adjacent s t && has_kind King cell)) || (reaches Pawn c s t && has_kind Pawn cell))

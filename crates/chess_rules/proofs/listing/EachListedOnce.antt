@@ -1,6 +1,5 @@
 -- No move is listed twice: each move has a number, and in the list of all moves the numbers rise.
-use Rattle.chess_rules.proofs.Words.{Promotion, Move, Parts, Played, Square, squares, square_at, cell_of, legal, is_legal, every_move, legal_among, legal_moves, moves_between, played, ◌≡◌, ◌≢◌, ℕ, zero, suc, ◌+◌, ◌*◌, ◌<◌, Bool, cond, List, [], ◌∷◌, ◌++◌, map, Option, None, Some, is_some, option_map, refl, sym, ◌∙◌, ap, ap₂, subst, arith, length, get_or, cons_option, filter, filter_map, flat_map, range_with_len, AllPairs, length-range_with_len, get_or-range_with_len}
-use Rattle.std.proofs.lemmas.List.{get_or-map, length-map}
+use Rattle.chess_rules.proofs.Words.{Promotion, Move, Parts, Played, Square, squares, square_at, cell_of, legal, is_legal, every_move, legal_among, legal_moves, moves_between, played, ◌≡◌, ◌≢◌, ℕ, zero, suc, ◌+◌, ◌*◌, ◌<◌, Bool, cond, List, [], ◌∷◌, ◌++◌, map, Option, None, Some, is_some, option_map, refl, sym, ◌∙◌, ap, ap₂, subst, arith, length, get_or, cons_option, filter, filter_map, flat_map, range_with_len, AllPairs, length-range_with_len, get_or-range_with_len, get_or-map, length-map}
 use Rattle.std.proofs.lemmas.List.Folds.{flat_map-map}
 use Rattle.std.proofs.lemmas.List.Kept.{AllPairs-filter}
 use Rattle.chess_rules.specs.declared.piece.Promotion.TheVariants.{Queen, Rook, Bishop, Knight}

@@ -1,7 +1,5 @@
 -- Lists that are joined from those of each element.
-use Rattle.chess_rules.proofs.Words.{◌≡◌, Bool, true, false, List, [], ◌∷◌, ◌++◌, map, Option, None, refl, sym, ◌∙◌, ap, ap₂, cond, cons_option, filter, filter_map, flat_map, arith, common_steps}
-use Rattle.std.proofs.lemmas.List.{map-append}
-use Rattle.std.proofs.lemmas.List.Elements.{filter_map-append}
+use Rattle.chess_rules.proofs.Words.{◌≡◌, Bool, true, false, List, [], ◌∷◌, ◌++◌, map, Option, None, refl, sym, ◌∙◌, ap, ap₂, cond, cons_option, filter, filter_map, flat_map, arith, common_steps, map-append, filter_map-append}
 
 module _ {X Y Z : Type 0} where
   pub found_in_all : (h : Y → Option Z) (f : X → List Y) (xs : List X)

@@ -1,7 +1,5 @@
 -- A move is in the list exactly if it is legal, and the position after it is with it.
-use Rattle.chess_rules.proofs.Words.{Promotion, Move, Parts, Played, Square, squares, cell_of, legal, every_promotion, every_move, legal_among, legal_moves, moves_between, played, ◌≡◌, zero, suc, List, [], ◌∷◌, map, Option, None, Some, option_map, inl, inr, ◌⊎◌, refl, sym, ◌∙◌, ap, subst, arith, cons_option, filter_map, flat_map, common_steps, rules}
-use Rattle.std.specs.Prelude.{Contains, ◌↔◌}
-use Rattle.std.proofs.lemmas.List.Elements.{Contains-append_left, Contains-append_right}
+use Rattle.chess_rules.proofs.Words.{Promotion, Move, Parts, Played, Square, squares, cell_of, legal, every_promotion, every_move, legal_among, legal_moves, moves_between, played, ◌≡◌, zero, suc, List, [], ◌∷◌, map, Option, None, Some, option_map, inl, inr, ◌⊎◌, refl, sym, ◌∙◌, ap, subst, arith, cons_option, filter_map, flat_map, common_steps, rules, Contains, ◌↔◌, Contains-append_left, Contains-append_right}
 use Rattle.chess_rules.specs.declared.piece.Promotion.TheVariants.{Queen, Rook, Bishop, Knight}
 use Rattle.chess_rules.proofs.sets.AllSquares.{square_at-cell_of, square_in_place, squares_long}
 use Rattle.chess_rules.proofs.moves.CellsAfterPut.{OnBoard}
@@ -24,7 +22,7 @@ none_in y (k, low, is) = omega arith
 
 module _ {X Y : Type 0} where
   in_map : (f : X → Y) (xs : List X) (x : X) → Contains xs x → Contains (map f xs) (f x)
-  in_map f v1 x c = grind (arith, common_steps, none_in, element, map)
+  in_map f xs x c = grind (arith, common_steps, none_in, element, map)
 
   in_flat_map : (f : X → List Y) (xs : List X) (x : X) (y : Y) → Contains xs x → Contains (f x) y → Contains (flat_map f xs) y
   in_flat_map f [] x y c d = absurd (none_in x c)
@@ -72,12 +70,9 @@ in_every_move m from to =
 
 -- What is in the list.
 
-abbrev with_next : Move → Parts → Played
-with_next m q = record { mv = m; next = q }
-
 played_as : (p q : Parts) (m n : Move) (o : Option Parts) → legal p n ≡ o
     → option_map {U = Played} (λ r. record { mv = n; next = r }) o ≡ Some (record { mv = m; next = q }) → legal p m ≡ Some q
-played_as p q m n v4 e is = search rules
+played_as p q m n o e is = search rules
 
 pub legal_exactly : (p q : Parts) (m : Move) → (legal p m ≡ Some q) ↔ Contains (legal_moves p) (record { mv = m; next = q })
 unfolding legal_among

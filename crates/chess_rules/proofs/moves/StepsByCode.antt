@@ -14,7 +14,7 @@ no_king_by_code c cell differs = grind arith
 -- but for a pawn, the code says what the piece reaches
 
 kind_reaches : (k : Kind) (c : Colour) (s t : Square) → kind_code k ≢ 4 → code_reaches (kind_code k) s t ≡ reaches k c s t
-kind_reaches v0 c s t h = grind (arith, common_steps)
+kind_reaches k c s t h = grind (arith, common_steps)
 
 pub code_reaches_from : (cell : Option Piece) (s t : Square) → code_of cell ≢ 4 → code_reaches (code_of cell) s t ≡ reaches_from cell s t
 code_reaches_from None s t h = refl
@@ -24,7 +24,7 @@ code_reaches_from (Some x) s t h = kind_reaches x.kind x.colour s t h
 
 pub pawn_attacks : (c : Colour) (cell : Option Piece) (b : Board) (s t : Square) → has_colour c cell ≡ true → code_of cell ≡ 4
     → cell_attacks cell b s t ≡ reaches Pawn c s t
-pawn_attacks c v1 b s t mine is = grind (arith, common_steps, cell_attack_is, colours_same, attack_is)
+pawn_attacks c cell b s t mine is = grind (arith, common_steps, cell_attack_is, colours_same, attack_is)
 
 pub attacks_by_code : (cell : Option Piece) (b : Board) (s t : Square) → code_of cell ≢ 4
     → cell_attacks cell b s t ≡ (code_reaches (code_of cell) s t && is_clear b s t)

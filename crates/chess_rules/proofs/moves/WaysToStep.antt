@@ -70,4 +70,4 @@ way_of p m b h = by_tests _ _ _ _ _ refl refl refl refl refl h
     by_tests : (v w x y z : Bool) → is_piece_step p m ≡ v → is_pawn_step p m ≡ w → is_en_passant p m ≡ x
         → castles_short p m ≡ y → castles_long p m ≡ z → (if v || w then Some (carried p m) else if x then Some (en_passant_board p m)
         else if y then Some (castled p m 7 5) else if z then Some (castled p m 0 3) else None) ≡ Some b → Way p m b
-    by_tests v0 w x y z e f g i j is = search (rules, by_piece, by_pawn, by_passing, by_short, by_long)
+    by_tests v w x y z e f g i j is = search (rules, by_piece, by_pawn, by_passing, by_short, by_long)

@@ -143,7 +143,7 @@ no_member w none = record {
     nothing (x ∷ xs) = nothing xs
 
 pub lone_means : (xs : List Square) (s : Square) → lone xs ≡ Some s → xs ≡ s ∷ []
-lone_means v0 s h = grind (arith, common_steps)
+lone_means xs s h = grind (arith, common_steps)
 
 -- the first square is taken out
 pub takes_lowest : (w rest : ℕ) (s : Square) → IsFirst w s → Sets w rest (cell_of s) false → TakesLowest w rest s
@@ -185,7 +185,7 @@ one_of_range p a (suc n) h = by_test (p (square_at a)) refl (one_of_range p (a +
     by_test : (x : Bool) → p (square_at a) ≡ x → length (filter p (map square_at (range_with_len (a + 1) n))) ≤ 1
         → length (cond x (square_at a ∷ filter p (map square_at (range_with_len (a + 1) n)))
         (filter p (map square_at (range_with_len (a + 1) n)))) ≤ 1
-    by_test v0 e few = grind (arith, common_steps, length, map, none_kept)
+    by_test x e few = grind (arith, common_steps, length, map, none_kept)
 
 pub one_kept : (p : Square → Bool) → ((i j : ℕ) → i < j → j < 64 → p (square_at i) ≡ true → p (square_at j) ≡ true → ⊥)
     → length (filter p squares) ≤ 1
@@ -193,9 +193,6 @@ one_kept p h =
     subst (λ (xs : List Square). length (filter p xs) ≤ 1) (sym by_places) (one_of_range p 0 64 (λ i j _ less high. h i j less (omega arith)))
 
 -- How many squares a set has: as many as its word has ones.
-
-one_more : {X : Type 0} (v : Bool) (x : X) (xs : List X) → cond v 1 0 + length xs ≡ length (cond v (x ∷ xs) xs)
-one_more v x xs = grind arith
 
 ones_next : (v : Bool) (n : ℕ) → ones ((if v then 1 else 0) + 2 * n) ≡ cond v 1 0 + ones n
 unfolding ones

@@ -1,7 +1,6 @@
 -- Words as sets of places, and what the four words of a board say of its cells.
-use Rattle.chess_rules.proofs.Words.{Colour, White, Black, Kind, King, Queen, Rook, Bishop, Knight, Pawn, Piece, AreWords, cell_in, cells, has, Places, Sets, coded, straight_of, diagonal_of, word, has_kind, is_near, square_at, at, has_colour, has_piece, ◌≡◌, ℕ, zero, suc, ◌+◌, ◌-◌, ◌*◌, ◌^◌, ◌<◌, ◌≢◌, min, max, Bool, true, false, not, ◌&&◌, ◌||◌, ◌⊎◌, List, [], ◌∷◌, get_or, set, length, length-set, pow-suc, refl, subst, sym, ◌∙◌, ap, ap₂, w64, arith, Option, None, ◌==◌, is_some, nat_lt, if◌then◌else◌, bit_at, bit_not, get_or-set_at, get_or-map-range_with_len, length-map-range_with_len, ext_get_or, get_or-set_other, and_le_r, or_lt, bit_at_and, bit_at_or, bit_at_not, bit_at-suc, bit_at-lt, same_from_bits_below, bit_at-pow_same, bit_at-pow_other, bit_at_ones, bit_at_ones_above, common_steps, bit_and, bit_or}
+use Rattle.chess_rules.proofs.Words.{Colour, White, Black, Kind, King, Queen, Rook, Bishop, Knight, Pawn, Piece, AreWords, cell_in, cells, has, Places, Sets, coded, straight_of, diagonal_of, word, has_kind, is_near, square_at, at, has_colour, has_piece, ◌≡◌, ℕ, zero, suc, ◌+◌, ◌-◌, ◌*◌, ◌^◌, ◌<◌, ◌≢◌, min, max, Bool, true, false, not, ◌&&◌, ◌||◌, ◌⊎◌, List, [], ◌∷◌, get_or, set, length, length-set, pow-suc, refl, subst, sym, ◌∙◌, ap, ap₂, w64, arith, Option, None, ◌==◌, is_some, nat_lt, if◌then◌else◌, bit_at, bit_not, get_or-set_at, get_or-map-range_with_len, length-map-range_with_len, ext_get_or, get_or-set_other, and_le_r, or_lt, bit_at_and, bit_at_or, bit_at_not, bit_at-suc, bit_at-lt, same_from_bits_below, bit_at-pow_same, bit_at-pow_other, bit_at_ones, bit_at_ones_above, common_steps, bit_and, bit_or, Inside}
 use Rattle.chess_rules.proofs.sets.AllSquares.{cell_of-square_at}
-use Rattle.chess_rules.specs.declared.board.Board.TheInside.{Inside}
 
 -- One bit.
 

@@ -95,7 +95,7 @@ module _ (p : Parts) where
   -- what the parts after a step say of it
   board_of : (m : Move) (q : Parts) (on : Bool) (o : Option Board) → (if on then option_map (after p m) o else None) ≡ Some q
       → (b : Board) × (o ≡ Some b)
-  board_of m q v2 o h = grind (arith, common_steps)
+  board_of m q on o h = grind (arith, common_steps)
 
 -- a legal move is a step
 step_of : (o : Option Parts) (q : Parts) → if_safe o ≡ Some q → o ≡ Some q

@@ -13,7 +13,7 @@ module _ (p : Parts) where
 
   -- what is seen is seen by a clear way
   sees_is : (k : Kind) (s t : Square) → sees k p s t ≡ (may_see k s t && is_clear p.board s t)
-  sees_is v0 s t = grind (arith, common_steps, with_second, jump_clear)
+  sees_is k s t = grind (arith, common_steps, with_second, jump_clear)
 
   pub jumps_are : (k : Kind) (t : Square) (r : ℕ) → k ≡ Knight → Places r (λ s. own p k s && may_see k s t) → members r ≡ candidates p k t
   jumps_are k t r knight h = grind (arith, common_steps, members_are)
@@ -55,7 +55,7 @@ module _ (p : Parts) where
       )
     where
       one_of : (xs : List Square) → is_some (lone xs) ≡ true → length xs ≤ 1
-      one_of v0 e = grind (arith, common_steps)
+      one_of xs e = grind (arith, common_steps)
 
       seen : (s : Square) → is_candidate p k t s ≡ true → (own p k s && may_see k s t) ≡ true
       seen s e = grind arith

@@ -1,7 +1,5 @@
 -- The moves that agree with a form are those that are found, and none is found twice.
-use Rattle.chess_rules.proofs.moves.WaysToStep.{some_of}
-use Rattle.chess_rules.proofs.positions.RulesOfPosition.{same_square-refl}
-use Rattle.chess_text.proofs.Words.{◌≡◌, ◌≢◌, ℕ, ◌<◌, inl, inr, Bool, true, false, not, ◌&&◌, List, [], ◌∷◌, map, refl, sym, ◌∙◌, ap, subst, arith, Option, None, Some, Ok, Err, is_some, is_none, nat_lt, flat_map, filter_map, cons_option, list_any, list_any_at, Contains, both_ways, not-true, and_parts, and_from, ltb-true, get_or-range_with_len, length-range_with_len, Contains-append_left, Contains-append_right, Promotion, Move, Parts, Square, square, squares, lines, on_board, same_square, short_wing, long_wing, short_right, long_right, legal, is_legal, Form, Castle, Man, Played, NoMove, Ambiguous, describes, agrees, with_next, played, castling_move, move_from, moves_to_try, agreeing, only, TheOneMoveIsRead, NoMoveIsRead, TwoMovesAreAmbiguous, hints_fit, own, Kind, common_steps}
+use Rattle.chess_text.proofs.Words.{◌≡◌, ◌≢◌, ℕ, ◌<◌, inl, inr, Bool, true, false, not, ◌&&◌, List, [], ◌∷◌, map, refl, sym, ◌∙◌, ap, subst, arith, Option, None, Some, Ok, Err, is_some, is_none, nat_lt, flat_map, filter_map, cons_option, list_any, list_any_at, Contains, both_ways, not-true, and_parts, and_from, ltb-true, get_or-range_with_len, length-range_with_len, Contains-append_left, Contains-append_right, Promotion, Move, Parts, Square, square, squares, lines, on_board, same_square, short_wing, long_wing, short_right, long_right, legal, is_legal, Form, Castle, Man, Played, NoMove, Ambiguous, describes, agrees, with_next, played, castling_move, move_from, moves_to_try, agreeing, only, TheOneMoveIsRead, NoMoveIsRead, TwoMovesAreAmbiguous, hints_fit, own, Kind, common_steps, some_of, same_square-refl}
 use Rattle.chess_text.proofs.forms.CastlingMoves.{stepped, castles_ends, played_some}
 use Rattle.chess_text.proofs.forms.OnlyElement.{here, only_in, later, element, none_in, in_map, of_map, in_found, found_in}
 

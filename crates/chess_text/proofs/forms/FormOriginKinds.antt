@@ -1,12 +1,6 @@
 -- The kinds of squares for a form, one after another, and how many legal moves they count.
-use Rattle.chess_rules.proofs.sets.AllSquares.{squares_long}
-use Rattle.chess_rules.proofs.moves.WaysToStep.{some_of}
-use Rattle.chess_rules.proofs.positions.RulesOfPosition.{same_square-refl}
-use Rattle.chess_rules.proofs.lines.AttackToReach.{squares_same}
-use mathlib.Core.Bool.{and-false, or-false}
-use Rattle.std.proofs.lemmas.List.{length-set}
 use Rattle.std.proofs.lemmas.Map.Views.{any-filter_same}
-use Rattle.chess_text.proofs.Words.{◌≡◌, ◌≢◌, ℕ, ◌<◌, ◌≤◌, Bool, true, false, cond, ◌&&◌, ◌||◌, List, [], ◌∷◌, map, length, replicate, set, get_or, inl, inr, refl, sym, ◌∙◌, ap, subst, arith, Option, None, Some, Ok, Err, ◌↔◌, is_some, count_by, if◌then◌else◌, range_with_len, filter, filter_map, cons_option, list_any, list_any_at, list_any-IsPermutation, IsPermutation, get_or-map-range_with_len, sum_by-cons, and_parts, or_right, both_ways, false_from_ne_true, Colour, White, Black, Kind, Promotion, Move, Parts, Square, square, squares, same_square, step, home, home_rank, if_safe, is_legal, is_candidate, candidates, StepsFromCandidates, Form, Castle, Man, OriginKind, Played, NoMove, Ambiguous, castling_move, move_from, describes, with_next, played, agreeing, only, form_move, is_step_of_form, kind_of_move, origin_kind, origins_of_form, nth_square, is_legal_kind, count_legal, LegalOriginsDecide, cases_eq, get_or-set_at, ext_get_or, get_or-map, get_or-replicate, get_or-set_other, length-map, NoStep, Unsafe, Legal, common_steps, rules}
+use Rattle.chess_text.proofs.Words.{◌≡◌, ◌≢◌, ℕ, ◌<◌, ◌≤◌, Bool, true, false, cond, ◌&&◌, ◌||◌, List, [], ◌∷◌, map, length, replicate, set, get_or, inl, inr, refl, sym, ◌∙◌, ap, subst, arith, Option, None, Some, Ok, Err, ◌↔◌, is_some, count_by, if◌then◌else◌, range_with_len, filter, filter_map, cons_option, list_any, list_any_at, list_any-IsPermutation, IsPermutation, get_or-map-range_with_len, sum_by-cons, and_parts, or_right, both_ways, false_from_ne_true, Colour, White, Black, Kind, Promotion, Move, Parts, Square, square, squares, same_square, step, home, home_rank, if_safe, is_legal, is_candidate, candidates, StepsFromCandidates, Form, Castle, Man, OriginKind, Played, NoMove, Ambiguous, castling_move, move_from, describes, with_next, played, agreeing, only, form_move, is_step_of_form, kind_of_move, origin_kind, origins_of_form, nth_square, is_legal_kind, count_legal, LegalOriginsDecide, cases_eq, get_or-set_at, ext_get_or, get_or-map, get_or-replicate, get_or-set_other, length-map, NoStep, Unsafe, Legal, common_steps, rules, squares_long, some_of, same_square-refl, squares_same, and-false, or-false, length-set}
 use Rattle.chess_text.proofs.forms.CastlingMoves.{castles_ends, legal_is_step, played_not}
 use Rattle.chess_text.proofs.forms.OnlyElement.{filter_map-map, filter_map-filter}
 

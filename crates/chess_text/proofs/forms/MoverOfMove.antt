@@ -1,7 +1,5 @@
 -- Whose move a legal move is, and which ones take.
-use Rattle.chess_rules.proofs.lines.AttackToReach.{none_or_all}
-use mathlib.Core.Bool.{or-false, or-true}
-use Rattle.chess_text.proofs.Words.{◌≡◌, ℕ, List, Bool, true, false, not, ◌||◌, refl, sym, ◌∙◌, ap, arith, ◌==◌, Option, None, Some, is_none, is_some, codes, if◌then◌else◌, ◌++◌, false≢true, and_parts, and_from, nat_tests, Colour, Kind, King, Pawn, Piece, Move, Parts, Square, at, has_colour, has_piece, same_kind, is_empty, own, is_en_passant, castles_short, castles_long, is_legal, square_text, is_castling, is_capture, capture_text, castling_text, king_text, has_rivals, or_parts, false_from_ne_true, ◌&&◌, or_cases, eq-eqb, gap, Board, other, cell_attacks, is_ahead, captured_pawn, crossed, pawn_rank, double_rank, rules, common_steps}
+use Rattle.chess_text.proofs.Words.{◌≡◌, ℕ, List, Bool, true, false, not, ◌||◌, refl, sym, ◌∙◌, ap, arith, ◌==◌, Option, None, Some, is_none, is_some, codes, if◌then◌else◌, ◌++◌, false≢true, and_parts, and_from, nat_tests, Colour, Kind, King, Pawn, Piece, Move, Parts, Square, at, has_colour, has_piece, same_kind, is_empty, own, is_en_passant, castles_short, castles_long, is_legal, square_text, is_castling, is_capture, capture_text, castling_text, king_text, has_rivals, or_parts, false_from_ne_true, ◌&&◌, or_cases, eq-eqb, gap, Board, other, cell_attacks, is_ahead, captured_pawn, crossed, pawn_rank, double_rank, rules, common_steps, none_or_all, or-false, or-true}
 use Rattle.chess_text.proofs.forms.CastlingMoves.{piece_goes, pawn_goes, pawn_passes, king_castles, passing_parts, stepped, castles_ends, castling_goes_far}
 
 -- The piece that moves is of the side to move.
@@ -55,7 +53,7 @@ castling_written p m h = by_wing _ _ refl refl h
   where
     by_wing : (a b : Bool) → castles_short p m ≡ a → castles_long p m ≡ b
         → (a || b) ≡ true → castling_text (m.to.file == 2) ≡ king_text_by a b p m
-    by_wing v0 b e f g = search (rules, castles_ends)
+    by_wing a b e f g = search (rules, castles_ends)
 
 pub step_written : (p : Parts) (m : Move) → is_castling p m ≡ false → king_text p m ≡ codes "K" ++ capture_text p m ++ square_text m.to
 step_written p m h = let (short, long) = or_parts (castles_short p m) _ h in rw (short, long) refl
@@ -123,4 +121,4 @@ pawn_takes p m stands legal = by_way (pawn_way p m legal stands)
         )
 
     by_way : PawnWay p m → is_capture p m ≡ not (m.from.file == m.to.file)
-    by_way v0 = grind (arith, common_steps, sideways, or-true, straight, doubles)
+    by_way h = grind (arith, common_steps, sideways, or-true, straight, doubles)

@@ -1,7 +1,5 @@
 -- At least as many pairs are tried to find a move as it has candidates.
-use Rattle.chess_rules.proofs.lines.AttackToReach.{kinds_same}
-use Rattle.chess_rules.proofs.moves.WaysToStep.{some_of}
-use Rattle.chess_text.proofs.Words.{◌≡◌, ℕ, ◌≤◌, Bool, true, false, length, false≢true, refl, sym, ◌∙◌, ap, arith, Option, None, Some, Result, Ok, Err, IfOk, IsTrue, ok_or, if◌then◌else◌, and_parts, Kind, King, Piece, Move, Parts, Form, Castle, Man, Played, SanFault, NoMove, at, has_piece, same_kind, is_legal, legal, candidates, is_castling, describes, with_next, with_next_position, move_of_form, form_pairs, has_rivals, kind_pairs, disambiguation_pairs, castles_short, castles_long, ◌||◌, common_steps}
+use Rattle.chess_text.proofs.Words.{◌≡◌, ℕ, ◌≤◌, Bool, true, false, length, false≢true, refl, sym, ◌∙◌, ap, arith, Option, None, Some, Result, Ok, Err, IfOk, IsTrue, ok_or, if◌then◌else◌, and_parts, Kind, King, Piece, Move, Parts, Form, Castle, Man, Played, SanFault, NoMove, at, has_piece, same_kind, is_legal, legal, candidates, is_castling, describes, with_next, with_next_position, move_of_form, form_pairs, has_rivals, kind_pairs, disambiguation_pairs, castles_short, castles_long, ◌||◌, common_steps, kinds_same, some_of}
 use Rattle.chess_text.specs.San.{piece_pairs}
 use Rattle.chess_text.proofs.forms.AgreeingAreFound.{said, the_one_move_is_read}
 use Rattle.chess_text.proofs.forms.CastlingMoves.{castles_by_king}
@@ -33,7 +31,7 @@ module _ (p : Parts) (m : Move) where
     by_rivals true h = absurd (false≢true (sym (castles_by_king p m x.kind (mover p m x allowed e) (king_has_none x.kind h)) ∙ castles))
 
   described : (f : Form) → is_legal p m ≡ true → describes p f m ≡ true → disambiguation_pairs p m ≤ form_pairs p f
-  described v0 allowed h = grind (arith, common_steps, said, of_kind, at_most, length, of_castling, either_wing)
+  described f allowed h = grind (arith, common_steps, said, of_kind, at_most, length, of_castling, either_wing)
 
 pub found_candidates : (p : Parts) (f : Form) (r : Result Move SanFault) → IfOk r (λ m. IsTrue (is_legal p m))
     → with_next_position p r ≡ move_of_form p f → IfOk r (λ m. disambiguation_pairs p m ≤ form_pairs p f)

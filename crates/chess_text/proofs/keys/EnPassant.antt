@@ -1,11 +1,5 @@
 -- Which moves take en passant: those from the two squares beside the pawn that is taken.
-use mathlib.Core.Bool.{and-false, and-true}
-use Rattle.chess_rules.proofs.sets.AllSquares.{same_tests}
-use Rattle.chess_rules.proofs.positions.RulesOfPosition.{same_square-refl}
-use Rattle.chess_rules.proofs.lines.AttackToReach.{squares_same}
-use Rattle.chess_text.proofs.Words.{◌≡◌, ◌≢◌, ℕ, ◌+◌, ◌-◌, ◌≤◌, Bool, cond, zero, suc, same_Some, true, false, ◌&&◌, ◌||◌, ◌⊎◌, inl, inr, List, [], ◌∷◌, length, refl, sym, ◌∙◌, ap, ap₂, subst, arith, Option, None, Some, if◌then◌else◌, ◌==◌, list_any, list_all, list_all_at, eqb-true, eq-eqb, filter, Contains, Any-from_list_any, both_ways, cases_Bool, cases_lt, and_parts, and_from, or_cases, nat_tests, common_steps, Colour, White, Black, Pawn, Piece, Move, Parts, Square, square, squares, gap, on_board, same_square, Board, at, has_piece, is_empty, cell_attacks, attacks, is_ahead, own, is_en_passant, is_legal, promotion_fits, rules}
-use Rattle.chess_text.specs.Key.{takes_en_passant, move_to, is_taken_on, attackers, if_taken_on, pairs_on, usable_target, key_pairs}
-use Rattle.chess_text.specs.Beside.{one_if, rank_behind, stands_on, takes_from, west_of}
+use Rattle.chess_text.proofs.Words.{◌≡◌, ◌≢◌, ℕ, ◌+◌, ◌-◌, ◌≤◌, Bool, cond, zero, suc, same_Some, true, false, ◌&&◌, ◌||◌, ◌⊎◌, inl, inr, List, [], ◌∷◌, length, refl, sym, ◌∙◌, ap, ap₂, subst, arith, Option, None, Some, if◌then◌else◌, ◌==◌, list_any, list_all, list_all_at, eqb-true, eq-eqb, filter, Contains, Any-from_list_any, both_ways, cases_Bool, cases_lt, and_parts, and_from, or_cases, nat_tests, common_steps, Colour, White, Black, Pawn, Piece, Move, Parts, Square, square, squares, gap, on_board, same_square, Board, at, has_piece, is_empty, cell_attacks, attacks, is_ahead, own, is_en_passant, is_legal, promotion_fits, rules, and-false, and-true, same_tests, same_square-refl, squares_same, takes_en_passant, move_to, is_taken_on, attackers, if_taken_on, pairs_on, usable_target, key_pairs, one_if, rank_behind, stands_on, takes_from, west_of}
 use Rattle.chess_rules.specs.Step.{is_target}
 use Rattle.chess_text.proofs.forms.MoverOfMove.{takes, passes, advances, doubles, pawn_way, gap_apart}
 use Rattle.chess_text.proofs.forms.AgreeingAreFound.{Apart, squares_apart, in_squares, any_contained}
@@ -235,10 +229,10 @@ target_covered p t is full = (
 
 -- the rank behind is the one from which a pawn is ahead
 pub behind_ahead : (c : Colour) (t r : ℕ) → Some r ≡ rank_behind c t → is_ahead c r t ≡ true
-behind_ahead v0 t r e = grind (arith, common_steps)
+behind_ahead c t r e = grind (arith, common_steps)
 
 pub none_behind : (c : Colour) (t : ℕ) → None ≡ rank_behind c t → (r : ℕ) → is_ahead c r t ≡ true → ⊥
-none_behind v0 t e r h = grind (arith, common_steps)
+none_behind c t e r h = grind (arith, common_steps)
 
 -- a test of the file before, where there is one
 pub west_at : {X : Type 0} (f : ℕ) (g : Bool → X) (test : ℕ → Bool) → (f ≡ 0 → ⊥) → g (test (f - 1)) ≡ g (west_of test f)

@@ -1,18 +1,13 @@
 -- Two positions have the same key exactly if they are the same.
-use Rattle.chess_rules.proofs.moves.WaysToStep.{passing_means}
-use Rattle.chess_rules.proofs.sets.AllSquares.{same_tests}
-use Rattle.chess_rules.proofs.lines.AttackToReach.{squares_same}
-use Rattle.std.specs.Prelude.{IsOk}
 use Rattle.chess_text.proofs.forms.AgreeingAreFound.{in_squares, any_contained}
-use Rattle.chess_text.specs.Key.{KeysTell, SamePosition, takes_en_passant, move_to, usable_rights, usable_target, if_taken_on, is_taken_on, position_key}
 use Rattle.chess_text.proofs.positions.CanonicalText.{canonical_spells, last_rules}
 use Rattle.chess_text.proofs.positions.FenLaws.{once}
 use Rattle.chess_rules.specs.Attacks.{king_attacked}
 use Rattle.chess_rules.specs.Position.{one_king, pawn_on_edge}
 unfoldable use Rattle.chess_text.proofs.Words.{digits}
-use Rattle.chess_rules.specs.Step.{is_target, last_rank}
+use Rattle.chess_rules.specs.Step.{is_target}
 use Rattle.chess_text.proofs.forms.CastlingMoves.{castles_ends, no_pawn, stepped}
-use Rattle.chess_text.proofs.Words.{nat_tests, squares, Any-from_list_any, Promotion, ◌||◌, is_some, option_map, if_safe, is_legal, after, board_after, carried, en_passant_board, is_on_board, is_pawn_step, is_piece_step, promotion_fits, is_en_passant, castles, Wing, short_right, long_right, short_wing, long_wing, home, own, at, is_empty, King, Pawn, Rook, Move, not, ◌&&◌, ◌==◌, nat_le, and_parts, and_from, is_none, other, White, Black, Kings, PawnOnEdge, KingCapturable, TargetRank, NumberRange, Bool, true, false, refl, sym, subst, codes, common_steps, None, Some, if◌then◌else◌, Parts, Fen, fen_text, target_fits, is_position, position_fault, ◌≡◌, ◌≤◌, ◌+◌, ℕ, List, [], ◌∷◌, ◌++◌, ◌∙◌, ap, arith, append_assoc, length, length-append, join_with_byte, Result, Ok, Err, OnOk, Option, Board, Colour, Rights, Square, placement_text, side_text, rights_text, target_text, rules}
+use Rattle.chess_text.proofs.Words.{nat_tests, squares, Any-from_list_any, Promotion, ◌||◌, is_some, option_map, if_safe, is_legal, after, board_after, carried, en_passant_board, is_on_board, is_pawn_step, is_piece_step, promotion_fits, is_en_passant, castles, Wing, short_right, long_right, short_wing, long_wing, home, own, at, is_empty, King, Pawn, Rook, Move, not, ◌&&◌, ◌==◌, nat_le, and_parts, and_from, is_none, other, White, Black, Kings, PawnOnEdge, KingCapturable, TargetRank, NumberRange, Bool, true, false, refl, sym, subst, codes, common_steps, None, Some, if◌then◌else◌, Parts, Fen, fen_text, target_fits, is_position, position_fault, ◌≡◌, ◌≤◌, ◌+◌, ℕ, List, [], ◌∷◌, ◌++◌, ◌∙◌, ap, arith, append_assoc, length, length-append, join_with_byte, Result, Ok, Err, OnOk, Option, Board, Colour, Rights, Square, placement_text, side_text, rights_text, target_text, rules, passing_means, same_tests, squares_same, IsOk, KeysTell, SamePosition, takes_en_passant, move_to, usable_rights, usable_target, if_taken_on, is_taken_on, position_key, last_rank}
 use Rattle.chess_text.proofs.positions.BoardToText.{length-placement_text}
 use Rattle.chess_text.proofs.positions.FieldsOfText.{length-side_text, length-rights_text, length-target_text}
 
@@ -46,7 +41,7 @@ bare_text p = four_then (placement_text p.board) (side_text p.side) (rights_text
     four_then a b c d = grind (arith, common_steps)
 
 usable_fits : (p : Parts) (o : Option Square) → target_fits p.side o ≡ true → target_fits p.side (if_taken_on p o) ≡ true
-usable_fits p v1 h = grind (arith, common_steps)
+usable_fits p o h = grind (arith, common_steps)
 
 no_fault : (a b c d now e : Bool) → is_none (if not a then Some Kings else if b then Some PawnOnEdge else if c then Some KingCapturable
     else if not d then Some TargetRank else if not e then Some NumberRange else None) ≡ true → (d ≡ true → now ≡ true)
@@ -101,7 +96,7 @@ safe_on c None = false
 safe_on c (Some b) = not (king_attacked b (other (other c)))
 
 pub legal_by : (p : Parts) (m : Move) (o : Option Board) → is_some (if_safe (option_map (after p m) o)) ≡ safe_on p.side o
-legal_by p m v2 = grind (arith, common_steps, is_some)
+legal_by p m o = grind (arith, common_steps, is_some)
 
 -- a move is legal by the board after it
 pub legal_is : (p : Parts) (m : Move) → is_legal p m ≡ (is_on_board m && safe_on p.side (board_after p m))
@@ -146,7 +141,7 @@ some_none t h = cc
 
 -- a usable target is the target
 usable_some : (p : Parts) (o : Option Square) (t : Square) → if_taken_on p o ≡ Some t → o ≡ Some t
-usable_some p v1 t h = grind (arith, common_steps)
+usable_some p o t h = grind (arith, common_steps)
 
 taken_some : (p : Parts) (t s : Square) → p.target ≡ Some t → takes_en_passant p (move_to t s) ≡ true → usable_target p ≡ Some t
 taken_some p t s is h =
@@ -186,7 +181,7 @@ module _ (p q : Parts) where
       by_taken false e = absurd (some_none t (sym h ∙ ap (if_taken_on p) is ∙ ap (λ (b : Bool). if b then Some t else None) e))
 
 same_option : (a b : Option Square) → ((t : Square) → a ≡ Some t → b ≡ Some t) → ((t : Square) → b ≡ Some t → a ≡ Some t) → a ≡ b
-same_option v0 b f g = grind (arith, common_steps)
+same_option a b f g = grind (arith, common_steps)
 
 pub turned : (p q : Parts) → SamePosition p q → SamePosition q p
 turned p q same = record { board = sym same.board; side = sym same.side; rights = sym same.rights; en_passant = λ m. sym (same.en_passant m) }

@@ -1,7 +1,5 @@
 -- In two positions that are the same the same moves are legal.
-use Rattle.chess_rules.proofs.sets.AllSquares.{same_tests}
-use Rattle.chess_text.specs.Key.{SamePosition, SameMovesLegal, takes_en_passant, usable_rights, stand_at_home}
-use Rattle.chess_text.proofs.Words.{◌≡◌, Bool, true, false, ◌&&◌, ◌||◌, refl, sym, ◌∙◌, ap, subst, Option, None, Some, is_some, option_map, if◌then◌else◌, and_parts, and_from, both_ways, Colour, White, Black, King, Pawn, Rook, Move, Parts, Rights, Square, Board, at, own, home, Wing, short_wing, long_wing, short_right, long_right, castles, castles_short, castles_long, castled, if_safe, is_legal, after, board_after, carried, en_passant_board, is_on_board, is_pawn_step, is_piece_step, is_en_passant, arith, common_steps, false_from_ne_true}
+use Rattle.chess_text.proofs.Words.{◌≡◌, Bool, true, false, ◌&&◌, ◌||◌, refl, sym, ◌∙◌, ap, subst, Option, None, Some, is_some, option_map, if◌then◌else◌, and_parts, and_from, both_ways, Colour, White, Black, King, Pawn, Rook, Move, Parts, Rights, Square, Board, at, own, home, Wing, short_wing, long_wing, short_right, long_right, castles, castles_short, castles_long, castled, if_safe, is_legal, after, board_after, carried, en_passant_board, is_on_board, is_pawn_step, is_piece_step, is_en_passant, arith, common_steps, false_from_ne_true, same_tests, SamePosition, SameMovesLegal, takes_en_passant, usable_rights, stand_at_home}
 use Rattle.chess_text.proofs.forms.CastlingMoves.{castles_ends, no_pawn, passing_parts}
 use Rattle.chess_text.proofs.keys.KeyToPosition.{legal_is, safe_on, turned}
 
@@ -39,7 +37,7 @@ castling p m true wing h =
   where
     by_test : (q : Parts) → q.board ≡ p.board → q.side ≡ p.side → m.from ≡ home p 4 → own p King (home p 4) ≡ true
         → (b : Bool) → is_en_passant q m ≡ b → b ≡ false
-    by_test q board side from king v5 e = grind (arith, common_steps, passing_parts, no_pawn)
+    by_test q board side from king b e = grind (arith, common_steps, passing_parts, no_pawn)
 
 -- a right that can be used in one position is one in the other
 short_kept : (b : Board) (c : Colour) (r s : Rights) → stand_at_home b c short_wing.rook ≡ true → short_right c r ≡ true

@@ -1,12 +1,6 @@
 -- The rivals of a move, found among the candidates for its target.
-use Rattle.chess_rules.proofs.trying.FoundLists.{list_any-filter}
-use Rattle.chess_rules.proofs.moves.WaysToStep.{some_of}
-use Rattle.chess_rules.proofs.positions.RulesOfPosition.{same_square-refl}
-use Rattle.chess_rules.proofs.lines.AttackToReach.{squares_same}
-use mathlib.Core.Bool.{and-true}
-use Rattle.chess_text.proofs.Words.{◌≡◌, ℕ, ◌+◌, ◌<◌, ◌≤◌, Bool, true, false, cond, ◌&&◌, ◌||◌, List, [], ◌∷◌, length, take, get_or, refl, sym, ◌∙◌, ap, ◌==◌, list_any, IsPermutation, and_parts, take_all, list_any_more, list_any-IsPermutation, Kind, Move, Parts, Square, squares, own, legal, sees, candidates, CandidatesComplete, from_square, is_rival, rivals, on_file, on_rank, disambiguation_by, disambiguation, arith, inl, inr, not, and_from, or_cases, IsPermutation-refl, same_square, is_legal, is_candidate, cases_Bool, ap₂, subst, Option, None, Some, is_none, both_ways, not-true, not-false, eqb-true, nat_tests, Colour, King, Pawn, Piece, square, gap, at, has_piece, same_kind, is_empty, other, is_ahead, is_position, captured_pawn, crossed, pawn_rank, double_rank, Wing, castles, castles_short, castles_long, OneKing, hints_fit, describes, agrees, is_capture, rules, common_steps}
+use Rattle.chess_text.proofs.Words.{◌≡◌, ℕ, ◌+◌, ◌<◌, ◌≤◌, Bool, true, false, cond, ◌&&◌, ◌||◌, List, [], ◌∷◌, length, take, get_or, refl, sym, ◌∙◌, ap, ◌==◌, list_any, IsPermutation, and_parts, take_all, list_any_more, list_any-IsPermutation, Kind, Move, Parts, Square, squares, own, legal, sees, candidates, CandidatesComplete, from_square, is_rival, rivals, on_file, on_rank, disambiguation_by, disambiguation, arith, inl, inr, not, and_from, or_cases, IsPermutation-refl, same_square, is_legal, is_candidate, cases_Bool, ap₂, subst, Option, None, Some, is_none, both_ways, not-true, not-false, eqb-true, nat_tests, Colour, King, Pawn, Piece, square, gap, at, has_piece, same_kind, is_empty, other, is_ahead, is_position, captured_pawn, crossed, pawn_rank, double_rank, Wing, castles, castles_short, castles_long, OneKing, hints_fit, describes, agrees, is_capture, rules, common_steps, list_any-filter, some_of, same_square-refl, squares_same, and-true, filter}
 use Rattle.chess_text.proofs.forms.CastlingMoves.{stepped, castles_ends}
-use Rattle.std.specs.Prelude.{filter}
 use Rattle.chess_text.proofs.forms.AgreeingAreFound.{in_squares, any_contained, said, same_move, no_promotion}
 use Rattle.chess_text.proofs.forms.MoverOfMove.{PawnWay, takes, passes, advances, doubles, pawn_way, pawn_takes, gap_apart}
 use Rattle.chess_text.proofs.names.WrittenToForm.{file_by, rank_by, disambiguated_form, king_form_by, pawn_form_by, written, unpromoted, itself}
@@ -164,9 +158,6 @@ module _ (p : Parts) (x y : Move) (there : y.to ≡ x.to) (ahead : is_ahead p.si
   onto : (f : ℕ) → f ≡ y.to.file → square f y.from.rank ≡ crossed x
   onto f e = grind (arith, common_steps)
 
-  over : own p Pawn y.from ≡ true → y.from.file ≡ y.to.file → ⊥
-  over pawn straight = no_one p.side _ free (subst (λ s. own p Pawn s ≡ true) (onto _ straight) pawn)
-
   past : has_piece (other p.side) Pawn (at p.board (captured_pawn y)) ≡ true → ⊥
   past taken =
       no_one (other p.side) (at p.board (crossed x)) free (subst (λ s. has_piece (other p.side) Pawn (at p.board s) ≡ true) (onto _ refl) taken)
@@ -181,21 +172,18 @@ module _ (p : Parts) (m n : Move) (pawn_m : own p Pawn m.from ≡ true) (pawn_n 
   -- with the file told
   by_file : n.from.file ≡ m.from.file → gap m.from.file m.to.file ≡ 1
       → is_ahead p.side m.from.rank m.to.rank ≡ true → PawnWay p n → n.from ≡ m.from
-  by_file file aside ahead v3 = grind (arith, common_steps, aside, same_rank, gap_apart, to_file, doubles)
+  by_file file aside ahead h = grind (arith, common_steps, aside, same_rank, gap_apart, to_file, doubles)
 
   file_of_target : n.from.file ≡ n.to.file → m.from.file ≡ m.to.file → n.from.file ≡ m.from.file
   file_of_target h g = cc
 
-  not_empty : is_empty p.board n.to ≡ false → is_empty p.board m.to ≡ true → ⊥
-  not_empty h g = both_ways _ (rw there at h) g
-
   -- with no file told
   straight_alone : PawnWay p m → PawnWay p n → m.from.file ≡ m.to.file → n.from ≡ m.from
-  straight_alone v0 wn file = grind (arith, common_steps, gap_apart, not_both, file_of_target, same_rank, doubles, past)
+  straight_alone h wn file = grind (arith, common_steps, gap_apart, not_both, file_of_target, same_rank, doubles, past)
 
   aside : PawnWay p m → (m.from.file == m.to.file) ≡ false
       → (gap m.from.file m.to.file ≡ 1) × (is_ahead p.side m.from.rank m.to.rank ≡ true)
-  aside v0 h = grind (arith, common_steps, both_ways, itself, doubles)
+  aside g h = grind (arith, common_steps, both_ways, itself, doubles)
 
 pawn_alone : (p : Parts) (m n : Move) → is_legal p m ≡ true → is_legal p n ≡ true
     → own p Pawn m.from ≡ true → describes p (pawn_form_by (is_capture p m) m) n ≡ true → n ≡ m

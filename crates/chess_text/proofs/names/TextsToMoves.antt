@@ -1,7 +1,5 @@
 -- What the texts of legal moves name.
-use Rattle.chess_rules.proofs.trying.FoundLists.{list_any-filter}
-use Rattle.chess_rules.proofs.positions.RulesOfPosition.{same_square-refl}
-use Rattle.chess_text.proofs.Words.{◌≡◌, ◌≢◌, ℕ, zero, suc, ◌<◌, Bool, true, false, not, ◌&&◌, List, [], ◌∷◌, ◌++◌, append-nil, refl, sym, ◌∙◌, ap, arith, ◌==◌, nat_lt, Option, None, Some, slice_index_or, list_any, Any, false≢true, and_parts, and_from, ltb-true, Any-from_list_any, Kind, King, Pawn, Move, Parts, Square, squares, same_square, same_kind, own, is_legal, OneKing, Man, letter, file_letter, rank_digit, square_text, Spells, is_form, below_eight, hint_text, hints_fit, capture_text, from_square, is_rival, rivals, on_file, on_rank, disambiguation_by, has_rivals, mark, san, Names, SingleReading, disambiguations, text_with, ShorterIsAmbiguous, same_Some, ◌+◌, ◌≤◌, length, subst, is_some, option_map, codes, list_all, list_all-append, nat_tests, Promotion, legal, on_board, move_of_form, capture_if, pawn_capture, promotion_text, king_text, disambiguated_text, kind_text, piece_text, is_letter, is_move_byte, begins_with_letter, IsMoveSymbol, WrittenMoveIsSymbol, WrittenMoveIsRead, or_right, rules, common_steps}
+use Rattle.chess_text.proofs.Words.{◌≡◌, ◌≢◌, ℕ, zero, suc, ◌<◌, Bool, true, false, not, ◌&&◌, List, [], ◌∷◌, ◌++◌, append-nil, refl, sym, ◌∙◌, ap, arith, ◌==◌, nat_lt, Option, None, Some, slice_index_or, list_any, Any, false≢true, and_parts, and_from, ltb-true, Any-from_list_any, Kind, King, Pawn, Move, Parts, Square, squares, same_square, same_kind, own, is_legal, OneKing, Man, letter, file_letter, rank_digit, square_text, Spells, is_form, below_eight, hint_text, hints_fit, capture_text, from_square, is_rival, rivals, on_file, on_rank, disambiguation_by, has_rivals, mark, san, Names, SingleReading, disambiguations, text_with, ShorterIsAmbiguous, same_Some, ◌+◌, ◌≤◌, length, subst, is_some, option_map, codes, list_all, list_all-append, nat_tests, Promotion, legal, on_board, move_of_form, capture_if, pawn_capture, promotion_text, king_text, disambiguated_text, kind_text, piece_text, is_letter, is_move_byte, begins_with_letter, IsMoveSymbol, WrittenMoveIsSymbol, WrittenMoveIsRead, or_right, rules, common_steps, list_any-filter, same_square-refl}
 use Rattle.chess_text.proofs.forms.CastlingMoves.{stepped}
 use Rattle.chess_text.proofs.forms.SpellingToForm.{form_read}
 use Rattle.chess_text.proofs.names.OneMoveAgrees.{turn, alone}
@@ -41,7 +39,7 @@ some_rival : (p : Parts) (k : Kind) (m : Move) (test other : Square → Bool)
 some_rival p k m test other implied h = by_place (Any-from_list_any _ squares (sym (list_any-filter test _ squares) ∙ h))
   where
     by_place : Any (λ s. ((own p k s && is_rival p m s) && test s) ≡ true) squares → Rival p k m other
-    by_place v0 = search (rules, four_hold)
+    by_place h = search (rules, four_hold)
 
 pub another : (n m : Move) → same_square n.from m.from ≡ false → n ≢ m
 another n m other e = false≢true (sym other ∙ ap (λ (x : Move). same_square x.from m.from) e ∙ same_square-refl m.from)
@@ -157,7 +155,7 @@ more m n s less h = record { all = h.all; fits = omega arith }
 
 -- the parts of a text
 apart_bytes : (s : Square) (any file rank : Bool) → on_board s ≡ true → Bytes 2 (disambiguation_by s any file rank)
-apart_bytes s v1 file rank on = grind (arith, common_steps, file_bytes, rank_bytes, square_bytes)
+apart_bytes s any file rank on = grind (arith, common_steps, file_bytes, rank_bytes, square_bytes)
 
 capture_bytes : (takes : Bool) → Bytes 1 (capture_if takes)
 capture_bytes takes = grind arith
@@ -208,7 +206,7 @@ king_symbol p m to = by_wing _ _
 
 pawn_symbol : (takes : Bool) (m : Move) → on_board m.from ≡ true → on_board m.to ≡ true
     → Unmarked (pawn_capture takes m ++ square_text m.to ++ promotion_text m.promotion)
-pawn_symbol v0 m from to = search (rules, bytes_append, file_bytes, capture_bytes, square_bytes, promotion_bytes)
+pawn_symbol takes m from to = search (rules, bytes_append, file_bytes, capture_bytes, square_bytes, promotion_bytes)
 
 kind_symbol : (k : Kind) (p : Parts) (m : Move) → on_board m.from ≡ true → on_board m.to ≡ true → Unmarked (kind_text k p m)
 kind_symbol King p m from to = king_symbol p m to

@@ -15,7 +15,7 @@ found_alone test [] x c h alone = absurd (none_in x c)
 found_alone {X} test (y ∷ ys) x c h alone = by_test _ refl (λ more. found_alone test ys x more h alone)
   where
     by_test : (b : Bool) → test y ≡ b → (Contains ys x → find test ys ≡ Some x) → find test (y ∷ ys) ≡ Some x
-    by_test v0 e further = grind (arith, common_steps, element)
+    by_test b e further = grind (arith, common_steps, element)
 
 -- what holds of all elements holds of the one that is found
 found_among : {X : Type 0} (test holds : X → Bool) (xs : List X) (x : X) → list_all holds xs ≡ true → find test xs ≡ Some x → holds x ≡ true

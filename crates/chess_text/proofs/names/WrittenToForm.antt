@@ -1,6 +1,5 @@
 -- The form that the text of a legal move spells.
-use Rattle.chess_rules.proofs.positions.RulesOfPosition.{same_square-refl}
-use Rattle.chess_text.proofs.Words.{◌||◌, ◌≡◌, ℕ, inl, inr, Bool, true, false, not, [], ◌∷◌, ◌++◌, append-nil, refl, sym, ◌∙◌, ap, ap₂, ◌==◌, Option, None, Some, codes, if◌then◌else◌, list_all, list_any, false≢true, and_parts, and_from, or_cases, eq-eqb, Kind, King, Pawn, Piece, Promotion, Move, Parts, Square, on_board, at, has_colour, same_kind, own, castles_short, castles_long, short_right, long_right, short_wing, long_wing, is_legal, Form, Castle, Man, letter, file_letter, rank_digit, square_text, SpellsBare, Spells, is_among, letter_texts, hint_text, capture_texts, promotion_texts, is_mark, is_form, hints_fit, is_castling, describes, agrees, is_capture, capture_if, capture_text, pawn_capture, promotion_text, king_text, disambiguated_text, kind_text, mark, san, disambiguation_by, rivals, on_file, on_rank, has_rivals, false_from_ne_true, arith, nat_tests, rules, common_steps}
+use Rattle.chess_text.proofs.Words.{◌||◌, ◌≡◌, ℕ, inl, inr, Bool, true, false, not, [], ◌∷◌, ◌++◌, append-nil, refl, sym, ◌∙◌, ap, ap₂, ◌==◌, Option, None, Some, codes, if◌then◌else◌, list_all, list_any, false≢true, and_parts, and_from, or_cases, eq-eqb, Kind, King, Pawn, Piece, Promotion, Move, Parts, Square, on_board, at, has_colour, same_kind, own, castles_short, castles_long, short_right, long_right, short_wing, long_wing, is_legal, Form, Castle, Man, letter, file_letter, rank_digit, square_text, SpellsBare, Spells, is_among, letter_texts, hint_text, capture_texts, promotion_texts, is_mark, is_form, hints_fit, is_castling, describes, agrees, is_capture, capture_if, capture_text, pawn_capture, promotion_text, king_text, disambiguated_text, kind_text, mark, san, disambiguation_by, rivals, on_file, on_rank, has_rivals, false_from_ne_true, arith, nat_tests, rules, common_steps, same_square-refl}
 use Rattle.chess_text.proofs.forms.CastlingMoves.{piece_goes, pawn_goes, pawn_passes, king_castles, stepped, castles_ends}
 use Rattle.chess_text.proofs.forms.PieceForms.{same_promotion-refl}
 use Rattle.chess_text.proofs.forms.MoverOfMove.{king_text_by, mover, mover_colour, other_kind}
@@ -154,7 +153,7 @@ king_described p m h stands = by_wing _ _ refl refl
     by_wing false false e g = piece_move_described p m King None None None stands refl (unpromoted p m King h stands refl) (ap₂ ◌||◌ e g)
 
 pawn_described : (p : Parts) (m : Move) (takes : Bool) → own p Pawn m.from ≡ true → describes p (pawn_form_by takes m) m ≡ true
-pawn_described p m v2 stands = search (rules, piece_move_described, and_from, itself, no_castling)
+pawn_described p m takes stands = search (rules, piece_move_described, and_from, itself, no_castling)
 
 disambiguated_described : (p : Parts) (m : Move) (k : Kind) → is_legal p m ≡ true → own p k m.from ≡ true
     → same_kind k Pawn ≡ false → same_kind King k ≡ false → describes p (disambiguated_form k p m) m ≡ true

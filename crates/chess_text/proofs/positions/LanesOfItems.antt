@@ -1,8 +1,7 @@
 -- The lanes of a rank that is read item by item: an item is a content, with empty squares after it.
-use Rattle.chess_rules.proofs.sets.RanksToWords.{word-append}
 use Rattle.chess_rules.specs.Words.{lanes_of}
 unfoldable use Rattle.chess_rules.specs.Words.{lanes, word}
-use Rattle.chess_text.proofs.Words.{◌≡◌, ℕ, ◌+◌, ◌*◌, Bool, false, List, [], ◌∷◌, ◌++◌, length, replicate, refl, ◌∙◌, ap, ap₂, arith, None, Option, if◌then◌else◌, Board, Piece, ◌^◌, zero, suc}
+use Rattle.chess_text.proofs.Words.{◌≡◌, ℕ, ◌+◌, ◌*◌, Bool, false, List, [], ◌∷◌, ◌++◌, length, replicate, refl, ◌∙◌, ap, ap₂, arith, None, Option, if◌then◌else◌, Board, Piece, ◌^◌, zero, suc, word-append}
 
 none_there : {X : Type 0} (test : X → Bool) (none : X) (k : ℕ) → test none ≡ false → word test (replicate k none) ≡ 0
 unfolding word

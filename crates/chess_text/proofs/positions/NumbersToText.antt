@@ -1,6 +1,5 @@
 -- The numbers of a rank, written as its text.
-use Rattle.chess_text.proofs.Words.{Option, at, drop, row, square, subst, ◌≡◌, ℕ, zero, suc, ◌+◌, ◌-◌, ◌/◌, ◌<◌, ◌≤◌, List, [], ◌∷◌, ◌++◌, length, append_assoc, append-nil, ap, ap₂, sym, ◌∙◌, arith, length-append, Board, Piece, piece_letter, rank_text, run_text, ◌==◌, false, refl, None, Some, nat_tests, get_or, set, take, take_more_set, common_steps, ◌%◌, take-set}
-use Rattle.std.proofs.Common.{length-set}
+use Rattle.chess_text.proofs.Words.{Option, at, drop, row, square, subst, ◌≡◌, ℕ, zero, suc, ◌+◌, ◌-◌, ◌/◌, ◌<◌, ◌≤◌, List, [], ◌∷◌, ◌++◌, length, append_assoc, append-nil, ap, ap₂, sym, ◌∙◌, arith, length-append, Board, Piece, piece_letter, rank_text, run_text, ◌==◌, false, refl, None, Some, nat_tests, get_or, set, take, take_more_set, common_steps, ◌%◌, take-set, length-set}
 use Rattle.chess_rules.specs.RankNumbers.{number_of_piece, numbers, word_of_bytes}
 use Rattle.chess_text.proofs.positions.BoardToText.{drop-row}
 
@@ -132,7 +131,7 @@ module _ (whole : List ℕ) (most : ℕ) (text : List ℕ) (end word : ℕ) (cel
   -- a byte is stored within the text
   pub stored_within : (x : Option Piece) (more byte : ℕ) → Step word more byte
       → RankWritten whole most text end word (x ∷ cells) → (1 ≤ end + more) × (end + more ≤ length text)
-  stored_within v0 more byte s w = grind (arith, common_steps, end_of_run, piece_first, piece_is_small)
+  stored_within x more byte s w = grind (arith, common_steps, end_of_run, piece_first, piece_is_small)
 
 -- the squares that are left of a rank begin with that of this file
 pub next_square : {whole : List ℕ} {most : ℕ} {text : List ℕ} {end word : ℕ} (b : Board) (rank file : ℕ) → file < 8

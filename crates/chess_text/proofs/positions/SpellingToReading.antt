@@ -1,6 +1,5 @@
 -- A text that spells a position is read as that position.
-use Rattle.chess_rules.proofs.sets.AllSquares.{first_true}
-use Rattle.chess_text.proofs.Words.{◌≡◌, ℕ, ◌+◌, ◌-◌, ◌<◌, ◌==◌, nat_le, Bool, true, false, not, ◌&&◌, List, [], ◌∷◌, length, refl, sym, ◌∙◌, ap, ap₂, arith, Option, None, Some, Ok, list_all, join_with_byte, false≢true, false_from_ne_true, and_parts, is_target, eqb-true, nat_tests, list_all-append, onto_first, ◌++◌, slice_split, slice_split-cons_no, slice_split-cons_yes, length-slice_split, Colour, Rights, Parts, Square, square, Board, target_fits, ranks, is_slash, is_item, is_rank, placement_of, side_text, side_of, rights_text, rights_of, target_text, target_of, is_digit, number_of, SpellsBoard, SpellsNumber, Fen, is_space, parts_or_fault, read, not-true, common_steps}
+use Rattle.chess_text.proofs.Words.{◌≡◌, ℕ, ◌+◌, ◌-◌, ◌<◌, ◌==◌, nat_le, Bool, true, false, not, ◌&&◌, List, [], ◌∷◌, length, refl, sym, ◌∙◌, ap, ap₂, arith, Option, None, Some, Ok, list_all, join_with_byte, false≢true, false_from_ne_true, and_parts, is_target, eqb-true, nat_tests, list_all-append, onto_first, ◌++◌, slice_split, slice_split-cons_no, slice_split-cons_yes, length-slice_split, Colour, Rights, Parts, Square, square, Board, target_fits, ranks, is_slash, is_item, is_rank, placement_of, side_text, side_of, rights_text, rights_of, target_text, target_of, is_digit, number_of, SpellsBoard, SpellsNumber, Fen, is_space, parts_or_fault, read, not-true, common_steps, first_true}
 use Rattle.chess_text.proofs.positions.CanonicalText.{last_rules}
 use Rattle.chess_text.proofs.positions.FieldsOfText.{lacks, six_fields}
 

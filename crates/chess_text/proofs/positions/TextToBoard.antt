@@ -1,8 +1,7 @@
 -- The board that a text spells, rank by rank from its first one.
 unfoldable use Rattle.chess_rules.specs.Words.{lanes}
 use Rattle.chess_text.proofs.positions.LanesOfItems.{lanes_with_item}
-use Rattle.chess_rules.proofs.sets.RanksToWords.{lanes_fit, lanes_nil, ranks_above}
-use Rattle.chess_text.proofs.Words.{◌^◌, ◌≡◌, ℕ, zero, suc, ◌+◌, ◌-◌, ◌*◌, ◌<◌, ◌≤◌, ◌==◌, Bool, true, false, ◌&&◌, ◌||◌, List, [], ◌∷◌, ◌++◌, length, take, drop, reverse, reverse-append, inl, inr, refl, sym, ◌∙◌, ap, ap₂, subst, arith, append-nil, append_assoc, length-append, None, Some, flat_map, if◌then◌else◌, list_all, nat_tests, nat_le, nat_lt, false≢true, false_from_ne_true, Board, Piece, Option, ranks, is_item, is_rank, cells_of, placement_of, get_or, drop-cons, drop_all, cases_lt, onto_first, slice_split-cons_no, length-slice_split, is_slash, is_space, is_some, before_first, replicate, cells_at, item, common_steps, ◌%◌, length-replicate, piece_of, one_cell}
+use Rattle.chess_text.proofs.Words.{◌^◌, ◌≡◌, ℕ, zero, suc, ◌+◌, ◌-◌, ◌*◌, ◌<◌, ◌≤◌, ◌==◌, Bool, true, false, ◌&&◌, ◌||◌, List, [], ◌∷◌, ◌++◌, length, take, drop, reverse, reverse-append, inl, inr, refl, sym, ◌∙◌, ap, ap₂, subst, arith, append-nil, append_assoc, length-append, None, Some, flat_map, if◌then◌else◌, list_all, nat_tests, nat_le, nat_lt, false≢true, false_from_ne_true, Board, Piece, Option, ranks, is_item, is_rank, cells_of, placement_of, get_or, drop-cons, drop_all, cases_lt, onto_first, slice_split-cons_no, length-slice_split, is_slash, is_space, is_some, before_first, replicate, cells_at, item, common_steps, ◌%◌, length-replicate, piece_of, one_cell, lanes_fit, lanes_nil, ranks_above}
 
 -- The reading, byte by byte: `row` has the squares of the rank so far, `done` those of the ranks
 -- above.
@@ -29,7 +28,7 @@ width_if run w o = if run then w else if is_some o then 1 else 9
 
 means_if : (run : Bool) (w : ℕ) (o : Option Piece) → (run || is_some o) ≡ true → (run ≡ true → o ≡ None) → (run ≡ true → 0 < w)
     → (cells_if run w o ≡ o ∷ replicate (width_if run w o - 1) None) × (width_if run w o ≡ length (cells_if run w o))
-means_if v0 w o h none some = grind (arith, common_steps, replicate_first, length-replicate)
+means_if run w o h none some = grind (arith, common_steps, replicate_first, length-replicate)
 
 pub means : (c : ℕ) → is_item c ≡ true → Means c
 means c h = grind (arith, common_steps, means_if)
@@ -86,12 +85,12 @@ nested false b v = refl
 module _ (row done : Board) where
   with_slash : (texts : List (List ℕ)) → 0 < length texts
       → (if (length row == 8) && nat_lt (length done) 56 then joined [] (row ++ done) texts else None) ≡ joined row done ([] ∷ texts)
-  with_slash v0 some = grind (arith, common_steps, length-append, append-nil, append_assoc, first_last)
+  with_slash texts some = grind (arith, common_steps, length-append, append-nil, append_assoc, first_last)
 
   -- a digit or a letter
   with_item : (c : ℕ) (texts : List (List ℕ)) → 0 < length texts → is_item c ≡ true
       → (if nat_le (length row + (item c).width) 8 then joined (row ++ cells_at c) done texts else None) ≡ joined row done (onto_first c texts)
-  with_item c v1 some good = grind (arith, common_steps, means, nested, if_same, length-append)
+  with_item c texts some good = grind (arith, common_steps, means, nested, if_same, length-append)
 
   -- any other byte
   with_other : (c : ℕ) (texts : List (List ℕ)) → 0 < length texts → is_item c ≡ false → None ≡ joined row done (onto_first c texts)
@@ -202,7 +201,7 @@ module _ {text : List ℕ} {i : ℕ} {board : Board} {below file lanes_read : �
 
       by_count : (x : Bool) → ((file == 8) && (below == 0)) ≡ x
           → finish so_far.row so_far.done ≡ (if (file == 8) && (below == 0) then Some new else None)
-      by_count v0 e = grind (arith, common_steps, if_same, tests, all_read)
+      by_count x e = grind (arith, common_steps, if_same, tests, all_read)
 
   -- the end of the text
   pub end_read : (new : Board) → length text ≤ i → (file ≡ 8 → new ≡ so_far.row ++ take 56 board)

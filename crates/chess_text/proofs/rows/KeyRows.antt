@@ -1,7 +1,6 @@
 -- Keys of worked positions, computed.
 use Prim.Native.String.{String}
-use Rattle.chess_text.proofs.Words.{◌≡◌, ℕ, List, [], Result, Ok, Err, refl, codes, Parts, squares, FenFault, read}
-use Rattle.chess_text.specs.Key.{position_key, key_pairs}
+use Rattle.chess_text.proofs.Words.{◌≡◌, ℕ, List, [], Result, Ok, Err, refl, codes, Parts, squares, FenFault, read, position_key, key_pairs}
 
 abbrev key_in : Result Parts FenFault → List ℕ
 key_in (Ok p) = position_key p

@@ -1,6 +1,5 @@
 -- Worked rows of the texts of moves as symbols (PGN 7, 8.2.3), and of reading them back.
-use Rattle.chess_rules.proofs.moves.WaysToStep.{some_of}
-use Rattle.chess_text.proofs.Words.{◌≡◌, ℕ, ◌≤◌, true, List, [], Option, None, Some, Result, Ok, Err, refl, sym, subst, ◌∙◌, arith, codes, is_some, option_map, IsTrue, false≢true, Move, Parts, Square, squares, is_position, legal, Played, SanFault, NoMove, Ambiguous, form_of, agreeing, move_of_form, san, begins_with_letter, is_marker, IsMoveSymbol, WrittenMoveIsSymbol, WrittenMoveIsRead}
+use Rattle.chess_text.proofs.Words.{◌≡◌, ℕ, ◌≤◌, true, List, [], Option, None, Some, Result, Ok, Err, refl, sym, subst, ◌∙◌, arith, codes, is_some, option_map, IsTrue, false≢true, Move, Parts, Square, squares, is_position, legal, Played, SanFault, NoMove, Ambiguous, form_of, agreeing, move_of_form, san, begins_with_letter, is_marker, IsMoveSymbol, WrittenMoveIsSymbol, WrittenMoveIsRead, some_of}
 use Rattle.chess_text.proofs.rows.MovesOfPieces.{san_is_tried}
 use Rattle.chess_text.proofs.rows.TextLawRows.{knights, queens, rooks, promoting, kings, g1e2, c3e2, h4e1, e1c1, a1b1, a7b8}
 use Rattle.chess_text.proofs.rows.SanRows.{named, go}

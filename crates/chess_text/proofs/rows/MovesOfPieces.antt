@@ -36,7 +36,7 @@ mark_tried None = []
 mark_tried (Some q) = if is_check q && not (list_any (piece_has_move q) squares) then codes "#" else if is_check q then codes "+" else []
 
 pub mark_is_tried : (o : Option Parts) → mark o ≡ mark_tried o
-mark_is_tried v0 = search (rules, codes, any-same, from_piece)
+mark_is_tried o = search (rules, codes, any-same, from_piece)
 
 abbrev pub san_tried : Parts → Move → List ℕ
 san_tried p m = unmarked p m ++ mark_tried (legal p m)

@@ -1,5 +1,4 @@
-use Rattle.std.proofs.lemmas.Grind.{common_steps}
-use Rattle.chess_rules.proofs.Words.{Colour, Board, Square, cell_of, square_at, is_clear, is_attacked, strictly_between, may_attack, has, Places, Bits, HasNone, IsFirst, ◌≡◌, ℕ, ◌<◌, true, ◌&&◌, ◌||◌, sym, ◌∙◌, arith, or_left, or_right, false≢true, HasAttacker}
+use Rattle.chess_rules.proofs.Words.{Colour, Board, Square, cell_of, square_at, is_clear, is_attacked, strictly_between, may_attack, has, Places, Bits, HasNone, IsFirst, ◌≡◌, ℕ, ◌<◌, true, ◌&&◌, ◌||◌, sym, ◌∙◌, arith, or_left, or_right, false≢true, HasAttacker, common_steps}
 use Rattle.chess_rules.proofs.sets.AllSquares.{Passes, some_square, cell_of-square_at}
 use Rattle.chess_rules.proofs.sets.SetsToSquares.{at_square}
 use Rattle.chess_rules.proofs.lines.AttackToReach.{attacked_is, attacker_is}

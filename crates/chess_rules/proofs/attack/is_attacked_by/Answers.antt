@@ -1,5 +1,4 @@
-use Rattle.std.proofs.lemmas.Grind.{common_steps}
-use Rattle.chess_rules.proofs.Words.{Square, is_clear, has_any, members, Places, ◌≡◌, ℕ, true, not, ◌&&◌, Bool, List, [], ◌∷◌, sym, ◌∙◌, ap, arith, list_any}
+use Rattle.chess_rules.proofs.Words.{Square, is_clear, has_any, members, Places, ◌≡◌, ℕ, true, not, ◌&&◌, Bool, List, [], ◌∷◌, sym, ◌∙◌, ap, arith, list_any, common_steps}
 use Rattle.chess_rules.proofs.sets.SetsToSquares.{any_member, full_when, lone_means, none_of_set}
 use Rattle.chess_rules.proofs.attack.is_attacked_by.Goals as goal
 

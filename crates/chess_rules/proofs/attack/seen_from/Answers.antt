@@ -1,6 +1,4 @@
-use Rattle.std.proofs.Common.{arith}
-use Rattle.std.proofs.lemmas.Grind.{common_steps}
-use Rattle.chess_rules.proofs.Words.{is_steep}
+use Rattle.chess_rules.proofs.Words.{is_steep, arith, common_steps}
 use Rattle.chess_rules.proofs.lines.InView.{line_of_set}
 use Rattle.chess_rules.proofs.lines.SeenAlong.{seen_by_lines}
 use Rattle.chess_rules.proofs.lines.LinesThrough.{falling_line, file_line, rank_line, rising_line}

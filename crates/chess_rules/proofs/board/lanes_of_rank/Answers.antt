@@ -1,5 +1,4 @@
-use Rattle.std.proofs.lemmas.Grind.{common_steps}
-use Rattle.chess_rules.proofs.Words.{◌≡◌, ◌+◌, ◌-◌, ◌*◌, ◌<◌, ◌^◌, suc, sym, ◌∙◌, ap, arith, take, drop, length-take}
+use Rattle.chess_rules.proofs.Words.{◌≡◌, ◌+◌, ◌-◌, ◌*◌, ◌<◌, ◌^◌, suc, sym, ◌∙◌, ap, arith, take, drop, length-take, common_steps}
 unfoldable use Rattle.chess_rules.specs.Words.{lanes}
 use Rattle.chess_rules.proofs.sets.RanksToWords.{lanes_nil, next_lanes, lanes_fit}
 use Rattle.chess_rules.proofs.board.lanes_of_rank.Goals as goal

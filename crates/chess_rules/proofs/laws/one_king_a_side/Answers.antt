@@ -1,5 +1,4 @@
-use Rattle.std.proofs.lemmas.Grind.{common_steps}
-use Rattle.chess_rules.proofs.Words.{Colour, King, Square, on_board, Board, at, has_piece, arith, true, ◌≡◌}
+use Rattle.chess_rules.proofs.Words.{Colour, King, Square, on_board, Board, at, has_piece, arith, true, ◌≡◌, common_steps}
 use Rattle.chess_rules.proofs.positions.OneKing.{StandsAt, king_only_there}
 use Rattle.chess_rules.proofs.positions.RulesOfPosition.{sound_from_position}
 use Rattle.chess_rules.proofs.laws.one_king_a_side.Goals as goal

@@ -1,5 +1,4 @@
-use Rattle.std.proofs.lemmas.Grind.{common_steps}
-use Rattle.chess_rules.proofs.Words.{Parts, None, is_check, other, pair_count, has_legal_move, count_king_steps, count_untried, has_king_step, has_untried_move, is_position, Bits, has, members, ◌≡◌, ℕ, ◌+◌, ◌≤◌, true, not, ◌||◌, sym, ◌∙◌, ap, arith, list_any, sum_by}
+use Rattle.chess_rules.proofs.Words.{Parts, None, is_check, other, pair_count, has_legal_move, count_king_steps, count_untried, has_king_step, has_untried_move, is_position, Bits, has, members, ◌≡◌, ℕ, ◌+◌, ◌≤◌, true, not, ◌||◌, sym, ◌∙◌, ap, arith, list_any, sum_by, common_steps}
 use Rattle.chess_rules.proofs.moves.PlainStepAttacks.{none_when_not}
 use Rattle.chess_rules.proofs.positions.RulesOfPosition.{sound_from_position}
 use Rattle.chess_rules.proofs.moves.CheckStays.{check_met, none_elsewhere}

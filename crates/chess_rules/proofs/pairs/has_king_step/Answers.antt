@@ -1,5 +1,4 @@
-use Rattle.std.proofs.lemmas.Grind.{common_steps}
-use Rattle.chess_rules.proofs.Words.{king_square, is_legal_pair, is_king_step, has_king_step, count_king_steps, length, ap, arith, list_any}
+use Rattle.chess_rules.proofs.Words.{king_square, is_legal_pair, is_king_step, has_king_step, count_king_steps, length, ap, arith, list_any, common_steps}
 use Rattle.chess_rules.proofs.sets.SetsToSquares.{members_are}
 use Rattle.chess_rules.proofs.trying.SearchThatCounts.{left_fits, fewer_left, left_hit, none_left}
 use Rattle.chess_rules.proofs.pairs.has_king_step.Goals as goal

@@ -1,5 +1,4 @@
-use Rattle.std.proofs.lemmas.Grind.{common_steps}
-use Rattle.chess_rules.proofs.Words.{Parts, Square, Counts, has_untried_move, count_untried, is_untried, is_legal_pair, Places, members, ◌≡◌, ℕ, Bool, length, ◌∙◌, ap, subst, arith, list_any}
+use Rattle.chess_rules.proofs.Words.{Parts, Square, Counts, has_untried_move, count_untried, is_untried, is_legal_pair, Places, members, ◌≡◌, ℕ, Bool, length, ◌∙◌, ap, subst, arith, list_any, common_steps}
 use Rattle.chess_rules.proofs.trying.SetsToPairs.{untried_are, untried_counted}
 use Rattle.chess_rules.proofs.trying.SearchThatCounts.{target_fits, fewer_targets, target_hit, no_target}
 use Rattle.chess_rules.proofs.pairs.has_other_move_to.Goals as goal

@@ -1,5 +1,4 @@
-use Rattle.std.proofs.lemmas.Grind.{common_steps}
-use Rattle.chess_rules.proofs.Words.{length, members, sum_by, ap, arith}
+use Rattle.chess_rules.proofs.Words.{length, members, sum_by, ap, arith, common_steps}
 use Rattle.chess_rules.proofs.trying.PairsFromOrigin.{count_from, counted_by_origins, origin_counts, origin_mine, origins_begin, origins_go_on, targets_counted}
 use Rattle.chess_rules.proofs.trying.SetsToPairs.{colour_places}
 use Rattle.chess_rules.proofs.pairs.rule_out_moves_to.Goals as goal

@@ -1,5 +1,4 @@
-use Rattle.std.proofs.lemmas.Grind.{common_steps}
-use Rattle.chess_rules.proofs.Words.{Knight, Parts, Square, Board, at, cell_of, has_colour, has_kind, own, is_aligned, is_clear, is_untried, is_king_step, Places, square_at, has, ◌≡◌, ℕ, ◌<◌, Bool, true, false, not, sym, ◌∙◌, subst, arith, ◌&&◌}
+use Rattle.chess_rules.proofs.Words.{Knight, Parts, Square, Board, at, cell_of, has_colour, has_kind, own, is_aligned, is_clear, is_untried, is_king_step, Places, square_at, has, ◌≡◌, ℕ, ◌<◌, Bool, true, false, not, sym, ◌∙◌, subst, arith, ◌&&◌, common_steps}
 use Rattle.chess_rules.proofs.positions.RulesOfPosition.{own_king}
 use Rattle.chess_rules.proofs.sets.SetsToSquares.{at_place, places_and, places_not, places_same}
 use Rattle.chess_rules.proofs.sets.WordsToCells.{piece_is}

@@ -1,5 +1,4 @@
-use Rattle.std.proofs.lemmas.Grind.{common_steps}
-use Rattle.chess_rules.proofs.Words.{Move, Parts, Board, after, board_after, is_on_board, ◌≡◌, Bool, true, false, refl, arith, Option, None, Some, is_some, option_map, if◌then◌else◌, false≢true, nat_tests}
+use Rattle.chess_rules.proofs.Words.{Move, Parts, Board, after, board_after, is_on_board, ◌≡◌, Bool, true, false, refl, arith, Option, None, Some, is_some, option_map, if◌then◌else◌, false≢true, nat_tests, common_steps}
 use Rattle.chess_rules.proofs.step.is_step.Goals as goal
 
 -- on the board, a step is what makes a board

@@ -1,5 +1,4 @@
-use Rattle.std.proofs.lemmas.Grind.{common_steps}
-use Rattle.chess_text.proofs.Words.{◌≡◌, List, ℕ, [], ◌∷◌, ◌++◌, append_assoc, sym, ◌∙◌, ap, arith, decimal, side_text, ◌+◌, ◌≤◌, length, length-append, rights_text, target_text, Board, placement_text}
+use Rattle.chess_text.proofs.Words.{◌≡◌, List, ℕ, [], ◌∷◌, ◌++◌, append_assoc, sym, ◌∙◌, ap, arith, decimal, side_text, ◌+◌, ◌≤◌, length, length-append, rights_text, target_text, Board, placement_text, common_steps}
 use Rattle.chess_text.proofs.positions.FieldsOfText.{five_written, six_written, length-five, length-number, length-target_text}
 use Rattle.chess_text.proofs.positions.BoardToText.{length-placement_text}
 use Rattle.chess_text.proofs.fen.push_all_but_full.Goals as goal

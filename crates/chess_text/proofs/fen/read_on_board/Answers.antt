@@ -1,5 +1,4 @@
-use Rattle.std.proofs.lemmas.Grind.{common_steps}
-use Rattle.chess_text.proofs.Words.{◌≡◌, length, ◌&&◌, sym, ◌∙◌, ap, arith, Option, Ok, Err, ◌==◌, is_none, field, rest, parts_or_fault, side_of, rights_of, target_of, number_of, Some, rules, if◌then◌else◌, nat_tests, Parts, built_unless, position_fault, at_field, if_position}
+use Rattle.chess_text.proofs.Words.{◌≡◌, length, ◌&&◌, sym, ◌∙◌, ap, arith, Option, Ok, Err, ◌==◌, is_none, field, rest, parts_or_fault, side_of, rights_of, target_of, number_of, Some, rules, if◌then◌else◌, nat_tests, Parts, built_unless, position_fault, at_field, if_position, common_steps}
 use Rattle.chess_rules.specs.declared.position.PositionFault.{PositionFault}
 use Rattle.chess_text.proofs.fen.read_on_board.Goals as goal
 

@@ -1,5 +1,4 @@
-use Rattle.std.proofs.lemmas.Grind.{common_steps}
-use Rattle.chess_text.proofs.Words.{inl, inr, arith}
+use Rattle.chess_text.proofs.Words.{inl, inr, arith, common_steps}
 use Rattle.chess_text.proofs.forms.SpellingToForm.{cut_where}
 use Rattle.chess_text.proofs.form.before_marks.Goals as goal
 use Rattle.chess_text.proofs.form.before_marks.Goals.{then-loop-end-test+else-is_mark, else-loop-end-test}

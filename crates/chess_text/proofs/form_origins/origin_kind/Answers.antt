@@ -1,6 +1,4 @@
-use Rattle.std.proofs.Common.{arith}
-use Rattle.std.proofs.lemmas.Grind.{common_steps}
-use Rattle.chess_text.proofs.Words.{is_some, form_move, kind_of_move}
+use Rattle.chess_text.proofs.Words.{is_some, form_move, kind_of_move, arith, common_steps}
 use Rattle.chess_text.proofs.forms.CastlingMoves.{legal_is_step}
 use Rattle.chess_text.proofs.forms.FormOriginKinds.{kind_if_legal, kind_if_other}
 use Rattle.chess_text.proofs.form_origins.origin_kind.Goals as goal

@@ -1,5 +1,4 @@
-use Rattle.std.proofs.lemmas.Grind.{common_steps}
-use Rattle.chess_text.proofs.Words.{◌≡◌, ◌+◌, ◌≤◌, ◌||◌, false, replicate, set, length, take, refl, sym, ◌∙◌, ap, subst, arith, list_any, list_any_more, take_all, length_permutation, NoStep, IsPermutation, Move, same_square, candidates, castling_move, form_pairs, origin_kind, nth_square}
+use Rattle.chess_text.proofs.Words.{◌≡◌, ◌+◌, ◌≤◌, ◌||◌, false, replicate, set, length, take, refl, sym, ◌∙◌, ap, subst, arith, list_any, list_any_more, take_all, length_permutation, NoStep, IsPermutation, Move, same_square, candidates, castling_move, form_pairs, origin_kind, nth_square, common_steps}
 use Rattle.chess_text.proofs.forms.FormOriginKinds.{KindsSoFar, none_so_far, one_more_kind, all_kinds, castling_kinds, piece_kinds}
 use Rattle.chess_text.proofs.form_origins.origins_of_form.Goals as goal
 

@@ -1,6 +1,4 @@
-use Rattle.chess_text.proofs.Words.{◌≡◌, ◌+◌, ◌≤◌, ◌||◌, ◌∙◌, sym, ap, ap₂, arith, length, Bool, ℕ, Some, true, false}
-use Rattle.chess_text.specs.Key.{attackers, is_taken_on}
-use Rattle.chess_text.specs.Beside.{one_if, rank_behind, stands_on, takes_from, west_of}
+use Rattle.chess_text.proofs.Words.{◌≡◌, ◌+◌, ◌≤◌, ◌||◌, ◌∙◌, sym, ap, ap₂, arith, length, Bool, ℕ, Some, true, false, attackers, is_taken_on, one_if, rank_behind, stands_on, takes_from, west_of}
 use Rattle.chess_text.proofs.keys.EnPassant.{none_behind, none_taken, none_counted, tried_taken, tried_pairs, one_at_most}
 use Rattle.chess_text.proofs.key.is_taken_on.Goals.{After-takes_from-east}
 use Rattle.chess_text.proofs.key.is_taken_on.Goals as goal

@@ -1,5 +1,4 @@
-use Rattle.chess_text.proofs.Words.{◌+◌, ◌-◌, ◌∙◌, ap, arith, Bool, ℕ}
-use Rattle.chess_text.specs.Beside.{one_if, stands_on, takes_from}
+use Rattle.chess_text.proofs.Words.{◌+◌, ◌-◌, ◌∙◌, ap, arith, Bool, ℕ, one_if, stands_on, takes_from}
 use Rattle.chess_text.proofs.keys.EnPassant.{west_at}
 use Rattle.chess_text.proofs.key.takes_from_west.Goals as goal
 

@@ -1,5 +1,4 @@
-use Rattle.chess_text.proofs.Words.{◌≡◌, ◌++◌, ◌∷◌, ◌∙◌, sym, ap, arith, length, List, ℕ, [], Option, Square, placement_text, side_text, rights_text, target_text}
-use Rattle.chess_text.specs.Key.{position_key, usable_rights, usable_target}
+use Rattle.chess_text.proofs.Words.{◌≡◌, ◌++◌, ◌∷◌, ◌∙◌, sym, ap, arith, length, List, ℕ, [], Option, Square, placement_text, side_text, rights_text, target_text, position_key, usable_rights, usable_target}
 use Rattle.chess_text.proofs.keys.KeyToPosition.{copied, four_written, length-key}
 use Rattle.chess_text.proofs.key.write_position_key.Goals.{After-as_slice-2}
 use Rattle.chess_text.proofs.key.write_position_key.Goals as goal

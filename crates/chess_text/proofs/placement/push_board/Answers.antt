@@ -1,5 +1,4 @@
-use Rattle.std.proofs.lemmas.List.{length-set}
-use Rattle.chess_text.proofs.Words.{ℕ, [], List, ◌≡◌, ◌++◌, ◌+◌, ◌-◌, length, set, take, refl, sym, subst, arith, take_more_set, ◌∙◌, ap, rank_text, row, refill, rules}
+use Rattle.chess_text.proofs.Words.{ℕ, [], List, ◌≡◌, ◌++◌, ◌+◌, ◌-◌, length, set, take, refl, sym, subst, arith, take_more_set, ◌∙◌, ap, rank_text, row, refill, rules, length-set}
 use Rattle.chess_text.proofs.positions.BoardToText.{WrittenTo, refilled, first_rank, next_rank, last_rank_written}
 use Rattle.chess_text.proofs.placement.push_board.Goals as goal
 

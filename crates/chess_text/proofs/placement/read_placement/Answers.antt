@@ -1,5 +1,4 @@
-use Rattle.std.proofs.lemmas.Grind.{common_steps}
-use Rattle.chess_text.proofs.Words.{◌^◌, ◌≡◌, ℕ, ◌<◌, ◌≤◌, ◌+◌, ◌*◌, ◌==◌, false, ◌&&◌, ◌++◌, length, take, refl, subst, sym, ◌∙◌, ap, arith, Board, List, is_space, position_or_len_is, nat_tests, nat_lt, Some, None, Option, if◌then◌else◌, item, get_or, ◌⊎◌, ◌%◌}
+use Rattle.chess_text.proofs.Words.{◌^◌, ◌≡◌, ℕ, ◌<◌, ◌≤◌, ◌+◌, ◌*◌, ◌==◌, false, ◌&&◌, ◌++◌, length, take, refl, subst, sym, ◌∙◌, ap, arith, Board, List, is_space, position_or_len_is, nat_tests, nat_lt, Some, None, Option, if◌then◌else◌, item, get_or, ◌⊎◌, ◌%◌, common_steps}
 use Rattle.chess_text.specs.declared.item.Item.{Item}
 use Rattle.chess_text.proofs.positions.TextToBoard.{ReadSoFar, nothing_read, item_fits, item_read, slash_read, space_read, other_read, end_read}
 use Rattle.chess_text.proofs.placement.read_placement.Goals as goal

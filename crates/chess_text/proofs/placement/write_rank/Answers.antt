@@ -1,5 +1,4 @@
-use Rattle.std.proofs.lemmas.List.{length-set}
-use Rattle.chess_text.proofs.Words.{arith, nat_tests, ◌∙◌}
+use Rattle.chess_text.proofs.Words.{arith, nat_tests, ◌∙◌, length-set}
 use Rattle.chess_text.proofs.positions.NumbersToText.{next_square, number_is_small, square_written, stored_within}
 use Rattle.chess_text.proofs.placement.write_rank.Goals as goal
 

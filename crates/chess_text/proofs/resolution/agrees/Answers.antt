@@ -1,6 +1,4 @@
-use Rattle.std.proofs.Common.{arith}
-use Rattle.std.proofs.lemmas.Grind.{common_steps}
-use Rattle.chess_text.proofs.Words.{◌≡◌, sym, ◌∙◌, ap, is_some, not, is_castling, false≢true}
+use Rattle.chess_text.proofs.Words.{◌≡◌, sym, ◌∙◌, ap, is_some, not, is_castling, false≢true, arith, common_steps}
 use Rattle.chess_text.proofs.forms.CastlingMoves.{castles_by_king, fits_by_kind, legal_is_step}
 use Rattle.chess_text.proofs.resolution.agrees.Goals as goal
 use Rattle.chess_text.proofs.resolution.agrees.Goals.{then-eq, else-eq}

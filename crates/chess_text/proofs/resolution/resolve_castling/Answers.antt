@@ -1,6 +1,4 @@
-use Rattle.std.proofs.Common.{arith}
-use Rattle.std.proofs.lemmas.Grind.{common_steps}
-use Rattle.chess_text.proofs.Words.{is_some, castling_move}
+use Rattle.chess_text.proofs.Words.{is_some, castling_move, arith, common_steps}
 use Rattle.chess_text.proofs.forms.CastlingMoves.{castling_illegal, castling_found, castling_other, legal_is_step}
 use Rattle.chess_text.proofs.resolution.resolve_castling.Goals as goal
 

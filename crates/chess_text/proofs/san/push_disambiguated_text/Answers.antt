@@ -1,6 +1,4 @@
-use Rattle.std.proofs.Common.{arith}
-use Rattle.std.proofs.lemmas.Grind.{common_steps}
-use Rattle.chess_text.proofs.Words.{◌++◌, capture_if, rivals}
+use Rattle.chess_text.proofs.Words.{◌++◌, capture_if, rivals, arith, common_steps}
 use Rattle.chess_text.proofs.forms.MoverOfMove.{piece_takes, pawn_has_no_rivals, something}
 use Rattle.chess_text.proofs.names.OneMoveAgrees.{apart_same}
 use Rattle.chess_text.proofs.san.push_disambiguated_text.Goals as goal

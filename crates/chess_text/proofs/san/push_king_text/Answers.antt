@@ -1,6 +1,4 @@
-use Rattle.std.proofs.Common.{arith}
-use Rattle.std.proofs.lemmas.Grind.{common_steps}
-use Rattle.chess_text.proofs.Words.{◌++◌, capture_if, castling_text}
+use Rattle.chess_text.proofs.Words.{◌++◌, capture_if, castling_text, arith, common_steps}
 use Rattle.chess_text.proofs.forms.CastlingMoves.{legal_is_step}
 use Rattle.chess_text.proofs.forms.MoverOfMove.{castling_written, step_written, piece_takes, something}
 use Rattle.chess_text.proofs.san.push_king_text.Goals as goal

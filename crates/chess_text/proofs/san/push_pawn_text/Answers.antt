@@ -1,6 +1,4 @@
-use Rattle.std.proofs.Common.{arith}
-use Rattle.std.proofs.lemmas.Grind.{common_steps}
-use Rattle.chess_text.proofs.Words.{◌++◌, pawn_capture}
+use Rattle.chess_text.proofs.Words.{◌++◌, pawn_capture, arith, common_steps}
 use Rattle.chess_text.proofs.forms.MoverOfMove.{pawn_takes}
 use Rattle.chess_text.proofs.san.push_pawn_text.Goals as goal
 

@@ -1,5 +1,4 @@
-use Rattle.std.proofs.lemmas.Grind.{common_steps}
-use Rattle.chess_text.proofs.Words.{◌≡◌, ◌≤◌, true, Some, length, subst, sym, ◌∙◌, arith, Kind, King, Pawn, Piece, Move, Parts, at, own, candidates, disambiguation_pairs, has_rivals, kind_pairs, kind_text, unmarked}
+use Rattle.chess_text.proofs.Words.{◌≡◌, ◌≤◌, true, Some, length, subst, sym, ◌∙◌, arith, Kind, King, Pawn, Piece, Move, Parts, at, own, candidates, disambiguation_pairs, has_rivals, kind_pairs, kind_text, unmarked, common_steps}
 use Rattle.chess_text.proofs.forms.MoverOfMove.{may_have_rivals, mover, mover_stands}
 use Rattle.chess_text.proofs.san.push_unmarked.Goals as goal
 

@@ -1,5 +1,4 @@
-use Rattle.std.proofs.lemmas.Grind.{common_steps}
-use Rattle.chess_text.proofs.Words.{◌≡◌, suc, ◌+◌, ◌-◌, ◌≤◌, Bool, false, refl, drop, length, take, sym, ◌∙◌, ap, subst, arith, list_any, IsPermutation-refl, Square, candidates, rivals}
+use Rattle.chess_text.proofs.Words.{◌≡◌, suc, ◌+◌, ◌-◌, ◌≤◌, Bool, false, refl, drop, length, take, sym, ◌∙◌, ap, subst, arith, list_any, IsPermutation-refl, Square, candidates, rivals, common_steps}
 use Rattle.chess_text.proofs.forms.OnlyElement.{next_of, none_left}
 use Rattle.chess_text.proofs.names.OneMoveAgrees.{Found, seen, found_more, all_found, rivals_seen, lone_candidate, no_rivals}
 use Rattle.chess_text.proofs.san.rivals_of.Goals as goal

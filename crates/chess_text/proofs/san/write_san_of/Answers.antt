@@ -1,5 +1,4 @@
-use Rattle.std.proofs.lemmas.Grind.{common_steps}
-use Rattle.chess_text.proofs.Words.{◌≡◌, ◌+◌, ◌≤◌, Bool, [], ◌++◌, length, sym, ◌∙◌, ap, ap₂, subst, arith, length-append, codes, if◌then◌else◌, is_check, is_mate, MarkPairs, mark, mark_after}
+use Rattle.chess_text.proofs.Words.{◌≡◌, ◌+◌, ◌≤◌, Bool, [], ◌++◌, length, sym, ◌∙◌, ap, ap₂, subst, arith, length-append, codes, if◌then◌else◌, is_check, is_mate, MarkPairs, mark, mark_after, common_steps}
 use Rattle.chess_text.proofs.san.write_san_of.Goals as goal
 
 pub returns-clause-text : goal.returns-clause-text

@@ -1,6 +1,4 @@
-use Rattle.std.proofs.lemmas.Grind.{common_steps}
-use Rattle.chess_rules.specs.declared.board.Board.TheInside.{Inside}
-use Rattle.chess_rules.proofs.Words.{Square, Board, at, cell_of, has, cells, coded, ◌≡◌, ◌<◌, Bool, refl, arith}
+use Rattle.chess_rules.proofs.Words.{Square, Board, at, cell_of, has, cells, coded, ◌≡◌, ◌<◌, Bool, refl, arith, common_steps, Inside}
 use Rattle.chess_rules.proofs.sets.WordsToCells.{cell_there}
 use Rattle.chess_rules.proofs.board.Board.at.Goals as goal
 

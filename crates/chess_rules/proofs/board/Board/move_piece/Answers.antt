@@ -1,5 +1,4 @@
-use Rattle.chess_rules.proofs.Words.{at, cell_of, put, refl, ◌∙◌, None}
-use Rattle.chess_rules.specs.declared.board.Board.TheInside.{Inside}
+use Rattle.chess_rules.proofs.Words.{at, cell_of, put, refl, ◌∙◌, None, Inside}
 use Rattle.chess_rules.proofs.sets.WordsToCells.{bits_there, cells_put, words_put}
 use Rattle.chess_rules.proofs.board.Board.move_piece.Goals as goal
 

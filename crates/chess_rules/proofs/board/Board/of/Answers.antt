@@ -1,6 +1,5 @@
-use Rattle.std.proofs.lemmas.Grind.{common_steps}
 use Rattle.std.proofs.Math.ListN.{drop_of_length-le}
-use Rattle.chess_rules.proofs.Words.{◌≤◌, ◌++◌, None, length, sym, ◌∙◌, ap, arith, append-nil, replicate, length-drop, length-take-le}
+use Rattle.chess_rules.proofs.Words.{◌≤◌, ◌++◌, None, length, sym, ◌∙◌, ap, arith, append-nil, replicate, length-drop, length-take-le, common_steps}
 use Rattle.chess_rules.proofs.sets.RanksToWords.{next_rank}
 use Rattle.chess_rules.proofs.board.Board.of.Goals as goal
 

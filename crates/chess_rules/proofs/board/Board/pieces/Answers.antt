@@ -1,5 +1,4 @@
-use Rattle.std.proofs.Common.{arith}
-use Rattle.std.proofs.lemmas.Grind.{common_steps}
+use Rattle.chess_rules.proofs.Words.{arith, common_steps}
 use Rattle.chess_rules.proofs.sets.SetsToSquares.{places_and, places_same}
 use Rattle.chess_rules.proofs.sets.WordsToCells.{piece_is}
 use Rattle.chess_rules.proofs.board.Board.pieces.Goals as goal

@@ -1,6 +1,4 @@
-use Rattle.std.proofs.Common.{arith}
-use Rattle.std.proofs.lemmas.Grind.{common_steps}
-use Rattle.chess_rules.proofs.Words.{◌∙◌, ◌+◌, ◌*◌, ◌%◌, ◌^◌, ap}
+use Rattle.chess_rules.proofs.Words.{◌∙◌, ◌+◌, ◌*◌, ◌%◌, ◌^◌, ap, arith, common_steps}
 use Rattle.chess_rules.proofs.sets.RanksToWords.{are_words_pushed, cells_pushed}
 use Rattle.chess_rules.proofs.board.Board.push_rank.Goals as goal
 

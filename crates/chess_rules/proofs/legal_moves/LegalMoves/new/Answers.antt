@@ -1,5 +1,4 @@
-use Rattle.chess_rules.proofs.Words.{Parts, Places, Played, Tries, at, has_colour, is_position, legal, legal_among, legal_moves, tries_left, ◌≡◌, ◌≢◌, AllPairs, List, None, Some, length, map, true, sym, ◌∙◌, ap, subst, arith}
-use Rattle.std.specs.Prelude.{Contains, ◌↔◌}
+use Rattle.chess_rules.proofs.Words.{Parts, Places, Played, Tries, at, has_colour, is_position, legal, legal_among, legal_moves, tries_left, ◌≡◌, ◌≢◌, AllPairs, List, None, Some, length, map, true, sym, ◌∙◌, ap, subst, arith, Contains, ◌↔◌}
 use Rattle.chess_rules.proofs.positions.RulesOfPosition.{sound_from_position}
 use Rattle.chess_rules.proofs.listing.EachListedOnce.{listed_once}
 use Rattle.chess_rules.proofs.listing.LegalIsListed.{legal_listed}

@@ -1,5 +1,4 @@
-use Rattle.chess_rules.proofs.Words.{members, length, ◌≡◌, None}
-use Rattle.chess_rules.specs.Tries.{tries_left}
+use Rattle.chess_rules.proofs.Words.{members, length, ◌≡◌, None, tries_left}
 use Rattle.chess_rules.proofs.legal_moves.Tries.take_next.Given as goal
 
 abbrev pub invariant-loop-target : goal.invariant-loop-target

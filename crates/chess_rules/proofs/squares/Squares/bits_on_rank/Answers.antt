@@ -1,5 +1,4 @@
-use Rattle.std.proofs.lemmas.Grind.{common_steps}
-use Rattle.chess_rules.proofs.Words.{ℕ, ◌≡◌, ◌<◌, ◌^◌, ◌*◌, ◌+◌, ◌/◌, ap, arith, true, ◌&&◌, and_le_r, shr_and_one, bit_at_ones, div-div-eq-div-mul, pow-add, bit_and, ◌==◌, has}
+use Rattle.chess_rules.proofs.Words.{ℕ, ◌≡◌, ◌<◌, ◌^◌, ◌*◌, ◌+◌, ◌/◌, ap, arith, true, ◌&&◌, and_le_r, shr_and_one, bit_at_ones, div-div-eq-div-mul, pow-add, bit_and, ◌==◌, has, common_steps}
 use Rattle.chess_rules.proofs.sets.WordsToCells.{has_and}
 use Rattle.chess_rules.proofs.squares.Squares.bits_on_rank.Goals as goal
 

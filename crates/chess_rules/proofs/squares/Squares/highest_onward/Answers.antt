@@ -1,5 +1,4 @@
-use Rattle.std.proofs.lemmas.Grind.{common_steps}
-use Rattle.chess_rules.proofs.Words.{cell_of, IsFrom, sym, ◌∙◌, subst, w64, arith, leading_zeros, nat_lt}
+use Rattle.chess_rules.proofs.Words.{cell_of, IsFrom, sym, ◌∙◌, subst, w64, arith, leading_zeros, nat_lt, common_steps}
 use Rattle.chess_rules.proofs.sets.AllSquares.{cell_of-square_at}
 use Rattle.chess_rules.proofs.sets.LowestAndHighest.{highest_place, from_all, highest_onward}
 use Rattle.chess_rules.proofs.squares.Squares.highest_onward.Goals as goal

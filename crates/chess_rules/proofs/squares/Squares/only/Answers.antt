@@ -1,6 +1,4 @@
-use Rattle.std.proofs.Common.{arith}
-use Rattle.std.proofs.lemmas.Grind.{common_steps}
-use Rattle.chess_rules.proofs.Words.{Square, ◌≡◌, Bool, true, false, not, refl, then_some, None, Some, if◌then◌else◌}
+use Rattle.chess_rules.proofs.Words.{Square, ◌≡◌, Bool, true, false, not, refl, then_some, None, Some, if◌then◌else◌, arith, common_steps}
 use Rattle.chess_rules.proofs.sets.SetsToSquares.{lone_first}
 use Rattle.chess_rules.proofs.squares.Squares.only.Goals as goal
 

@@ -1,6 +1,4 @@
-use Rattle.std.proofs.Common.{arith}
-use Rattle.std.proofs.lemmas.Grind.{common_steps}
-use Rattle.chess_rules.proofs.Words.{cell_of, has, IsUpTo, sym, subst}
+use Rattle.chess_rules.proofs.Words.{cell_of, has, IsUpTo, sym, subst, arith, common_steps}
 use Rattle.chess_rules.proofs.sets.LowestAndHighest.{up_to_all, up_to_lowest}
 use Rattle.chess_rules.proofs.sets.WordsToCells.{has_below, has_or, has_single}
 use Rattle.chess_rules.proofs.squares.Squares.up_to_lowest.Goals as goal

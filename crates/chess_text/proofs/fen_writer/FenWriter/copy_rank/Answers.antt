@@ -1,7 +1,6 @@
 use borrow.Rule.Slice.PartMut.{put_mid, post_of}
-use Rattle.std.proofs.lemmas.List.{take-append-le}
 use Rattle.std.proofs.Math.Seq.{take-append-add}
-use Rattle.chess_text.proofs.Words.{◌≡◌, ◌≤◌, ◌+◌, ◌++◌, ◌-◌, ◌∙◌, List, ℕ, ap, arith, length, rules, sym, take}
+use Rattle.chess_text.proofs.Words.{◌≡◌, ◌≤◌, ◌+◌, ◌++◌, ◌-◌, ◌∙◌, List, ℕ, ap, arith, length, rules, sym, take, take-append-le}
 use Rattle.chess_text.proofs.fen_writer.FenWriter.copy_rank.Goals as goal
 
 -- the first bytes of what is copied stand behind what was there before
