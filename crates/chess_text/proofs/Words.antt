@@ -41,7 +41,7 @@ pub use Rattle.chess_rules.specs.declared.position.PositionFault.TheVariants.{Ki
 pub use Rattle.chess_rules.specs.declared.position.Rights.{Rights}
 pub use Rattle.chess_text.specs.Fen.{Fen, SpellsBoard, SpellsNumber, at_field, fen_text, field, if_position, is_space, parts_or_fault, parts_read, read, rest}
 pub use Rattle.chess_text.specs.Field.{is_digit, is_target, number_of, rights_of, rights_text, side_of, side_text, target_of, target_text, value}
-pub use Rattle.chess_text.specs.Form.{Spells, SpellsBare, SpellsPieceMove, bare_form, before_capture, before_file, before_marks, before_promotion, before_rank, before_sign, before_target, below_eight, capture_texts, castle_of, castle_or, castle_texts, file_at_end, file_of, form_of, front, front_if, hint_text, is_among, is_form, is_mark, kind_of_text, last_byte, letter_texts, piece_move_if, piece_move_of, promotion_at_end, promotion_letter, promotion_of, promotion_texts, promotions, rank_at_end, rank_of, square_of, target_at_end}
+pub use Rattle.chess_text.specs.Form.{Spells, SpellsBare, SpellsPieceMove, bare_form, before_capture, before_file, before_marks, before_promotion, before_rank, before_sign, before_target, below_eight, capture_texts, castle_of, castle_or, file_at_end, file_of, form_of, front, front_if, hint_text, is_among, is_form, is_mark, kind_of_text, last_byte, letter_texts, piece_move_if, piece_move_of, promotion_at_end, promotion_letter, promotion_of, promotion_texts, promotions, rank_at_end, rank_of, square_of, target_at_end}
 pub use Rattle.chess_text.specs.FormOrigins.{LegalOriginsDecide, count_legal, form_move, is_legal_kind, is_step_of_form, kind_of_move, nth_square, origin_kind}
 unfoldable pub use Rattle.chess_text.specs.FormOrigins.{origins_of_form}
 pub use Rattle.chess_text.specs.Laws.{CanonicalIsShortest, Names, NoMoveIsRead, ShorterIsAmbiguous, SingleReading, TheOneMoveIsRead, CanonicalFits, FaultIsLowest, FenOnce, FieldsAreSpellings, ReadingIsSpelling, TwoMovesAreAmbiguous, disambiguations, text_with}

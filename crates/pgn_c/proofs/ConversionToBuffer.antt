@@ -1,4 +1,5 @@
 -- What a conversion leaves in a buffer.
+use Rattle.std.proofs.lemmas.Grind.{common_steps}
 use Rattle.pgn_game.proofs.stepping.BytesWithinLimit.{shown_begins}
 use Rattle.pgn_c.proofs.Words.{◌≡◌, ℕ, ◌<◌, ◌≤◌, List, [], ◌∷◌, ◌++◌, length, take, drop, false, Some, OnOk, Result, Ok, Err, refl, sym, ap, subst, ◌∙◌, append-nil, append_assoc, arith, length-take-le, take-append-drop, Token, tokens_of, Device, Mode, Reason, WriteFault, Fault, Profile, due, output, IsFilled, profile_in, result_of, status_of}
 use Rattle.pgn_lexer.specs.Decided.{decided}
@@ -60,48 +61,36 @@ front_on_fault p nothing text written _ grows prefix (too_long u rest is long mo
 
 pub front : (mode : Mode) (text written : List ℕ) (outcome : Result Totals Fault) → DueGrows → DecidedIsPrefix
     → AfterSlice false (profile_in mode) text outcome (Some []) (Some written) → IsPrefix written (output (profile_in mode) text)
-front mode text written (Ok t) grows prefix total = all_of _ _ total.converted.1
-front mode text written (Err f) grows prefix fails = front_on_fault (profile_in mode) (nothing_due mode) text written f grows prefix fails
+front mode text written outcome grows prefix total = grind (arith, common_steps, all_of, front_on_fault, nothing_due)
 
 -- ---- the buffer
 
 pub filled : (before after : List ℕ) (n : ℕ) → n ≤ length after → length after ≡ length before → drop n after ≡ drop n before
     → IsFilled before after (take n after)
-filled before after n within long behind =
-    let is_count = length-take-le n after within in
-    record {
-      fits = omega (arith, is_count, within, long);
-      now = sym (take-append-drop n after) ∙ ap (λ l. take n after ++ l) behind ∙ ap (λ m. take n after ++ drop m before) (sym is_count);
-    }
+filled before after n within long behind = grind (arith, common_steps, length-take-le, take-append-drop, take)
 
 -- ---- a full buffer
 
 write_fault : (reason : Reason) (sink : Device) → CountsReason reason sink.failures sink.failures_after
     → sink.failures ≡ 0 → status_of reason ≡ 2 → 0 < sink.failures_after
-write_fault WriteFault sink counted none is = omega (arith, counted, none)
-write_fault _ sink counted none is = absurd (omega (arith, is))
+write_fault reason sink counted none is = grind (arith, common_steps)
 
 pub is_full : (outcome : Result Totals Fault) (n : ℕ) (sink : Device) → CountsFault outcome sink → sink.failures ≡ 0
     → (result_of outcome n).status ≡ 2 → 0 < sink.failures_after
-is_full (Ok t) n sink counted none is = absurd (omega (arith, is))
-is_full (Err f) n sink counted none is = write_fault f.reason sink counted none is
+is_full outcome n sink counted none is = grind (arith, common_steps, write_fault)
 
 full_reason : (reason : Reason) → status_of reason ≡ 2 → reason ≡ WriteFault
-full_reason WriteFault is = refl
-full_reason _ is = absurd (omega (arith, is))
+full_reason reason is = grind (arith, common_steps)
 
 -- where no write failed, no buffer is full
 pub never_full : (outcome : Result Totals Fault) (n : ℕ) → NoWriteFails outcome → (result_of outcome n).status ≡ 2 → ⊥
-never_full (Ok t) n never is = omega (arith, is)
-never_full (Err f) n never is = never (full_reason f.reason is)
+never_full outcome n never is = grind (arith, common_steps, full_reason)
 
 -- ---- a result without a fault
 
 no_fault : (reason : Reason) → status_of reason ≡ 0 → ⊥
-no_fault WriteFault is = omega (arith, is)
-no_fault _ is = omega (arith, is)
+no_fault reason is = grind (arith, common_steps)
 
 -- what holds where a conversion succeeds
 pub when_ok : {P : Type 0} (outcome : Result Totals Fault) (n : ℕ) → OnOk outcome P → (result_of outcome n).status ≡ 0 → P
-when_ok (Ok t) n holds is = holds
-when_ok (Err f) n holds is = absurd (no_fault f.reason is)
+when_ok outcome n holds is = grind (arith, common_steps)

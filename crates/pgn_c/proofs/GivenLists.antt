@@ -1,4 +1,6 @@
 -- Lists of what is given: their first game, their lines, and their texts.
+use Rattle.std.proofs.lemmas.Grind.{common_steps}
+use Rattle.std.proofs.Common.{arith}
 use Rattle.std.proofs.Common.{◌≡◌, ℕ, Bool, true, false, List, [], ◌∷◌, ◌++◌, refl, sym, ap, ◌∙◌, append-nil, append_assoc, if◌then◌else◌}
 use Rattle.std.specs.Prelude.{fold}
 use Rattle.pgn_game.specs.public.Given.{Given, item, marker, shown, tags}
@@ -33,8 +35,7 @@ game_begins (marker m) more = ([], refl)
 -- ---- lines
 
 last_ends : (b : Bool) (gs : List Given) (g : Given) → fold (λ _ x. ends_line x) b (gs ++ g ∷ []) ≡ ends_line g
-last_ends b [] g = refl
-last_ends b (x ∷ gs) g = last_ends (ends_line x) gs g
+last_ends b gs g = grind (arith, common_steps)
 
 pub lines_end : (gs : List Given) (g : Given) → are_lines (gs ++ g ∷ []) ≡ ends_line g
 lines_end gs g = last_ends true gs g
@@ -46,8 +47,7 @@ none_more (x ∷ gs) g none ends = (none.0, none_more gs g none.1 ends)
 -- a line goes on behind items that do not end it
 pub line_goes_on : (gs more : List Given) → NoneEnds gs → first_line (gs ++ more) ≡ gs ++ first_line more
 line_goes_on [] more none = refl
-line_goes_on (x ∷ gs) more none =
-    ap (λ (ends : Bool). if ends then x ∷ [] else x ∷ first_line (gs ++ more)) none.0 ∙ ap (λ (xs : List Given). x ∷ xs) (line_goes_on gs more none.1)
+line_goes_on (x ∷ gs) more none = grind (arith, common_steps, (line_goes_on gs more none.1))
 
 -- the first line begins with the first item
 pub line_begins : (g : Given) (more : List Given) → (behind : List Given) × (first_line (g ∷ more) ≡ g ∷ behind)
@@ -62,13 +62,8 @@ line_begins g more = by (ends_line g)
 pub texts_of_both : (f : MoveFields) (given gs more : List Given)
     → texts_behind f given (gs ++ more) ≡ texts_behind f given gs ++ texts_behind f (given ++ gs) more
 texts_of_both f given [] more = ap (λ (xs : List Given). texts_behind f xs more) (sym (append-nil given))
-texts_of_both f given (g ∷ gs) more =
-    let text = given_text f (shown given) g in
-    ap (λ (t : List ℕ). text ++ t) (texts_of_both f (given ++ g ∷ []) gs more)
-    ∙ sym (append_assoc text (texts_behind f (given ++ g ∷ []) gs) (texts_behind f ((given ++ g ∷ []) ++ gs) more))
-    ∙ ap (λ (xs : List Given). (text ++ texts_behind f (given ++ g ∷ []) gs) ++ texts_behind f xs more) (append_assoc given (g ∷ []) gs)
+texts_of_both f given (g ∷ gs) more = grind (arith, common_steps, append_assoc, (texts_of_both f (given ++ g ∷ []) gs more))
 
 pub one_more_text : (f : MoveFields) (given gs : List Given) (g : Given)
     → texts_behind f given (gs ++ g ∷ []) ≡ texts_behind f given gs ++ given_text f (shown (given ++ gs)) g
-one_more_text f given gs g =
-    texts_of_both f given gs (g ∷ []) ∙ ap (λ (t : List ℕ). texts_behind f given gs ++ t) (append-nil (given_text f (shown (given ++ gs)) g))
+one_more_text f given gs g = grind (arith, common_steps, texts_of_both, append-nil)

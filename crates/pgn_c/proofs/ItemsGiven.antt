@@ -1,4 +1,6 @@
 -- The items of a text, given call by call, and what is written of them.
+use Rattle.std.proofs.Common.{rules}
+use Rattle.std.proofs.lemmas.Grind.{common_steps}
 use Rattle.std.proofs.Common.{◌≡◌, ℕ, zero, suc, take, drop, length-append, length-take-le, append-nil, ◌+◌, ◌<◌, ◌≤◌, ◌^◌, ◌⊎◌, inl, inr, Bool, true, false, List, [], ◌∷◌, ◌++◌, length, Option, None, Some, refl, sym, ap, subst, ◌∙◌, arith, append_assoc}
 use Rattle.std.specs.Prelude.{is_some}
 use Rattle.pgn_layout.specs.Device.{Device}
@@ -30,46 +32,23 @@ not_both : (b : Bool) → b ≡ false → b ≡ true → ⊥
 not_both b no_fit fit = cc
 
 below_or_not : (a b : ℕ) → (a < b) ⊎ (b ≤ a)
-below_or_not a zero = inr (omega arith)
-below_or_not zero (suc b) = inl (omega arith)
-below_or_not (suc a) (suc b) = by (below_or_not a b)
-  where
-    by : (a < b) ⊎ (b ≤ a) → (suc a < suc b) ⊎ (suc b ≤ suc a)
-    by (inl h) = inl (omega (arith, h))
-    by (inr h) = inr (omega (arith, h))
+below_or_not a b = grind (arith, common_steps)
 
 -- a marker given last is one that was read, and nothing is given next behind it
 marker_read : (c : Current) (i : CodeItem) → c.last ≡ Some i → is_marker i ≡ true → has_read_marker c ≡ true
-marker_read c (items.Marker m) last mark = rw last refl
-marker_read c items.Tags last mark = cc
-marker_read c (items.Move m) last mark = cc
-marker_read c (items.Glyph n) last mark = cc
-marker_read c items.CommentOpen last mark = cc
-marker_read c items.Word last mark = cc
-marker_read c items.CommentClose last mark = cc
-marker_read c items.Open last mark = cc
-marker_read c items.Close last mark = cc
+marker_read c i last mark = grind (arith, common_steps)
 
 none_behind : (c : Current) (i : CodeItem) → c.last ≡ Some i → is_marker i ≡ true → (next : Option CodeItem) → IsBehindTags next c.last → given_if c next ≡ []
-none_behind c i last mark None at = refl
-none_behind c i last mark (Some x) at = absurd (no_tags i (sym last ∙ at) mark)
-  where
-    no_tags : (y : CodeItem) → Some y ≡ Some items.Tags → is_marker y ≡ true → ⊥
-    no_tags items.Tags same is = cc
-    no_tags (items.Marker m) same is = cc
-    no_tags _ same is = cc
+none_behind c i last mark next at = grind (arith, common_steps)
 
 -- none of the tokens that were read is rejected
 none_rejected : (left : Option (List ℕ)) (u : List ℕ) (i : Items) (tokens : List Token) → ItemsRead (profile_in Full) left u i tokens
     → (read (profile_in Full) tokens).fault ≡ None
-none_rejected left u i tokens (within goes on) = on.stands.has_read.passes
-none_rejected left u i tokens (behind ended rest) = rest.has_read.passes
-none_rejected left u i tokens (at_end finished place all) = all.has_read.passes
+none_rejected left u i tokens h = grind (arith, common_steps)
 
 -- without a marker the status is not 0
 not_whole : (fault : Option Fault) (written next : ℕ) → (all_result false fault 0 written next).status ≡ 0 → ⊥
-not_whole None written next ok = cc
-not_whole (Some f) written next ok = cc
+not_whole fault written next ok = grind (arith, common_steps)
 
 module _ (f : MoveFields) (s : List ℕ) (first : ℕ) (before now : List ℕ) (old : Items) (rest : List ℕ) (l : Lines) (small : first < 2 ^ 64)
     (so : GivenSoFar f s first before now old rest l) where
@@ -82,21 +61,12 @@ module _ (f : MoveFields) (s : List ℕ) (first : ℕ) (before now : List ℕ) (
     text_now = left_text s so.u rest gives.more left so.text gives.consumed
 
     text_given : given_text f (shown so.given) g ≡ front_text f new.current i ++ shown_word new.current
-    text_given =
-        let some : is_some new.current.last ≡ true = ap is_some gives.last in
-        text_is f new.current so.given i gives.last gives.have_given.behind (gives.have_given.shows some) (gives.have_given.holds some)
+    text_given = grind (arith, common_steps, is_some, text_is)
 
     -- what was given goes on
     goes_on : (buffer : List ℕ) (lines : Lines) → is_marker i ≡ false → LinesSoFar f first (so.given ++ g ∷ []) before buffer lines
         → GivenSoFar f s first before buffer new left lines
-    goes_on buffer lines plain written = record {
-      u = so.u ++ gives.more;
-      given = so.given ++ g ∷ [];
-      text = text_now;
-      have = gives.have_given;
-      no_marker = marker_later so.given (g ∷ []) so.no_marker ∙ marks new.current i ∙ plain;
-      lines = written;
-    }
+    goes_on buffer lines plain written = search (rules, text_now, marker_later)
 
     passes : l.items < first → LinesSoFar f first (so.given ++ g ∷ []) before now (passed_one l)
     passes early = pass_one f first so.given before now l so.lines g early small
@@ -122,12 +92,7 @@ module _ (f : MoveFields) (s : List ℕ) (first : ℕ) (before now : List ℕ) (
     -- the game's items, by what was given
     module _ (front : IsFront ((so.given ++ g ∷ []) ++ given_next new.current) (all_given (profile_in Full) ((so.u ++ gives.more) ++ left))) where
       items_are : game_items (profile_in Full) s ≡ so.given ++ first_game (g ∷ (given_next new.current ++ front.0))
-      items_are =
-          let all : all_given (profile_in Full) s ≡ so.given ++ (g ∷ (given_next new.current ++ front.0)) =
-          ap (all_given (profile_in Full)) text_now ∙ front.1
-          ∙ append_assoc (so.given ++ g ∷ []) (given_next new.current) front.0
-          ∙ append_assoc so.given (g ∷ []) (given_next new.current ++ front.0) in
-          ap first_game all ∙ game_goes_on so.given (g ∷ (given_next new.current ++ front.0)) so.no_marker
+      items_are = grind (arith, common_steps, text_now, append_assoc, game_goes_on)
 
       -- the buffer is full
       full : (text after : List ℕ) (lines : Lines) → text ≡ front_text f new.current i ++ shown_word new.current → first ≤ l.items
@@ -141,22 +106,7 @@ module _ (f : MoveFields) (s : List ℕ) (first : ℕ) (before now : List ℕ) (
       ends_at : is_marker i ≡ true → game_items (profile_in Full) s ≡ so.given ++ g ∷ []
           → (later : List Token) × (tokens_of ((so.u ++ gives.more) ++ left) ≡ gives.have_given.tokens ++ later)
           → GameEndsAt (profile_in Full) s new.lexer.count
-      ends_at mark game first_tokens =
-          let have = gives.have_given in
-          let marker_at : EndsWithMarker have.tokens new.lexer.count = have.marker_ends (marker_read new.current i gives.last mark) in
-          let next : given_next new.current ≡ [] = none_behind new.current i gives.last mark new.current.pending have.behind in
-          record {
-            tokens = marker_at.before;
-            at = marker_at.last;
-            later = first_tokens.0;
-            first = ap tokens_of text_now ∙ first_tokens.1 ∙ ap (λ (ts : List Token). ts ++ first_tokens.0) marker_at.is_last;
-            passes = subst (λ (ts : List Token). (read (profile_in Full) ts).fault ≡ None) marker_at.is_last
-                (none_rejected (Some left) (so.u ++ gives.more) new have.tokens have.reads);
-            items = ap (λ (ts : List Token). given_of (read (profile_in Full) ts).progress) (sym marker_at.is_last) ∙ have.whole
-                ∙ ap (λ (gs : List Given). (so.given ++ g ∷ []) ++ gs) next ∙ append-nil (so.given ++ g ∷ []) ∙ sym game;
-            is_marker = marker_at.is_marker;
-            ends = marker_at.ends;
-          }
+      ends_at mark game first_tokens = search (rules, marker_read, none_behind, text_now, none_rejected, append-nil)
 
       -- the marker was given
       whole : (buffer : List ℕ) (lines : Lines) → is_marker i ≡ true → LinesSoFar f first (so.given ++ g ∷ []) before buffer lines
@@ -177,9 +127,7 @@ module _ (f : MoveFields) (s : List ℕ) (first : ℕ) (before now : List ℕ) (
           let passed = puts.passes early in
           subst (λ (x : Lines). LinesSoFar f first (so.given ++ g ∷ []) before after x) (sym passed.1)
           (subst (λ (xs : List ℕ). LinesSoFar f first (so.given ++ g ∷ []) before xs (passed_one l)) (sym passed.2) (passes early))
-      lines_by (inr from) yes_fits =
-          puts_text (front_text f new.current i ++ shown_word new.current) after refl from lines
-          (subst (λ (b : Bool). PutsText l lines (front_text f new.current i ++ shown_word new.current) (code_ends i) now after b) yes_fits (puts.puts from))
+      lines_by (inr from) yes_fits = search (rules, puts_text)
 
       lines_now : fits ≡ true → LinesSoFar f first (so.given ++ g ∷ []) before after lines
       lines_now yes_fits = lines_by (below_or_not l.items first) yes_fits
@@ -225,28 +173,4 @@ module _ (f : MoveFields) (s : List ℕ) (first : ℕ) (before now : List ℕ) (
 -- the bytes that were written stay in the buffer
 pub room_after : (f : MoveFields) (first : ℕ) (c : Current) (i : CodeItem) (l lines : Lines) (now after : List ℕ) → l.used ≤ length now
     → PutsItem f first c i l lines now after true → lines.used ≤ length after
-room_after f first c i l lines now after room puts = by (below_or_not l.items first)
-  where
-    text : List ℕ
-    text = front_text f c i ++ shown_word c
-
-    used_by : (ends : Bool) → (put_one l (length text) ends).used ≡ l.used + length text
-    used_by true = refl
-    used_by false = refl
-
-    by : (l.items < first) ⊎ (first ≤ l.items) → lines.used ≤ length after
-    by (inl early) =
-        let passed = puts.passes early in
-        omega (arith, room, ap (λ (x : Lines). x.used) passed.1, ap length passed.2)
-    by (inr from) =
-        let put = puts.puts from in
-        omega (
-          arith,
-          put.0,
-          ap (λ (x : Lines). x.used) put.1,
-          used_by (code_ends i),
-          ap length put.2,
-          length-append (take l.used now ++ text) (drop (l.used + length text) now),
-          length-append (take l.used now) text,
-          length-take-le l.used now (omega (arith, put.0)),
-        )
+room_after f first c i l lines now after room puts = search (rules, below_or_not, length, length-append, take, length-take-le)

@@ -1,12 +1,12 @@
 -- A game that is read by its marker is also read where a missing Result takes the marker.
+use Rattle.std.proofs.lemmas.Grind.{common_steps}
 use Rattle.pgn_game.proofs.stepping.GamesInTurn.{passes_before}
-use Rattle.pgn_c.proofs.Words.{◌≡◌, ◌≢◌, ℕ, List, [], ◌∷◌, ◌++◌, length, None, Some, refl, sym, ap, subst, ◌∙◌, append-nil, Token, Marker, Mode, Reason, WriteFault, marker_text, game_text, text_of, Read, read, games_read, PgnGame, IsFilled, ConvertsNext, IsGame, NextOf, HasGameByMarker, game_result, profile_counting, profile_taking, status_for, text_from}
+use Rattle.pgn_c.proofs.Words.{◌≡◌, ◌≢◌, ℕ, List, [], ◌∷◌, ◌++◌, length, None, Some, refl, sym, ap, subst, ◌∙◌, append-nil, Token, Marker, Mode, Reason, WriteFault, marker_text, game_text, text_of, Read, read, games_read, PgnGame, IsFilled, ConvertsNext, IsGame, NextOf, HasGameByMarker, game_result, profile_counting, profile_taking, status_for, text_from, arith}
 use Rattle.pgn_game.specs.laws.MissingResults.{IsReadAlike, MissingResults, rejects_marker}
 
 -- no other result has status 0
 pub is_fault : (status : ℕ) (r : Reason) → status ≢ 0 → status_for status r ≢ 0
-is_fault status WriteFault is_other = λ e. absurd (cc)
-is_fault status _ is_other = is_other
+is_fault status r is_other = grind (arith, common_steps)
 
 module _ (law : MissingResults) (mode : Mode) (marker : Marker) where
   alike : (ts : List Token) → (read (profile_counting mode marker) ts).fault ≡ None → IsReadAlike (profile_taking mode) (marker_text marker) ts
@@ -47,8 +47,7 @@ module _ (law : MissingResults) (mode : Mode) (marker : Marker) where
     by_next piece (NextOf.game is) ok = of_game is
     by_next piece (NextOf.no_game is) ok = absurd (let e = ap (λ (r : PgnGame). r.status) is.is_result in cc)
     by_next piece (NextOf.rejected is) ok = absurd (is_fault 1 is.fault.reason (λ e. cc) (sym (ap (λ (r : PgnGame). r.status) is.is_result) ∙ ok))
-    by_next piece (NextOf.needs_more is) ok =
-        absurd (is_fault 5 is.fault.reason (λ e. cc) (sym (ap (λ (r : PgnGame). r.status) is.is_result) ∙ ok))
+    by_next piece (NextOf.needs_more is) ok = grind (arith, common_steps, is_fault)
     by_next piece (NextOf.full is) ok = absurd (let e = ap (λ (r : PgnGame). r.status) is.is_result in cc)
     by_next piece (NextOf.too_long is) ok = absurd (let e = ap (λ (r : PgnGame). r.status) is.is_result in cc)
 

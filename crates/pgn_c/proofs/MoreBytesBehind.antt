@@ -1,6 +1,7 @@
 -- A buffer that takes more bytes behind those that were written.
 
 -- the buffer b, in which w bytes were written, and then the first n of xs
+use Rattle.std.proofs.lemmas.Grind.{common_steps}
 use Rattle.pgn_c.proofs.Words.{◌≡◌, ℕ, ◌+◌, ◌-◌, ◌≤◌, min, List, ◌++◌, length, take, drop, ap, sym, ◌∙◌, length-append, arith, length_paste_head, drop_at, drop-drop, length-drop}
 
 abbrev pub with_more : List ℕ → ℕ → ℕ → List ℕ → List ℕ
@@ -8,15 +9,7 @@ with_more b w n xs = take w b ++ take n xs ++ drop (w + n) b
 
 pub length_with : (b xs : List ℕ) (w n : ℕ) → w ≤ length b → n ≡ min (length xs) (length b - w)
     → length (with_more b w n xs) ≡ length b
-length_with b xs w n within count =
-    omega (
-      arith,
-      within,
-      count,
-      length-append (take w b ++ take n xs) (drop (w + n) b),
-      length_paste_head b w xs n within (omega (arith, count)),
-      length-drop (w + n) b,
-    )
+length_with b xs w n within count = grind (arith, common_steps, length-append, take, length_paste_head, length-drop)
 
 pub drop_with : (b k xs : List ℕ) (w n : ℕ) → w ≤ length b → n ≡ min (length xs) (length b - w)
     → drop w b ≡ drop w k → drop (w + n) (with_more b w n xs) ≡ drop (w + n) k

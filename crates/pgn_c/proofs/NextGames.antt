@@ -1,6 +1,8 @@
 -- What a conversion of one game finds, from the calls of the converter.
+use Rattle.std.proofs.Common.{rules}
+use Rattle.std.proofs.lemmas.Grind.{common_steps}
 use Rattle.pgn_game.proofs.stepping.OneMoreToken.{torn-none, writing_more}
-use Rattle.pgn_c.proofs.Words.{◌≡◌, ℕ, ◌+◌, ◌-◌, ◌^◌, ◌<◌, ◌≤◌, Bool, true, false, List, [], ◌∷◌, ◌++◌, length, take, drop, Option, None, Some, Result, refl, sym, ap, subst, ◌∙◌, append-nil, append_assoc, length-append, arith, bytes_eq, codes, IsTrue, length-take-le, take-append-drop, take_at, bytes_eq-Decides, take-append-add, Kind, Token, EndsAt, tokens_of, Device, Marker, WhiteWins, BlackWins, Draw, Unknown, Mode, InputTooLong, Fault, marker_text, Profile, is_score, marker_of, game_text, text_of, read, due, games_read, FinishesGame, PgnGame, AreKnown, NextOf, Finds, fault_result, game_result, nothing, status_for}
+use Rattle.pgn_c.proofs.Words.{◌≡◌, ℕ, ◌+◌, ◌-◌, ◌^◌, ◌<◌, ◌≤◌, Bool, true, false, List, [], ◌∷◌, ◌++◌, length, take, drop, Option, None, Some, Result, refl, sym, ap, subst, ◌∙◌, append-nil, append_assoc, length-append, arith, bytes_eq, codes, IsTrue, length-take-le, take-append-drop, take_at, bytes_eq-Decides, take-append-add, Kind, Token, EndsAt, tokens_of, Device, Marker, WhiteWins, BlackWins, Draw, Unknown, Mode, InputTooLong, Fault, marker_text, Profile, marker_of, game_text, text_of, read, due, games_read, FinishesGame, PgnGame, AreKnown, NextOf, Finds, fault_result, game_result, nothing, status_for}
 use Rattle.std.proofs.Common.{length-take}
 use Rattle.std.proofs.KnownBytes.{Appends-trans}
 use Rattle.std.specs.Io.KnownBytes.{Appends}
@@ -24,27 +26,10 @@ record Marks (k : Kind) (at end : ℕ) (text : List ℕ) : Type 0 where
 
 of_score : (at end : ℕ) (s text : List ℕ) → marker_of (Kind.symbol s) ≡ Some text
     → end ≡ at + length s → Marks (Kind.symbol s) at end text
-of_score at end s text marker ends = by_tests _ _ _ refl refl refl
-  where
-    here : (m : Marker) → s ≡ marker_text m → is_score s ≡ true → Marks (Kind.symbol s) at end text
-    here m same score =
-        let e : Some s ≡ Some text = ap (λ (b : Bool). elim b [ true ↦ Some s | false ↦ None ]) (sym score) ∙ marker in
-        record { marker = m; is_marker = cc; place = omega (arith, ends, ap (length {A = ℕ}) same) }
-
-    by_tests : (x y z : Bool) → bytes_eq s (marker_text WhiteWins) ≡ x → bytes_eq s (marker_text BlackWins) ≡ y
-        → bytes_eq s (marker_text Draw) ≡ z → Marks (Kind.symbol s) at end text
-    by_tests true y z p q r = here WhiteWins ((bytes_eq-Decides s _).0 p) (cc)
-    by_tests false true z p q r = here BlackWins ((bytes_eq-Decides s _).0 q) (cc)
-    by_tests false false true p q r = here Draw ((bytes_eq-Decides s _).0 r) (cc)
-    by_tests false false false p q r =
-        let score : is_score s ≡ false = cc in
-        let e : None ≡ Some text = ap (λ (b : Bool). elim b [ true ↦ Some s | false ↦ None ]) (sym score) ∙ marker in absurd (cc)
+of_score at end s text marker ends = grind (arith, common_steps, length, bytes_eq-Decides)
 
 marks : (k : Kind) (at end : ℕ) (text : List ℕ) → marker_of k ≡ Some text → EndsAt k at end → Marks k at end text
-marks Kind.asterisk at end text marker ends =
-    record { marker = Unknown; is_marker = (let e : Some (codes "*") ≡ Some text = marker in cc); place = omega (arith, ends) }
-marks (Kind.symbol s) at end text marker ends = of_score at end s text marker ends
-marks _ at end text marker ends = absurd (cc)
+marks k at end text marker ends = grind (arith, common_steps, codes, of_score)
 
 -- ---- a write that fails
 
@@ -76,8 +61,7 @@ module _ (p : Profile) (u piece : List ℕ) (before : Option (List ℕ)) (laws :
   s = u ++ piece
 
   still_none : (bs : List ℕ) → still None bs ≡ None
-  still_none [] = refl
-  still_none (b ∷ bs) = refl
+  still_none bs = grind (arith, common_steps)
 
   none_still : still None piece ≡ None
   none_still = still_none piece
@@ -89,10 +73,7 @@ module _ (p : Profile) (u piece : List ℕ) (before : Option (List ℕ)) (laws :
   whole_of passes = between p s passes
 
   last_is : (xs ys : List Game) (x y : Game) → xs ++ x ∷ [] ≡ ys ++ y ∷ [] → x ≡ y
-  last_is [] [] x y e = cc
-  last_is [] (z ∷ zs) x y e = absurd (omega (arith, ap (length {A = Game}) e, length-append zs (y ∷ [])))
-  last_is (z ∷ zs) [] x y e = absurd (omega (arith, ap (length {A = Game}) e, length-append zs (x ∷ [])))
-  last_is (z ∷ zs) (w ∷ ws) x y e = last_is zs ws x y (cc)
+  last_is xs ys x y e = grind (arith, common_steps, length, length-append)
 
   -- what the code answers of a game just finished
   abbrev Answered : Converter → ℕ → PgnGame → Type 0
@@ -148,8 +129,7 @@ module _ (p : Profile) (u piece : List ℕ) (before : Option (List ℕ)) (laws :
         by_rest : (rest : List ℕ) → drop used piece ≡ rest → s ≡ (u ++ take used piece) ++ drop used piece
             → length (u ++ take used piece) ≡ n → result.end ≡ n → result.end < length s → (more : List ℕ)
             → (later : List Token) × (tokens_of (take (result.end + 1) s ++ more) ≡ (fed.tokens ++ fed.marker ∷ []) ++ later)
-        by_rest [] is parts size end behind more =
-            absurd (omega (arith, behind, end, size, ap (length {A = ℕ}) parts, length-append (u ++ take used piece) (drop used piece), ap (length {A = ℕ}) is))
+        by_rest [] is parts size end behind more = grind (arith, common_steps, length, length-append, take)
         by_rest (b ∷ bs) is parts size end behind more =
             let front : List ℕ = u ++ take used piece in
             let cut : s ≡ (front ++ b ∷ []) ++ bs = parts ∙ ap (λ l. front ++ l) is ∙ sym (append_assoc front (b ∷ []) bs) in
@@ -174,18 +154,7 @@ module _ (p : Profile) (u piece : List ℕ) (before : Option (List ℕ)) (laws :
         by_stops : (g : Fault) (stops : Stops p [] to.fed.tokens before after g)
             → result ≡ fault_result (status_for 1 g.reason) g (position_at_stop stops) → games_before stops ≡ []
             → Finds p s piece result new before after
-        by_stops g (refused _ fault gains) is none = (
-          NextOf.rejected (record {
-            fault = g;
-            tokens = to.fed.tokens;
-            known = known;
-            rejected = fault;
-            no_game = none;
-            wrote = subst (Appends before after) (sym (due_is p to.fed.tokens before after gains)) gains.appended;
-            is_result = is;
-          }),
-          tt,
-        )
+        by_stops g (refused _ fault gains) is none = search (rules, due_is)
         by_stops _ (unwritten at writing) is none = (
           NextOf.full (record {
             at = at;
@@ -230,9 +199,7 @@ module _ (p : Profile) (u piece : List ℕ) (before : Option (List ℕ)) (laws :
 
       -- what is written is due for all tokens
       all_due : Gains p fed.tokens (tokens_of s) middle after → Appends before after (due p (tokens_of s))
-      all_due gains =
-          subst (Appends before after) (sym (gains.due_for ∙ ap (λ l. l ++ gains.text) (due_is p fed.tokens before middle fed.gains)))
-          (Appends-trans before middle after _ _ fed.gains.appended gains.appended)
+      all_due gains = grind (arith, common_steps, due_is)
 
       pub game_at_end : (new : Converter) (n : ℕ) → TextsEndBehindMarker → mid.lexer.count ≤ 2 ^ 62 → n ≡ length s
           → Finishes p s fed.tokens new true middle after → Answered new n result → Finds p s piece result new before after
@@ -286,9 +253,7 @@ module _ (p : Profile) (u piece : List ℕ) (before : Option (List ℕ)) (laws :
           )
         where
           by_games : (gs : List Game) → games_read p (tokens_of s) ≡ gs → games_read p (tokens_of s) ≡ []
-          by_games [] is = is
-          by_games (g ∷ gs) is =
-              let some : IsTrue false = fin.game.1 (omega (arith, ap (length {A = Game}) is, ap (length {A = Game}) fed.no_game)) in absurd (cc)
+          by_games gs is = grind (arith, common_steps, length)
 
       pub fault_at_end : (new : Converter) (f : Fault) → mid.lexer.count ≤ 2 ^ 62 → FinishesToFault p s fed.tokens new f middle after → new.fault ≡ Some f
           → result ≡ fault_result (status_for 5 f.reason) f (refused_position new) → Finds p s piece result new before after

@@ -1,4 +1,6 @@
 -- What the bytes of a game say of its move numbers, read in one pass.
+use Rattle.std.proofs.Common.{rules}
+use Rattle.std.proofs.lemmas.Grind.{common_steps}
 use Rattle.std.proofs.Common.{Bool, cond, get_or, map, ap₂, ◌++◌, List, [], ◌∷◌, ap, sym, ◌∙◌, arith, drop, false, true, length, refl, suc, zero, subst, take, ℕ, ◌+◌, ◌-◌, ◌<◌, ◌≤◌, ◌≡◌, inl, inr, None, Option, Some}
 use Rattle.std.specs.List.{prefix_len}
 use Rattle.std.specs.Prelude.{if◌then◌else◌, take_while, ◌==◌, ◌||◌, nat_le}
@@ -74,20 +76,7 @@ abbrev pub Passes : Numbering → List Token → Numbering → List Token → Ty
 Passes k ts k' ts' = AreAccepted ts → AreAccepted ts' × (wrong_in k ts ≡ wrong_in k' ts')
 
 silent_kind : (k : Numbering) (at : ℕ) (kind : Kind) (ts : List Token) → IsSilentKind kind → Passes k (record { at = at; kind = kind } ∷ ts) (silenced k) ts
-silent_kind k at kinds.left_bracket ts is all = (all.1, refl)
-silent_kind k at kinds.right_bracket ts is all = (all.1, refl)
-silent_kind k at kinds.asterisk ts is all = (all.1, refl)
-silent_kind k at (kinds.str text) ts is all = (all.1, refl)
-silent_kind k at (kinds.glyph n) ts is all = (all.1, refl)
-silent_kind k at kinds.comment_open ts is all = (all.1, refl)
-silent_kind k at (kinds.word text) ts is all = (all.1, refl)
-silent_kind k at kinds.comment_close ts is all = (all.1, refl)
-silent_kind k at kinds.end ts is all = (all.1, refl)
-silent_kind k at (kinds.symbol text) ts is all = absurd is
-silent_kind k at kinds.period ts is all = absurd is
-silent_kind k at kinds.left_paren ts is all = absurd is
-silent_kind k at kinds.right_paren ts is all = absurd is
-silent_kind k at (kinds.refused r) ts is all = absurd is
+silent_kind k at kind ts is all = grind (arith, common_steps)
 
 pub silent : (k : Numbering) (at : ℕ) (f : Found) (ts : List Token) → IsSilent f → Passes k (onto at f ts) (silenced k) ts
 silent k at nothing ts is all = absurd is
@@ -95,12 +84,7 @@ silent k at (gives kind) ts is all = silent_kind k at kind ts is all
 silent k at (stops place r) ts is all = absurd all.0
 
 pub glyph_is_silent : (at : ℕ) (ds : List ℕ) → IsSilent (glyph_at at ds)
-glyph_is_silent at [] = tt
-glyph_is_silent at (d ∷ ds) = numbered (number_of (d ∷ ds)) (nat_le (number_of (d ∷ ds)) 255) refl
-  where
-    numbered : (n : ℕ) (c : Bool) → nat_le n 255 ≡ c → IsSilent (numbered_at at n)
-    numbered n true e = rw e tt
-    numbered n false e = rw e tt
+glyph_is_silent at ds = grind (arith, common_steps)
 
 pub suffix_is_silent : (at b : ℕ) (bs : List ℕ) → IsSilent (suffix_at at (b ∷ bs))
 suffix_is_silent at b bs = grind arith
@@ -109,8 +93,7 @@ pub word_is_silent : (at : ℕ) (run : List ℕ) → IsSilent (word_at at run)
 word_is_silent at run = grind arith
 
 pub string_is_silent : (r : Reading) → IsSilent (string_at r)
-string_is_silent (closed text) = tt
-string_is_silent (broken at reason) = tt
+string_is_silent r = grind (arith, common_steps)
 
 -- ---- comments in braces
 
@@ -132,34 +115,19 @@ not_close b e same = grind arith
 
 brace_byte : (k : Numbering) (at b : ℕ) (bs : List ℕ) (goes : Bool) (c : CommentClass) → (c ≡ comment_classes.CloseBrace → ⊥) → BraceAt k (at + 1) bs
     → Passes (silenced k) (onto at (begins_brace at goes c b bs) (tokens_from (at + 1) (after_brace c) bs)) (silenced k) (behind_brace (at + 1) bs)
-brace_byte k at b bs goes comment_classes.LineEnd other more = more.0
-brace_byte k at b bs goes comment_classes.Space other more = more.0
-brace_byte k at b bs goes comment_classes.CloseBrace other more = absurd (other refl)
-brace_byte k at b bs true comment_classes.WordByte other more = more.1
-brace_byte k at b bs false comment_classes.WordByte other more = λ all.
-    let front = silent (silenced k) at _ _ (word_is_silent at (b ∷ take_while continues_word bs)) all in
-    let rest = more.1 front.0 in
-    (rest.0, front.1 ∙ rest.1)
-brace_byte k at b bs goes comment_classes.Control other more = λ all. absurd all.0
+brace_byte k at b bs goes c other more = grind (arith, common_steps, word_is_silent)
 
 brace_further : (at b : ℕ) (bs : List ℕ) → (b == 125) ≡ false → behind_brace at (b ∷ bs) ≡ behind_brace (at + 1) bs
 brace_further at b bs e = rw e (later at (to_brace bs) b bs)
 
 pub in_brace : (k : Numbering) (at : ℕ) (bs : List ℕ) → BraceAt k at bs
 in_brace k at [] = (λ all. absurd all.0, λ all. absurd all.0)
-in_brace k at (b ∷ bs) = elim (cases_Bool (b == 125)) [
-  | inl e ↦ rw (eqb-true b 125 e) (λ all. (all.1, refl), λ all. (all.1, refl))
-  | inr e ↦ rw (brace_further at b bs e) (
-    brace_byte k at b bs false (comment_class b) (not_close b e) (in_brace k (at + 1) bs),
-    brace_byte k at b bs true (comment_class b) (not_close b e) (in_brace k (at + 1) bs),
-  )
-]
+in_brace k at (b ∷ bs) = grind (arith, common_steps, cases_Bool, eqb-true, brace_further, brace_byte, not_close, (in_brace k (at + 1) bs))
 
 -- a comment goes on behind bytes without a brace
 brace_behind : (n : ℕ) (s : List ℕ) (c : Bool) → (has_brace (take n s) ≡ false → to_brace s ≡ n + to_brace (drop n s)) → c || has_brace (take n s) ≡ false
     → (if c then 1 else to_brace s + 1) ≡ suc n + to_brace (drop n s)
-brace_behind n s true more none = absurd (true≢false none)
-brace_behind n s false more none = let further = more none in omega (arith, further)
+brace_behind n s c more none = grind (arith, common_steps, true≢false)
 
 no_brace : (n : ℕ) (s : List ℕ) → has_brace (take n s) ≡ false → n ≤ length s → to_brace s ≡ n + to_brace (drop n s)
 no_brace zero s none few = omega arith
@@ -188,22 +156,11 @@ not_end b e same = grind arith
 
 line_byte : (k : Numbering) (at b : ℕ) (bs : List ℕ) (goes : Bool) (c : CommentClass) → (c ≡ comment_classes.LineEnd → ⊥) → LineAt k (at + 1) bs
     → Passes (silenced k) (onto at (begins_line at goes c b bs) (tokens_from (at + 1) (after_line c) bs)) (silenced k) (behind_line (at + 1) bs)
-line_byte k at b bs goes comment_classes.LineEnd other more = absurd (other refl)
-line_byte k at b bs goes comment_classes.Space other more = more.0
-line_byte k at b bs goes comment_classes.CloseBrace other more = λ all. absurd all.0
-line_byte k at b bs true comment_classes.WordByte other more = more.1
-line_byte k at b bs false comment_classes.WordByte other more = λ all.
-    let front = silent (silenced k) at _ _ (word_is_silent at (b ∷ take_while continues_word bs)) all in
-    let rest = more.1 front.0 in
-    (rest.0, front.1 ∙ rest.1)
-line_byte k at b bs goes comment_classes.Control other more = λ all. absurd all.0
+line_byte k at b bs goes c other more = grind (arith, common_steps, word_is_silent)
 
 -- an end of a line is one of two bytes
 ends_line : (P : ℕ → Type 0) (b : ℕ) → is_line_end b ≡ true → P 10 → P 13 → P b
-ends_line P b e feed return = elim (or_cases (b == 10) (b == 13) e) [
-  | inl is ↦ subst P (sym (eqb-true b 10 is)) feed
-  | inr is ↦ subst P (sym (eqb-true b 13 is)) return
-]
+ends_line P b e feed return = grind (arith, common_steps, or_cases, eqb-true)
 
 nearer : (at b : ℕ) (bs : List ℕ) → tokens_from (at + 0) outside (b ∷ bs) ≡ tokens_from at outside (b ∷ bs)
 nearer at b bs = ap (λ n. tokens_from n outside (b ∷ bs)) (omega arith)
@@ -213,22 +170,11 @@ line_further at b bs e = grind (arith, later)
 
 pub in_line : (k : Numbering) (at : ℕ) (bs : List ℕ) → LineAt k at bs
 in_line k at [] = (λ all. (all.1, refl), λ all. (all.1, refl))
-in_line k at (b ∷ bs) = elim (cases_Bool (is_line_end b)) [
-  | inl e ↦ ends_line (λ c. LineAt k at (c ∷ bs)) b e
-      (rw (nearer at 10 bs) (λ all. (all.1, refl), λ all. (all.1, refl)))
-      (rw (nearer at 13 bs) (λ all. (all.1, refl), λ all. (all.1, refl)))
-  | inr e ↦ rw (line_further at b bs e) (
-    line_byte k at b bs false (comment_class b) (not_end b e) (in_line k (at + 1) bs),
-    line_byte k at b bs true (comment_class b) (not_end b e) (in_line k (at + 1) bs),
-  )
-]
+in_line k at (b ∷ bs) = search (rules, cases_Bool, line_further, line_byte, not_end, (in_line k (at + 1) bs))
 
 pub in_escape : (at : ℕ) (bs : List ℕ) → tokens_from at in_escape_line bs ≡ behind_line at bs
 in_escape at [] = ap (λ n. at_end n outside) (omega arith)
-in_escape at (b ∷ bs) = elim (cases_Bool (is_line_end b)) [
-  | inl e ↦ ends_line (λ c. tokens_from at in_escape_line (c ∷ bs) ≡ behind_line at (c ∷ bs)) b e (sym (nearer at 10 bs)) (sym (nearer at 13 bs))
-  | inr e ↦ rw (line_further at b bs e, e) (in_escape (at + 1) bs)
-]
+in_escape at (b ∷ bs) = grind (arith, common_steps, cases_Bool, line_further, (in_escape (at + 1) bs))
 
 -- ---- strings
 
@@ -239,18 +185,10 @@ abbrev QuoteAt : ℕ → List ℕ → Type 0
 QuoteAt at bs = (tokens_from at quotes bs ≡ behind_quote false at bs) × (tokens_from at backslash bs ≡ behind_quote true at bs)
 
 goes_on : (x y : Bool) → after_quoted (if x then string_classes.LineEnd else (if y then string_classes.Control else string_classes.Plain)) ≡ quotes
-goes_on true y = refl
-goes_on false true = refl
-goes_on false false = refl
+goes_on x y = grind (arith, common_steps)
 
 quote_byte : (at b : ℕ) (bs : List ℕ) → QuoteAt (at + 1) bs → tokens_from at quotes (b ∷ bs) ≡ behind_quote false at (b ∷ bs)
-quote_byte at b bs more = elim (cases_Bool (b == 34)) [
-  | inl e ↦ rw (eqb-true b 34 e) refl
-  | inr e ↦ elim (cases_Bool (b == 92)) [
-    | inl f ↦ rw (eqb-true b 92 f) (more.1 ∙ sym (later at (to_quote true bs) 92 bs))
-    | inr f ↦ rw (e, f, goes_on (is_line_end b) (nat_le b 31 || (b == 127))) (more.0 ∙ sym (later at (to_quote false bs) b bs))
-  ]
-]
+quote_byte at b bs more = grind (arith, common_steps, cases_Bool, eqb-true)
 
 pub in_quotes : (at : ℕ) (bs : List ℕ) → QuoteAt at bs
 in_quotes at [] = (ap (λ n. at_end n outside) (omega arith), ap (λ n. at_end n outside) (omega arith))
@@ -281,28 +219,13 @@ is_percent _ = false
 -- in the first column only a percent sign is another byte than elsewhere
 first_is : (at b : ℕ) (bs : List ℕ) (c : Class) → is_percent c ≡ false
     → onto at (begins_first at c b bs) (tokens_from (at + 1) (after_first c) bs) ≡ onto at (begins_class at c b bs) (tokens_from (at + 1) (after_class c) bs)
-first_is at b bs classes.Percent other = absurd (true≢false other)
-first_is at b bs classes.LineEnd other = refl
-first_is at b bs classes.Space other = refl
-first_is at b bs classes.SymbolStart other = refl
-first_is at b bs classes.Quote other = refl
-first_is at b bs classes.Dollar other = refl
-first_is at b bs classes.Suffix other = refl
-first_is at b bs classes.OpenBrace other = refl
-first_is at b bs classes.Semicolon other = refl
-first_is at b bs (classes.Alone s) other = refl
-first_is at b bs (classes.Refused r) other = refl
+first_is at b bs c other = grind (arith, common_steps, true≢false)
 
 neither : (c : Bool) (x y : Class) → is_percent x ≡ false → is_percent y ≡ false → is_percent (if c then x else y) ≡ false
-neither true x y e f = e
-neither false x y e f = f
+neither c x y e f = grind (arith, common_steps)
 
 not_percent : (b : ℕ) → (b == 37) ≡ false → is_percent (class b) ≡ false
-not_percent b e =
-    neither (starts_symbol b) _ _ refl (neither (is_line_end b) _ _ refl (neither (is_blank b) _ _ refl (neither (is_suffix b) _ _ refl
-    (rw e (neither (b == 34) _ _ refl (neither (b == 36) _ _ refl (neither (b == 123) _ _ refl (neither (b == 59) _ _ refl
-    (neither (b == 91) _ _ refl (neither (b == 93) _ _ refl (neither (b == 40) _ _ refl (neither (b == 41) _ _ refl
-    (neither (b == 46) _ _ refl (neither (b == 42) _ _ refl (neither ((b == 60) || (b == 62)) _ _ refl (neither (is_control b) _ _ refl refl))))))))))))))))
+not_percent b e = grind (arith, common_steps, neither)
 
 -- so of another byte the tokens are those outside
 pub record AheadOutside (k : Numbering) (at b : ℕ) (bs : List ℕ) (found : Option WrongNumber) : Type 0 where
@@ -328,8 +251,7 @@ run_by p b bs true more = grind arith
 run_by p b bs false more = refl
 
 take_while_is : (p : ℕ → Bool) (s : List ℕ) → take_while p s ≡ take (prefix_len p s) s
-take_while_is p [] = refl
-take_while_is p (b ∷ bs) = take_while-cons p b bs ∙ run_by p b bs (p b) (take_while_is p bs)
+take_while_is p s = grind (arith, common_steps, take_while-cons, run_by)
 
 pub continues : (b : ℕ) → starts_symbol b ≡ true → continues_symbol b ≡ true
 continues b e = rw e refl
@@ -343,20 +265,12 @@ symbol_is b bs e = front_of_run continues_symbol b bs (continues b e)
 ply_goes : (depth plies : ℕ) (before : Option ℕ) (at : ℕ) (n : Option ℕ) (ts : List Token)
     → wrong_behind before plies (main_line depth (mark_of_symbol n ++ marks_behind (digits_with at n) ts))
     ≡ wrong_behind before (plies_after depth plies n) (main_line depth (marks_behind (digits_with at n) ts))
-ply_goes zero plies before at None ts = refl
-ply_goes (suc depth) plies before at None ts = refl
-ply_goes zero plies before at (Some n) ts = refl
-ply_goes (suc depth) plies before at (Some n) ts = refl
+ply_goes depth plies before at n ts = grind (arith, common_steps)
 
 -- a symbol is given, since no error is
 symbol_given : (k : Numbering) (at : ℕ) (text : List ℕ) (ts : List Token) → AreAccepted (onto at (symbol_at at text) ts)
     → AreAccepted ts × (wrong_in k (onto at (symbol_at at text) ts) ≡ wrong_in (with_symbol k at text) ts)
-symbol_given k at text ts = by_length (nat_le (length text) 255)
-  where
-    by_length : (c : Bool) → AreAccepted (onto at (if c then gives (kinds.symbol text) else stops at SymbolTooLong) ts)
-        → AreAccepted ts × (wrong_in k (onto at (if c then gives (kinds.symbol text) else stops at SymbolTooLong) ts) ≡ wrong_in (with_symbol k at text) ts)
-    by_length true all = (all.1, ply_goes k.depth k.plies k.before at (number_in text) ts)
-    by_length false all = absurd all.0
+symbol_given k at text ts = grind (arith, common_steps, length, ply_goes)
 
 symbol_tokens : (at b : ℕ) (bs : List ℕ) → starts_symbol b ≡ true
     → tokens_from at outside (b ∷ bs) ≡ onto at (symbol_at at (take (prefix_len continues_symbol (b ∷ bs)) (b ∷ bs)))
@@ -382,26 +296,10 @@ symbol_goes k at b bs found e so =
 period_goes_on : (k : Numbering) (depth : ℕ) (digits : Option Digits) (ms : List Mark) → wrong_of depth k.plies k.before digits ≡ None
     → wrong_behind k.before k.plies (main_line depth (mark_of_period digits ++ ms))
     ≡ wrong_behind (numbered_by k depth digits).before (numbered_by k depth digits).plies (main_line (numbered_by k depth digits).depth ms)
-period_goes_on k zero None ms e = refl
-period_goes_on k (suc depth) None ms e = refl
-period_goes_on k (suc depth) (Some digits) ms e = refl
-period_goes_on k zero (Some digits) ms e = by_before k.before e
-  where
-    by_runs : (c : Bool) (wrong : WrongNumber) (goes : Option WrongNumber) → (if c then None else Some wrong) ≡ None
-        → (if c then goes else Some wrong) ≡ goes
-    by_runs true wrong goes e = refl
-    by_runs false wrong goes e = absurd (none-some wrong (sym e))
-
-    by_before : (before : Option ℕ) → wrong_of zero k.plies before (Some digits) ≡ None
-        → wrong_behind before k.plies (numbered digits ∷ main_line 0 ms) ≡ wrong_behind (Some digits.number) 0 (main_line 0 ms)
-    by_before None e = refl
-    by_before (Some before) e = by_runs (runs before k.plies digits.number) _ _ e
+period_goes_on k depth digits ms e = grind (arith, common_steps, none-some)
 
 no_digits : (k : Numbering) (depth : ℕ) (digits : Option Digits) → (numbered_by k depth digits).digits ≡ None
-no_digits k zero None = refl
-no_digits k (suc depth) None = refl
-no_digits k zero (Some digits) = refl
-no_digits k (suc depth) (Some digits) = refl
+no_digits k depth digits = grind (arith, common_steps)
 
 pub period_goes : (k : Numbering) (at : ℕ) (bs : List ℕ) (found : Option WrongNumber) → wrong_at_period k ≡ None → AheadOf k at (46 ∷ bs) found
     → AheadOf (with_period k) (at + 1) bs found
@@ -421,9 +319,7 @@ wrong_found k depth before digits ms wrong e = grind arith
 
 pub wrong_is_found : (k : Numbering) (at : ℕ) (bs : List ℕ) (found : Option WrongNumber) (wrong : WrongNumber) → wrong_at_period k ≡ Some wrong → AheadOf k at (46 ∷ bs) found
     → Some wrong ≡ found
-wrong_is_found k at bs found wrong e so =
-    let out = ahead_outside k at 46 bs found refl so in
-    wrong_found k k.depth k.before k.digits (marks_behind None (tokens_from (at + 1) outside bs)) wrong e ∙ out.same
+wrong_is_found k at bs found wrong e so = grind (arith, common_steps, ahead_outside, wrong_found)
 
 -- ---- any other byte
 
@@ -447,9 +343,7 @@ module _ (k : Numbering) (at : ℕ) (bs : List ℕ) (found : Option WrongNumber)
   percent_goes so = by_within so.within so.between so.accepted so.same
     where
       by_within : (w : Within) → IsBetween w → AreAccepted (tokens_from at w (37 ∷ bs)) → wrong_in k (tokens_from at w (37 ∷ bs)) ≡ found → Goes k at 37 bs found
-      by_within column is all same =
-          let behind = in_escape (at + 1) bs in
-          ahead_at k _ _ found (subst AreAccepted behind all) (ap (wrong_in k) (sym behind) ∙ same)
+      by_within column is all same = grind (arith, common_steps, in_escape, ahead_at)
       by_within outside is all same = absurd all.0
       by_within _ is all same = absurd is
 
@@ -467,9 +361,7 @@ module _ (k : Numbering) (at : ℕ) (bs : List ℕ) (found : Option WrongNumber)
   silent_goes : (f : Found) (w : Within) (n : ℕ) → IsSilent f → tokens_from (at + 1) w bs ≡ tokens_from (at + 1 + n) outside (drop n bs)
       → AreAccepted (onto at f (tokens_from (at + 1) w bs)) → wrong_in k (onto at f (tokens_from (at + 1) w bs)) ≡ found
       → AheadOf (silenced k) (at + 1 + n) (drop n bs) found
-  silent_goes f w n is behind all same =
-      let front = silent k at f (tokens_from (at + 1) w bs) is all in
-      ahead_at (silenced k) _ _ found (subst AreAccepted behind front.0) (ap (wrong_in (silenced k)) (sym behind) ∙ sym front.1 ∙ same)
+  silent_goes f w n is behind all same = grind (arith, common_steps, ahead_at)
 
   quote_goes : AheadOutside k at 34 bs found → Goes k at 34 bs found
   quote_goes out = silent_goes _ quotes (to_quote false bs) (string_is_silent (reading at (at + 1) 0 false bs)) (in_quotes (at + 1) bs).0 out.accepted out.same
@@ -516,10 +408,7 @@ module _ (k : Numbering) (at : ℕ) (bs : List ℕ) (found : Option WrongNumber)
   ]
 
   suffix_goes : (b : ℕ) → is_suffix b ≡ true → AheadOutside k at b bs found → Goes k at b bs found
-  suffix_goes b e = elim (or_cases (b == 33) (b == 63) e) [
-    | inl is ↦ rw (eqb-true b 33 is) mark_goes
-    | inr is ↦ rw (eqb-true b 63 is) question_goes
-  ]
+  suffix_goes b e = search (rules, or_cases, eqb-true, mark_goes, question_goes)
 
 -- all other bytes are rejected
 abbrev IsRefused : Class → Type 0
@@ -527,12 +416,10 @@ IsRefused (classes.Refused r) = Unit {0}
 IsRefused _ = ⊥
 
 refused_if : (c : Bool) (x y : Class) → IsRefused x → IsRefused y → IsRefused (if c then x else y)
-refused_if true x y h i = h
-refused_if false x y h i = i
+refused_if c x y h i = grind (arith, common_steps)
 
 refused_stops : (at b : ℕ) (bs : List ℕ) (c : Class) (ts : List Token) → IsRefused c → AreAccepted (onto at (begins_class at c b bs) ts) → ⊥
-refused_stops at b bs (classes.Refused r) ts is all = all.0
-refused_stops at b bs _ ts is all = absurd is
+refused_stops at b bs c ts is all = grind (arith, common_steps)
 
 -- no test of `class` holds before the last ones
 pub record IsNoOther (b : ℕ) : Type 0 where
@@ -654,11 +541,7 @@ letter_is_no_digit : (b : ℕ) → is_letter b ≡ true → is_digit b ≡ false
 letter_is_no_digit b e = grind arith
 
 pub starts_by : (b : ℕ) → is_digit b ≡ true → starts_symbol b ≡ true
-starts_by b e = by_letter (is_letter b) e
-  where
-    by_letter : (c : Bool) → is_digit b ≡ true → c || is_digit b ≡ true
-    by_letter true e = refl
-    by_letter false e = e
+starts_by b e = grind (arith, common_steps)
 
 pub starts_by_none : (b : ℕ) → is_letter b ≡ false → is_digit b ≡ false → starts_symbol b ≡ false
 starts_by_none b e f = rw (e, f) refl
@@ -698,10 +581,7 @@ module _ (s : List ℕ) (k : Numbering) (at : ℕ) (turn : Turn s k at) (less : 
   symbol_ahead : starts_symbol b ≡ true → AreAccepted (tokens_of s)
       → AheadOf (with_symbol k at (take (prefix_len continues_symbol (drop at s)) (drop at s))) (at + prefix_len continues_symbol (drop at s))
       (drop (prefix_len continues_symbol (drop at s)) (drop at s)) (wrong_number (tokens_of s))
-  symbol_ahead e all =
-      subst (λ r. AheadOf (with_symbol k at (take (prefix_len continues_symbol r) r)) (at + prefix_len continues_symbol r) (drop (prefix_len continues_symbol r) r)
-      (wrong_number (tokens_of s))) (sym cell)
-      (symbol_goes k at b (drop (at + 1) s) (wrong_number (tokens_of s)) e (here all))
+  symbol_ahead e all = search (rules, take, cell, symbol_goes)
 
   some_bytes : starts_symbol b ≡ true → 0 < prefix_len continues_symbol (drop at s)
   some_bytes e = rw (cell, continues b e) (omega arith)
@@ -761,12 +641,10 @@ module _ (s : List ℕ) (k : Numbering) (at : ℕ) (turn : Turn s k at) (less : 
   at_depth depth = record { depth = depth; plies = k.plies; before = k.before; digits = None }
 
   depth_with_other : (x : Bool) (depth : ℕ) → depth ≤ k.depth + 1 → (if x then k else at_depth depth).depth ≤ k.depth + 1
-  depth_with_other true depth few = omega arith
-  depth_with_other false depth few = few
+  depth_with_other x depth few = grind (arith, common_steps)
 
   plies_with_other : (x : Bool) (depth : ℕ) → (if x then k else at_depth depth).plies ≡ k.plies
-  plies_with_other true depth = refl
-  plies_with_other false depth = refl
+  plies_with_other x depth = grind (arith, common_steps)
 
   is_no_period : (b ≡ 46 → ⊥) → (b == 46) ≡ false
   is_no_period other = elim (cases_Bool (b == 46)) [ inl e ↦ absurd (other (eqb-true b 46 e)) | inr e ↦ e ]

@@ -1,4 +1,5 @@
 -- The scan of a line finds the tag pair that is on it, and no other.
+use Rattle.std.proofs.lemmas.Grind.{common_steps}
 use Rattle.pgn_c.proofs.Words.{◌≡◌, ◌≢◌, inl, inr, ℕ, ◌+◌, ◌≤◌, Bool, true, false, ◌&&◌, ◌||◌, List, [], ◌∷◌, ◌++◌, length, drop, refl, sym, ◌∙◌, ap, ap₂, arith, append_assoc, length-append, Option, None, Some, codes, in_name, PgnTag, BeginsWithTag, TagResult, no_tag, text_behind, name_length, one_more, length_to_quote, value_length, first_pair}
 use Rattle.std.specs.Prelude.{◌==◌, nat_le, if◌then◌else◌, MatchOption, IfSome}
 use denote.Ref.{Bor}
@@ -26,8 +27,7 @@ behind_is (b ∷ front) (c ∷ s) rest h =
 
 -- what is known to be there
 some_of : {A : Type 0} → (o : Option A) → (o ≡ None → ⊥) → (x : A) × (o ≡ Some x)
-some_of None none = absurd (none refl)
-some_of (Some x) none = (x, refl)
+some_of o none = grind (arith, common_steps)
 
 pub behind_none : (front s : List ℕ) → ((rest : List ℕ) → s ≢ front ++ rest) → text_behind front s ≡ None
 behind_none front s other = by_rest (text_behind front s) refl
@@ -89,8 +89,7 @@ closed_more b s n e is c =
 
 -- one less of what is found
 less_one : (o : Option ℕ) (n : ℕ) → one_more o ≡ Some n → (m : ℕ) × (o ≡ Some m) × (n ≡ m + 1)
-less_one None n h = absurd (cc)
-less_one (Some m) n h = (m, refl, cc)
+less_one o n h = grind (arith, common_steps)
 
 -- the text that is read, with the backslash before it
 abbrev with_backslash : Bool → List ℕ → List ℕ
@@ -125,20 +124,10 @@ closed (b ∷ s) false n h =
 
 line_parts : (name value rest : List ℕ)
     → tag_line name value ++ rest ≡ 91 ∷ (name ++ (32 ∷ 34 ∷ (escaped value ++ (34 ∷ 93 ∷ 10 ∷ rest))))
-line_parts name value rest =
-    ap (λ (t : List ℕ). 91 ∷ t)
-    (append_assoc ((name ++ (32 ∷ 34 ∷ [])) ++ escaped value) (34 ∷ 93 ∷ 10 ∷ []) rest
-    ∙ append_assoc (name ++ (32 ∷ 34 ∷ [])) (escaped value) (34 ∷ 93 ∷ 10 ∷ rest)
-    ∙ append_assoc name (32 ∷ 34 ∷ []) (escaped value ++ (34 ∷ 93 ∷ 10 ∷ rest)))
+line_parts name value rest = grind (arith, common_steps, append_assoc)
 
 pub line_long : (name value : List ℕ) → length (tag_line name value) ≡ length name + length (escaped value) + 6
-line_long name value =
-    omega (
-      arith,
-      length-append ((name ++ (32 ∷ 34 ∷ [])) ++ escaped value) (34 ∷ 93 ∷ 10 ∷ []),
-      length-append (name ++ (32 ∷ 34 ∷ [])) (escaped value),
-      length-append name (32 ∷ 34 ∷ []),
-    )
+line_long name value = grind (arith, common_steps, length-append)
 
 fits_name : (n : ℕ) → 1 ≤ n → n ≤ 255 → (nat_le 1 n && nat_le n 255) ≡ true
 fits_name n some short = and_from (nat_le 1 n) (nat_le n 255) (le-leb 1 n some) (le-leb n 255 short)
@@ -247,8 +236,7 @@ pair_within s pair h =
 pub behind_matches : (front s : List ℕ) (r : Option (Bor (List ℕ)))
     → MatchOption r ((rest : List ℕ) → s ≢ front ++ rest) (λ x. s ≡ front ++ x.now)
     → MatchOption r (text_behind front s ≡ None) (λ x. text_behind front s ≡ Some x.now)
-behind_matches front s None h = behind_none front s h
-behind_matches front s (Some x) h = behind_some front s x.now h
+behind_matches front s r h = grind (arith, common_steps, behind_none, behind_some)
 
 -- ---- the result
 
@@ -284,5 +272,4 @@ found_there text at pair h =
 
 -- the bound of what the code finds
 pub within_if : (s : List ℕ) (o : Option PairLengths) → o ≡ first_pair s → IfSome o (λ pair. pair.name + pair.value + 6 ≤ length s)
-within_if s None h = tt
-within_if s (Some pair) h = pair_within s pair (sym h)
+within_if s o h = grind (arith, common_steps, pair_within)

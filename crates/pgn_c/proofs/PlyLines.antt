@@ -1,4 +1,5 @@
 -- The lines of plies in a buffer, one after another.
+use Rattle.std.proofs.lemmas.Grind.{common_steps}
 use Rattle.pgn_c.proofs.Words.{◌≡◌, ℕ, ◌+◌, ◌<◌, ◌≤◌, List, [], ◌∷◌, ◌++◌, length, take, drop, sym, ap, ap₂, ◌∙◌, arith, append-nil, append_assoc, length-append, drop-drop, drop_at, take_at, length-drop, IsFilled, None}
 use Rattle.pgn_game.specs.public.LineOfPlay.{Line, Ply, behind_ply}
 use Rattle.pgn_c.specs.LinesOfPlay.{WritesLine, line_result, ply_line, ply_lines}
@@ -8,14 +9,11 @@ use Rattle.pgn_c.specs.declared.line_of_play.PlyFields.{PlyFields}
 
 -- the line of a ply ends with a line feed
 pub some_line : (fields : PlyFields) (x : Ply) → 0 < length (ply_line fields x)
-some_line All x = omega (arith, length-append {A = ℕ})
-some_line Fen x = omega (arith, length-append {A = ℕ})
-some_line Key x = omega (arith, length-append {A = ℕ})
+some_line fields x = grind (arith, common_steps, length-append)
 
 one_more_line : (fields : PlyFields) (xs : List Ply) (x : Ply) → ply_lines fields (xs ++ x ∷ []) ≡ ply_lines fields xs ++ ply_line fields x
 one_more_line fields [] x = append-nil (ply_line fields x)
-one_more_line fields (y ∷ xs) x =
-    ap (λ (s : List ℕ). ply_line fields y ++ s) (one_more_line fields xs x) ∙ sym (append_assoc (ply_line fields y) (ply_lines fields xs) (ply_line fields x))
+one_more_line fields (y ∷ xs) x = grind (arith, common_steps, append_assoc, (one_more_line fields xs x))
 
 -- Of a line the first plies were put into the buffer, and this is ahead.
 pub record PutSoFar (fields : PlyFields) (line ahead : Line) (before now : List ℕ) (written count : ℕ) : Type 0 where
@@ -33,9 +31,7 @@ module _ (fields : PlyFields) (line ahead : Line) (before now : List ℕ) (writt
 
   -- the buffer has the length that it had
   same_length : length now ≡ length before
-  same_length =
-      ap length so_far.filled.now ∙ length-append lines (drop (length lines) before)
-      ∙ omega (arith, length-drop (length lines) before, so_far.filled.fits)
+  same_length = grind (arith, common_steps, length, length-append, length-drop)
 
   -- one more
   module _ (x : Ply) (rest : Line) (next : ahead ≡ behind_ply x rest) where
@@ -58,29 +54,9 @@ module _ (fields : PlyFields) (line ahead : Line) (before now : List ℕ) (writt
     pub one_more : (text : List ℕ) (new : List ℕ) → text ≡ ply_line fields x → 0 < length text → written + length text ≤ length now
         → new ≡ take written now ++ text ++ drop (written + length text) now
         → PutSoFar fields line rest before new (written + length text) (count + 1)
-    one_more text new is some fits after =
-        let joined : ply_lines fields (so_far.put ++ x ∷ []) ≡ lines ++ text = one_more_line fields so_far.put x ∙ ap (λ (s : List ℕ). lines ++ s) (sym is) in
-        let long : length (ply_lines fields (so_far.put ++ x ∷ [])) ≡ written + length text =
-        ap length joined ∙ length-append lines text ∙ ap (λ (n : ℕ). n + length text) (sym so_far.bytes) in
-        record {
-          put = so_far.put ++ x ∷ [];
-          plies = so_far.plies ∙ ap (λ (l : Line). so_far.put ++ l.plies) next ∙ sym (append_assoc so_far.put (x ∷ []) rest.plies);
-          fault = so_far.fault ∙ ap (λ (l : Line). l.fault) next;
-          filled = record { fits = omega (arith, long, fits, same_length); now = after ∙ buffer_now text is fits };
-          bytes = sym long;
-          counted = omega (arith, so_far.counted, length-append so_far.put (x ∷ []));
-          each = omega (arith, so_far.each, some);
-        }
+    one_more text new is some fits after = grind (arith, common_steps, one_more_line, length, length-append, append_assoc, same_length, buffer_now)
 
     -- the line of the next ply has no room
     pub no_room : (text : List ℕ) (result : PgnPlies) → text ≡ ply_line fields x → length now < written + length text
         → result ≡ line_result (x ∷ []) None written count → WritesLine fields line before now result
-    no_room text result is full same =
-        record {
-          put = so_far.put;
-          left = x ∷ rest.plies;
-          plies = so_far.plies ∙ ap (λ (l : Line). so_far.put ++ l.plies) next;
-          filled = so_far.filled;
-          full = omega (arith, full, same_length, so_far.bytes, ap length is);
-          is_result = same ∙ ap₂ (λ (n k : ℕ). line_result (x ∷ []) None n k) so_far.bytes so_far.counted;
-        }
+    no_room text result is full same = grind (arith, common_steps, same_length, length)

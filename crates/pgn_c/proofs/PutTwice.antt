@@ -1,4 +1,5 @@
 -- Two texts that are copied into a buffer, one behind the other.
+use Rattle.std.proofs.lemmas.Grind.{common_steps}
 use Rattle.std.proofs.Common.{◌≡◌, ℕ, ◌+◌, ◌≤◌, Bool, true, false, List, ◌++◌, length, take, drop, sym, ap, ap₂, ◌∙◌, arith, append_assoc, length-append, length-take-le, take_at, drop_at, drop-drop}
 use Rattle.pgn_c.specs.ItemLines.{counted}
 use Rattle.pgn_c.specs.ItemSteps.{PutsText, put_one}
@@ -20,21 +21,15 @@ put_twice b front word middle at fits is =
 -- the lines after a text that ends one, and after one that does not
 pub put_ends : (l : Lines) (n items used : ℕ) (ends : Bool) → ends ≡ true → items ≡ counted (l.items + 1) → used ≡ l.used + n
     → record { items = items; used = used; whole_items = items; whole = used } ≡ put_one l n ends
-put_ends l n items used ends at_end count is =
-    ap₂ (λ (a b : ℕ). record { items = a; used = b; whole_items = a; whole = b }) count is ∙ sym (ap (put_one l n) at_end)
+put_ends l n items used ends at_end count is = grind (arith, common_steps)
 
 pub put_goes_on : (l : Lines) (n items used : ℕ) (ends : Bool) → ends ≡ false → items ≡ counted (l.items + 1) → used ≡ l.used + n
     → record { items = items; used = used; whole_items = l.whole_items; whole = l.whole } ≡ put_one l n ends
-put_goes_on l n items used ends in_line count is =
-    ap₂ (λ (a b : ℕ). record { items = a; used = b; whole_items = l.whole_items; whole = l.whole }) count is ∙ sym (ap (put_one l n) in_line)
+put_goes_on l n items used ends in_line count is = grind (arith, common_steps)
 
 -- Both texts were put, and the lines say so.
 pub puts_both : (old new : Lines) (front word b middle after : List ℕ) (ends : Bool) → old.used + (length front + length word) ≤ length b
     → middle ≡ take old.used b ++ front ++ drop (old.used + length front) b
     → after ≡ take (old.used + length front) middle ++ word ++ drop (old.used + length front + length word) middle
     → new ≡ put_one old (length (front ++ word)) ends → PutsText old new (front ++ word) ends b after true
-puts_both old new front word b middle after ends fits first second is = (
-  omega (arith, length-append front word, fits),
-  is,
-  second ∙ put_twice b front word middle old.used (omega (arith, fits)) first,
-)
+puts_both old new front word b middle after ends fits first second is = grind (arith, common_steps, length-append, put_twice)

@@ -1,5 +1,6 @@
 -- Reading the first tokens of a list, and all of them.
 -- Letters: p is the profile, b the progress, xs and ys are tokens.
+use Rattle.std.proofs.lemmas.Grind.{common_steps}
 use Rattle.pgn_c.proofs.Words.{◌≡◌, ◌≤◌, List, [], ◌∷◌, ◌++◌, length, Option, None, Some, refl, sym, ap, subst, ◌∙◌, length-append, arith, Token, Reason, Fault, Profile, Read, read, games_read, refusal}
 use Rattle.pgn_game.specs.games.Game.{Game}
 use Rattle.pgn_game.specs.games.Progress.{Next, going, whole, next, Progress, no_progress, progress_with, progress_after, read_from}
@@ -18,30 +19,15 @@ then_read p r ys = elim r.fault [ Some f ↦ r | None ↦ read_from p r.progress
 
 in_two : (p : Profile) (b : Progress) (xs ys : List Token) → read_from p b (xs ++ ys) ≡ then_read p (read_from p b xs) ys
 in_two p b [] ys = refl
-in_two p b (x ∷ xs) ys =
-    row_is p b x (xs ++ ys) ∙ by_row (refusal p b.part x.kind) (in_two p (progress_after b x) xs ys)
-    ∙ ap (λ r. then_read p r ys) (sym (row_is p b x xs))
-  where
-    by_row : (o : Option Reason) → read_from p (progress_after b x) (xs ++ ys) ≡ then_read p (read_from p (progress_after b x) xs) ys
-        → after_row p b x (xs ++ ys) o ≡ then_read p (after_row p b x xs o) ys
-    by_row (Some reason) later = refl
-    by_row None later = later
+in_two p b (x ∷ xs) ys = grind (arith, common_steps, row_is, (in_two p (progress_after b x) xs ys))
 
 -- no game is lost
 games_with : (games : List Game) (to : Next) → length games ≤ length (progress_with games to).games
-games_with games (going part) = omega arith
-games_with games (whole g) = omega (arith, length-append games (g ∷ []))
+games_with games to = grind (arith, common_steps, length-append)
 
 none_lost : (p : Profile) (b : Progress) (ys : List Token) → length b.games ≤ length (read_from p b ys).progress.games
 none_lost p b [] = omega arith
-none_lost p b (y ∷ ys) =
-    subst (λ (r : Read). length b.games ≤ length r.progress.games) (sym (row_is p b y ys))
-    (by_row (refusal p b.part y.kind) (none_lost p (progress_after b y) ys))
-  where
-    by_row : (o : Option Reason) → length (progress_after b y).games ≤ length (read_from p (progress_after b y) ys).progress.games
-        → length b.games ≤ length (after_row p b y ys o).progress.games
-    by_row (Some reason) later = omega arith
-    by_row None later = omega (arith, games_with b.games (next b.part y.kind), later)
+none_lost p b (y ∷ ys) = grind (arith, common_steps, length, row_is, games_with, (none_lost p (progress_after b y) ys))
 
 -- The first tokens are not rejected if all of them are not.
 -- If they are rejected, nothing is read behind the fault.
@@ -51,6 +37,4 @@ fault_ends p xs ys f is = let e = in_two p no_progress xs ys in cc
 -- If they are not, their games are among those of all.
 pub games_stay : (p : Profile) (xs ys : List Token) → (read p xs).fault ≡ None
     → length (games_read p xs) ≤ length (games_read p (xs ++ ys))
-games_stay p xs ys passes =
-    let e : read p (xs ++ ys) ≡ read_from p (read p xs).progress ys = (let i = in_two p no_progress xs ys in cc) in
-    subst (λ (r : Read). length (games_read p xs) ≤ length r.progress.games) (sym e) (none_lost p (read p xs).progress ys)
+games_stay p xs ys passes = grind (arith, common_steps, in_two, length, none_lost)

@@ -1,5 +1,6 @@
 -- A game that is found where a missing Result takes the marker is found again where a missing
 -- Result counts as this marker, unless the buffer is full.
+use Rattle.std.proofs.lemmas.Grind.{common_steps}
 use Rattle.pgn_game.proofs.stepping.BytesWithinLimit.{shown_begins}
 use Rattle.pgn_c.proofs.Words.{◌≡◌, ◌⊎◌, inl, inr, ℕ, ◌^◌, ◌≤◌, ◌&&◌, Bool, true, IsTrue, List, [], ◌∷◌, ◌++◌, length, drop, Option, None, Some, refl, sym, ap, subst, ◌∙◌, append-nil, length-append, take_all, arith, bytes_eq-Decides, Token, tokens_of, Marker, Mode, marker_text, Read, read, games_read, PgnGame, AreKnown, ConvertsNext, IsGame, NextOf, profile_counting, profile_taking, text_from}
 use Rattle.pgn_game.specs.public.ConverterCalls.{AreShown, so_far, at_end}
@@ -15,10 +16,8 @@ pub game_of : (mode : Mode) (s piece : List ℕ) (found : PgnGame) → NextOf (p
     → found.status ≡ 0 → IsGame (profile_taking mode) s found None None
 game_of mode s piece found (NextOf.game is) ok = is
 game_of mode s piece found (NextOf.no_game is) ok = absurd (let e = ap (λ (r : PgnGame). r.status) is.is_result in cc)
-game_of mode s piece found (NextOf.rejected is) ok =
-    absurd (is_fault 1 is.fault.reason (λ e. cc) (sym (ap (λ (r : PgnGame). r.status) is.is_result) ∙ ok))
-game_of mode s piece found (NextOf.needs_more is) ok =
-    absurd (is_fault 5 is.fault.reason (λ e. cc) (sym (ap (λ (r : PgnGame). r.status) is.is_result) ∙ ok))
+game_of mode s piece found (NextOf.rejected is) ok = grind (arith, common_steps, is_fault)
+game_of mode s piece found (NextOf.needs_more is) ok = grind (arith, common_steps, is_fault)
 game_of mode s piece found (NextOf.full is) ok = absurd (let e = ap (λ (r : PgnGame). r.status) is.is_result in cc)
 game_of mode s piece found (NextOf.too_long is) ok = absurd (let e = ap (λ (r : PgnGame). r.status) is.is_result in cc)
 
@@ -57,8 +56,7 @@ module _ (law : MissingResults) (mode : Mode) (s : List ℕ) (found : PgnGame) (
       let tokens : tokens_of s ≡ to.tokens ++ all.0 = ap tokens_of (sym (append-nil s)) ∙ all.1 in
       let ends = fault_ends (profile_counting mode is.marker) to.tokens all.0 to.fault to.rejected in
       absurd (has_game (ap (games_read (profile_counting mode is.marker)) tokens ∙ ap (λ (r : Read). r.progress.games) ends ∙ to.no_game))
-  by_next piece again before after short (NextOf.too_long to) =
-      absurd (omega (arith, short, ap (length {A = ℕ}) to.cut, length-append to.bytes to.rest, to.long, to.some))
+  by_next piece again before after short (NextOf.too_long to) = grind (arith, common_steps, length, length-append)
 
 pub converts : (law : MissingResults) (mode : Mode) (taken : Marker) (text : List ℕ) (from : ℕ) (found : PgnGame)
     → ReadsNext (profile_taking mode) text from found → found.status ≡ 0

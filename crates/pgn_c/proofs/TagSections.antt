@@ -1,4 +1,6 @@
 -- The tag section of the next game, and what a buffer has of it.
+use Rattle.std.proofs.Common.{rules}
+use Rattle.std.proofs.lemmas.Grind.{common_steps}
 use Rattle.pgn_c.proofs.Words.{◌≡◌, ◌≢◌, ℕ, ◌<◌, ◌≤◌, ◌⊎◌, ◌^◌, List, [], inl, inr, length, take, drop, Option, None, Some, sym, ap, subst, ◌∙◌, arith, length-take-le, take_all, Profile, PgnGame, IsFilled, NextOf, Holds, ReadsTo, text_from}
 use Rattle.pgn_game.specs.games.FaultTable.{result_for}
 use Rattle.pgn_game.specs.export.TagSection.{tag_section}
@@ -10,12 +12,7 @@ use Rattle.pgn_c.proofs.MarkerTaken.{is_fault}
 -- the section that the converter has is that of the game
 section_is : (p : Profile) (c : Converter) (game : Game) → c.reading.profile ≡ p → c.just_finished ≡ Some (finished_game_of game)
     → finished_game_section c ≡ section_of p game
-section_is p c game profile finished =
-    ap (λ (o : Option FinishedGame). elim o [
-      | None ↦ []
-      | Some done ↦ tag_section c.reading.profile.mode (result_for c.reading.profile.missing_result done.marker) done.pairs
-    ]) finished
-    ∙ ap (λ (q : Profile). tag_section q.mode (result_for q.missing_result game.marker) game.pairs) profile
+section_is p c game profile finished = grind (arith, common_steps)
 
 -- what was found, and what the call writes of it
 module _ (p : Profile) (s piece : List ℕ) (found : PgnGame) (c : Converter) (before after : List ℕ) (result : PgnGame)
@@ -25,42 +22,20 @@ module _ (p : Profile) (s piece : List ℕ) (found : PgnGame) (c : Converter) (b
   both other = (nothing other, same other)
 
   pub tags_of : (next : NextOf p s piece found None None) → Holds next c → WritesTags next before after result
-  tags_of (NextOf.game is) (profile, finished) =
-      subst (λ (text : List ℕ). WritesSection text found before after result) (section_is p c is.game profile finished)
-      (of_game (ap (λ (r : PgnGame). r.status) is.is_result))
-  tags_of (NextOf.no_game is) held = both (λ e. absurd (omega (arith, ap (λ (r : PgnGame). r.status) is.is_result, e)))
-  tags_of (NextOf.rejected is) held =
-      both (λ e. is_fault 1 is.fault.reason (λ z. absurd (omega (arith, z))) (sym (ap (λ (r : PgnGame). r.status) is.is_result) ∙ e))
-  tags_of (NextOf.needs_more is) held =
-      both (λ e. is_fault 5 is.fault.reason (λ z. absurd (omega (arith, z))) (sym (ap (λ (r : PgnGame). r.status) is.is_result) ∙ e))
-  tags_of (NextOf.full is) held = both (λ e. absurd (omega (arith, ap (λ (r : PgnGame). r.status) is.is_result, e)))
-  tags_of (NextOf.too_long is) held = both (λ e. absurd (omega (arith, ap (λ (r : PgnGame). r.status) is.is_result, e)))
+  tags_of next held = search (rules, section_is, both, is_fault)
 
 -- all of the section was written
 pub all_written : (section : List ℕ) (found : PgnGame) (before after written : List ℕ) (result : PgnGame) → written ≡ section
     → IsFilled before after written → result ≡ record found { written = length written }
     → WritesSection section found before after result
-all_written section found before after written result wrote filled is =
-    let size : length written ≡ length section = ap (length {A = ℕ}) wrote in
-    record {
-      filled = subst (IsFilled before after) (wrote ∙ sym (take_all (length before) section (omega (arith, filled.fits, size)))) filled;
-      fits = λ _. is ∙ ap (λ n. record found { written = n }) size;
-      full = λ less. absurd (omega (arith, less, filled.fits, size));
-    }
+all_written section found before after written result wrote filled is = grind (arith, common_steps, length, take_all)
 
 -- the buffer was full before that
 pub some_written : (section : List ℕ) (found : PgnGame) (before after written : List ℕ) (n : ℕ) (result : PgnGame)
     → n < length section → written ≡ take n section → length written ≡ length before
     → IsFilled before after written → result ≡ section_full found (length written)
     → WritesSection section found before after result
-some_written section found before after written n result less wrote full filled is =
-    let size : length written ≡ n = ap (length {A = ℕ}) wrote ∙ length-take-le n section (omega (arith, less)) in
-    let all : n ≡ length before = sym size ∙ full in
-    record {
-      filled = subst (IsFilled before after) (wrote ∙ ap (λ m. take m section) all) filled;
-      fits = λ short. absurd (omega (arith, short, less, all));
-      full = λ _. is ∙ ap (section_full found) full;
-    }
+some_written section found before after written n result less wrote full filled is = grind (arith, common_steps, length, length-take-le, take)
 
 -- what a call writes that read the game before
 pub reads_tags : (p : Profile) (text : List ℕ) (from : ℕ) (found : PgnGame) (c : Converter) (before after : List ℕ) (result : PgnGame)
@@ -78,5 +53,4 @@ reads_tags p text from found c before after result reads not_full of_game nothin
 
 -- the place is in the text, and not above 2^62
 pub in_place : (size from : ℕ) → from ≤ size → from ≤ 2 ^ 62 → (size < from) ⊎ (2 ^ 62 < from) → ⊥
-in_place size from within limit (inl x) = omega (arith, within, x)
-in_place size from within limit (inr y) = omega (arith, limit, y)
+in_place size from within limit h = grind (arith, common_steps)

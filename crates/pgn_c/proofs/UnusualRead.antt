@@ -1,4 +1,6 @@
 -- What a game has that is unusual, found in one pass.
+use Rattle.std.proofs.Common.{rules}
+use Rattle.std.proofs.lemmas.Grind.{common_steps}
 use Rattle.std.proofs.Common.{ap, arith, Bool, drop, false, get_or, length, List, [], ◌∷◌, refl, subst, suc, sym, true, zero, ℕ, ◌+◌, ◌<◌, ◌≡◌, ◌∙◌}
 use Rattle.std.specs.List.{prefix_len}
 use Rattle.std.specs.Prelude.{◌||◌, if◌then◌else◌}
@@ -17,8 +19,7 @@ behind_so_many (suc n) [] = refl
 behind_so_many (suc n) (b ∷ s) = behind_so_many n s
 
 or_further : (u v w : Bool) → (u || v) || w ≡ u || (v || w)
-or_further true v w = refl
-or_further false v w = refl
+or_further u v w = grind (arith, common_steps)
 
 second : (x y p q r : Bool) → x ≡ false → y ≡ true → (if x then p else (if y then q else r)) ≡ q
 second x y p q r e f = rw (e, f) refl
@@ -34,9 +35,7 @@ module _ (s : List ℕ) (u : Bool) (at : ℕ) (sees : Sees s u at) (less : at < 
   rest = drop (at + 1) s
 
   behind : (n : ℕ) → n ≡ belonging b rest → unusual_behind (belonging b rest) rest ≡ unusual_behind 0 (drop (at + (1 + n)) s)
-  behind n is =
-      let place : at + 1 + n ≡ at + (1 + n) = omega arith in
-      sym (ap (λ m. unusual_behind m rest) is) ∙ behind_so_many n rest ∙ ap (unusual_behind 0) (drop-drop n (at + 1) s ∙ ap (λ m. drop m s) place)
+  behind n is = search (rules, behind_so_many, drop-drop)
 
   pub step : (v : Bool) (n : ℕ) → v ≡ begins_unusual b rest → n ≡ belonging b rest → Sees s (u || v) (at + (1 + n))
   step v n what is =
@@ -74,16 +73,13 @@ module _ (s : List ℕ) (u : Bool) (at : ℕ) (sees : Sees s u at) (less : at < 
   other_sees n e f value = step (unusual_other b rest) n (other_is e f) (rw (starts_by_none b e f) value)
 
   or_false : (x : Bool) → x || false ≡ x
-  or_false true = refl
-  or_false false = refl
+  or_false x = grind (arith, common_steps)
 
   usual_sees : false ≡ begins_unusual b rest → 0 ≡ belonging b rest → Sees s u (at + 1)
   usual_sees what is = subst (λ v. Sees s v (at + 1)) (or_false u) (step false 0 what is)
 
   pub space_sees : is_space b ≡ true → Sees s u (at + 1)
-  space_sees e =
-      let is = white b e in
-      usual_sees (sym (is.usual rest)) (rw (is.symbol) (sym (is.behind rest)))
+  space_sees e = grind (arith, common_steps, white, usual_sees)
 
   pub period_sees : b ≡ 46 → Sees s u (at + 1)
   period_sees e = usual_sees (subst (λ c. false ≡ begins_unusual c rest) (sym e) refl) (subst (λ c. 0 ≡ belonging c rest) (sym e) refl)

@@ -7,7 +7,7 @@ pub use Rattle.pgn_c.specs.TagScan.{length_to_quote, name_length, one_more, pair
 unfoldable pub use Rattle.pgn_c.specs.TagScan.{first_pair}
 pub use Rattle.pgn_c.specs.declared.game_result.PgnGame.{PgnGame}
 pub use Rattle.pgn_c.specs.declared.tag.PgnTag.{PgnTag}
-pub use Rattle.pgn_game.specs.games.FaultTable.{in_name, is_score, marker_of, refusal}
+pub use Rattle.pgn_game.specs.games.FaultTable.{in_name, marker_of, refusal}
 pub use Rattle.pgn_game.specs.laws.GamesRestart.{FinishesGame, games_read}
 pub use Rattle.pgn_game.specs.games.Markers.{marker_text}
 pub use Rattle.pgn_game.specs.games.Profile.{Profile}

@@ -1,5 +1,5 @@
 -- What is skipped at the front of a text, by its first byte.
-use Rattle.pgn_sections.proofs.Words.{◌≡◌, ℕ, ◌+◌, Bool, true, false, List, [], ◌∷◌, None, Some, drop, take, refl, ◌∙◌, ap, arith, cond, suc, nat_le, if◌then◌else◌, prefix_len, is_space, behind_name, behind_space, is_name_byte, name_length, common_steps}
+use Rattle.pgn_sections.proofs.Words.{◌≡◌, ℕ, ◌+◌, Bool, true, false, List, [], ◌∷◌, None, Some, drop, take, ap, arith, cond, suc, nat_le, if◌then◌else◌, prefix_len, is_space, behind_name, behind_space, is_name_byte, name_length, common_steps}
 
 -- one byte more
 pub longer : (p : ℕ → Bool) (b : ℕ) (s : List ℕ) → p b ≡ true → prefix_len p (b ∷ s) ≡ suc (prefix_len p s)

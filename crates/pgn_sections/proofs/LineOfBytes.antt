@@ -159,7 +159,7 @@ if_ends true g o x y end h k e = h e
 if_ends false g o x y end h k e = k e
 
 ends_at : (e : Ends) (g : BadGame) (line : List ℕ) (end : ℕ) → end_by e g line ≡ Some end → EndsAt g (tag_line line) end
-ends_at Anywhere g line end h = search (rules, if_ends, is_some, comment_ends, outside_ends)
+ends_at Anywhere g line end h = search (rules, if_ends, comment_ends, outside_ends)
 ends_at InComments g line end h =
     if_ends (is_some g.comment_at) g (tag_line line) (end_in_comment g (tag_line line)) None end
     (comment_ends g (tag_line line) end) (λ k. absurd cc) h

@@ -1,6 +1,6 @@
 -- The lines of a text are the first whole line of a piece, and those behind it.
 use Rattle.std.proofs.Common.{rules}
-use Rattle.pgn_sections.proofs.Words.{common_steps, ◌≡◌, ℕ, ◌+◌, ◌-◌, ◌<◌, Bool, true, false, List, [], ◌∷◌, ◌++◌, Option, None, Some, length, drop, take, refl, sym, ◌∙◌, ap, arith, append-nil, false≢true, lt-ltb, drop_all, IsTrue, is_some, not, ◌&&◌, ◌||◌, ◌==◌, if◌then◌else◌, list_all, behind_line, place_on, with_line, is_space, begins_with, line_from, line_to_return, ends_line, lines_of, place_in, with_first, CanFollow, FindsPlace, IsSameGame, behind_lines, ends_with_line_feed, whole_lines, BadGame}
+use Rattle.pgn_sections.proofs.Words.{common_steps, ◌≡◌, ℕ, ◌+◌, ◌-◌, ◌<◌, Bool, true, false, List, [], ◌∷◌, ◌++◌, Option, None, Some, length, drop, take, refl, sym, ◌∙◌, ap, arith, append-nil, false≢true, lt-ltb, drop_all, IsTrue, is_some, ◌||◌, ◌==◌, if◌then◌else◌, behind_line, place_on, with_line, line_from, line_to_return, ends_line, lines_of, place_in, with_first, CanFollow, FindsPlace, IsSameGame, behind_lines, ends_with_line_feed, whole_lines, BadGame}
 
 -- The first line of a piece and what follows it. So many bytes of it are before the piece.
 pub record FirstLine (before end : ℕ) (piece s : List ℕ) : Type 0 where

@@ -1,6 +1,6 @@
 -- What the code reads of tag pairs at the front of a line, byte by byte, is what the line has.
 use Rattle.std.proofs.Common.{rules}
-use Rattle.pgn_sections.proofs.Words.{or-true, or-false, ◌≡◌, ℕ, ◌+◌, ◌-◌, ◌≤◌, Bool, true, false, List, [], ◌∷◌, Option, None, Some, length, drop, refl, sym, ◌∙◌, ap, subst, arith, true≢false, common_steps, length-drop, ◌||◌, ◌==◌, suc, zero, is_some, option_map, if◌then◌else◌, option_and_then, prefix_len, is_line_end, is_space, behind_byte, behind_name, behind_space, is_name_byte, name_length, at_pair, front_at, front_with, is_between, is_whole, pair_after, behind_left_bracket, behind_pair, behind_pairs, behind_quote, behind_right_bracket, behind_some_pairs, behind_stray, behind_tag_name, behind_value, is_stray_or_mark, nothing_read, text_with, FrontOfLine, Stray, BehindLeft, InName, BehindName, InValue, BehindBackslash, BehindValue, Whole, Missing, Text}
+use Rattle.pgn_sections.proofs.Words.{or-true, or-false, ◌≡◌, ℕ, ◌+◌, ◌-◌, ◌≤◌, Bool, true, false, List, [], ◌∷◌, Option, None, Some, length, drop, refl, sym, ◌∙◌, ap, subst, arith, true≢false, common_steps, length-drop, ◌||◌, ◌==◌, suc, zero, is_some, option_map, if◌then◌else◌, option_and_then, is_line_end, is_space, behind_space, is_name_byte, name_length, at_pair, front_at, front_with, is_between, is_whole, pair_after, behind_left_bracket, behind_pair, behind_pairs, behind_quote, behind_right_bracket, behind_some_pairs, behind_stray, behind_tag_name, behind_value, is_stray_or_mark, nothing_read, text_with, FrontOfLine, Stray, BehindLeft, InName, BehindName, InValue, BehindBackslash, BehindValue, Whole, Missing, Text}
 use Rattle.pgn_lexer.specs.Lexes.{is_escaped}
 use Rattle.pgn_sections.proofs.Fronts.{drop_more, drop_none, name_more, name_none, space_more, space_none}
 use Rattle.pgn_sections.proofs.TextOfLine.{text_over}

@@ -1,6 +1,6 @@
 -- The tag that the code finds at the front of a line, byte by byte, is the one that the line has.
 use Rattle.std.proofs.Common.{rules}
-use Rattle.pgn_sections.proofs.Words.{and-false, and-true, ◌≡◌, ℕ, ◌+◌, ◌-◌, Bool, true, false, List, [], ◌∷◌, Option, None, Some, length, drop, take, refl, sym, ◌∙◌, ap, ap₂, subst, arith, true≢false, common_steps, ◌&&◌, ◌==◌, suc, zero, nat_le, is_some, bytes_eq, codes, if◌then◌else◌, option_and_then, is_space, has_mark, behind_byte, behind_space, is_name_byte, is_stray, name_length, bytes_before_bracket, has_quoted_value, is_at_bracket, is_event, mark_after, one_more, tag_begin, tag_line, tag_line_behind, at_front, begin_of_tag, is_event_name, is_front, is_marked_after, name_with, no_tag_read, tag_after, tag_found, tag_of, tag_with, TagLine, TagSearch}
+use Rattle.pgn_sections.proofs.Words.{and-false, and-true, ◌≡◌, ℕ, ◌+◌, ◌-◌, Bool, true, false, List, [], ◌∷◌, Option, None, Some, length, drop, take, refl, sym, ◌∙◌, ap, ap₂, subst, arith, true≢false, common_steps, ◌&&◌, ◌==◌, suc, zero, nat_le, is_some, bytes_eq, codes, if◌then◌else◌, option_and_then, is_space, has_mark, behind_byte, behind_space, is_name_byte, is_stray, name_length, bytes_before_bracket, has_quoted_value, is_at_bracket, is_event, mark_after, one_more, tag_begin, tag_line, tag_line_behind, at_front, is_event_name, is_front, is_marked_after, name_with, no_tag_read, tag_after, tag_found, tag_of, tag_with, TagLine, TagSearch}
 use Rattle.pgn_sections.proofs.Fronts.{drop_more, drop_none, name_more, name_none, space_more, space_none, take_more, take_none}
 use Rattle.pgn_sections.specs.TagProgress as spec
 use Rattle.pgn_sections.specs.declared.tag_line.EventName.{EventName}

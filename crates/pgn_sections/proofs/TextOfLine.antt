@@ -1,6 +1,6 @@
 -- What the code keeps of a text has what is seen of the text.
 use Rattle.std.proofs.Common.{rules}
-use Rattle.pgn_sections.proofs.Words.{and-true, and-false, common_steps, ◌≡◌, ℕ, ◌+◌, ◌-◌, ◌≤◌, Bool, true, false, List, [], ◌∷◌, ◌++◌, Option, None, Some, length, drop, refl, sym, ◌∙◌, ap, ap₂, arith, drop_all, length-append, ◌&&◌, ◌==◌, if◌then◌else◌, codes, cons_option, ends_with, is_space, comment_after, is_closed, last_word, open_comment, outside_byte, outside_text, without_comments, begun, shape_over, text_of_shape, comment_in, comment_of, fronts_with, has_marker, no_fronts, outside_of, shape_with_seen, text_from, text_with, word_with, word_with_seen, Closed, Braces, RestOfLine, Shape, Text}
+use Rattle.pgn_sections.proofs.Words.{and-true, and-false, common_steps, ◌≡◌, ℕ, ◌+◌, ◌≤◌, Bool, true, false, List, [], ◌∷◌, ◌++◌, Option, Some, length, drop, refl, sym, ◌∙◌, ap, ap₂, arith, drop_all, length-append, ◌&&◌, ◌==◌, if◌then◌else◌, codes, cons_option, ends_with, comment_after, is_closed, last_word, open_comment, outside_byte, outside_text, without_comments, begun, shape_over, text_of_shape, comment_in, comment_of, fronts_with, has_marker, no_fronts, outside_of, shape_with_seen, text_from, text_with, word_with, word_with_seen, Shape, Text}
 use lib.Pointwise.{pointwise}
 use Rattle.pgn_sections.proofs.ShapeOfText.{text_is}
 use Rattle.pgn_sections.specs.declared.outside.Comment.{Comment}

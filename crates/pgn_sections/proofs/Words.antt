@@ -12,7 +12,7 @@ pub use Rattle.pgn_sections.specs.Pieces.{CanFollow, FindsPlace, IsSameGame, beh
 pub use Rattle.pgn_sections.specs.Search.{byte_taken, byte_taken_if, ended_at, line_ended, place_at_end, place_behind, reader_of, reader_over, reader_with}
 pub use Rattle.pgn_sections.specs.Shape.{begun, shape_over, shape_with, text_of_shape}
 pub use Rattle.pgn_sections.specs.TagLine.{behind_pair, behind_stray, tag_line, behind_left_bracket, behind_pairs, behind_quote, behind_right_bracket, behind_some_pairs, behind_tag_name, behind_value, is_stray_or_mark, bytes_before_bracket, has_quoted_value, is_at_bracket, is_event, mark_after, one_more, tag_begin, tag_line_behind}
-pub use Rattle.pgn_sections.specs.TagProgress.{tag_found, at_front, begin_of_tag, is_event_name, is_front, is_marked_after, name_with, no_tag_read, tag_after, tag_of, tag_with}
+pub use Rattle.pgn_sections.specs.TagProgress.{tag_found, at_front, is_event_name, is_front, is_marked_after, name_with, no_tag_read, tag_after, tag_of, tag_with}
 pub use Rattle.pgn_sections.specs.Text.{comment_of, nothing_read, outside_of, text_from, text_with, comment_in, fronts_with, has_marker, no_fronts, shape_with_seen, word_with, word_with_seen}
 pub use Rattle.pgn_sections.specs.declared.bad_game.BadGame.{BadGame}
 pub use Rattle.pgn_sections.specs.declared.bad_game.Ends.TheVariants.{Anywhere, InComments, Nowhere}

@@ -22,8 +22,7 @@ number_of-name number fits =
 
 numbered-added : (log : Option (List NameStep)) (step : NameStep)
     → numbered (added log (step ∷ [])) ≡ added (numbered log) (step_of step ∷ [])
-numbered-added None step = refl
-numbered-added (Some steps) step = ap Some (map-append step_of steps (step ∷ []))
+numbered-added log step = grind (arith, common_steps, map-append)
 
 -- one more file, by its name and by its number
 pub numbered-making : (old new : Option (List NameStep)) (name : List ℕ) (number : ℕ)

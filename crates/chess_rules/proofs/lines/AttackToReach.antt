@@ -1,5 +1,5 @@
 -- What a piece attacks it reaches over empty squares, whatever its kind.
-use Rattle.chess_rules.proofs.Words.{Colour, Kind, King, Queen, Rook, Bishop, Knight, Pawn, Piece, Square, squares, gap, same_square, is_adjacent, is_jump, in_line, on_diagonal, strictly_between, between_on_rank, between_on_file, between_on_diagonal, Board, at, is_empty, has_colour, same_colour, same_kind, is_clear, is_ahead, kind_attacks, cell_attacks, attacks, is_attacked, has_kind, is_aligned, is_near, may_attack, reaches, reaches_from, ◌≡◌, ℕ, ◌<◌, ◌≤◌, Bool, true, false, not, ◌&&◌, ◌||◌, ◌⊎◌, refl, sym, ◌∙◌, ap, arith, Option, None, Some, is_none, is_some, list_any, nat_tests, or_cases, and_from, other, rules, common_steps}
+use Rattle.chess_rules.proofs.Words.{Colour, Kind, King, Queen, Rook, Bishop, Knight, Pawn, Piece, Square, squares, gap, same_square, is_adjacent, is_jump, in_line, on_diagonal, strictly_between, between_on_rank, between_on_file, between_on_diagonal, Board, at, is_empty, has_colour, same_colour, same_kind, is_clear, is_ahead, kind_attacks, cell_attacks, attacks, is_attacked, has_kind, is_aligned, is_near, may_attack, reaches, reaches_from, ◌≡◌, ℕ, ◌<◌, ◌≤◌, Bool, true, false, not, ◌&&◌, ◌||◌, ◌⊎◌, refl, arith, Option, None, Some, is_none, is_some, list_any, nat_tests, or_cases, and_from, other, rules, common_steps}
 use Rattle.chess_rules.proofs.sets.AllSquares.{first_true, second_true, all_squares, any_same, implied}
 
 -- a piece is on s, and all squares between s and t are empty

@@ -47,7 +47,7 @@ one_side b t line side s = (line s && is_open b t s) && side s
 module _ (b : Board) (t : Square) (line : Square → Bool) (tf : t.file < 8) (on : IsLine line t) where
   apart : (i j : ℕ) → i < 64 → j < 64 → (line (square_at i) && is_open b t (square_at i)) ≡ true
       → (line (square_at j) && is_open b t (square_at j)) ≡ true → inside j i (cell_of t) ≡ true → ⊥
-  apart i j low high h g = search (rules, blocked, first_true, is_some, second_true)
+  apart i j low high h g = search (rules, blocked, first_true, second_true)
 
   one_before : length (filter (one_side b t line (λ s. nat_lt (cell_of s) (cell_of t))) squares) ≤ 1
   one_before =

@@ -1,5 +1,5 @@
 -- The squares that are seen from a square: on each line through it, those up to the nearest pieces.
-use Rattle.chess_rules.proofs.Words.{Square, inside, on_diagonal, between_on_rank, between_on_file, between_on_diagonal, strictly_between, Board, at, cell_of, is_empty, is_clear, is_aligned, IsLine, square_at, Bits, has, IsFrom, IsUpTo, Places, ◌≡◌, ◌≢◌, ℕ, ◌<◌, ◌≤◌, Bool, true, false, not, ◌&&◌, ◌||◌, ◌⊎◌, inl, inr, List, sym, ◌∙◌, ap, ap₂, arith, is_some, nat_lt, list_all, not-true, and_from, nat_tests, false_from_ne_true, common_steps, ltb-true, lt-ltb, ltb-false, le-ltb}
+use Rattle.chess_rules.proofs.Words.{Square, inside, on_diagonal, between_on_rank, between_on_file, between_on_diagonal, strictly_between, Board, at, cell_of, is_empty, is_clear, is_aligned, IsLine, square_at, Bits, has, IsFrom, IsUpTo, Places, ◌≡◌, ◌≢◌, ℕ, ◌<◌, ◌≤◌, Bool, true, false, not, ◌&&◌, ◌||◌, ◌⊎◌, inl, inr, List, sym, ◌∙◌, ap₂, arith, is_some, nat_lt, list_all, not-true, and_from, nat_tests, false_from_ne_true, common_steps, ltb-true, lt-ltb, ltb-false, le-ltb}
 use Rattle.chess_rules.proofs.sets.AllSquares.{first_true, second_true, same_tests}
 use Rattle.chess_rules.proofs.lines.InView.{strict, blocked, clear_when, not_there, on_falling, on_file, on_rank, on_rising, four_lines}
 use Rattle.chess_rules.proofs.lines.LinesThrough.{inside_means, inside_up, inside_down}

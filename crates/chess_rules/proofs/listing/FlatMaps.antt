@@ -1,5 +1,5 @@
 -- Lists that are joined from those of each element.
-use Rattle.chess_rules.proofs.Words.{◌≡◌, Bool, true, false, List, [], ◌∷◌, ◌++◌, map, Option, None, refl, sym, ◌∙◌, ap, ap₂, cond, cons_option, filter, filter_map, flat_map, arith, common_steps, map-append, filter_map-append}
+use Rattle.chess_rules.proofs.Words.{◌≡◌, Bool, false, List, [], ◌∷◌, ◌++◌, map, Option, None, refl, ◌∙◌, ap, ap₂, cons_option, filter, filter_map, flat_map, arith, common_steps, map-append, filter_map-append}
 
 module _ {X Y Z : Type 0} where
   pub found_in_all : (h : Y → Option Z) (f : X → List Y) (xs : List X)

@@ -1,5 +1,5 @@
 -- Each legal move is tried: those among the moves that are tried are all legal moves.
-use Rattle.chess_rules.proofs.Words.{Colour, Knight, Pawn, Kind, Promotion, Move, Parts, Played, Square, squares, is_jump, Board, at, has_colour, is_empty, other, own, sees, is_clear, is_aligned, is_advance, is_double_step, is_pawn_way, last_rank, legal, every_promotion, every_move, legal_among, legal_moves, moves_between, played, is_tried, promotions_from, tries_from, tries_to, with_later, short_right, long_right, short_wing, long_wing, ◌≡◌, Bool, true, false, not, ◌&&◌, ◌==◌, inl, inr, List, [], ◌∷◌, map, Option, None, Some, is_some, option_map, if◌then◌else◌, refl, sym, ◌∙◌, ap, subst, arith, cons_option, filter, filter_map, flat_map, or_cases, false_from_ne_true, common_steps, rules}
+use Rattle.chess_rules.proofs.Words.{Colour, Knight, Pawn, Kind, Promotion, Move, Parts, Played, Square, squares, Board, at, has_colour, is_empty, other, own, sees, is_advance, is_double_step, is_pawn_way, last_rank, legal, every_promotion, every_move, legal_among, legal_moves, moves_between, played, is_tried, promotions_from, tries_from, tries_to, with_later, short_right, long_right, short_wing, long_wing, ◌≡◌, Bool, true, false, ◌&&◌, ◌==◌, inl, inr, List, [], map, Option, None, Some, is_some, option_map, if◌then◌else◌, refl, sym, ap, arith, cons_option, filter_map, flat_map, or_cases, false_from_ne_true, common_steps, rules}
 use Rattle.chess_rules.specs.declared.piece.Promotion.TheVariants as promotions
 use Rattle.chess_rules.proofs.sets.AllSquares.{second_true}
 use Rattle.chess_rules.proofs.listing.FlatMaps.{all_kept, all_nothing, each_same, found_in_all, none_found}
@@ -113,7 +113,7 @@ module _ (p : Parts) (sound : Sound p) where
 
   origin_tried : (s : Square) → filter_map (played p) (tries_from p s) ≡ flat_map (found_between s) squares
   unfolding tries_from
-  origin_tried s = search (rules, found_in_all, each_same, pair_tried, all_kept, none_to)
+  origin_tried s = search (rules, found_in_all, pair_tried, all_kept, none_to)
 
   none_of_origin : (s : Square) → has_colour p.side (at p.board s) ≡ false → flat_map (found_between s) squares ≡ []
   none_of_origin s theirs = all_nothing (found_between s) squares (λ t. none_from s t theirs)

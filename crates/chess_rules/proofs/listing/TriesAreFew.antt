@@ -1,5 +1,5 @@
 -- At most 1,024 pairs of squares are tried, and at most four moves of each.
-use Rattle.chess_rules.proofs.Words.{Parts, Piece, Promotion, Square, squares, square_at, at, has_colour, is_jump, is_tried, one_move, promotions_from, tries_from, tries_to, with_later, Move, own, Knight, is_aligned, is_clear, is_some, ◌≡◌, ℕ, ◌+◌, ◌*◌, ◌<◌, ◌≤◌, Bool, true, false, not, cond, ◌&&◌, List, [], ◌∷◌, length, map, Option, if◌then◌else◌, refl, sym, ap₂, subst, arith, filter, flat_map, sum_by, sum_by-cons, sum_by-le, sum_by-le-sum_by, common_steps}
+use Rattle.chess_rules.proofs.Words.{Parts, Piece, Promotion, Square, squares, square_at, at, has_colour, is_jump, is_tried, one_move, promotions_from, tries_from, tries_to, with_later, Move, own, Knight, is_aligned, is_clear, is_some, ◌≡◌, ℕ, ◌+◌, ◌*◌, ◌<◌, ◌≤◌, Bool, true, not, cond, ◌&&◌, List, [], ◌∷◌, length, map, Option, if◌then◌else◌, refl, sym, ap₂, subst, arith, flat_map, sum_by, sum_by-cons, sum_by-le, sum_by-le-sum_by, common_steps}
 use Rattle.std.proofs.lemmas.List.Concat.{length-flat_map}
 use Rattle.chess_rules.proofs.sets.AllSquares.{square_in_place, squares_long}
 use Rattle.chess_rules.proofs.lines.AttackToReach.{is_in_view}

@@ -1,5 +1,5 @@
 -- Which move is tried next, and which are tried after it.
-use Rattle.chess_rules.proofs.Words.{at, has_colour, Move, Parts, Square, Tries, one_move, members, is_tried, Places, pending_tries, tries_from, tries_left, tries_to, with_later, ◌≡◌, ℕ, List, [], ◌∷◌, ◌++◌, Option, None, Some, refl, sym, ◌∙◌, ap, arith, append_assoc, flat_map, HasNone, TakesLowest, common_steps}
+use Rattle.chess_rules.proofs.Words.{at, has_colour, Move, Parts, Square, Tries, one_move, is_tried, Places, pending_tries, tries_from, tries_left, tries_to, with_later, ◌≡◌, ℕ, List, [], ◌∷◌, ◌++◌, Option, None, Some, refl, arith, append_assoc, flat_map, HasNone, TakesLowest, common_steps}
 use Rattle.chess_rules.proofs.sets.SetsToSquares.{members_are, no_member}
 use Rattle.chess_rules.proofs.trying.PairsFromOrigin.{own_squares}
 

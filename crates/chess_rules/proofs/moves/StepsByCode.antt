@@ -1,5 +1,5 @@
 -- A code says what piece it is, and what that reaches on an empty board.
-use Rattle.chess_rules.proofs.Words.{Colour, Kind, King, Queen, Rook, Bishop, Knight, Pawn, Piece, Move, Parts, Square, Board, at, has_colour, cell_attacks, has_piece, is_clear, attacks, own, is_piece_step, code_of, kind_code, code_reaches, reaches, reaches_from, Option, None, Some, is_none, ◌≡◌, ◌≢◌, ℕ, Bool, true, false, not, ◌&&◌, refl, sym, ◌∙◌, ap, arith, false≢true, common_steps}
+use Rattle.chess_rules.proofs.Words.{Colour, Kind, King, Pawn, Piece, Move, Parts, Square, Board, at, has_colour, cell_attacks, has_piece, is_clear, attacks, own, is_piece_step, code_of, kind_code, code_reaches, reaches, reaches_from, Option, None, Some, is_none, ◌≡◌, ◌≢◌, ℕ, Bool, true, false, not, ◌&&◌, refl, sym, ◌∙◌, ap, arith, common_steps}
 use Rattle.chess_rules.proofs.lines.AttackToReach.{attack_is, cell_attack_is, colours_same}
 
 pub pawn_by_code : (c : Colour) (cell : Option Piece) → has_colour c cell ≡ true → code_of cell ≡ 4 → has_piece c Pawn cell ≡ true

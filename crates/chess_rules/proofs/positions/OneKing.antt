@@ -1,5 +1,5 @@
 -- Where the one king of a colour stands.
-use Rattle.chess_rules.proofs.Words.{Colour, King, Square, Board, at, kings, other, has_piece, is_attacked, king_attacked, king_square, ◌≡◌, ℕ, zero, suc, ◌+◌, ◌<◌, ◌≤◌, Bool, true, not, ◌&&◌, refl, ap, subst, arith, List, [], ◌∷◌, length, get_or, cond, Some, unwrap_or, position, count_by, position_or_len, position-Some, is_count_by, and_from, common_steps}
+use Rattle.chess_rules.proofs.Words.{Colour, King, Square, Board, at, kings, other, has_piece, is_attacked, king_attacked, king_square, ◌≡◌, ℕ, zero, suc, ◌+◌, ◌<◌, ◌≤◌, Bool, true, ◌&&◌, refl, subst, arith, List, [], ◌∷◌, length, get_or, cond, Some, unwrap_or, position, count_by, position_or_len, position-Some, is_count_by, and_from, common_steps}
 use Rattle.chess_rules.proofs.sets.AllSquares.{first_true, second_true, same_tests, Passes, some_square, any_square, cell_of-square_at, square_at-cell_of}
 
 -- How many elements pass, an element at a time.

@@ -1,5 +1,5 @@
 -- The lowest and the highest place of a set that is not empty.
-use Rattle.chess_rules.proofs.Words.{has, IsHighest, IsLowest, ◌≡◌, ℕ, zero, suc, ◌+◌, ◌-◌, ◌*◌, ◌^◌, ◌<◌, ◌≤◌, pow-suc, w64, sym, ◌∙◌, ap, arith, ◌==◌, bit_at, leading_zeros, trailing_zeros, leading_length, bit_at_above, bit_at-trailing_zeros, HasNone, IsFrom, IsUpTo, true, not, ◌||◌, nat_lt, rules, lt-ltb, common_steps}
+use Rattle.chess_rules.proofs.Words.{has, IsHighest, IsLowest, ◌≡◌, ℕ, zero, suc, ◌+◌, ◌-◌, ◌*◌, ◌^◌, ◌<◌, ◌≤◌, pow-suc, w64, ◌∙◌, ap, arith, ◌==◌, bit_at, leading_zeros, trailing_zeros, leading_length, bit_at_above, bit_at-trailing_zeros, HasNone, IsFrom, IsUpTo, true, not, ◌||◌, nat_lt, rules, lt-ltb, common_steps}
 use Rattle.chess_rules.proofs.sets.WordsToCells.{has_below, has_zero}
 
 pub lowest_place : (n : ℕ) → 0 < n → n < 2 ^ 64 → IsLowest n (trailing_zeros w64 n)

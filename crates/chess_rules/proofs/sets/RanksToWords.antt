@@ -1,7 +1,7 @@
 -- The words of a board, made of the lanes of its ranks.
 use Rattle.std.proofs.Math.Pow.{pow_mono}
 use Rattle.std.proofs.Math.Seq.{drop-cons}
-use Rattle.chess_rules.proofs.Words.{AreWords, Black, Board, Piece, cells, cell_in, coded, diagonal_of, has, has_colour, is_near, straight_of, word, ◌≡◌, ℕ, suc, ◌+◌, ◌*◌, ◌/◌, ◌%◌, ◌^◌, ◌<◌, ◌≤◌, Bool, List, [], ◌∷◌, ◌++◌, get_or, take, length, pow-suc, refl, sym, ◌∙◌, ap, ap₂, append_assoc, arith, length-append, subst, Option, None, if◌then◌else◌, at, lines, square, true, false, Some, map, is_some, ◌==◌, bit_at_lowest, bit_at-suc, nat_tests, get_or-map-range_with_len, drop, replicate, drop-drop, length-drop, length-replicate, length-take-le, replicate-append-replicate, take-append-drop, take_at, lanes_of, words, bytes_of_bits, bytes_of_runs, number_of_piece, numbers, word_of_bytes, common_steps, Inside}
+use Rattle.chess_rules.proofs.Words.{AreWords, Black, Board, Piece, cells, cell_in, coded, diagonal_of, has, has_colour, is_near, straight_of, word, ◌≡◌, ℕ, suc, ◌+◌, ◌*◌, ◌/◌, ◌%◌, ◌^◌, ◌<◌, ◌≤◌, Bool, List, [], ◌∷◌, ◌++◌, get_or, take, length, pow-suc, refl, sym, ◌∙◌, ap, ap₂, append_assoc, arith, length-append, subst, Option, None, if◌then◌else◌, at, lines, square, Some, map, is_some, ◌==◌, bit_at_lowest, bit_at-suc, get_or-map-range_with_len, drop, replicate, drop-drop, length-drop, length-replicate, length-take-le, replicate-append-replicate, take-append-drop, take_at, lanes_of, words, bytes_of_bits, bytes_of_runs, number_of_piece, numbers, word_of_bytes, common_steps, Inside}
 unfoldable use Rattle.chess_rules.specs.Words.{lanes}
 use Rattle.chess_rules.proofs.sets.WordsToCells.{has_word, long_there, same_cells, word_fits}
 

@@ -1,6 +1,6 @@
 -- How many pairs there are: the king's single steps and the others, target by target, and at most
 -- sixteen for each.
-use Rattle.chess_rules.proofs.Words.{Kind, King, Queen, Rook, Bishop, Knight, Pawn, Piece, Parts, Square, squares, same_square, is_adjacent, is_jump, at, same_kind, has_colour, has_piece, is_clear, own, sees, is_candidate, candidates, kinds, pair_count, is_aligned, king_square, square_at, is_king_step, is_untried, count_untried, count_king_steps, ◌≡◌, ℕ, ◌+◌, ◌<◌, ◌≤◌, Bool, true, false, not, cond, ◌&&◌, ◌||◌, List, [], ◌∷◌, length, inl, inr, refl, sym, ◌∙◌, ap, subst, arith, Option, filter, list_any, sum_by, IsDistinct, sum_by-cons, sum_by-le-sum_by, length-from_same_keys, or_cases, or_left, and_from, rules, sum_by-le, common_steps}
+use Rattle.chess_rules.proofs.Words.{Kind, King, Queen, Rook, Bishop, Knight, Pawn, Piece, Parts, Square, squares, same_square, is_adjacent, is_jump, at, same_kind, has_colour, has_piece, is_clear, own, sees, is_candidate, candidates, kinds, pair_count, is_aligned, king_square, square_at, is_king_step, is_untried, count_untried, count_king_steps, ◌≡◌, ℕ, ◌+◌, ◌<◌, ◌≤◌, Bool, true, false, not, ◌&&◌, ◌||◌, List, [], ◌∷◌, length, inl, inr, refl, sym, ◌∙◌, ap, subst, arith, Option, filter, list_any, sum_by, IsDistinct, sum_by-cons, sum_by-le-sum_by, length-from_same_keys, or_cases, or_left, and_from, rules, sum_by-le, common_steps}
 use Rattle.chess_rules.proofs.sets.AllSquares.{first_true, second_true, same_tests, Passes, some_square, any_square, squares_long, square_in_place}
 use Rattle.chess_rules.proofs.positions.OneKing.{StandsAt, king_only_there}
 use Rattle.chess_rules.proofs.positions.RulesOfPosition.{Sound, king_of}

@@ -1,6 +1,6 @@
 -- Whether a pair is legal does not depend on what a pawn becomes: the piece that arrives is no king
 -- and is there, whichever it is.
-use Rattle.chess_rules.proofs.Words.{Colour, King, Rook, Pawn, Piece, Promotion, Move, Parts, Square, squares, Board, at, put, some_piece, other, has_colour, has_piece, is_clear, cell_attacks, attacks, king_attacked, is_position, own, home, last_rank, is_on_board, promotion_fits, short_right, long_right, short_wing, long_wing, captured_pawn, kind_of, carried, en_passant_board, castled, board_after, after, legal, is_legal, if_safe, one_move, is_legal_pair, PromotionsAlike, ◌≡◌, ℕ, ◌<◌, Bool, true, false, not, ◌&&◌, refl, sym, ◌∙◌, ap, arith, length, Option, None, Some, is_none, is_some, option_map, ◌==◌, if◌then◌else◌, list_any, list_all, Wing, rules, common_steps}
+use Rattle.chess_rules.proofs.Words.{Colour, King, Pawn, Piece, Promotion, Move, Parts, Square, squares, Board, at, put, some_piece, other, has_colour, has_piece, is_clear, cell_attacks, attacks, king_attacked, is_position, own, last_rank, is_on_board, promotion_fits, short_right, long_right, short_wing, long_wing, kind_of, carried, en_passant_board, castled, board_after, after, legal, is_legal, if_safe, one_move, is_legal_pair, PromotionsAlike, ◌≡◌, ℕ, ◌<◌, Bool, true, false, not, ◌&&◌, refl, sym, ◌∙◌, ap, arith, length, Option, None, Some, is_none, is_some, option_map, ◌==◌, if◌then◌else◌, list_any, list_all, Wing, rules, common_steps}
 use Rattle.chess_rules.proofs.lines.AttackToReach.{other-other}
 use Rattle.chess_rules.proofs.moves.WaysToStep.{Castles, piece_step_means, pawn_step_means, passing_means, castles_means, way_of, by_piece, by_pawn, by_passing, by_short, by_long, some_of}
 use Rattle.chess_rules.specs.declared.piece.Promotion.TheVariants as promotions
@@ -85,7 +85,7 @@ promoting s t x = record { from = s; to = t; promotion = Some x }
 
 module _ (p : Parts) (s t : Square) (x y : Promotion) where
   carried_alike : length p.board ≡ 64 → OnBoard s → OnBoard t → Alike p.side (carried p (promoting s t x)) (carried p (promoting s t y))
-  carried_alike long on_s on_t = search (rules, put_alike, itself_too, length-put, men_alike)
+  carried_alike long on_s on_t = search (rules, put_alike, itself_too, men_alike)
 
   passing_alike : length p.board ≡ 64 → OnBoard s → OnBoard t → Alike p.side (en_passant_board p (promoting s t x))
       (en_passant_board p (promoting s t y))

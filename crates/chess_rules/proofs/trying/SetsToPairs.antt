@@ -1,5 +1,5 @@
 -- The sets of the code have exactly the candidates.
-use Rattle.chess_rules.proofs.Words.{Colour, Kind, King, Queen, Rook, Bishop, Knight, Pawn, Parts, Square, squares, Board, at, cell_of, has_piece, own, is_clear, candidates, is_candidate, lone, sees, may_see, square_at, has, members, Places, ◌≡◌, ℕ, ◌<◌, ◌≤◌, Bool, true, ◌&&◌, List, [], ◌∷◌, length, refl, sym, ◌∙◌, ap, ap₂, arith, Option, is_some, is_adjacent, has_colour, is_aligned, king_square, Bits, is_king_step, is_untried, is_untried_aligned, count_untried, ◌+◌, not, cond, ◌||◌, filter, list_any, sum_by, sum_by-cons, nat_tests, common_steps}
+use Rattle.chess_rules.proofs.Words.{Colour, Kind, King, Knight, Parts, Square, squares, Board, at, cell_of, has_piece, own, is_clear, candidates, is_candidate, lone, sees, may_see, square_at, has, members, Places, ◌≡◌, ℕ, ◌<◌, ◌≤◌, Bool, true, ◌&&◌, List, [], ◌∷◌, length, refl, sym, ◌∙◌, ap, ap₂, arith, Option, is_some, is_adjacent, has_colour, is_aligned, king_square, Bits, is_king_step, is_untried, is_untried_aligned, count_untried, ◌+◌, not, ◌||◌, filter, list_any, sum_by, sum_by-cons, nat_tests, common_steps}
 use Rattle.chess_rules.proofs.sets.AllSquares.{cell_of-square_at}
 use Rattle.chess_rules.proofs.trying.CandidatesAreFew.{few_candidates}
 use Rattle.chess_rules.proofs.lines.AttackToReach.{jump_clear, with_second}

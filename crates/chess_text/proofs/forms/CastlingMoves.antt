@@ -1,6 +1,6 @@
 -- Which steps and legal moves are castling.
 use Rattle.chess_rules.proofs.moves.PlainStepAttacks.{none_when_not}
-use Rattle.chess_text.proofs.Words.{◌≡◌, ℕ, ◌<◌, ◌≤◌, Bool, true, false, not, ◌&&◌, ◌||◌, inl, inr, refl, sym, ◌∙◌, arith, nat_lt, Option, None, Some, is_none, is_some, option_map, if◌then◌else◌, abs_diff, and_parts, and_from, or_cases, ltb-true, Colour, King, Pawn, Piece, Move, Parts, Square, same_square, is_adjacent, Board, at, has_colour, has_piece, attacks, cell_attacks, own, Kind, home, Wing, short_wing, long_wing, short_right, long_right, is_pawn_way, is_en_passant, captured_pawn, other, castles, castles_short, castles_long, on_board, step, is_legal, if_safe, is_castling, nat_tests, [], subst, Ok, Err, cons_option, legal, Castle, Played, NoMove, describes, with_next_position, played, castling_move, agreeing, only, move_of_form, false_from_ne_true, rules, common_steps, after, board_after, carried, castled, en_passant_board, is_on_board, is_pawn_step, is_piece_step, promotion_fits, stand_ready, same_tests, some_of}
+use Rattle.chess_text.proofs.Words.{◌≡◌, ℕ, ◌<◌, ◌≤◌, Bool, true, false, not, ◌&&◌, ◌||◌, refl, sym, ◌∙◌, arith, nat_lt, Option, None, Some, is_none, is_some, option_map, if◌then◌else◌, abs_diff, and_parts, and_from, or_cases, ltb-true, Colour, King, Pawn, Piece, Move, Parts, Square, is_adjacent, Board, at, has_colour, has_piece, attacks, cell_attacks, own, Kind, home, Wing, short_wing, long_wing, is_pawn_way, is_en_passant, captured_pawn, other, castles, on_board, step, is_legal, if_safe, is_castling, nat_tests, [], subst, Ok, Err, cons_option, legal, Castle, Played, NoMove, describes, with_next_position, played, castling_move, agreeing, only, move_of_form, false_from_ne_true, rules, common_steps, after, board_after, carried, castled, en_passant_board, is_on_board, is_pawn_step, is_piece_step, promotion_fits, stand_ready, same_tests, some_of}
 
 -- what each way of a step says
 pub data StepWay (p : Parts) (m : Move) : Type 0 where

@@ -1,5 +1,5 @@
 -- At least as many pairs are tried to find a move as it has candidates.
-use Rattle.chess_text.proofs.Words.{◌≡◌, ℕ, ◌≤◌, Bool, true, false, length, false≢true, refl, sym, ◌∙◌, ap, arith, Option, None, Some, Result, Ok, Err, IfOk, IsTrue, ok_or, if◌then◌else◌, and_parts, Kind, King, Piece, Move, Parts, Form, Castle, Man, Played, SanFault, NoMove, at, has_piece, same_kind, is_legal, legal, candidates, is_castling, describes, with_next, with_next_position, move_of_form, form_pairs, has_rivals, kind_pairs, disambiguation_pairs, castles_short, castles_long, ◌||◌, common_steps, kinds_same, some_of}
+use Rattle.chess_text.proofs.Words.{◌≡◌, ℕ, ◌≤◌, Bool, true, false, length, false≢true, refl, sym, ◌∙◌, ap, arith, Option, None, Some, Result, Ok, Err, IfOk, IsTrue, ok_or, if◌then◌else◌, and_parts, Kind, King, Piece, Move, Parts, Form, Played, SanFault, NoMove, at, has_piece, same_kind, is_legal, legal, candidates, is_castling, describes, with_next, with_next_position, move_of_form, form_pairs, has_rivals, kind_pairs, disambiguation_pairs, ◌||◌, common_steps, kinds_same, some_of}
 use Rattle.chess_text.specs.San.{piece_pairs}
 use Rattle.chess_text.proofs.forms.AgreeingAreFound.{said, the_one_move_is_read}
 use Rattle.chess_text.proofs.forms.CastlingMoves.{castles_by_king}

@@ -1,7 +1,7 @@
 -- Which moves take en passant: those from the two squares beside the pawn that is taken.
-use Rattle.chess_text.proofs.Words.{◌≡◌, ◌≢◌, ℕ, ◌+◌, ◌-◌, ◌≤◌, Bool, cond, zero, suc, same_Some, true, false, ◌&&◌, ◌||◌, ◌⊎◌, inl, inr, List, [], ◌∷◌, length, refl, sym, ◌∙◌, ap, ap₂, subst, arith, Option, None, Some, if◌then◌else◌, ◌==◌, list_any, list_all, list_all_at, eqb-true, eq-eqb, filter, Contains, Any-from_list_any, both_ways, cases_Bool, cases_lt, and_parts, and_from, or_cases, nat_tests, common_steps, Colour, White, Black, Pawn, Piece, Move, Parts, Square, square, squares, gap, on_board, same_square, Board, at, has_piece, is_empty, cell_attacks, attacks, is_ahead, own, is_en_passant, is_legal, promotion_fits, rules, and-false, and-true, same_tests, same_square-refl, squares_same, takes_en_passant, move_to, is_taken_on, attackers, if_taken_on, pairs_on, usable_target, key_pairs, one_if, rank_behind, stands_on, takes_from, west_of}
+use Rattle.chess_text.proofs.Words.{◌≡◌, ◌≢◌, ℕ, ◌+◌, ◌-◌, ◌≤◌, Bool, cond, zero, suc, same_Some, true, false, ◌&&◌, ◌||◌, ◌⊎◌, inl, inr, List, [], ◌∷◌, length, refl, sym, ◌∙◌, ap, ap₂, subst, arith, Option, None, Some, if◌then◌else◌, ◌==◌, list_any, list_all, list_all_at, eqb-true, eq-eqb, filter, Contains, Any-from_list_any, both_ways, cases_Bool, cases_lt, and_parts, and_from, or_cases, nat_tests, common_steps, Colour, Pawn, Piece, Move, Parts, Square, square, squares, gap, on_board, same_square, Board, at, has_piece, is_empty, cell_attacks, attacks, is_ahead, own, is_en_passant, is_legal, promotion_fits, rules, and-false, and-true, same_tests, same_square-refl, squares_same, takes_en_passant, move_to, is_taken_on, attackers, if_taken_on, pairs_on, usable_target, key_pairs, one_if, rank_behind, stands_on, takes_from, west_of}
 use Rattle.chess_rules.specs.Step.{is_target}
-use Rattle.chess_text.proofs.forms.MoverOfMove.{takes, passes, advances, doubles, pawn_way, gap_apart}
+use Rattle.chess_text.proofs.forms.MoverOfMove.{doubles, pawn_way, gap_apart}
 use Rattle.chess_text.proofs.forms.AgreeingAreFound.{Apart, squares_apart, in_squares, any_contained}
 use Rattle.chess_text.proofs.forms.CastlingMoves.{passing_parts, stepped}
 

@@ -7,7 +7,7 @@ use Rattle.chess_rules.specs.Position.{one_king, pawn_on_edge}
 unfoldable use Rattle.chess_text.proofs.Words.{digits}
 use Rattle.chess_rules.specs.Step.{is_target}
 use Rattle.chess_text.proofs.forms.CastlingMoves.{castles_ends, no_pawn, stepped}
-use Rattle.chess_text.proofs.Words.{nat_tests, squares, Any-from_list_any, Promotion, ◌||◌, is_some, option_map, if_safe, is_legal, after, board_after, carried, en_passant_board, is_on_board, is_pawn_step, is_piece_step, promotion_fits, is_en_passant, castles, Wing, short_right, long_right, short_wing, long_wing, home, own, at, is_empty, King, Pawn, Rook, Move, not, ◌&&◌, ◌==◌, nat_le, and_parts, and_from, is_none, other, White, Black, Kings, PawnOnEdge, KingCapturable, TargetRank, NumberRange, Bool, true, false, refl, sym, subst, codes, common_steps, None, Some, if◌then◌else◌, Parts, Fen, fen_text, target_fits, is_position, position_fault, ◌≡◌, ◌≤◌, ◌+◌, ℕ, List, [], ◌∷◌, ◌++◌, ◌∙◌, ap, arith, append_assoc, length, length-append, join_with_byte, Result, Ok, Err, OnOk, Option, Board, Colour, Rights, Square, placement_text, side_text, rights_text, target_text, rules, passing_means, same_tests, squares_same, IsOk, KeysTell, SamePosition, takes_en_passant, move_to, usable_rights, usable_target, if_taken_on, is_taken_on, position_key, last_rank}
+use Rattle.chess_text.proofs.Words.{nat_tests, squares, Any-from_list_any, Promotion, ◌||◌, is_some, option_map, if_safe, is_legal, after, board_after, carried, en_passant_board, is_on_board, is_pawn_step, is_piece_step, is_en_passant, castles, Wing, short_right, long_right, short_wing, long_wing, own, Pawn, Move, not, ◌&&◌, ◌==◌, nat_le, and_parts, and_from, is_none, other, White, Black, Kings, PawnOnEdge, KingCapturable, TargetRank, NumberRange, Bool, true, false, refl, sym, subst, codes, common_steps, None, Some, if◌then◌else◌, Parts, Fen, fen_text, target_fits, is_position, position_fault, ◌≡◌, ◌≤◌, ℕ, List, [], ◌∷◌, ◌++◌, ◌∙◌, ap, arith, append_assoc, length, length-append, join_with_byte, Result, Ok, Err, OnOk, Option, Board, Colour, Rights, Square, placement_text, side_text, rights_text, target_text, rules, passing_means, same_tests, squares_same, IsOk, KeysTell, SamePosition, takes_en_passant, move_to, usable_rights, usable_target, if_taken_on, is_taken_on, position_key, last_rank}
 use Rattle.chess_text.proofs.positions.BoardToText.{length-placement_text}
 use Rattle.chess_text.proofs.positions.FieldsOfText.{length-side_text, length-rights_text, length-target_text}
 

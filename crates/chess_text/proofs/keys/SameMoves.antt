@@ -1,5 +1,5 @@
 -- In two positions that are the same the same moves are legal.
-use Rattle.chess_text.proofs.Words.{◌≡◌, Bool, true, false, ◌&&◌, ◌||◌, refl, sym, ◌∙◌, ap, subst, Option, None, Some, is_some, option_map, if◌then◌else◌, and_parts, and_from, both_ways, Colour, White, Black, King, Pawn, Rook, Move, Parts, Rights, Square, Board, at, own, home, Wing, short_wing, long_wing, short_right, long_right, castles, castles_short, castles_long, castled, if_safe, is_legal, after, board_after, carried, en_passant_board, is_on_board, is_pawn_step, is_piece_step, is_en_passant, arith, common_steps, false_from_ne_true, same_tests, SamePosition, SameMovesLegal, takes_en_passant, usable_rights, stand_at_home}
+use Rattle.chess_text.proofs.Words.{◌≡◌, Bool, true, false, ◌&&◌, ◌||◌, refl, sym, ◌∙◌, ap, subst, Option, None, Some, if◌then◌else◌, and_parts, and_from, both_ways, Colour, White, Black, King, Rook, Move, Parts, Rights, Board, own, home, Wing, short_wing, long_wing, short_right, long_right, castles, castles_short, castles_long, castled, is_legal, carried, en_passant_board, is_on_board, is_pawn_step, is_piece_step, is_en_passant, arith, common_steps, false_from_ne_true, same_tests, SamePosition, SameMovesLegal, takes_en_passant, usable_rights, stand_at_home}
 use Rattle.chess_text.proofs.forms.CastlingMoves.{castles_ends, no_pawn, passing_parts}
 use Rattle.chess_text.proofs.keys.KeyToPosition.{legal_is, safe_on, turned}
 

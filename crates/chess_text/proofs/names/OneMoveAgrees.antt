@@ -1,8 +1,8 @@
 -- The rivals of a move, found among the candidates for its target.
-use Rattle.chess_text.proofs.Words.{◌≡◌, ℕ, ◌+◌, ◌<◌, ◌≤◌, Bool, true, false, cond, ◌&&◌, ◌||◌, List, [], ◌∷◌, length, take, get_or, refl, sym, ◌∙◌, ap, ◌==◌, list_any, IsPermutation, and_parts, take_all, list_any_more, list_any-IsPermutation, Kind, Move, Parts, Square, squares, own, legal, sees, candidates, CandidatesComplete, from_square, is_rival, rivals, on_file, on_rank, disambiguation_by, disambiguation, arith, inl, inr, not, and_from, or_cases, IsPermutation-refl, same_square, is_legal, is_candidate, cases_Bool, ap₂, subst, Option, None, Some, is_none, both_ways, not-true, not-false, eqb-true, nat_tests, Colour, King, Pawn, Piece, square, gap, at, has_piece, same_kind, is_empty, other, is_ahead, is_position, captured_pawn, crossed, pawn_rank, double_rank, Wing, castles, castles_short, castles_long, OneKing, hints_fit, describes, agrees, is_capture, rules, common_steps, list_any-filter, some_of, same_square-refl, squares_same, and-true, filter}
+use Rattle.chess_text.proofs.Words.{◌≡◌, ℕ, ◌+◌, ◌<◌, ◌≤◌, Bool, true, false, ◌&&◌, ◌||◌, List, [], ◌∷◌, length, take, get_or, refl, sym, ◌∙◌, ap, ◌==◌, list_any, IsPermutation, and_parts, take_all, list_any_more, list_any-IsPermutation, Kind, Move, Parts, Square, squares, own, legal, sees, candidates, CandidatesComplete, from_square, is_rival, rivals, on_file, on_rank, disambiguation_by, disambiguation, arith, inl, inr, not, and_from, or_cases, IsPermutation-refl, same_square, is_legal, is_candidate, cases_Bool, subst, Option, None, Some, is_none, both_ways, not-true, not-false, eqb-true, nat_tests, Colour, King, Pawn, Piece, square, gap, at, has_piece, same_kind, is_empty, other, is_ahead, is_position, captured_pawn, crossed, pawn_rank, double_rank, Wing, castles, castles_short, castles_long, OneKing, hints_fit, describes, agrees, is_capture, rules, common_steps, list_any-filter, some_of, same_square-refl, squares_same, and-true}
 use Rattle.chess_text.proofs.forms.CastlingMoves.{stepped, castles_ends}
 use Rattle.chess_text.proofs.forms.AgreeingAreFound.{in_squares, any_contained, said, same_move, no_promotion}
-use Rattle.chess_text.proofs.forms.MoverOfMove.{PawnWay, takes, passes, advances, doubles, pawn_way, pawn_takes, gap_apart}
+use Rattle.chess_text.proofs.forms.MoverOfMove.{PawnWay, doubles, pawn_way, pawn_takes, gap_apart}
 use Rattle.chess_text.proofs.names.WrittenToForm.{file_by, rank_by, disambiguated_form, king_form_by, pawn_form_by, written, unpromoted, itself}
 
 pub any-same : {Y : Type 0} (f g : Y → Bool) → ((y : Y) → f y ≡ g y) → (ys : List Y) → list_any f ys ≡ list_any g ys

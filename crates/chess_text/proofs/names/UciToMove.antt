@@ -1,5 +1,5 @@
 -- A text in UCI, and the one move whose text it is.
-use Rattle.chess_text.proofs.Words.{◌≡◌, ◌≢◌, ℕ, ◌+◌, Bool, true, false, List, [], ◌∷◌, ◌++◌, inl, inr, refl, sym, ◌∙◌, ap, ap₂, subst, arith, Option, None, Some, Result, Ok, Err, find, bytes_eq, list_all, Contains, bytes_eq-Decides, false≢true, and_parts, and_from, ok_or, is_some, Promotion, Move, Parts, Square, squares, on_board, every_promotion, legal, is_legal, Played, with_next, square_text, file_of, rank_of, square_of, nat_tests, same_Some, common_steps, IfOk, is_on_board, uci_promotion, uci, square_named, promotion_named, move_if, move_with_text, if_legal, move_of_uci, UciIsExact, WrittenUciIsRead, UciTextsDiffer, UciFault, NotAMove, IllegalMove}
+use Rattle.chess_text.proofs.Words.{◌≡◌, ◌≢◌, ℕ, ◌+◌, Bool, true, false, List, [], ◌∷◌, ◌++◌, refl, sym, ◌∙◌, ap, ap₂, subst, arith, Option, None, Some, Result, Ok, Err, find, bytes_eq, list_all, Contains, bytes_eq-Decides, and_parts, and_from, ok_or, is_some, Promotion, Move, Parts, Square, squares, on_board, every_promotion, legal, is_legal, Played, with_next, square_text, file_of, rank_of, square_of, nat_tests, same_Some, common_steps, IfOk, is_on_board, uci_promotion, uci, square_named, promotion_named, move_if, move_with_text, if_legal, move_of_uci, UciIsExact, WrittenUciIsRead, UciTextsDiffer, UciFault, NotAMove, IllegalMove}
 use Rattle.chess_text.proofs.forms.AgreeingAreFound.{in_squares}
 use Rattle.chess_text.proofs.forms.CastlingMoves.{stepped}
 use Rattle.chess_text.proofs.forms.FormToSpelling.{found, target_spelled}

@@ -1,5 +1,5 @@
 -- The canonical text of a position spells it.
-use Rattle.chess_text.proofs.Words.{◌≡◌, ℕ, zero, suc, ◌+◌, ◌-◌, ◌*◌, ◌<◌, ◌≤◌, ◌==◌, nat_le, Bool, true, false, not, ◌&&◌, List, [], ◌∷◌, ◌++◌, length, get_or, drop, reverse, replicate, drop-cons, add-one, append_assoc, append-nil, refl, sym, ◌∙◌, ap, arith, rules, None, Some, decimal, flat_map, map, fold, is_none, if◌then◌else◌, list_all, eqb-true, nat_tests, replicate_more, drop_all, flat_map-append, list_all-append, decimal_nonempty, digits_decimal, digits_value-decimal, IsNumeralModel, numerals_by_fold, White, Black, Kind, King, Colour, Piece, Parts, Kings, PawnOnEdge, KingCapturable, TargetRank, NumberRange, lines, Board, is_position, target_fits, piece_letter, is_run, is_item, is_rank, cells_at, cells_of, run_text, rank_text, row, placement_text, is_digit, value, SpellsBoard, SpellsNumber, Fen, fen_text, length-append, join_with_byte, and_parts, length-decimal-le, append_cancel_left, reverse-append, reverse-reverse, length-reverse, map-append, digits_value_short, side_text, rights_text, target_text, common_steps, leb-true, take-append_seam, first_true, second_true}
+use Rattle.chess_text.proofs.Words.{◌≡◌, ℕ, zero, suc, ◌+◌, ◌-◌, ◌*◌, ◌<◌, ◌≤◌, ◌==◌, nat_le, Bool, true, not, ◌&&◌, List, [], ◌∷◌, ◌++◌, length, get_or, drop, reverse, replicate, drop-cons, add-one, append_assoc, append-nil, refl, sym, ◌∙◌, ap, arith, rules, None, Some, decimal, flat_map, map, fold, is_none, if◌then◌else◌, list_all, eqb-true, nat_tests, replicate_more, drop_all, flat_map-append, list_all-append, decimal_nonempty, digits_decimal, digits_value-decimal, IsNumeralModel, numerals_by_fold, Kind, Colour, Piece, Parts, Kings, PawnOnEdge, KingCapturable, TargetRank, NumberRange, lines, Board, is_position, target_fits, piece_letter, is_run, is_item, is_rank, cells_at, cells_of, run_text, rank_text, row, placement_text, is_digit, value, SpellsBoard, SpellsNumber, Fen, fen_text, length-append, join_with_byte, and_parts, length-decimal-le, append_cancel_left, reverse-append, reverse-reverse, length-reverse, map-append, digits_value_short, side_text, rights_text, target_text, common_steps, leb-true, take-append_seam, first_true, second_true}
 use Rattle.chess_text.proofs.positions.FieldsOfText.{length-number}
 use Rattle.chess_text.proofs.positions.BoardToText.{run_is_short}
 use Rattle.chess_text.proofs.positions.ReadingToSpelling.{some_digit}

@@ -1,5 +1,5 @@
 -- The laws of the definitions of texts.
-use Rattle.chess_text.proofs.Words.{◌≡◌, ℕ, ◌+◌, ◌==◌, true, List, [], ◌∷◌, sym, ◌∙◌, ap, arith, or_cases, and_parts, cond_some, Option, None, Some, Err, is_some, prefix_len, Colour, Rights, White, Square, Board, target_fits, FenFault, side_of, rights_of, target_of, parts_or_fault, if_position, common_steps, CanonicalFits, FaultIsLowest, FenOnce, FieldsAreSpellings, ReadingIsSpelling}
+use Rattle.chess_text.proofs.Words.{◌≡◌, ℕ, ◌+◌, true, List, [], ◌∷◌, sym, ◌∙◌, ap, arith, or_cases, cond_some, Option, Some, Err, is_some, prefix_len, Colour, Rights, Square, Board, target_fits, FenFault, side_of, rights_of, target_of, parts_or_fault, if_position, common_steps, CanonicalFits, FaultIsLowest, FenOnce, FieldsAreSpellings, ReadingIsSpelling}
 use Rattle.chess_text.proofs.positions.FieldsOfText.{length-fen_text}
 use Rattle.chess_text.proofs.positions.SpellingToReading.{spelled_is_read, board_read, side_read, rights_read, target_read, number_read}
 use Rattle.chess_text.proofs.positions.ReadingToSpelling.{read_is_spelled, board_spelled, side_spelled, rights_spelled, target_spelled, number_spelled}

@@ -1,5 +1,5 @@
 -- The fields of a text, which stand between its spaces.
-use Rattle.chess_text.proofs.Words.{◌≡◌, ℕ, Bool, true, not, ◌&&◌, List, [], ◌∷◌, ◌++◌, length, refl, arith, list_all, before_first, after_first, position_or_len, join_with_byte, is_space, field, ◌≤◌, ap, length-append, Option, decimal, length-decimal-le, Colour, Rights, Parts, Square, placement_text, side_text, rights_text, target_text, fen_text, common_steps, take-append_seam, drop-append-add, first_true, second_true}
+use Rattle.chess_text.proofs.Words.{◌≡◌, ℕ, Bool, true, not, List, [], ◌∷◌, ◌++◌, length, refl, arith, list_all, before_first, after_first, position_or_len, join_with_byte, is_space, field, ◌≤◌, ap, length-append, Option, decimal, length-decimal-le, Colour, Rights, Parts, Square, placement_text, side_text, rights_text, target_text, fen_text, common_steps, take-append_seam, drop-append-add, first_true, second_true}
 use Rattle.chess_text.proofs.positions.BoardToText.{length-placement_text}
 
 -- no byte of the text passes

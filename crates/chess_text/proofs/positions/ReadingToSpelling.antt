@@ -1,5 +1,5 @@
 -- What is read of a text is spelled by it.
-use Rattle.chess_text.proofs.Words.{◌≡◌, ℕ, ◌+◌, ◌<◌, ◌≤◌, Bool, true, false, List, [], ◌∷◌, ◌++◌, length, get_or, refl, sym, ◌∙◌, ap, ap₂, arith, length-drop, Option, None, Some, Result, Ok, Err, if◌then◌else◌, list_all, before_first, after_first, position_or_len, and_parts, cond_some, eqb-true, nat_tests, ◌==◌, length-take, join_with_byte-slice_split, split_at_first, passes_at_first, Colour, Rights, Parts, Square, Board, is_position, FenFault, ranks, placement_of, side_text, side_of, rights_text, rights_of, target_text, target_of, number_of, SpellsBoard, SpellsNumber, Fen, is_space, rest, field, at_field, parts_or_fault, parts_read, if_position, read, common_steps}
+use Rattle.chess_text.proofs.Words.{◌≡◌, ℕ, ◌+◌, ◌<◌, ◌≤◌, Bool, true, false, List, ◌∷◌, ◌++◌, length, get_or, refl, sym, ◌∙◌, ap, ap₂, arith, length-drop, Option, Some, Result, Ok, Err, if◌then◌else◌, list_all, before_first, after_first, position_or_len, and_parts, cond_some, eqb-true, nat_tests, length-take, join_with_byte-slice_split, split_at_first, passes_at_first, Colour, Rights, Parts, Square, Board, is_position, FenFault, ranks, placement_of, side_text, side_of, rights_text, rights_of, target_text, target_of, number_of, SpellsBoard, SpellsNumber, Fen, is_space, rest, field, at_field, parts_or_fault, parts_read, if_position, read, common_steps}
 use Rattle.chess_text.proofs.forms.SpellingToForm.{same_bytes}
 
 -- Each field from what is read of it.

@@ -1,6 +1,6 @@
 -- A legal move is one of a piece of the side to move, so a mark can be computed by the moves of
 -- these pieces alone.
-use Rattle.chess_text.proofs.Words.{◌≡◌, ℕ, Bool, true, ◌&&◌, not, inl, inr, List, [], ◌∷◌, ◌++◌, refl, ap, Option, None, Some, codes, if◌then◌else◌, list_any, or_cases, Move, Parts, Square, squares, at, has_colour, every_promotion, is_check, is_legal, legal, mark, san, unmarked, arith, rules}
+use Rattle.chess_text.proofs.Words.{◌≡◌, ℕ, Bool, true, ◌&&◌, not, inl, inr, List, [], ◌∷◌, ◌++◌, ap, Option, None, Some, codes, if◌then◌else◌, list_any, or_cases, Move, Parts, Square, squares, at, has_colour, every_promotion, is_check, is_legal, legal, mark, san, unmarked, arith, rules}
 use Rattle.chess_text.proofs.forms.MoverOfMove.{mover_colour}
 use Rattle.chess_text.proofs.names.OneMoveAgrees.{any-same}
 

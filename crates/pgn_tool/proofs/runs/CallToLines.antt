@@ -1,5 +1,5 @@
 -- Games listed one by one.
-use Rattle.pgn_tool.proofs.Words.{◌≡◌, ℕ, ◌+◌, ◌^◌, ◌≤◌, false, List, [], ◌∷◌, ◌++◌, drop, length, length-take, take-append-drop, Option, None, Some, IfSome, refl, sym, ap, subst, ◌∙◌, append-nil, append_assoc, length-append, arith, Appends, Consumes, IsAtEnd, Appends-trans, Consumes-trans, AppendsFront, Token, tokens_of, InputTooLong, Fault, Game, Read, no_progress, read, HasRead, CountsDevices, Games, HaveRead, within, at_end, NextGame, NoGame, NextStops, ReadsNoGame, IsListed, ListsNoMore, ListStops, game_line, line_just_finished, lines_from, lines_of, list_profile, too_long, unread, Decides, ListedSoFar, Refused, Unwritten, Consumes-whole, Stops, games_before, AreNext, common_steps, AreShown, IsRefused, so_far, within_limit, GameState}
+use Rattle.pgn_tool.proofs.Words.{◌≡◌, ℕ, ◌+◌, ◌^◌, ◌≤◌, false, List, [], ◌∷◌, ◌++◌, drop, length, length-take, take-append-drop, Option, None, Some, IfSome, refl, sym, ap, subst, ◌∙◌, append-nil, append_assoc, length-append, arith, Appends, Consumes, IsAtEnd, Appends-trans, Consumes-trans, AppendsFront, Token, tokens_of, InputTooLong, Fault, Game, Read, no_progress, read, HasRead, CountsDevices, Games, HaveRead, within, at_end, NextGame, NoGame, NextStops, ReadsNoGame, IsListed, ListsNoMore, ListStops, game_line, line_just_finished, lines_from, lines_of, list_profile, too_long, unread, Decides, ListedSoFar, Refused, Unwritten, Consumes-whole, Stops, games_before, AreNext, common_steps, AreShown, IsRefused, so_far, within_limit, GameState, rules}
 use Rattle.pgn_tool.proofs.runs.PartsOfText.{front_after}
 use Rattle.pgn_tool.proofs.runs.TokensInTwoParts.{read_stops}
 
@@ -15,8 +15,7 @@ lines_two n (g ∷ gs) hs =
 
 pub has_read_of : (left : Option (List ℕ)) (u : List ℕ) (games : Games) (given : List Token)
     → HaveRead list_profile left u games given → HasRead list_profile games.converter given
-has_read_of left u games given (within on) = on.stands.has_read
-has_read_of left u games given (at_end all) = all.has_read
+has_read_of left u games given h = grind (arith, common_steps)
 
 -- the bytes so far decide these tokens
 pub decides_at_token : (o n : Option (List ℕ)) (u : List ℕ) (ts : List Token) → Consumes o n u → AreNext (within_limit u) ts → Decides o n ts
@@ -109,15 +108,7 @@ module _ (left_old left left_new : Option (List ℕ)) (old new : Games) (a b : O
   -- no game is left
   pub all_listed : NoGame list_profile so.bytes so.tokens left left_new new None None
       → IfSome left_old (λ s. (length s ≤ 2 ^ 62) × IsListed s None a b)
-  all_listed end =
-      Consumes-whole left_old left_new (so.bytes ++ end.more) (λ s. (length s ≤ 2 ^ 62) × IsListed s None a b)
-      (all end.more end.consumed) end.have_read_all.at_end (
-        end.have_read_all.short,
-        record {
-          fault = end.have_read_all.has_read.passes;
-          written = subst (λ gs. Appends a b (lines_from 1 gs)) (sym end.no_game) so.written;
-        },
-      )
+  all_listed end = search (rules, length)
 
   no_more : (u : List ℕ) → ReadsNoGame list_profile so.tokens u None None → ListsNoMore u a b
   no_more u none = grind (arith, common_steps, read, list_profile, lines_of, lines_from)

@@ -10,8 +10,7 @@ front_is out written whole prefix taken =
 
 -- what was consumed of a text, and what is left
 left_of : (s : List ℕ) (new : Option (List ℕ)) (u : List ℕ) → Consumes (Some s) new u → (x : List ℕ) × (s ≡ u ++ x)
-left_of s None u consumed = absurd consumed
-left_of s (Some x) u consumed = (x, consumed)
+left_of s new u consumed = grind (arith, common_steps)
 
 -- a text begins with the tokens that it shows
 shown_begins : (s : List ℕ) (ts : List Token) → AreShown s ts → IsTokenPrefix ts (tokens_of s)

@@ -1,5 +1,5 @@
 -- What follows of a run from the conversion in it, of an input that is read twice.
-use Rattle.pgn_tool.proofs.Words.{◌≡◌, ℕ, ◌≤◌, List, Option, ◌⊎◌, inl, inr, arith, Result, Ok, Err, Keeps, Counts, Device, IsStill, Mode, Reason, ReadFault, WriteFault, Fault, Totals, Profile, refused, AreConverted, TwoReadingsConvert, CountsThree, FirstStops, SecondStops, TwoReadingsFail, HasTaken, OneFails, WriteStops, first_too_long, first_unread, second_too_long, second_unread, unwritten, EqualReadings, HasFailed, IsCalm, IsSmooth, status_of, AnswersSame, AnswersTwice, BlamesTwice, EndsTwice, RunsTwice, profile_twice, Appends-kept, IfSome_then, common_steps}
+use Rattle.pgn_tool.proofs.Words.{◌≡◌, ℕ, ◌≤◌, List, Option, ◌⊎◌, inl, inr, arith, Result, Ok, Err, Keeps, Counts, Device, IsStill, Mode, Reason, ReadFault, WriteFault, Fault, Totals, Profile, refused, AreConverted, TwoReadingsConvert, CountsThree, FirstStops, SecondStops, TwoReadingsFail, HasTaken, OneFails, WriteStops, first_too_long, first_unread, second_too_long, second_unread, unwritten, EqualReadings, HasFailed, IsCalm, IsSmooth, status_of, AnswersSame, AnswersTwice, BlamesTwice, EndsTwice, RunsTwice, profile_twice, Appends-kept, IfSome_then, common_steps, rules}
 use Rattle.pgn_tool.proofs.runs.ConversionToRun.{CountsOneAtMost, calm_fails, concludes_by_verdict, longer, refuses_by_verdict, risen}
 
 -- ---- a conversion, and a flush after it
@@ -16,28 +16,10 @@ module _ (p : Profile) (first second d : Device) (after : Option (List ℕ)) (fa
   first_on u ends = grind (arith, common_steps, taken_on)
 
   second_on : (u : List ℕ) → SecondStops p first u d → SecondStops p first u e
-  second_on u ends = record {
-    tokens = ends.tokens;
-    decided_by = ends.decided_by;
-    fault = ends.fault;
-    next_marker = ends.next_marker;
-    appended = taken_on _ ends.appended;
-  }
+  second_on u ends = search (rules, taken_on)
 
   stops_on : (at : ℕ) (r : List ℕ) → WriteStops p first r at d → WriteStops p first r at e
-  stops_on at r known = record {
-    tokens = known.tokens;
-    decided_by = known.decided_by;
-    front = known.front;
-    token = known.token;
-    shown = known.shown;
-    place = known.place;
-    fault = known.fault;
-    count = known.count;
-    least = known.least;
-    short = known.short;
-    appended = taken_on _ known.appended;
-  }
+  stops_on at r known = search (rules, taken_on)
 
   fails_on : (f : Fault) → TwoReadingsFail p first second d f → TwoReadingsFail p first second e f
   fails_on _ (TwoReadingsFail.refused f known) = TwoReadingsFail.refused f
@@ -64,31 +46,24 @@ module _ (p : Profile) (first second d : Device) (after : Option (List ℕ)) (fa
 -- ---- which device is to blame
 
 one_failed : (first second : Device) → OneFails first second → HasFailed first ⊎ HasFailed second
-one_failed first second (inl rose) = inl (omega (arith, rose.0))
-one_failed first second (inr rose) = inr (omega (arith, rose.1))
+one_failed first second h = grind (arith, common_steps)
 
 -- the conversion counts what is to blame, and the flush after it takes nothing back
 pub blames_twice_of : {A E : Type 0}
     → (reason : Reason) (flushed : Result A E) (first second d : Device) (after : Option (List ℕ)) (failures_after : ℕ)
     → CountsThree reason first second d → Counts flushed d.failures_after failures_after
     → BlamesTwice reason first second (record { before = d.before; after = after; failures = d.failures; failures_after = failures_after })
-blames_twice_of ReadFault flushed first second d after failures_after devices counts = one_failed first second devices.0
-blames_twice_of WriteFault flushed first second d after failures_after devices counts =
-    risen flushed d.failures d.failures_after failures_after devices.2 counts
-blames_twice_of _ flushed first second d after failures_after devices counts = tt
+blames_twice_of reason flushed first second d after failures_after devices counts = grind (arith, common_steps, one_failed, risen)
 
 -- it counts one failure of its sink at most
 pub counted_once_of_two : (reason : Reason) (first second sink : Device)
     → CountsThree reason first second sink → CountsOneAtMost sink.failures sink.failures_after
-counted_once_of_two ReadFault first second sink devices = inl devices.1
-counted_once_of_two WriteFault first second sink devices = inr devices.2
-counted_once_of_two _ first second sink devices = inl devices.2
+counted_once_of_two reason first second sink devices = grind (arith, common_steps)
 
 -- ---- where no device fails
 
 neither_failed : (first second : Device) → IsCalm first → IsCalm second → HasFailed first ⊎ HasFailed second → ⊥
-neither_failed first second one other (inl failed) = calm_fails first one failed
-neither_failed first second one other (inr failed) = calm_fails second other failed
+neither_failed first second one other h = grind (arith, common_steps, calm_fails)
 
 module _ (s r : List ℕ) (first second out : Device) (one : IsSmooth s first out) (other : IsSmooth r second out) where
   -- a fault that no device is to blame for is the texts' own
@@ -96,18 +71,15 @@ module _ (s r : List ℕ) (first second out : Device) (one : IsSmooth s first ou
       → BlamesTwice f.reason first second out → AreConverted p s r (refused f) out
   own_fault p _ (TwoReadingsFail.refused f known) blames = (rw (one.gives, other.gives) at known).1
   own_fault p _ (first_unread u consumed few failed ends) blames = absurd (neither_failed first second one.reads other.reads blames)
-  own_fault p _ (first_too_long u rest consumed long more ends) blames =
-      absurd (longer s first.after u rest (rw one.gives at consumed) long more one.short)
+  own_fault p _ (first_too_long u rest consumed long more ends) blames = grind (arith, common_steps, longer)
   own_fault p _ (second_unread u consumed few failed ends) blames = absurd (neither_failed first second one.reads other.reads blames)
-  own_fault p _ (second_too_long u rest consumed long more ends) blames =
-      absurd (longer r second.after u rest (rw other.gives at consumed) long more other.short)
+  own_fault p _ (second_too_long u rest consumed long more ends) blames = grind (arith, common_steps, longer)
   own_fault p _ (unwritten at known) blames = absurd (calm_fails out one.writes blames)
 
   texts_answer : (mode : Mode) (err : Device) (code : ℕ) (answer : Result Totals Fault)
       → TwoReadingsConvert (profile_twice mode) first second out answer
       → EndsTwice answer first second out err code → AnswersTwice mode s r out err code
-  texts_answer mode err code (Ok t) works ends = grind (arith, common_steps, concludes_by_verdict)
-  texts_answer mode err code (Err f) works ends = grind (arith, common_steps, own_fault, profile_twice, refuses_by_verdict)
+  texts_answer mode err code answer works ends = grind (arith, common_steps, concludes_by_verdict, own_fault, refuses_by_verdict)
 
   pub twice_answers : (mode : Mode) (unflushed : Option (List ℕ)) (err : Device) (code : ℕ)
       → RunsTwice mode first second out unflushed err code → AnswersTwice mode s r out err code
@@ -123,8 +95,7 @@ same_answers mode s out err code law answers = grind (arith, common_steps, profi
 -- it is 1 at most, and 0 only if no device failed
 ends_as : (answer : Result Totals Fault) (first second out err : Device) (code : ℕ) → EndsTwice answer first second out err code
     → (code ≤ 1) × (code ≡ 0 → IsStill first × IsStill second × IsStill out)
-ends_as (Ok t) first second out err code ends = (ends.0.ends, λ zero. (ends.0.read, ends.1, (ends.0.well zero).0))
-ends_as (Err f) first second out err code ends = (omega (arith, ends.ends), λ zero. absurd (omega (arith, ends.ends, zero)))
+ends_as answer first second out err code ends = grind (arith, common_steps)
 
 pub twice_ends : (mode : Mode) (first second out : Device) (unflushed : Option (List ℕ)) (err : Device) (code : ℕ)
     → RunsTwice mode first second out unflushed err code

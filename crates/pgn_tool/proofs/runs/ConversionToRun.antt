@@ -20,19 +20,14 @@ CountsOneAtMost old new = (new ≡ old) ⊎ (new ≡ one_more old)
 
 pub flushes_last : {A E : Type 0} → (r : Result A E) (mid new : ℕ) (unflushed : Option (List ℕ)) → Counts r mid new
     → OnOk r (NoneUnflushed unflushed) → FlushesLast mid new unflushed
-flushes_last (Ok x) mid new unflushed counts empty = inl (counts, empty)
-flushes_last (Err e) mid new unflushed counts empty = inr counts
+flushes_last r mid new unflushed counts empty = grind (arith, common_steps)
 
 -- the same behind a text
 pub writes_last : {A E B F : Type 0} → (r : Result A E) (flushed : Result B F) (a b c : Option (List ℕ)) (text : List ℕ)
     (old mid new : ℕ) (unflushed : Option (List ℕ)) → Writes a b r text → Keeps b c → Counts r old mid → Counts flushed mid new
     → OnOk flushed (NoneUnflushed unflushed)
     → WritesLast (record { before = a; after = c; failures = old; failures_after = new }) text unflushed
-writes_last (Ok x) flushed a b c text old mid new unflushed writes keeps still counts empty =
-    WritesLast.whole (Appends-kept a b c text writes keeps) (flushes_last flushed old new unflushed (rw still at counts) empty)
-writes_last (Err e) flushed a b c text old mid new unflushed writes keeps rose counts empty =
-    WritesLast.part (writes.0, writes.1, Appends-kept a b c _ writes.2 keeps)
-    (flushes_last flushed (one_more old) new unflushed (rw rose at counts) empty)
+writes_last r flushed a b c text old mid new unflushed writes keeps still counts empty = grind (arith, common_steps, flushes_last)
 
 -- the status says whether all was written
 pub concludes_as : {S : Type 0}
@@ -41,8 +36,7 @@ pub concludes_as : {S : Type 0}
     → (is_written ≡ false → HasFailed out) → status ≡ (if is_written then 0 else 1) → (is_written ≡ true → new ≡ old)
     → (is_written ≡ false → Tells (device taken failures old new) (line (codes "output cannot be written")))
     → Concludes source out (device taken failures old new) status
-concludes_as taken failures old new true source out status read still failed is untouched told = grind (arith, common_steps)
-concludes_as taken failures old new false source out status read still failed is untouched told = grind (arith, common_steps)
+concludes_as taken failures old new is_written source out status read still failed is untouched told = grind (arith, common_steps)
 
 -- the same where a flush says it: one that did well leaves the count, and one that failed raises it
 pub concludes_flushed : {A E S : Type 0}
@@ -51,16 +45,12 @@ pub concludes_flushed : {A E S : Type 0}
     → Counts r mid out.failures_after → status ≡ (if is_written then 0 else 1) → (is_written ≡ true → new ≡ old)
     → (is_written ≡ false → Tells (device taken failures old new) (line (codes "output cannot be written")))
     → Concludes source out (device taken failures old new) status
-concludes_flushed taken failures old new (Ok x) is_written source out mid status same read kept counts =
-    concludes_as taken failures old new is_written source out status read (λ well. counts ∙ kept) (λ ill. absurd (cc))
-concludes_flushed taken failures old new (Err e) is_written source out mid status same read kept counts =
-    concludes_as taken failures old new is_written source out status read (λ well. absurd (cc)) (λ ill. omega (arith, kept, counts))
+concludes_flushed taken failures old new r is_written source out mid status same read kept counts = grind (arith, common_steps, concludes_as)
 
 -- a text is told where it was written or the sink has failed
 pub tells_as : (is_written : Bool) (d : Device) (text : List ℕ) → (is_written ≡ true → Appends d.before d.after text)
     → (is_written ≡ false → HasFailed d) → Tells d text
-tells_as true d text written failed = λ calm. written refl
-tells_as false d text written failed = λ calm. absurd (calm_fails d calm (failed refl))
+tells_as is_written d text written failed = grind (arith, common_steps, calm_fails)
 
 -- ---- a conversion, and a flush after it
 
@@ -91,9 +81,7 @@ module _ (left_old left_new a b c : Option (List ℕ)) (keeps : Keeps b c) where
 
   pub converts_on : (p : Profile) (r : Result Totals Fault)
       → AfterConversion false p left_old left_new r a b → AfterConversion false p left_old left_new r a c
-  converts_on p (Ok t) converts =
-      IfSome_then left_old converts (λ s known. record { short = known.short; converted = (known.converted.0, kept _ known.converted.1); probes = known.probes })
-  converts_on p (Err f) converts = fails_on p f converts
+  converts_on p r converts = grind (arith, common_steps, fails_on)
 
   -- the same of a list
   stops_on : (stopped : Stopped) → ListStops left_old left_new a b stopped → ListStops left_old left_new a c stopped
@@ -106,29 +94,23 @@ module _ (left_old left_new a b c : Option (List ℕ)) (keeps : Keeps b c) where
       ListStops.unwritten tokens decides (record { count = cut.count; short = cut.short; front = kept _ cut.front })
 
   pub lists_on : (r : Result Unit Stopped) → ListResult left_old left_new r a b → ListResult left_old left_new r a c
-  lists_on (Ok x) known = IfSome_then left_old known (λ s known. (known.0, record { fault = known.1.fault; written = kept _ known.1.written }))
-  lists_on (Err stopped) listed = stops_on stopped listed
+  lists_on r known = grind (arith, common_steps, stops_on)
 
 -- ---- which device is to blame
 
 pub risen : {A E : Type 0} → (r : Result A E) (old mid new : ℕ) → mid ≡ one_more old → Counts r mid new → one_more old ≤ new
-risen (Ok x) old mid new rose counts = omega (arith, rose, counts)
-risen (Err e) old mid new rose counts = omega (arith, rose, counts)
+risen r old mid new rose counts = grind (arith, common_steps)
 
 -- the conversion counts what is to blame, and the flush after it takes nothing back
 pub blames_of : {A E : Type 0} → (reason : Reason) (flushed : Result A E) (source out : Device) (mid : ℕ)
     → CountsDevices reason source.failures source.failures_after out.failures mid
     → Counts flushed mid out.failures_after → Blames reason source out
-blames_of ReadFault flushed source out mid devices counts = omega (arith, devices.0)
-blames_of WriteFault flushed source out mid devices counts = risen flushed out.failures mid out.failures_after devices.1 counts
-blames_of _ flushed source out mid devices counts = tt
+blames_of reason flushed source out mid devices counts = grind (arith, common_steps, risen)
 
 -- the same of a conversion to a sink that never fails
 pub silent_blames : (reason : Reason) (source out : Device)
     → CountsDevices reason source.failures source.failures_after 0 0 → Blames reason source out
-silent_blames ReadFault source out devices = omega (arith, devices.0)
-silent_blames WriteFault source out devices = absurd (omega (arith, devices.1))
-silent_blames _ source out devices = tt
+silent_blames reason source out devices = grind (arith, common_steps)
 
 -- ---- what a flush leaves in the buffer
 
@@ -136,30 +118,24 @@ silent_blames _ source out devices = tt
 pub flushed_after : {A E : Type 0} → (r : Result A E) (old mid new : ℕ) (Empty P : Type 0)
     → CountsOneAtMost old mid → Counts r mid new
     → OnOk r Empty → (is_ok r ≡ false → P) → Empty ⊎ ((one_more old ≤ new) × P)
-flushed_after (Ok x) old mid new Empty P before counts empty ill = inl empty
-flushed_after (Err e) old mid new Empty P (inl still) counts empty ill = inr (omega (arith, still, counts), ill refl)
-flushed_after (Err e) old mid new Empty P (inr rose) counts empty ill = inr (omega (arith, rose, counts), ill refl)
+flushed_after r old mid new Empty P before counts empty ill = grind (arith, common_steps)
 
 -- a conversion that reports a fault counts one failure of its sink at most
 pub counted_once : (reason : Reason) (source_old source_new old mid : ℕ)
     → CountsDevices reason source_old source_new old mid → CountsOneAtMost old mid
-counted_once ReadFault source_old source_new old mid devices = inl devices.1
-counted_once WriteFault source_old source_new old mid devices = inr devices.1
-counted_once _ source_old source_new old mid devices = inl devices.1
+counted_once reason source_old source_new old mid devices = grind (arith, common_steps)
 
 -- the same of a run that says whether all was written
 pub flushed_well : (is_written : Bool) (old new status : ℕ) (Empty : Type 0) → status ≡ (if is_written then 0 else 1)
     → Empty ⊎ ((one_more old ≤ new) × (is_written ≡ false))
     → Empty ⊎ ((one_more old ≤ new) × (status ≡ 1))
-flushed_well is_written old new status Empty is (inl empty) = inl empty
-flushed_well is_written old new status Empty is (inr (failed, ill)) = inr (failed, rw ill at is)
+flushed_well is_written old new status Empty is h = grind (arith, common_steps)
 
 -- ---- where no device fails
 
 pub longer : (s : List ℕ) (left_new : Option (List ℕ)) (u rest : List ℕ)
     → Consumes (Some s) left_new (u ++ rest) → length u ≡ 2 ^ 62 → 0 < length rest → length s ≤ 2 ^ 62 → ⊥
-longer s None u rest consumed long more short = absurd consumed
-longer s (Some ys) u rest consumed long more short = grind (arith, common_steps, length-append)
+longer s left_new u rest consumed long more short = grind (arith, common_steps, length-append)
 
 -- a run without a fault, and its status if it has written all
 pub concludes_by_verdict : (v : Verdict) (source out err : Device) (code : ℕ) (c : Counted)
@@ -175,9 +151,7 @@ refuses_by_verdict v err code f is ends told = (ends ∙ sym (ap status_of is), 
 
 pub list_blames : (reason : Reason) (source out : Device)
     → CountsReadFault reason source.failures source.failures_after → Blames reason source out
-list_blames ReadFault source out counts = omega (arith, counts)
-list_blames WriteFault source out counts = absurd counts
-list_blames _ source out counts = tt
+list_blames reason source out counts = grind (arith, common_steps)
 
 -- a verdict by the fault that was found
 verdict_is : (r : Read) (o : Option Fault) → r.fault ≡ o → verdict_of r ≡ verdict_of (record r { fault = o })
@@ -192,8 +166,7 @@ module _ (s : List ℕ) (source out : Device) (smooth : IsSmooth s source out) w
   own_fault p a b _ (Fails.refused f known) blames = (rw smooth.gives at known).1
   own_fault p a b _ (Fails.unread u consumed few reads) blames = absurd (calm_fails source smooth.reads blames)
   own_fault p a b _ (Fails.unwritten tokens at decides stops) blames = absurd (calm_fails out smooth.writes blames)
-  own_fault p a b _ (Fails.too_long u rest consumed long more reads) blames =
-      absurd (longer s source.after u rest (rw smooth.gives at consumed) long more smooth.short)
+  own_fault p a b _ (Fails.too_long u rest consumed long more reads) blames = grind (arith, common_steps, longer)
 
   module _ (err : Device) (code : ℕ) where
     job_answers : (job : Job) (answer : Result Totals Fault) → Works job answer source out
@@ -208,14 +181,12 @@ module _ (s : List ℕ) (source out : Device) (smooth : IsSmooth s source out) w
         → EndsList (Err stopped) source out err code → Answers listing s out err code
     stopped_answers _ (ListStops.refused f known) ends = grind (arith, common_steps, refuses_by_verdict, verdict_is, read, list_profile, tokens_of)
     stopped_answers _ (ListStops.unread u consumed few listed) ends = absurd (calm_fails source smooth.reads ends.blames)
-    stopped_answers _ (ListStops.too_long u rest consumed long more listed) ends =
-        absurd (longer s source.after u rest (rw smooth.gives at consumed) long more smooth.short)
+    stopped_answers _ (ListStops.too_long u rest consumed long more listed) ends = grind (arith, common_steps, longer)
     stopped_answers _ (ListStops.unwritten tokens decides cut) ends = absurd (calm_fails out smooth.writes ends.failed)
 
     list_answers : (answer : Result Unit Stopped) → ListResult source.before source.after answer out.before out.after
         → EndsList answer source out err code → Answers listing s out err code
-    list_answers (Ok x) works ends = grind (arith, common_steps, concludes_by_verdict, verdict_is, read, list_profile, tokens_of)
-    list_answers (Err stopped) works ends = stopped_answers stopped works ends
+    list_answers answer works ends = grind (arith, common_steps, concludes_by_verdict, verdict_is, stopped_answers)
 
     pub runs_answers : (job : Job) (unflushed : Option (List ℕ)) → Runs job source out unflushed err code → Answers job s out err code
     runs_answers (exporting mode) unflushed runs = job_answers (exporting mode) runs.answer runs.works runs.ends
@@ -230,13 +201,10 @@ module _ (source out err : Device) (code : ℕ) where
   EndsAs = (code ≤ 1) × (code ≡ 0 → IsStill source × IsStill out)
 
   ends_as : (answer : Result Totals Fault) → Ends answer source out err code → EndsAs
-  ends_as (Ok t) ends = (ends.ends, λ zero. (ends.read, (ends.well zero).0))
-  ends_as (Err f) ends = (omega (arith, ends.ends), λ zero. absurd (omega (arith, ends.ends, zero)))
+  ends_as answer ends = grind (arith, common_steps)
 
   list_ends_as : (answer : Result Unit Stopped) → EndsList answer source out err code → EndsAs
-  list_ends_as (Ok x) ends = (ends.ends, λ zero. (ends.read, (ends.well zero).0))
-  list_ends_as (Err (Stopped.Refused f)) ends = ends_as (Err f) ends
-  list_ends_as (Err Stopped.Unwritten) ends = (omega (arith, ends.ends), λ zero. absurd (omega (arith, ends.ends, zero)))
+  list_ends_as answer ends = grind (arith, common_steps, ends_as)
 
   pub runs_end : (job : Job) (unflushed : Option (List ℕ)) → Runs job source out unflushed err code → EndsAs
   runs_end (exporting mode) unflushed runs = ends_as runs.answer runs.ends

@@ -1,5 +1,5 @@
 -- How a run of the program is put together from opening its file and carrying out its task.
-use Rattle.pgn_tool.proofs.Words.{◌≡◌, ◌∙◌, ℕ, List, Option, None, Some, Result, Ok, Err, sym, ap, IfOk, Device, SystemFault, Holding, IsOpened, Machine, Reading, holds, missing, Carries, EndsUnopened, IsMissing, RunsAnswer, RunsWords, StartsFrom, by_fault, by_task, file_source, opened, source_of, unopened, IsUntouched, none-some}
+use Rattle.pgn_tool.proofs.Words.{◌≡◌, ◌∙◌, ℕ, List, Option, None, Some, Result, Ok, Err, sym, ap, IfOk, Device, SystemFault, Holding, IsOpened, Machine, Reading, holds, missing, Carries, EndsUnopened, IsMissing, RunsAnswer, RunsWords, StartsFrom, by_fault, by_task, file_source, opened, source_of, unopened, IsUntouched, none-some, arith, common_steps}
 use Rattle.pgn_arguments.specs.declared.arguments.Task.{Task}
 use Rattle.pgn_arguments.specs.declared.arguments.ParseFault.{ParseFault}
 use Rattle.pgn_arguments.specs.Requests.{AnswersBy, file_of, request_in, request_of}
@@ -21,9 +21,7 @@ held_is (holds text) left failures r (same, none) = rw (same, none)
 pub opened_is : (file : Option (List ℕ)) (left : Option (List ℕ)) (failures : ℕ) (r : Reading) (answer : Result Unit SystemFault)
     → answer ≡ Ok tt
     → StartsFrom file r.holding r.refuses (opening left failures r) answer → source_of file r ≡ Some (left_at left failures r)
-opened_is (Some name) left failures r (Ok done) is starts = held_is (r.holding name) left failures r starts
-opened_is None left failures r (Ok done) is (same, none) = rw (same, none)
-opened_is file left failures r (Err fault) is starts = cc
+opened_is file left failures r answer is starts = grind (arith, common_steps, held_is)
 
 -- the file was not opened
 pub unopened_is : (file : Option (List ℕ)) (task : Task) (m : Machine) (status : ℕ) (fault : SystemFault)
@@ -44,6 +42,4 @@ ran_answer words m status (Err fault) request refused (answers, idle) = by_fault
 -- a file that is not there is reported, and nothing is written
 pub missing_told : (task : Task) (m : Machine) (status : ℕ) (name : List ℕ) → file_of (request_of task) ≡ Some name
     → m.input.holding name ≡ missing → Carries task m status → IsMissing m.outputs status
-missing_told task m status name named gone (unopened other fault same refuses idle out ends) = (fault, ends, out)
-missing_told task m status name named gone (opened source is runs) =
-    absurd (none-some source (sym (ap (λ h. file_source h m.input) gone) ∙ sym (ap (λ f. source_of f m.input) named) ∙ is))
+missing_told task m status name named gone h = grind (arith, common_steps, none-some)

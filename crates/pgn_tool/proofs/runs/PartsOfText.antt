@@ -1,5 +1,5 @@
 -- Texts that are written in parts, and the line of the game just finished.
-use Rattle.pgn_tool.proofs.Words.{◌≡◌, ℕ, ◌+◌, List, [], ◌++◌, length, Option, None, Some, Result, Ok, Err, subst, sym, codes, decimal, unwrap_or, length-append, arith, option_map, Appends, Appends-trans, take-append-add, take-append-le, AppendsFront, Writes, Profile, exported, FinishedGame, finished_game_line, six_fields, listed_value, result_for, common_steps}
+use Rattle.pgn_tool.proofs.Words.{◌≡◌, ℕ, ◌+◌, List, [], ◌++◌, length, Option, None, Some, Result, Ok, Err, subst, sym, codes, decimal, unwrap_or, length-append, arith, option_map, Appends, Appends-trans, take-append-add, take-append-le, AppendsFront, Writes, Profile, exported, FinishedGame, finished_game_line, six_fields, listed_value, result_for, common_steps, rules}
 use Rattle.chess_rules.specs.declared.position.Parts.{Parts}
 use Rattle.chess_text.specs.Fen.{fen_text}
 use Rattle.pgn_game.specs.games.Pairs.{value_of}
@@ -14,11 +14,7 @@ front_after a b c xs ys first (n, short, front) = (
 
 -- a front of a part, and no more
 pub front_within : (a b : Option (List ℕ)) (xs ys : List ℕ) → AppendsFront a b xs → AppendsFront a b (xs ++ ys)
-front_within a b xs ys (n, short, front) = (
-  n,
-  omega (arith, short, length-append xs ys),
-  subst (Appends a b) (sym (take-append-le n xs ys (omega (arith, short)))) front,
-)
+front_within a b xs ys h = grind (arith, common_steps, length-append, take-append-le)
 
 pub writes_after : {A E : Type 0} → (r : Result A E) (a b c : Option (List ℕ)) (xs ys : List ℕ)
     → Appends a b xs → Writes b c r ys → Writes a c r (xs ++ ys)
@@ -36,5 +32,4 @@ pub line_told : (o : Option FinishedGame) (number : ℕ) (by : Profile) (p : Par
     (elim o [ None ↦ None | Some finished ↦ value_of (exported by.mode (result_for by.missing_result finished.marker) finished.pairs) (codes "Result") ]) [])
     (decimal (elim o [ None ↦ 0 | Some finished ↦ finished.plies ])) (fen_text p)
 unfolding finished_game_line
-line_told None number by p e = absurd (cc)
-line_told (Some finished) number by p e = grind (arith, common_steps, six_fields, decimal, listed_value, codes, unwrap_or)
+line_told o number by p e = search (rules, codes)

@@ -1,5 +1,5 @@
 -- The bytes in the file of a game.
-use Rattle.pgn_tool.proofs.Words.{◌≡◌, ℕ, ◌<◌, ◌≤◌, true, List, [], ◌∷◌, length, length-append, length-take, append-nil, take, Option, None, Some, Result, Ok, Err, refl, sym, ap, subst, ◌∙◌, arith, is_some, IfOk, false≢true, Appends, WriteAppends, Counts, FileStep, IsNew, added, has_bytes, is_text}
+use Rattle.pgn_tool.proofs.Words.{◌≡◌, ℕ, ◌<◌, ◌≤◌, true, List, [], ◌∷◌, length, length-append, length-take, append-nil, take, Option, None, Some, Result, Ok, Err, refl, sym, ap, subst, ◌∙◌, arith, is_some, IfOk, false≢true, Appends, WriteAppends, Counts, FileStep, IsNew, added, has_bytes, is_text, common_steps}
 
 -- its bytes are reported, if the log is
 abbrev pub IsKnown : Option (List FileStep) → Option (List ℕ) → Type 0
@@ -24,13 +24,11 @@ has_more (Some log) a b (Ok n) text failed failed_after known writes bound count
 has_more (Some log) a b (Err e) text failed failed_after known writes bound counts zero = absurd (omega (arith, counts, zero))
 
 pub added_nil : (log : Option (List FileStep)) → added log [] ≡ log
-added_nil None = refl
-added_nil (Some steps) = ap (λ l. Some l) (append-nil steps)
+added_nil log = grind (arith, common_steps, append-nil)
 
 -- a file that is made where the log is as before
 pub known_made : (log now : Option (List FileStep)) (a : Option (List ℕ)) → now ≡ added log [] → IsNew now a → IsKnown log a
-known_made None now a same new = tt
-known_made (Some log) now a same new = ap is_some (subst (λ l. IsNew l a) same new)
+known_made log now a same new = grind (arith, common_steps, is_some)
 
 pub made_first : (log now after : Option (List FileStep)) (steps : List FileStep)
     → now ≡ added log [] → after ≡ added now steps → after ≡ added log steps

@@ -6,9 +6,7 @@ use Rattle.pgn_tool.proofs.Words.{◌≡◌, ◌∙◌, ℕ, ◌+◌, List, [], 
 -- a log with a further part, which is known if the log is reported
 pub log_on : (before log after : Option (List FileStep)) (xs ys zs : List FileStep) → log ≡ added before xs → after ≡ added log ys
     → ((b : List FileStep) → before ≡ Some b → ys ≡ zs) → after ≡ added before (xs ++ zs)
-log_on None log after xs ys zs first more same = more ∙ ap (λ l. added l ys) first
-log_on (Some b) log after xs ys zs first more same =
-    more ∙ ap (λ l. added l ys) first ∙ ap (λ l. Some l) (append_assoc b xs ys) ∙ ap (λ l. Some (b ++ (xs ++ l))) (same b refl)
+log_on before log after xs ys zs first more same = grind (arith, common_steps, append_assoc)
 
 pub whole_and_one : (n : ℕ) (texts : List (List ℕ)) (text : List ℕ)
     → whole_files n texts ++ made (one_more (number_after n texts)) ∷ closed (Some text) 0 ∷ [] ≡ whole_files n (texts ++ text ∷ [])
@@ -24,9 +22,7 @@ number_is n count (t ∷ texts) is = omega arith ∙ number_is (one_more n) _ te
 
 text_and_one : (gs : List Game) (g : Game) → text_of list_profile (gs ++ g ∷ []) ≡ text_of list_profile gs ++ game_text list_profile g
 text_and_one [] g = append-nil (game_text list_profile g)
-text_and_one (h ∷ gs) g =
-    ap (λ l. game_text list_profile h ++ l) (text_and_one gs g)
-    ∙ sym (append_assoc (game_text list_profile h) (text_of list_profile gs) (game_text list_profile g))
+text_and_one (h ∷ gs) g = grind (arith, common_steps, append_assoc, (text_and_one gs g))
 
 -- where all that is due is the text of games, none is begun
 pub none_torn : (ts : List Token) → due list_profile ts ≡ text_of list_profile (read list_profile ts).progress.games → torn_text ts ≡ []
@@ -52,13 +48,11 @@ module _ (given ts : List Token) (text : List ℕ) (none : torn_text given ≡ [
   game_is g one whole = grind (arith, common_steps, append_cancel_left, game_text, list_profile, text_and_one, read, text_of, behind)
 
 some_byte : (xs ys : List ℕ) → [] ≡ xs ++ ys ++ 10 ∷ [] → ⊥
-some_byte xs ys e = absurd
-    (omega (arith, ap (length {A = ℕ}) e, length-append (xs ++ ys) (10 ∷ []), length-append xs (ys ++ 10 ∷ []), length-append ys (10 ∷ [])))
+some_byte xs ys e = grind (arith, common_steps, length, length-append)
 
 -- the file of a text that has bytes
 torn_made : (n : ℕ) (text : List ℕ) → ([] ≡ text → ⊥) → torn_file n text ≡ made (one_more n) ∷ closed (Some text) 0 ∷ []
-torn_made n [] some = absurd (some refl)
-torn_made n (byte ∷ bytes) some = refl
+torn_made n text some = grind (arith, common_steps)
 
 -- the file of a whole game
 pub whole_file : (n : ℕ) (g : Game)
@@ -68,14 +62,11 @@ whole_file n g = grind (arith, common_steps, torn_made, game_text, list_profile,
 -- ---- the file of a game
 
 pub taken_is : (o : Option (List ℕ)) (text : List ℕ) → Appends (Some []) o text → o ≡ Some text
-taken_is None text wrote = absurd wrote
-taken_is (Some xs) text wrote = ap (λ l. Some l) wrote
+taken_is o text wrote = grind (arith, common_steps)
 
 -- it holds what was written, if no write failed
 pub file_holds : {A : Type 0}
     → (taken : A → Option (List ℕ)) (failures : A → ℕ) (b : List FileStep) (n : ℕ) (file : GameFile A) (text : List ℕ)
     → IsBegun taken failures (Some b) file → failures_in failures file ≡ 0 → Appends (Some []) (bytes_in taken (Some b) file) text
     → file_steps taken failures (one_more n) file ≡ torn_file n text
-file_holds taken failures b n NotMade text begun clean wrote = ap (torn_file n) wrote
-file_holds taken failures b n (Open out) text begun clean wrote = grind (arith, common_steps, taken_is, torn_made, false≢true)
-file_holds taken failures b n (GameFile.Refused fault failed) text begun clean wrote = absurd (false≢true (begun clean))
+file_holds taken failures b n file text begun clean wrote = grind (arith, common_steps, taken_is, torn_made)

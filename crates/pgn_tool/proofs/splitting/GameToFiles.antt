@@ -6,8 +6,7 @@ use Rattle.pgn_tool.proofs.splitting.FilesOfGames.{file_holds, game_is, log_on, 
 use Rattle.pgn_tool.proofs.splitting.NoWriteFaultInTable.{read_own}
 
 logs : (before after : Option (List FileStep)) (steps : List FileStep) → after ≡ added before steps → Logs before after steps
-logs None after steps is = tt
-logs (Some log) after steps is = is
+logs before after steps is = grind (arith, common_steps)
 
 -- ---- what a fault is due to
 
@@ -16,26 +15,21 @@ due_to : (at : ℕ) (reason : Reason) (s t failed : ℕ) → CountsDevices reaso
     → CountsSource reason s t × (IsOwn reason → failed ≡ 0)
     × ((◌≡◌ {A = Fault} (record { at = at; reason = WriteFault }) (record { at = at; reason = reason }) × (0 < failed) × (t ≡ s))
     ⊎ (IsOwn reason × (failed ≡ 0)))
-due_to at WriteFault s t failed counts = (counts.0, (λ own. absurd own), inl (refl, omega (arith, counts.1), counts.0))
-due_to at ReadFault s t failed counts = (counts.0, (λ own. counts.1), inr (tt, counts.1))
-due_to at _ s t failed counts = (counts.0, (λ own. counts.1), inr (tt, counts.1))
+due_to at reason s t failed counts = grind (arith, common_steps)
 
 module _ {A : Type 0} (taken : A → Option (List ℕ)) (failures : A → ℕ) (log : Option (List FileStep)) where
   -- where no write failed the fault itself is reported
   own_reported : (file : GameFile A) (f : Fault) → IsBegun taken failures log file
       → failures_in failures file ≡ 0 → reported file f ≡ Unsplit.Refused f
-  own_reported (GameFile.Refused fault failed) f begun clean = absurd (false≢true (begun clean))
-  own_reported _ f begun clean = refl
+  own_reported file f begun clean = grind (arith, common_steps)
 
   -- where one failed it is that, or want of memory
   write_reported : (file : GameFile A) (at : ℕ) → StopsAt at (reported file (record { at = at; reason = WriteFault }))
-  write_reported (GameFile.Refused CreateFault.NoMemory failed) at = tt
-  write_reported _ at = refl
+  write_reported file at = grind (arith, common_steps)
 
   counts_source : (file : GameFile A) (f : Fault) (s t : ℕ) → IsBegun taken failures log file
       → CountsDevices f.reason s t 0 (failures_in failures file) → CountsSplit {A = Unit} (Err (reported file f)) s t
-  counts_source (GameFile.Refused CreateFault.NoMemory failed) f s t begun counts = grind (arith, common_steps, due_to, inl, inr, false≢true)
-  counts_source _ f s t begun counts = (due_to f.at f.reason s t _ counts).0
+  counts_source file f s t begun counts = grind (arith, common_steps, due_to)
 
   -- the last file
   last_file : (n : ℕ) (file : GameFile A) (f : Fault) (s t : ℕ)
@@ -60,8 +54,7 @@ module _ {A : Type 0} (taken : A → Option (List ℕ)) (failures : A → ℕ) (
 -- ---- one game
 
 if_known : {B : Type 0} → (o : Option B) (P : B → Type 0) → ((x : B) → o ≡ Some x → P x) → IfSome o P
-if_known None P h = tt
-if_known (Some x) P h = h x refl
+if_known o P h = grind (arith, common_steps)
 
 -- the file to which a write failed, or that was not made
 cut_steps : {A : Type 0}
@@ -254,13 +247,11 @@ module _ {A : Type 0} (taken : A → Option (List ℕ)) (failures : A → ℕ) (
 -- ---- a call
 
 answered : {A B : Type 0} → (file : GameFile A) (answer : Result B Fault) (x : B) → Ok x ≡ settled file answer → answer ≡ Ok x
-answered file (Ok y) x is = cc
-answered file (Err f) x is = absurd (cc)
+answered file answer x is = grind (arith, common_steps)
 
 stopped : {A B : Type 0} → (file : GameFile A) (answer : Result B Fault) (why : Unsplit)
     → Err why ≡ settled file answer → (f : Fault) × (answer ≡ Err f) × (reported file f ≡ why)
-stopped file (Ok y) why is = absurd (cc)
-stopped file (Err f) why is = (f, refl, cc)
+stopped file answer why is = grind (arith, common_steps)
 
 module _ {A : Type 0} (taken : A → Option (List ℕ)) (failures : A → ℕ) (left_old : Option (List ℕ)) (source : Device) (old new : Games)
     (before log after : Option (List FileStep)) (so : SplitSoFar left_old source.before old before log) where

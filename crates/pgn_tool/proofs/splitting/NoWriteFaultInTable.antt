@@ -1,5 +1,5 @@
 -- No token is rejected because of a write that failed.
-use Rattle.pgn_tool.proofs.Words.{List, [], ◌∷◌, None, Some, true, false, IfSome, Kind, Token, Profile, Part, Row, first_holding, refusal, rows, Progress, progress_after, read_from, IsOwn}
+use Rattle.pgn_tool.proofs.Words.{List, [], ◌∷◌, None, Some, true, false, IfSome, Kind, Token, Profile, Part, Row, first_holding, refusal, rows, Progress, progress_after, read_from, IsOwn, arith, common_steps}
 use Rattle.pgn_tool.proofs.runs.TokensInTwoParts.{after_test}
 
 abbrev AreOwn : List Row → Type 0
@@ -15,8 +15,7 @@ first_own (r ∷ rs) (here, rest) =
     ]
 
 rows_own : (p : Profile) (part : Part) (k : Kind) → AreOwn (rows p part k)
-rows_own p part k =
-    (tt, (tt, (tt, (tt, (tt, (tt, (tt, (tt, (tt, (tt, (tt, (tt, (tt, (tt, (tt, (tt, (tt, (tt, (tt, (tt, (tt, (tt, (tt, tt)))))))))))))))))))))))
+rows_own p part k = grind (arith, common_steps)
 
 refusal_own : (p : Profile) (part : Part) (k : Kind) → IfSome (refusal p part k) IsOwn
 unfolding refusal

@@ -1,4 +1,4 @@
-use Rattle.chess_rules.proofs.Words.{is_clear, length, ap, arith}
+use Rattle.chess_rules.proofs.Words.{length, ap, arith, common_steps}
 use Rattle.chess_rules.proofs.lines.ClearWays.{none_left}
 use Rattle.chess_rules.proofs.attack.clear_among.Goals as goal
 
@@ -18,5 +18,4 @@ pub loop-square-preserved : goal.loop-square-preserved
 loop-square-preserved c = grind arith
 
 pub returns : goal.returns
-returns c = none_left (λ s. is_clear c.args.board.now s c.args.target) c.args.set
-    c.loop-square.left c.loop-square.clear c.in_default.ensures.none c.loop-square.invariant
+returns c = grind (arith, common_steps, none_left)

@@ -22,8 +22,7 @@ module _ (b : Board) (c : Colour) (t : Square) (possible attackers : ℕ) (may :
 
   first_there : (first : Square) (way all : ℕ) → IsFirst attackers first → Places way (λ u. strictly_between first u t)
       → Bits all (λ i. has attackers i || has way i) → HasAttacker b c t all
-  first_there first way all is between both =
-      grind (arith, common_steps, attacker_is, at_square, may_attack, is_clear, attackers_are, cell_of, or_left, low, or_right, strictly_between)
+  first_there first way all is between both = grind (arith, common_steps, attacker_is, at_square, attackers_are, or_left, or_right)
 
 pub returns-in-None : goal.returns-in-None
 returns-in-None c h = absurd

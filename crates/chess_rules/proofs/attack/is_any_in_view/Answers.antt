@@ -1,12 +1,11 @@
-use Rattle.chess_rules.proofs.Words.{is_clear, square_at, ◌≡◌, Bool, true, false, ◌&&◌, ◌∙◌, refl, subst}
+use Rattle.chess_rules.proofs.Words.{is_clear, square_at, ◌≡◌, Bool, true, ◌&&◌, ◌∙◌, arith, common_steps}
 use Rattle.chess_rules.proofs.lines.AttackToReach.{seen_attacker}
 use Rattle.chess_rules.proofs.sets.SetsToSquares.{any_member, full_when, places_and, places_or}
 use Rattle.chess_rules.proofs.attack.is_any_in_view.Goals as goal
 
 -- of a few that may attack too, those that are seen do
 seen_among : (one may seen clear : Bool) → (one ≡ true → may ≡ true) → (may && seen) ≡ (may && clear) → (one && seen) ≡ (one && clear)
-seen_among true may seen clear among same = subst (λ m. (m && seen) ≡ (m && clear)) (among refl) same
-seen_among false may seen clear among same = refl
+seen_among one may seen clear among same = grind (arith, common_steps)
 
 pub returns : goal.returns
 returns c =

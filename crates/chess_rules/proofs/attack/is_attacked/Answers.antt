@@ -1,15 +1,10 @@
-use Rattle.chess_rules.proofs.Words.{is_clear, may_attack, ◌∙◌, sym}
+use Rattle.chess_rules.proofs.Words.{is_clear, may_attack, ◌∙◌, sym, arith, common_steps}
 use Rattle.chess_rules.proofs.lines.AttackToReach.{attacked_is}
 use Rattle.chess_rules.proofs.sets.SetsToSquares.{any_member}
 use Rattle.chess_rules.proofs.attack.is_attacked.Goals as goal
 
 pub is_attacked_by-requires : goal.is_attacked_by-requires
-is_attacked_by-requires c = record {
-  by = c.args.by;
-  which = may_attack c.args.board.now c.args.by c.args.target;
-  places = c.possible_attackers.ensures;
-  attack = λ s h. h;
-}
+is_attacked_by-requires c = grind (arith, common_steps)
 
 pub returns : goal.returns
 returns c =

@@ -1,4 +1,4 @@
-use Rattle.chess_rules.proofs.Words.{Knight, Parts, Square, Board, at, cell_of, has_colour, has_kind, own, is_aligned, is_clear, is_untried, is_king_step, Places, square_at, has, ◌≡◌, ℕ, ◌<◌, Bool, true, false, not, sym, ◌∙◌, subst, arith, ◌&&◌, common_steps}
+use Rattle.chess_rules.proofs.Words.{Knight, Parts, Square, Board, at, cell_of, has_colour, has_kind, own, is_aligned, is_clear, is_untried, is_king_step, Places, square_at, has, ◌≡◌, ℕ, ◌<◌, Bool, true, false, not, sym, ◌∙◌, subst, arith, ◌&&◌, common_steps, rules}
 use Rattle.chess_rules.proofs.positions.RulesOfPosition.{own_king}
 use Rattle.chess_rules.proofs.sets.SetsToSquares.{at_place, places_and, places_not, places_same}
 use Rattle.chess_rules.proofs.sets.WordsToCells.{piece_is}
@@ -15,12 +15,7 @@ seen_there : (p : Parts) (b : Board) (s : Square) (w : ℕ) → b ≡ p.board �
 seen_there p b s w is h = subst (λ (a : Board). Places w (λ t. is_aligned t s && is_clear a t s)) is h
 
 pub returns-then-has : goal.returns-then-has
-returns-then-has c =
-    let p = c.args.position.now in
-    let s = c.args.origin in
-    let knight = knight_there p c.board-board.result.now s c.of_kind.result true c.board-board.ensures c.requires
-    c.of_kind.ensures c.has.ensures.inside c.has.ensures.again (sym c.has.ensures.value ∙ c.if-has.true) in
-    places_same c.knights_to.result _ (λ t. is_untried p t s) c.knights_to.ensures (λ t. knight_pair p s t knight)
+returns-then-has c = search (rules, knight_there, places_same, knight_pair)
 
 pub returns-then-is : goal.returns-then-is
 returns-then-is c =

@@ -1,4 +1,4 @@
-use Rattle.chess_rules.proofs.Words.{Pawn, reaches, promotion_fits, castles, short_wing, long_wing, Plain, ShortCastling, LongCastling, ◌≡◌, ◌&&◌, ◌∙◌, sym, ap, arith}
+use Rattle.chess_rules.proofs.Words.{castles, short_wing, long_wing, Plain, ShortCastling, LongCastling, ◌∙◌, sym, ap, rules}
 use Rattle.chess_rules.proofs.moves.KindsOfSteps.{obeys_if_step, passing_rules}
 use Rattle.chess_rules.proofs.step.is_step_of_kind.Goals as goal
 use Rattle.chess_rules.proofs.step.is_step_of_kind.Goals.{then-promotion_fits, else-promotion_fits}
@@ -7,22 +7,10 @@ pub returns-in-Plain : goal.returns-in-Plain
 returns-in-Plain c = c.is_plain_step.ensures ∙ obeys_if_step c.args.position.now c.args.mv.now Plain (sym c.in-Plain.is ∙ c.requires.kind)
 
 pub returns-then-has : goal.returns-then-has
-returns-then-has c =
-    let p = c.args.position.now in
-    let m = c.args.mv.now in
-    let rules = passing_rules p m (sym c.in-EnPassant.is ∙ c.requires.kind) in
-    let value : c.if-promotion_fits.value ≡ (promotion_fits p m && reaches Pawn p.side m.from m.to) =
-    elim c.if-promotion_fits.branch [ then-promotion_fits w ↦ grind arith | else-promotion_fits w ↦ grind arith ] in
-    grind arith
+returns-then-has c = search (rules, passing_rules)
 
 pub returns-else-has : goal.returns-else-has
-returns-else-has c =
-    let p = c.args.position.now in
-    let m = c.args.mv.now in
-    let rules = passing_rules p m (sym c.in-EnPassant.is ∙ c.requires.kind) in
-    let value : c.if-promotion_fits.value ≡ (promotion_fits p m && reaches Pawn p.side m.from m.to) =
-    elim c.if-promotion_fits.branch [ then-promotion_fits w ↦ grind arith | else-promotion_fits w ↦ grind arith ] in
-    grind arith
+returns-else-has c = search (rules, passing_rules)
 
 pub returns-in-ShortCastling : goal.returns-in-ShortCastling
 returns-in-ShortCastling c =

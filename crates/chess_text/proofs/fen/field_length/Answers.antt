@@ -1,9 +1,8 @@
-use Rattle.chess_text.proofs.Words.{length, sym, arith, rules, position_or_len_is, is_space}
+use Rattle.chess_text.proofs.Words.{length, sym, arith, position_or_len_is, is_space, common_steps}
 use Rattle.chess_text.proofs.fen.field_length.Goals as goal
 
 pub returns-then-byte-eq32-clause-value : goal.returns-then-byte-eq32-clause-value
-returns-then-byte-eq32-clause-value c =
-    sym (position_or_len_is is_space c.args.text.now c.loop-i.i 0 (omega arith) c.loop-i.invariant (λ _. search rules))
+returns-then-byte-eq32-clause-value c = grind (arith, common_steps, position_or_len_is)
 
 pub returns-clause-value : goal.returns-clause-value
 returns-clause-value c =

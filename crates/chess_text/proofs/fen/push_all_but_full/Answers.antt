@@ -1,4 +1,4 @@
-use Rattle.chess_text.proofs.Words.{◌≡◌, List, ℕ, [], ◌∷◌, ◌++◌, append_assoc, sym, ◌∙◌, ap, arith, decimal, side_text, ◌+◌, ◌≤◌, length, length-append, rights_text, target_text, Board, placement_text, common_steps}
+use Rattle.chess_text.proofs.Words.{◌≡◌, List, ℕ, [], ◌∷◌, ◌++◌, append_assoc, sym, ◌∙◌, ap, arith, decimal, side_text, ◌+◌, ◌≤◌, length, length-append, rights_text, target_text, Board, placement_text, rules}
 use Rattle.chess_text.proofs.positions.FieldsOfText.{five_written, six_written, length-five, length-number, length-target_text}
 use Rattle.chess_text.proofs.positions.BoardToText.{length-placement_text}
 use Rattle.chess_text.proofs.fen.push_all_but_full.Goals as goal
@@ -39,14 +39,11 @@ pub push_field-requires : goal.push_field-requires
 push_field-requires c = omega (arith, short_board _ c.args.position.now.board c.requires)
 
 pub push-requires-3 : goal.push-requires-3
-push-requires-3 c =
-    (omega arith, omega (arith, with_four _ _ _ c.as_slice.ensures.fits c.push_field.ensures, short_board _ c.args.position.now.board c.requires))
+push-requires-3 c = search (rules, with_four, short_board)
 
 pub push_target-requires : goal.push_target-requires
 push_target-requires c =
     omega (arith, with_four _ _ _ c.as_slice.ensures.fits c.push_field.ensures, short_board _ c.args.position.now.board c.requires)
 
 pub push_field-requires-2 : goal.push_field-requires-2
-push_field-requires-2 c =
-    let short = short_board _ c.args.position.now.board c.requires in
-    grind (arith, common_steps, with_four, length-append, target_text, length-target_text, length-number)
+push_field-requires-2 c = search (rules, short_board, with_four, length-append, length-target_text, length-number)

@@ -1,22 +1,13 @@
-use Rattle.chess_text.proofs.Words.{◌≡◌, ◌+◌, ◌≤◌, ◌||◌, ◌∙◌, sym, ap, ap₂, arith, length, Bool, ℕ, Some, true, false, attackers, is_taken_on, one_if, rank_behind, stands_on, takes_from, west_of}
+use Rattle.chess_text.proofs.Words.{◌≡◌, ◌+◌, ◌≤◌, ◌||◌, ◌∙◌, sym, ap₂, arith, length, Bool, Some, true, false, attackers, is_taken_on, one_if, rank_behind, stands_on, common_steps}
 use Rattle.chess_text.proofs.keys.EnPassant.{none_behind, none_taken, none_counted, tried_taken, tried_pairs, one_at_most}
 use Rattle.chess_text.proofs.key.is_taken_on.Goals.{After-takes_from-east}
 use Rattle.chess_text.proofs.key.is_taken_on.Goals as goal
 
 pub returns-in_default-clause-taken : goal.returns-in_default-clause-taken
-returns-in_default-clause-taken c =
-    let p = c.args.position.now in
-    sym (none_taken p c.args.target
-    (none_behind p.side c.args.target.rank (sym c.in_default.is ∙ c.rank_behind.ensures ∙ ap₂ rank_behind c.side.ensures c.rank.ensures.value)))
+returns-in_default-clause-taken c = grind (arith, common_steps, none_taken, none_behind)
 
 pub returns-in_default-clause-count : goal.returns-in_default-clause-count
-returns-in_default-clause-count c =
-    let p = c.args.position.now in
-    omega (
-      arith,
-      none_counted p c.args.target
-          (none_behind p.side c.args.target.rank (sym c.in_default.is ∙ c.rank_behind.ensures ∙ ap₂ rank_behind c.side.ensures c.rank.ensures.value)),
-    )
+returns-in_default-clause-count c = grind (arith, common_steps, none_counted, none_behind)
 
 -- what both calls find, and count
 module _ (c : After-takes_from-east) where
@@ -24,29 +15,17 @@ module _ (c : After-takes_from-east) where
   behind = sym c.in-Some.is ∙ c.rank_behind.ensures ∙ ap₂ rank_behind c.side.ensures c.rank.ensures.value
 
   taken : (c.takes_from_west-west.result || c.takes_from-east.result) ≡ is_taken_on c.args.position.now c.args.target
-  taken =
-      tried_taken c.args.position.now c.args.target c.in-Some.rank behind _ _ c.takes_from_west-west.ensures.takes
-      (c.takes_from-east.ensures.takes
-      ∙ ap (λ (f : ℕ). takes_from c.args.position.now c.args.target c.in-Some.rank (f + 1)) c.file.ensures.value)
+  taken = grind (arith, common_steps, tried_taken)
 
   pairs : c.takes_from-east.new.probes ≡ c.takes_from_west-west.new.probes + one_if (stands_on c.args.position.now c.in-Some.rank (c.args.target.file + 1))
-  pairs =
-      c.takes_from-east.ensures.count
-      ∙ ap (λ (f : ℕ). c.takes_from_west-west.new.probes + one_if (stands_on c.args.position.now c.in-Some.rank (f + 1))) c.file.ensures.value
+  pairs = grind (arith, common_steps)
 
   counted : c.takes_from-east.new.probes ≡ c.args.probes.now + length (attackers c.args.position.now c.args.target)
   counted =
       tried_pairs c.args.position.now c.args.target c.in-Some.rank behind _ _ _ c.takes_from_west-west.ensures.count pairs
 
   few : c.takes_from-east.new.probes ≤ c.args.probes.now + 2
-  few =
-      omega (
-        arith,
-        c.takes_from_west-west.ensures.count,
-        pairs,
-        one_at_most (west_of (stands_on c.args.position.now c.in-Some.rank) c.args.target.file),
-        one_at_most (stands_on c.args.position.now c.in-Some.rank (c.args.target.file + 1)),
-      )
+  few = grind (arith, common_steps, one_at_most)
 
 first_true : (w e t : Bool) → w ≡ true → (w || e) ≡ t → w ≡ t
 first_true w e t is h = grind arith

@@ -50,8 +50,7 @@ returns-then-below-eq0-clause-board c =
     c.if-file-eq8-2.true c.if-below-eq0.true
 
 pub returns-then-below-eq0-clause-end : goal.returns-then-below-eq0-clause-end
-returns-then-below-eq0-clause-end c =
-    sym (position_or_len_is is_space c.args.text.now c.loop-i.i 0 (omega arith) c.loop-i.invariant.no_space (λ _. ap is_space c.if-byte-eq32.true))
+returns-then-below-eq0-clause-end c = grind (arith, common_steps, position_or_len_is, no_space)
 
 pub returns-else-byte-eq32-clause-board : goal.returns-else-byte-eq32-clause-board
 returns-else-byte-eq32-clause-board c =

@@ -1,4 +1,4 @@
-use Rattle.chess_text.proofs.Words.{◌≡◌, ℕ, suc, ◌+◌, ◌-◌, ◌≤◌, ◌∷◌, candidates, drop, filter_map, length, refl, sym, ◌∙◌, ap, arith, take, is_some, ok_or, and_parts, Man, NoMove, move_from, piece_move_fits}
+use Rattle.chess_text.proofs.Words.{◌≡◌, ℕ, ◌+◌, ◌-◌, ◌≤◌, ◌∷◌, candidates, drop, filter_map, length, sym, ◌∙◌, ap, arith, take, is_some, ok_or, and_parts, Man, NoMove, move_from, piece_move_fits, common_steps}
 use Rattle.chess_text.proofs.forms.CandidatesInTurn.{another, at_end, first, late, next_own, passed}
 use Rattle.chess_text.proofs.forms.OnlyElement.{next_of, none_left}
 use Rattle.chess_text.proofs.forms.PieceForms.{with_position, from_square}
@@ -18,18 +18,10 @@ one_more before after old rises e = omega (arith, rises, e)
 
 others_left : (o : In-Some) (after : ℕ) → after ≡ o.loop-origin.probes + 1
     → o.next.new.self ≡ drop (after - o.args.probes.now) (candidates o.args.position.now o.args.kind o.args.to)
-others_left o after e =
-    (next_of (candidates o.args.position.now o.args.kind o.args.to) (before o) o.in-Some.origin o.next.new.self (left o)).left
-    ∙ ap (λ n. drop n (candidates o.args.position.now o.args.kind o.args.to)) next_count
-  where
-    next_count : suc (before o) ≡ after - o.args.probes.now
-    next_count = omega (arith, o.loop-origin.invariant.rises, e)
+others_left o after e = grind (arith, common_steps, next_of)
 
 pub agrees-requires-clause-kind : goal.agrees-requires-clause-kind
-agrees-requires-clause-kind c =
-    let o = (goal.at.agrees-requires-clause-kind c).In-Some in
-    next_own c.args.position.now c.args.kind c.args.hints.file c.args.hints.rank c.args.to c.args.promotion (before o) c.loop-origin.found
-    c.loop-origin.invariant.found c.loop-origin.invariant.legal c.in-Some.origin c.next.new.self (left o)
+agrees-requires-clause-kind c = grind (arith, common_steps, next_own)
 
 pub returns-then-is_some-clause-answer : goal.returns-then-is_some-clause-answer
 returns-then-is_some-clause-answer c =
@@ -100,47 +92,10 @@ returns-in-Some-found-clause-answer c =
     (sym c.loop-origin.invariant.left ∙ c.in_default.ensures.0)
 
 pub returns-then-is_some-clause-pairs : goal.returns-then-is_some-clause-pairs
-returns-then-is_some-clause-pairs c =
-    let o = (goal.at.returns-then-is_some-clause-pairs c).In-Some in
-    let tried =
-    late c.args.position.now c.args.kind c.args.hints.file c.args.hints.rank c.args.to c.args.promotion (before o) c.loop-origin.found
-    c.loop-origin.invariant.found c.loop-origin.invariant.legal (sym c.is_some.ensures ∙ c.if-is_some.true) in
-    let low = (next_of (candidates c.args.position.now c.args.kind c.args.to) (before o) c.in-Some.origin c.next.new.self (left o)).low in
-    let few = few_there c in
-    record {
-      each = λ other. absurd (other refl);
-      two = λ _. omega (arith, tried, c.loop-origin.invariant.rises, c.agrees.ensures.count);
-      most = omega (arith, low, c.loop-origin.invariant.rises, c.agrees.ensures.count);
-      some = tt;
-      bound = omega (arith, low, few, c.loop-origin.invariant.rises, c.agrees.ensures.count);
-    }
-  where
-    few_there : (c : goal.Then-is_some) → length (candidates c.args.position.now c.args.kind c.args.to) ≤ 8
-    few_there c = omega (arith, c.new-origins.ensures.few, ap length c.new-origins.ensures.all)
+returns-then-is_some-clause-pairs c = grind (arith, common_steps, late, is_some, next_of, length)
 
 pub returns-in-None-clause-pairs : goal.returns-in-None-clause-pairs
-returns-in-None-clause-pairs c =
-    let all = none_left (candidates c.args.position.now c.args.kind c.args.to) (c.loop-origin.probes - c.args.probes.now)
-    (sym c.loop-origin.invariant.left ∙ c.in_default.ensures.0) in
-    record {
-      each = λ _. omega (arith, all, c.loop-origin.invariant.rises, c.loop-origin.invariant.most);
-      two = λ e. absurd (cc);
-      most = c.loop-origin.invariant.most;
-      some = tt;
-      bound = omega (arith, c.loop-origin.invariant.most, c.new-origins.ensures.few, ap length c.new-origins.ensures.all);
-    }
+returns-in-None-clause-pairs c = grind (arith, common_steps, none_left, length)
 
 pub returns-in-Some-found-clause-pairs : goal.returns-in-Some-found-clause-pairs
-returns-in-Some-found-clause-pairs c =
-    let all = none_left (candidates c.args.position.now c.args.kind c.args.to) (c.loop-origin.probes - c.args.probes.now)
-    (sym c.loop-origin.invariant.left ∙ c.in_default.ensures.0) in
-    let tried =
-    late c.args.position.now c.args.kind c.args.hints.file c.args.hints.rank c.args.to c.args.promotion (c.loop-origin.probes - c.args.probes.now)
-    c.loop-origin.found c.loop-origin.invariant.found c.loop-origin.invariant.legal (ap is_some c.in-Some-found.is) in
-    record {
-      each = λ _. omega (arith, all, c.loop-origin.invariant.rises, c.loop-origin.invariant.most);
-      two = λ e. absurd (cc);
-      most = c.loop-origin.invariant.most;
-      some = omega (arith, tried);
-      bound = omega (arith, c.loop-origin.invariant.most, c.new-origins.ensures.few, ap length c.new-origins.ensures.all);
-    }
+returns-in-Some-found-clause-pairs c = grind (arith, common_steps, none_left, late, is_some, length)

@@ -1,3 +1,5 @@
+use Rattle.std.proofs.Common.{rules}
+use Rattle.std.proofs.lemmas.Grind.{common_steps}
 use Rattle.std.proofs.Common.{ap, arith, drop, get_or, sym, take, ◌+◌, ◌-◌, ◌≡◌, ◌∙◌}
 use Rattle.std.proofs.lemmas.List.{take_rest}
 use Rattle.std.proofs.lemmas.Option.{none-some}
@@ -9,21 +11,10 @@ use Rattle.pgn_c.proofs.UnusualRead.{letter_sees, number_sees, other_sees, perio
 use Rattle.pgn_c.proofs.move_numbers.read_numbers.Goals as goal
 
 pub loop-at-preserved-then-is_letter : goal.loop-at-preserved-then-is_letter
-loop-at-preserved-then-is_letter c =
-    let length = (c.symbol_length-at.ensures.value ∙ ap (prefix_len continues_symbol) (take_rest c.args.text.now c.loop-at.at)) in
-    let letter = sym c.is_letter.ensures ∙ c.if-is_letter.true in
-    rw (c.with_ply-numbering.ensures, c.is_unusual_letter-is_unusual.ensures) (record {
-      turn = letter_turn c.args.text.now c.loop-at.numbering c.loop-at.at c.loop-at.invariant.turn (omega (arith, c.loop-at-test.true)) c.symbol_length-at.result letter length;
-      sees = letter_sees c.args.text.now c.loop-at.is_unusual c.loop-at.at c.loop-at.invariant.sees (omega (arith, c.loop-at-test.true)) c.symbol_length-at.result letter length;
-    })
+loop-at-preserved-then-is_letter c = grind (arith, common_steps, take_rest, letter_turn, letter_sees)
 
 pub loop-at-preserved-then-is_space : goal.loop-at-preserved-then-is_space
-loop-at-preserved-then-is_space c =
-    let space = sym c.is_space.ensures ∙ c.if-is_space.true in
-    record {
-      turn = space_turn c.args.text.now c.loop-at.numbering c.loop-at.at c.loop-at.invariant.turn (omega (arith, c.loop-at-test.true)) space;
-      sees = space_sees c.args.text.now c.loop-at.is_unusual c.loop-at.at c.loop-at.invariant.sees (omega (arith, c.loop-at-test.true)) space;
-    }
+loop-at-preserved-then-is_space c = grind (arith, common_steps, space_turn, space_sees)
 
 pub loop-at-preserved-then-is_digit : goal.loop-at-preserved-then-is_digit
 loop-at-preserved-then-is_digit c =
@@ -37,28 +28,10 @@ loop-at-preserved-then-is_digit c =
     })
 
 pub returns-in-Some : goal.returns-in-Some
-returns-in-Some c = record {
-  wrong = wrong_turn c.args.text.now c.loop-at.numbering c.loop-at.at c.loop-at.invariant.turn (omega (arith, c.loop-at-test.true)) c.in-Some.wrong (omega (arith, c.if-byte-eq46.true)) (sym c.in-Some.ensures);
-  unusual = λ none. absurd (none-some c.in-Some.wrong (sym none));
-}
+returns-in-Some c = search (rules, wrong_turn, none-some)
 
 pub loop-at-preserved-then-byte-eq46 : goal.loop-at-preserved-then-byte-eq46
-loop-at-preserved-then-byte-eq46 c =
-    let period : get_or c.args.text.now c.loop-at.at 0 ≡ 46 = omega (arith, c.if-byte-eq46.true) in
-    rw c.with_period-numbering.ensures (record {
-      turn = period_turn c.args.text.now c.loop-at.numbering c.loop-at.at c.loop-at.invariant.turn (omega (arith, c.loop-at-test.true)) period (sym c.wrong_at_period.ensures ∙ c.in_default.is);
-      sees = period_sees c.args.text.now c.loop-at.is_unusual c.loop-at.at c.loop-at.invariant.sees (omega (arith, c.loop-at-test.true)) period;
-    })
+loop-at-preserved-then-byte-eq46 c = search (rules, period_turn, period_sees)
 
 pub loop-at-preserved : goal.loop-at-preserved
-loop-at-preserved c =
-    let rest = take_rest c.args.text.now (c.loop-at.at + 1) in
-    let no_letter = sym c.is_letter.ensures ∙ c.if-is_letter.false in
-    let no_digit = sym c.is_digit.ensures ∙ c.if-is_digit.false in
-    let length = c.skipped_length.ensures.value ∙ ap (skipped (get_or c.args.text.now c.loop-at.at 0)) rest in
-    rw (c.with_other-numbering.ensures, c.is_unusual_other-is_unusual.ensures) (record {
-      turn = other_turn c.args.text.now c.loop-at.numbering c.loop-at.at c.loop-at.invariant.turn (omega (arith, c.loop-at-test.true)) c.skipped_length.result
-          (starts_by_none (get_or c.args.text.now c.loop-at.at 0) no_letter no_digit) (λ e. omega (arith, c.if-byte-eq46.false, e))
-          length (rw rest at c.skipped_length.ensures.within);
-      sees = rw rest (other_sees c.args.text.now c.loop-at.is_unusual c.loop-at.at c.loop-at.invariant.sees (omega (arith, c.loop-at-test.true)) c.skipped_length.result no_letter no_digit length);
-    })
+loop-at-preserved c = grind (arith, common_steps, take_rest, other_turn, starts_by_none, other_sees)

@@ -1,4 +1,5 @@
-use Rattle.pgn_c.proofs.Words.{false, drop, profile_counting, text_from}
+use Rattle.std.proofs.lemmas.Grind.{common_steps}
+use Rattle.pgn_c.proofs.Words.{false, drop, profile_counting, text_from, arith}
 use Rattle.pgn_layout.specs.Device.{device}
 use Rattle.pgn_c.proofs.NextGames.{finds_as}
 use Rattle.pgn_c.proofs.next_game.read_next.Goals as goal
@@ -14,6 +15,4 @@ pub returns-clause-full : goal.returns-clause-full
 returns-clause-full g c = rw c.converter_at-converter.ensures.writes at c.run_next.ensures.full
 
 pub run_next-requires : goal.run_next-requires
-run_next-requires g c =
-    let made = c.converter_at-converter.ensures in
-    record { within = c.requires.within; place = c.requires.place; count = made.count; not_finished = made.not_finished; no_fault = made.begins.has_read.no_fault }
+run_next-requires g c = grind (arith, common_steps)

@@ -1,3 +1,4 @@
+use Rattle.std.proofs.lemmas.Grind.{common_steps}
 use Rattle.pgn_c.proofs.Words.{◌≡◌, Bool, true, false, drop, refl, ap, text_from, ◌∙◌, arith}
 use Rattle.pgn_game.specs.public.ConverterCalls.{Converter}
 use Rattle.pgn_layout.specs.Device.{nowhere}
@@ -6,33 +7,19 @@ use Rattle.pgn_c.proofs.NextGames.{finds_as}
 use Rattle.pgn_c.proofs.next_game.read_silently.Goals as goal
 
 count_same : (takes : Bool) (c : Converter) → (silenced_if takes c).lexer.count ≡ c.lexer.count
-count_same true c = refl
-count_same false c = refl
+count_same takes c = grind (arith, common_steps)
 
 finished_same : (takes : Bool) (c : Converter) → (silenced_if takes c).is_finished ≡ c.is_finished
-finished_same true c = refl
-finished_same false c = refl
+finished_same takes c = grind (arith, common_steps)
 
 fault_same : (takes : Bool) (c : Converter) → (silenced_if takes c).fault ≡ c.fault
-fault_same true c = refl
-fault_same false c = refl
+fault_same takes c = grind (arith, common_steps)
 
 is_silent : (takes : Bool) (c : Converter) → (silenced_if takes c).reading.writing.is_silent ≡ true
-is_silent true c = refl
-is_silent false c = refl
+is_silent takes c = grind (arith, common_steps)
 
 pub run_next-requires : goal.run_next-requires
-run_next-requires c =
-    let takes = c.args.takes_marker in
-    let switched = c.silence.ensures.only_switch in
-    let old = c.args.converter.now in
-    record {
-      within = c.requires.within;
-      place = c.requires.place;
-      count = ap (λ (s : Converter). s.lexer.count) switched ∙ count_same takes old ∙ c.requires.count;
-      not_finished = ap (λ (s : Converter). s.is_finished) switched ∙ finished_same takes old ∙ c.requires.not_finished;
-      no_fault = ap (λ (s : Converter). s.fault) switched ∙ fault_same takes old ∙ c.requires.no_fault;
-    }
+run_next-requires c = grind (arith, common_steps, count_same, finished_same, fault_same)
 
 pub returns : goal.returns
 returns c =

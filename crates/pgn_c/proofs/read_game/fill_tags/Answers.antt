@@ -1,3 +1,4 @@
+use Rattle.std.proofs.lemmas.Grind.{common_steps}
 use Rattle.pgn_c.proofs.Words.{◌≡◌, ℕ, length, take, Some, ap, sym, subst, ◌∙◌, arith, length-take-le}
 use Rattle.pgn_layout.specs.Device.{Writes}
 use Rattle.pgn_game.specs.public.ConverterCalls.{finished_game_section}
@@ -18,15 +19,4 @@ returns-in-Ok-clause-writes g c =
     (filled _ _ _ sink.within sink.long sink.behind) (ap (λ (n : ℕ). record c.args.found { written = n }) (sym is_count))
 
 pub returns-in-Err-clause-writes : goal.returns-in-Err-clause-writes
-returns-in-Err-clause-writes g c =
-    let call = c.write_tags-put in
-    let sink = call.new.out in
-    let section = finished_game_section c.args.converter.now in
-    let written = take sink.room.written sink.room.buffer.now in
-    let is_count : length written ≡ sink.room.written = length-take-le _ _ sink.within in
-    let wrote = subst (λ (n : ℕ). Writes (Some (take n c.new.result.buffer.now)) (Some written) call.result section) c.new.ensures.written call.ensures.written in
-    let front = rw c.in-Err.is at wrote in
-    let failed = rw c.in-Err.is at call.ensures.counted in
-    some_written section c.args.found _ _ written front.0 _ front.1 front.2
-    (is_count ∙ sink.full (omega (arith, failed, c.new.ensures.failures)) ∙ sink.long)
-    (filled _ _ _ sink.within sink.long sink.behind) (c.full_game.ensures ∙ ap (section_full c.args.found) (sym is_count))
+returns-in-Err-clause-writes g c = grind (arith, common_steps, take, length, length-take-le, some_written)

@@ -1,4 +1,5 @@
-use Rattle.pgn_c.proofs.Words.{List, ℕ, sym, ◌∙◌, ap, subst, take_rest, PgnTag, TagResult, first_pair}
+use Rattle.std.proofs.lemmas.Grind.{common_steps}
+use Rattle.pgn_c.proofs.Words.{List, ℕ, sym, ◌∙◌, ap, subst, take_rest, PgnTag, TagResult, first_pair, arith}
 use Rattle.pgn_c.proofs.PairsOnLines.{not_found, found_there}
 use Rattle.pgn_c.proofs.tag.tag_at.Goals as goal
 
@@ -9,6 +10,4 @@ returns-in-None c =
     (sym (c.in-None.ensures.pair ∙ ap (λ (s : List ℕ). first_pair s) (take_rest c.args.text.now c.args.at))))
 
 pub returns-in-Some : goal.returns-in-Some
-returns-in-Some c =
-    found_there c.args.text.now c.args.at c.in-Some.pair
-    (sym (c.in-Some.ensures.pair ∙ ap (λ (s : List ℕ). first_pair s) (take_rest c.args.text.now c.args.at)))
+returns-in-Some c = grind (arith, common_steps, found_there, take_rest)

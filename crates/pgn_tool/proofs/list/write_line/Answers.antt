@@ -1,12 +1,9 @@
-use Rattle.pgn_tool.proofs.Words.{Appends-trans, err_from_is_err_and}
+use Rattle.pgn_tool.proofs.Words.{Appends-trans, err_from_is_err_and, arith, common_steps}
 use Rattle.pgn_tool.proofs.runs.PartsOfText.{front_after, front_within, writes_after}
 use Rattle.pgn_tool.proofs.list.write_line.Goals as goal
 
 pub returns-in_err-write_field-clause-written : goal.returns-in_err-write_field-clause-written
-returns-in_err-write_field-clause-written g c =
-    rw (err_from_is_err_and c.from_residual.result c.from_residual.ensures.1).1
-    (front_within _ _ _ _
-    (front_within _ _ _ _ (front_within _ _ _ _ (front_within _ _ _ _ (front_within _ _ _ _ c.in_err-write_field.ensures.written)))))
+returns-in_err-write_field-clause-written g c = grind (arith, common_steps, err_from_is_err_and, front_within)
 
 pub returns-in_err-write_field-2-clause-written : goal.returns-in_err-write_field-2-clause-written
 returns-in_err-write_field-2-clause-written g c =
@@ -35,7 +32,4 @@ returns-in_err-write_field-5-clause-written g c =
     c.in_ok-write_field-3.ensures.written) c.in_ok-write_field-4.ensures.written) c.in_err-write_field-5.ensures.written))
 
 pub returns-clause-written : goal.returns-clause-written
-returns-clause-written g c =
-    writes_after c.write_field-6.result _ _ _ _ _ (Appends-trans _ _ _ _ _ (Appends-trans _ _ _ _ _ (Appends-trans _ _ _ _ _
-    (Appends-trans _ _ _ _ _ c.in_ok-write_field.ensures.written c.in_ok-write_field-2.ensures.written) c.in_ok-write_field-3.ensures.written)
-    c.in_ok-write_field-4.ensures.written) c.in_ok-write_field-5.ensures.written) c.write_field-6.ensures.written
+returns-clause-written g c = grind (arith, common_steps, writes_after)

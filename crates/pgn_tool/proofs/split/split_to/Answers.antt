@@ -1,4 +1,4 @@
-use Rattle.pgn_tool.proofs.Words.{ℕ, List, Option, Result, refl, Device, FileStep, Unsplit, CountsSplit, EndsSplit, RunsSplit, SplitFiles, SplitResult}
+use Rattle.pgn_tool.proofs.Words.{ℕ, List, Option, Result, refl, Device, FileStep, Unsplit, CountsSplit, EndsSplit, RunsSplit, SplitFiles, SplitResult, arith, common_steps}
 use Rattle.pgn_tool.proofs.split.split_to.Goals as goal
 
 runs_by : {before after : Option (List FileStep)} {source err : Device} {status : ℕ} (answer : Result Unit Unsplit)
@@ -7,18 +7,10 @@ runs_by : {before after : Option (List FileStep)} {source err : Device} {status 
 runs_by answer files splits counted ends = record { answer = answer; files = files; splits = splits; counted = counted; ends = ends }
 
 pub returns-in-Ok-clause-runs : goal.returns-in-Ok-clause-runs
-returns-in-Ok-clause-runs g c =
-    let split = c.split_source in
-    runs_by split.result split.ensures.files split.ensures.splits split.ensures.counted (rw c.in-Ok.is (refl, (refl, refl)))
+returns-in-Ok-clause-runs g c = grind (arith, common_steps, runs_by)
 
 pub returns-in-Err-Refused-clause-runs : goal.returns-in-Err-Refused-clause-runs
-returns-in-Err-Refused-clause-runs g c =
-    let split = c.split_source in
-    runs_by split.result split.ensures.files split.ensures.splits split.ensures.counted
-    (rw (c.in-Err-Refused.is, c.in-Err-Refused.field-0-is) (c.refuse.ensures.status, c.refuse.ensures.told))
+returns-in-Err-Refused-clause-runs g c = grind (arith, common_steps, runs_by)
 
 pub returns-in-Err-NoMemory-clause-runs : goal.returns-in-Err-NoMemory-clause-runs
-returns-in-Err-NoMemory-clause-runs g c =
-    let split = c.split_source in
-    runs_by split.result split.ensures.files split.ensures.splits split.ensures.counted
-    (rw (c.in-Err-NoMemory.is, c.in-Err-NoMemory.field-0-is) (c.out_of_memory.ensures.status, c.out_of_memory.ensures.told))
+returns-in-Err-NoMemory-clause-runs g c = grind (arith, common_steps, runs_by)

@@ -1,4 +1,4 @@
-use Rattle.pgn_tool.proofs.Words.{rules, Bool, Device, FileStep, GameFile, List, NotMade, Option, None, Some, bytes_in, failures_in, added, ap, append_assoc, ◌∙◌, ◌++◌, ◌≡◌, ℕ, device, false, subst, ReadsNext, seen, file_sink, CountsResult}
+use Rattle.pgn_tool.proofs.Words.{rules, Bool, Device, FileStep, GameFile, List, NotMade, Option, None, Some, bytes_in, failures_in, added, ap, append_assoc, ◌∙◌, ◌++◌, ◌≡◌, ℕ, device, false, subst, ReadsNext, seen, file_sink, CountsResult, arith, common_steps}
 use Rattle.pgn_tool.proofs.split.write_to_file.Goals as goal
 
 -- the sink of games that are written, as it is
@@ -21,26 +21,10 @@ module _ {A : Type 0} (taken : A → Option (List ℕ)) (failures : A → ℕ) (
 -- steps added in two parts
 in_two : (log mid after : Option (List FileStep)) (front steps : List FileStep) → mid ≡ added log front → after ≡ added mid steps
     → after ≡ added log (front ++ steps)
-in_two None mid after front steps one two = two ∙ ap (λ l. added l steps) one
-in_two (Some log) mid after front steps one two = two ∙ ap (λ l. added l steps) one ∙ ap (λ l. Some l) (append_assoc log front steps)
+in_two log mid after front steps one two = grind (arith, common_steps, append_assoc)
 
 pub returns-clause-splits : goal.returns-clause-splits
-returns-clause-splits g c =
-    let source = device g.R.Source.left g.R.Source.failures c.args.source.now c.next-answer.new.source in
-    let out = c.next-answer.new.out in
-    let sink = begun_with g.F.Out.Sink.taken g.F.Out.Sink.failures g.K.GameBefore.log c.new.result.file out.turn.file in
-    let same = not_made g.F.Out.Sink.taken g.F.Out.Sink.failures g.K.GameBefore.log _ out.turn.file c.new.ensures.file in
-    record {
-      answer = c.next-answer.result;
-      file = out.turn.file;
-      settles = c.settle-result.ensures;
-      logged = search (rules, in_two);
-      begun = search rules;
-      reads = openly (λ (d : Device). ReadsNext c.args.games.now c.next-answer.new.self c.next-answer.result source d) _ sink _
-          c.requires.writes same c.next-answer.ensures.reads;
-      counted = openly (λ (d : Device). CountsResult c.next-answer.result source d) _ sink _
-          c.requires.writes same (c.next-answer.ensures.counted c.requires.no_fault);
-    }
+returns-clause-splits g c = grind (arith, common_steps, in_two, openly)
 
 pub returns-clause-writes : goal.returns-clause-writes
 returns-clause-writes g c = c.next-answer.ensures.silent.silent ∙ c.requires.writes

@@ -1,25 +1,9 @@
-use Rattle.pgn_tool.proofs.Words.{◌≡◌, ◌∙◌, ap, refl, inl, inr, Err, Ok, Refused, Unwritten}
+use Rattle.pgn_tool.proofs.Words.{◌≡◌, ◌∙◌, ap, refl, inl, inr, Err, Ok, Refused, Unwritten, arith, common_steps}
 use Rattle.pgn_tool.proofs.runs.ConversionToRun.{concludes_flushed, flushed_after, flushes_last, list_blames, lists_on, risen}
 use Rattle.pgn_tool.proofs.stream.list.Goals as goal
 
 pub returns-in-Ok : goal.returns-in-Ok
-returns-in-Ok g c =
-    let flush = c.flush-flushed in
-    let counted = c.in-Ok.ensures.counted in
-    record {
-      runs = record {
-        answer = Ok tt;
-        lists = lists_on _ (g.R.Source.left c.list_games-answer.new.source) _ _ _ flush.ensures.bytes (Ok tt) c.in-Ok.ensures.lists;
-        counted = (_, counted, flushes_last flush.result _ _ _ flush.ensures.failures flush.ensures.flushed);
-        ends =
-            concludes_flushed g.E.Sink.taken g.E.Sink.failures _ _ flush.result c.is_ok.result
-            _ _ _ _ c.is_ok.ensures.value counted.0 counted.1 flush.ensures.failures
-            c.conclude.ensures.status c.conclude.ensures.untouched c.conclude.ensures.told;
-      };
-      flushed =
-          flushed_after flush.result _ _ _ _ _ (inl counted.1) flush.ensures.failures flush.ensures.flushed
-          (λ ill. rw (c.is_ok.ensures.value ∙ ill) at c.conclude.ensures.status);
-    }
+returns-in-Ok g c = grind (arith, common_steps, lists_on, flushes_last, concludes_flushed, flushed_after)
 
 pub returns-in-Err-Refused : goal.returns-in-Err-Refused
 returns-in-Err-Refused g c =

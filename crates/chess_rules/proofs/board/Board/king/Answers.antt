@@ -1,4 +1,4 @@
-use Rattle.chess_rules.proofs.Words.{Colour, King, Square, squares, same_square, Board, at, cell_of, kings, has_piece, lone, king_square, square_at, Places, members, ◌≡◌, ℕ, suc, ◌+◌, ◌<◌, Bool, true, ◌&&◌, List, [], ◌∷◌, cond, length, map, get_or, refl, sym, ◌∙◌, ap, arith, None, Some, filter, ◌==◌, if◌then◌else◌, list_any, range_with_len, and_from}
+use Rattle.chess_rules.proofs.Words.{Colour, King, Square, squares, same_square, Board, at, cell_of, kings, has_piece, lone, king_square, square_at, Places, members, ◌≡◌, ℕ, suc, ◌+◌, ◌<◌, Bool, true, ◌&&◌, List, [], ◌∷◌, cond, length, map, get_or, refl, sym, ◌∙◌, ap, arith, None, Some, filter, ◌==◌, if◌then◌else◌, list_any, range_with_len, and_from, common_steps}
 use Rattle.chess_rules.proofs.lines.AttackToReach.{squares_same}
 use Rattle.chess_rules.proofs.positions.OneKing.{StandsAt, king_stands, tally, tally-count_by}
 use Rattle.chess_rules.proofs.positions.RulesOfPosition.{same_square-refl}
@@ -47,9 +47,7 @@ lone_king c b w long places = by_members (members w) many here
 
     by_members : (xs : List Square) → length xs ≡ kings c b → (kings c b ≡ 1 → list_any (same_square (king_square c b)) xs ≡ true)
         → lone xs ≡ (if kings c b == 1 then Some (king_square c b) else None)
-    by_members [] none found = grind arith
-    by_members (s ∷ []) one found = grind (arith, squares_same)
-    by_members (s ∷ (t ∷ xs)) several found = grind arith
+    by_members xs none found = grind (arith, common_steps, squares_same)
 
 pub returns : goal.returns
 returns c = c.only.ensures ∙ lone_king c.args.colour c.args.self.now c.pieces.result c.requires c.pieces.ensures

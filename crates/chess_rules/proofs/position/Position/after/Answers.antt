@@ -1,4 +1,4 @@
-use Rattle.chess_rules.proofs.Words.{Parts, other, king_attacked, is_position, is_check, after, full_after, king_square, parts_of, arith, ◌≡◌, true, false, sym, ◌∙◌, ap, subst, Some, IfSome}
+use Rattle.chess_rules.proofs.Words.{Parts, other, king_attacked, is_position, is_check, after, king_square, parts_of, arith, ◌≡◌, true, false, sym, ◌∙◌, ap, subst, IfSome, rules}
 use Rattle.chess_rules.proofs.lines.AttackToReach.{other-other}
 use Rattle.chess_rules.proofs.positions.RulesOfPosition.{stored}
 use Rattle.chess_rules.proofs.moves.LegalToPosition.{position_after, other_king_stays, legal_when}
@@ -13,10 +13,7 @@ safe c = grind arith
 same : (c : goal.After-king_after) → parts_of
     (record { board = c.board_after-board.result; side = c.other.result; rights = c.rights_after.result; target = c.target_after.result; half = c.half_after.result; full = c.match-self.result; king = c.self.inside.other_king; other_king = c.king_after.result; checked = c.gives_check-checked.result })
     ≡ after c.args.self.now c.args.mv.now c.board_after-board.result
-same c =
-    let full : c.match-self.result ≡ full_after c.self.inside.side c.self.inside.full =
-    elim c.match-self.branch [ in-White w ↦ grind arith | in-Black w ↦ grind arith ] in
-    grind arith
+same c = search rules
 
 pub invariant_of-result : goal.invariant_of-result
 invariant_of-result c =
@@ -35,8 +32,7 @@ invariant_of-result c =
     }
 
 pub returns : goal.returns
-returns c = ap Some (same c)
-    ∙ sym (legal_when c.args.self.now c.args.mv.now c.board_after-board.result c.requires.kind.on_board c.board_after-board.ensures (safe c))
+returns c = search (rules, legal_when, safe)
 
 pub board_after-board-requires-clause-step : goal.board_after-board-requires-clause-step
 board_after-board-requires-clause-step c = step_when_legal c.args.self.now c.args.mv.now c.requires.legal

@@ -1,4 +1,4 @@
-use Rattle.chess_rules.proofs.Words.{at, has_colour, is_attacked, is_clear, may_attack, slides, squares, step_kind, Plain, list_any, ◌≡◌, ◌&&◌, sym, ◌∙◌, ap, arith}
+use Rattle.chess_rules.proofs.Words.{is_clear, may_attack, slides, squares, step_kind, Plain, list_any, ◌≡◌, ◌&&◌, sym, ◌∙◌, ap, arith, common_steps, rules}
 use Rattle.chess_rules.proofs.positions.RulesOfPosition.{stored}
 use Rattle.chess_rules.proofs.sets.AllSquares.{first_true}
 use Rattle.chess_rules.proofs.sets.SetsToSquares.{any_member}
@@ -6,22 +6,10 @@ use Rattle.chess_rules.proofs.moves.PlainStepAttacks.{arrived_own, check_along_l
 use Rattle.chess_rules.proofs.position.Position.gives_check.Goals as goal
 
 pub returns-then-not-matches : goal.returns-then-not-matches
-returns-then-not-matches c =
-    let p = c.args.self.now in
-    let b = c.args.board.now in
-    let k = c.self.inside.other_king in
-    let s = stored c.self.inside p c.self.invariant c.self.view_is in
-    c.is_attacked.ensures
-    ∙ (ap (λ d. is_attacked b d k) s.side
-    ∙ sym (check_is_seen p c.args.mv.now b k s.position c.requires.kind.on_board c.requires.step s.other_king))
+returns-then-not-matches c = grind (arith, common_steps, stored, check_is_seen)
 
 pub attacks_from-requires : goal.attacks_from-requires
-attacks_from-requires c =
-    let p = c.args.self.now in
-    let s = stored c.self.inside p c.self.invariant c.self.view_is in
-    let plain : step_kind p c.args.mv.now ≡ Plain = grind arith in
-    ap (λ d. has_colour d (at c.args.board.now c.args.mv.now.to)) s.side
-    ∙ arrived_own p c.args.mv.now c.args.board.now c.self.inside.other_king s.position c.requires.kind.on_board c.requires.step plain s.other_king
+attacks_from-requires c = search (rules, stored, arrived_own)
 
 pub returns-then-attacks_from : goal.returns-then-attacks_from
 returns-then-attacks_from c =

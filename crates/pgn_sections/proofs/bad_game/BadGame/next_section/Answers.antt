@@ -1,4 +1,4 @@
-use Rattle.pgn_sections.proofs.Words.{◌≡◌, ℕ, List, None, Some, ◌+◌, ◌-◌, ◌++◌, length, sym, ◌∙◌, ap, ◌≤◌, arith, drop, drop-drop, length-drop, length-take-le, BadGame, lines_of, place_in, behind_lines, common_steps}
+use Rattle.pgn_sections.proofs.Words.{◌≡◌, ℕ, List, None, Some, ◌+◌, ◌-◌, length, sym, ◌∙◌, ap, ◌≤◌, arith, drop, drop-drop, length-drop, length-take-le, BadGame, common_steps}
 use Rattle.pgn_sections.proofs.LineOfBytes.{line_read, place_shown}
 use Rattle.pgn_sections.proofs.LinesInPieces.{no_line, no_whole_line, reads_on, reads_then, reads_whole, same_behind, shows, stops}
 use Rattle.pgn_sections.proofs.bad_game.BadGame.next_section.Goals as goal

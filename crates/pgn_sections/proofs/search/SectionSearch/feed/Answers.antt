@@ -1,4 +1,4 @@
-use Rattle.pgn_sections.proofs.Words.{◌++◌, ◌∙◌, ap, refl, place_behind, LineReader, arith, common_steps}
+use Rattle.pgn_sections.proofs.Words.{refl, arith, common_steps}
 use Rattle.pgn_sections.proofs.LinesOfReader.{found_so_far, found_stays, reads_piece}
 use Rattle.pgn_sections.proofs.search.SectionSearch.feed.Goals as goal
 

@@ -1,4 +1,4 @@
-use Rattle.pgn_sections.proofs.Words.{◌∙◌, ap, true, unread, place_behind, reader_of, BadGame, LineReader, arith, common_steps}
+use Rattle.pgn_sections.proofs.Words.{arith, common_steps}
 use Rattle.pgn_sections.proofs.LinesOfReader.{finds_in_all, finds_place}
 use Rattle.pgn_sections.proofs.search.SectionSearch.new.Goals as goal
 
