@@ -1,13 +1,10 @@
 -- What a conversion leaves in a buffer.
-use Rattle.std.proofs.lemmas.Grind.{common_steps}
-use Rattle.pgn_game.proofs.stepping.BytesWithinLimit.{shown_begins}
-use Rattle.pgn_c.proofs.Words.{◌≡◌, ℕ, ◌<◌, ◌≤◌, List, [], ◌∷◌, ◌++◌, length, take, drop, false, Some, OnOk, Result, Ok, Err, refl, sym, ap, subst, ◌∙◌, append-nil, append_assoc, arith, length-take-le, take-append-drop, Token, tokens_of, Device, Mode, Reason, WriteFault, Fault, Profile, due, output, IsFilled, profile_in, result_of, status_of}
+use Rattle.pgn_c.proofs.Words.{◌≡◌, ℕ, ◌<◌, ◌≤◌, List, [], ◌∷◌, ◌++◌, length, take, drop, false, Some, OnOk, Result, Ok, Err, refl, sym, ap, subst, ◌∙◌, append-nil, append_assoc, arith, length-take-le, take-append-drop, Token, tokens_of, Device, Mode, Reason, WriteFault, Fault, Profile, due, output, IsFilled, profile_in, result_of, status_of, common_steps, shown_begins, AreShown, NoWriteFails, StopsWriting, CountsFault, CountsReason, AfterSlice, FailsOn}
 use Rattle.pgn_lexer.specs.Decided.{decided}
 use Rattle.pgn_lexer.specs.Laws.{DecidedIsPrefix}
 use Rattle.pgn_game.specs.declared.conversion.Totals.{Totals}
-use Rattle.pgn_game.specs.public.ConverterCalls.{AreShown, NoWriteFails, StopsWriting, CountsFault, CountsReason}
 use Rattle.pgn_game.specs.laws.Laws.{DueGrows, IsPrefix}
-use Rattle.pgn_game.specs.public.Conversion.{AfterSlice, FailsOn, refused, unwritten, too_long}
+use Rattle.pgn_game.specs.public.Conversion.{refused, unwritten, too_long}
 
 -- ---- what is written is a front of the export text
 
@@ -87,9 +84,6 @@ pub never_full : (outcome : Result Totals Fault) (n : ℕ) → NoWriteFails outc
 never_full outcome n never is = grind (arith, common_steps, full_reason)
 
 -- ---- a result without a fault
-
-no_fault : (reason : Reason) → status_of reason ≡ 0 → ⊥
-no_fault reason is = grind (arith, common_steps)
 
 -- what holds where a conversion succeeds
 pub when_ok : {P : Type 0} (outcome : Result Totals Fault) (n : ℕ) → OnOk outcome P → (result_of outcome n).status ≡ 0 → P

@@ -1,12 +1,5 @@
 -- Lists of what is given: their first game, their lines, and their texts.
-use Rattle.std.proofs.lemmas.Grind.{common_steps}
-use Rattle.std.proofs.Common.{arith}
-use Rattle.std.proofs.Common.{◌≡◌, ℕ, Bool, true, false, List, [], ◌∷◌, ◌++◌, refl, sym, ap, ◌∙◌, append-nil, append_assoc, if◌then◌else◌}
-use Rattle.std.specs.Prelude.{fold}
-use Rattle.pgn_game.specs.public.Given.{Given, item, marker, shown, tags}
-use Rattle.pgn_c.specs.ItemLines.{are_lines, ends_line, first_game, first_line, given_text, has_marker, texts_behind}
-use Rattle.pgn_c.specs.ItemSteps.{NoneEnds}
-use Rattle.pgn_c.specs.declared.items.MoveFields.{MoveFields}
+use Rattle.pgn_c.proofs.Words.{common_steps, arith, ◌≡◌, ℕ, Bool, true, false, List, [], ◌∷◌, ◌++◌, refl, sym, ap, ◌∙◌, append-nil, append_assoc, if◌then◌else◌, fold, Given, item, marker, shown, tags, are_lines, ends_line, first_game, first_line, given_text, has_marker, texts_behind, NoneEnds, MoveFields}
 
 -- ---- the items up to a marker
 

@@ -1,26 +1,16 @@
 -- The text of the item given last is that of the definitions.
-use Rattle.std.proofs.Common.{rules}
-use Rattle.std.proofs.lemmas.Grind.{common_steps}
-use Rattle.std.proofs.Common.{arith}
-use Rattle.std.proofs.Common.{◌≡◌, ℕ, true, List, [], ◌∷◌, ◌++◌, codes, Option, None, Some, refl, sym, ap, subst, ◌∙◌, append-nil}
-use Rattle.std.specs.Prelude.{IsSomeAnd, decimal, option_map}
-use Rattle.std.proofs.lemmas.List.Sums.{fold-append}
+use Rattle.pgn_c.proofs.Words.{rules, common_steps, arith, ◌≡◌, ℕ, true, List, [], ◌∷◌, ◌++◌, codes, Option, None, Some, refl, sym, ap, subst, ◌∙◌, append-nil, IsSomeAnd, decimal, option_map, fold-append, Given, Shown, marker, shown, shown_with, tags, Current, IsBehindTags, IsHeld, IsShown, given_as, given_if, given_next, position_before_move, shown_move, shown_position, shown_san, shown_uci, shown_word, ends_line, field, first_game, given_text, has_marker, move_line, code_ends, code_move, front_text, is_marker, MoveFields}
 use Rattle.chess_rules.specs.declared.position.Move.{Move}
 use Rattle.chess_rules.specs.declared.position.Parts.{Parts}
 use Rattle.chess_text.specs.San.{san}
 use Rattle.chess_text.specs.Uci.{uci}
 use Rattle.pgn_game.specs.declared.item.Item.{Item as CodeItem}
 use Rattle.pgn_game.specs.declared.item.Item.TheVariants as items
-use Rattle.pgn_game.specs.public.Given.{Given, Shown, marker, shown, shown_with, tags}
-use Rattle.pgn_game.specs.public.ItemsCalls.{Current, IsBehindTags, IsHeld, IsShown, given_as, given_if, given_next, position_before_move, position_without, shown_move, shown_position, shown_san, shown_uci, shown_word}
 use Rattle.pgn_game.specs.games.Game as games
 use Rattle.pgn_game.specs.games.Levels.{Levels, first_level, here, levels_after, levels_of, start_of}
 use Rattle.pgn_game.specs.games.Markers.{marker_text}
 use Rattle.pgn_game.specs.games.Pairs.{Pair}
 use Rattle.pgn_game.specs.steps.Movetext.{StoredLevels, before_last}
-use Rattle.pgn_c.specs.ItemLines.{ends_line, field, first_game, given_text, has_marker, move_line}
-use Rattle.pgn_c.specs.ItemSteps.{code_ends, code_move, field_of, front_text, is_marker, number_if, position_fields}
-use Rattle.pgn_c.specs.declared.items.MoveFields.{MoveFields}
 
 tags_text : (f : MoveFields) (o : Option Shown) (ps : List Pair) → given_text f o (tags ps) ≡ []
 tags_text f o ps = grind (arith, common_steps)
@@ -72,10 +62,6 @@ word_is c i last = grind (arith, common_steps)
 module _ (f : MoveFields) (c : Current) (given : List Given) where
   shown_more : (gs : List Given) (g : Given) → shown (gs ++ g ∷ []) ≡ shown_with (shown gs) g
   shown_more gs g = fold-append shown_with None gs (g ∷ [])
-
-  -- nothing is given next behind a move
-  none_next : (m : Move) (next : Option CodeItem) → IsBehindTags next c.last → c.last ≡ Some (items.Move m) → next ≡ None
-  none_next m next at last = grind (arith, common_steps)
 
   text_behind : (i : CodeItem) (o : Option Shown) → c.last ≡ Some i → IsBehindTags c.pending c.last → IsSomeAnd (shown_with o (given_as c i)) (IsShown c)
       → (c.pending ≡ None → IsSomeAnd (shown_with o (given_as c i)) (IsHeld c)) → given_text f o (given_as c i) ≡ front_text f c i ++ word_of c i

@@ -1,25 +1,10 @@
 -- The items of a text, given call by call, and what is written of them.
-use Rattle.std.proofs.Common.{rules}
-use Rattle.std.proofs.lemmas.Grind.{common_steps}
-use Rattle.std.proofs.Common.{◌≡◌, ℕ, zero, suc, take, drop, length-append, length-take-le, append-nil, ◌+◌, ◌<◌, ◌≤◌, ◌^◌, ◌⊎◌, inl, inr, Bool, true, false, List, [], ◌∷◌, ◌++◌, length, Option, None, Some, refl, sym, ap, subst, ◌∙◌, arith, append_assoc}
-use Rattle.std.specs.Prelude.{is_some}
-use Rattle.pgn_layout.specs.Device.{Device}
-use Rattle.pgn_lexer.specs.Tokens.{Token}
-use Rattle.pgn_lexer.specs.TokensOf.{tokens_of}
-use Rattle.pgn_game.specs.public.Given.{Given, given_of, shown}
-use Rattle.pgn_game.specs.public.ItemsCalls.{Current, EndsWithMarker, GivesItem, IsBehindTags, Items, ItemsRead, at_end, behind, given_as, given_if, given_next, has_read_marker, shown_word, within}
+use Rattle.pgn_c.proofs.Words.{rules, common_steps, ◌≡◌, ℕ, zero, suc, take, drop, length-append, length-take-le, append-nil, ◌+◌, ◌<◌, ◌≤◌, ◌^◌, ◌⊎◌, inl, inr, Bool, true, false, List, [], ◌∷◌, ◌++◌, length, Option, None, Some, refl, sym, ap, subst, ◌∙◌, arith, append_assoc, is_some, Device, Token, tokens_of, Given, shown, Current, GivesItem, IsBehindTags, Items, ItemsRead, given_as, given_if, given_next, has_read_marker, shown_word, Full, Fault, read, GameEndsAt, WritesItems, all_result, first_game, game_items, given_text, plain_result, GivenSoFar, LinesSoFar, PutsItem, PutsText, code_ends, front_text, is_marker, passed_one, put_one, profile_in, Lines, MoveFields, PgnItems}
+use Rattle.pgn_game.specs.public.ItemsCalls.{at_end}
 use Rattle.pgn_game.specs.declared.item.Item.{Item as CodeItem}
 use Rattle.pgn_game.specs.declared.item.Item.TheVariants as items
-use Rattle.pgn_game.specs.declared.mode.Mode.TheVariants.{Full}
-use Rattle.pgn_game.specs.declared.reason.Fault.{Fault}
-use Rattle.pgn_game.specs.games.Progress.{read}
 use Rattle.pgn_game.specs.laws.ItemsJoined.{GivenAll, IsFront, ReadHasFailed, all_given}
-use Rattle.pgn_c.specs.ItemLines.{GameEndsAt, WritesItems, all_result, fault_result, first_game, game_items, given_text, plain_result}
-use Rattle.pgn_c.specs.ItemSteps.{GivenSoFar, LinesSoFar, PutsItem, PutsText, code_ends, front_text, is_marker, passed_one, put_one}
-use Rattle.pgn_c.specs.Results.{profile_in}
-use Rattle.pgn_c.specs.declared.items.Lines.{Lines}
-use Rattle.pgn_c.specs.declared.items.MoveFields.{MoveFields}
-use Rattle.pgn_c.specs.declared.items.PgnItems.{PgnItems}
+use Rattle.pgn_c.specs.ItemLines.{fault_result}
 use Rattle.pgn_c.proofs.GivenLists.{game_goes_on, marker_later, whole_game}
 use Rattle.pgn_c.proofs.ItemTexts.{line_ends, marker_only, marks, text_is}
 use Rattle.pgn_c.proofs.ItemsWritten.{all_items, full_buffer, pass_one, put_in_line, put_line}

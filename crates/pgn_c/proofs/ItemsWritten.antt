@@ -1,19 +1,5 @@
 -- The lines of items in a buffer, one item after another.
-use Rattle.std.proofs.Common.{rules}
-use Rattle.std.proofs.lemmas.Grind.{common_steps}
-use Rattle.std.proofs.Common.{◌≡◌, ℕ, ◌+◌, ◌^◌, ◌<◌, ◌≤◌, ◌⊎◌, inl, inr, Bool, true, false, List, [], ◌∷◌, ◌++◌, length, take, drop, Option, refl, sym, ap, ap₂, subst, ◌∙◌, arith, append-nil, append_assoc, length-append, take_at, drop_at, take_all}
-use Rattle.std.proofs.lemmas.List.{drop_all, length-drop}
-use Rattle.pgn_game.specs.public.Given.{Given, shown}
-use Rattle.pgn_game.specs.declared.reason.Fault.{Fault}
-use Rattle.pgn_game.specs.games.Progress.{read}
-use Rattle.pgn_lexer.specs.TokensOf.{tokens_of}
-use Rattle.pgn_c.specs.ItemLines.{GameEndsAt, IsBegun, IsLeft, WritesItems, all_result, counted, ends_line, first_game, first_line, game_items, given_text, has_marker, plain_result, texts_behind}
-use Rattle.pgn_c.specs.ItemSteps.{LinesSoFar, passed_one}
-use Rattle.pgn_c.specs.Results.{profile_in}
-use Rattle.pgn_c.specs.declared.items.Lines.{Lines}
-use Rattle.pgn_c.specs.declared.items.MoveFields.{MoveFields}
-use Rattle.pgn_c.specs.declared.items.PgnItems.{PgnItems}
-use Rattle.pgn_game.specs.declared.mode.Mode.TheVariants.{Full}
+use Rattle.pgn_c.proofs.Words.{rules, common_steps, ◌≡◌, ℕ, ◌+◌, ◌^◌, ◌<◌, ◌≤◌, ◌⊎◌, inl, inr, Bool, true, false, List, [], ◌∷◌, ◌++◌, length, take, drop, Option, refl, sym, ap, ap₂, subst, ◌∙◌, arith, append-nil, append_assoc, length-append, take_at, drop_at, take_all, drop_all, length-drop, Given, shown, Fault, read, tokens_of, GameEndsAt, IsBegun, IsLeft, WritesItems, all_result, counted, ends_line, first_game, first_line, game_items, given_text, has_marker, plain_result, texts_behind, LinesSoFar, passed_one, profile_in, Lines, MoveFields, PgnItems, Full}
 use Rattle.pgn_c.proofs.GivenLists.{game_begins, line_begins, line_goes_on, lines_end, none_more, one_more_text, texts_of_both}
 
 module _ (f : MoveFields) (first : ℕ) (given : List Given) (before now : List ℕ) (l : Lines) (so : LinesSoFar f first given before now l) where

@@ -1,8 +1,7 @@
 -- A buffer that takes more bytes behind those that were written.
 
 -- the buffer b, in which w bytes were written, and then the first n of xs
-use Rattle.std.proofs.lemmas.Grind.{common_steps}
-use Rattle.pgn_c.proofs.Words.{◌≡◌, ℕ, ◌+◌, ◌-◌, ◌≤◌, min, List, ◌++◌, length, take, drop, ap, sym, ◌∙◌, length-append, arith, length_paste_head, drop_at, drop-drop, length-drop}
+use Rattle.pgn_c.proofs.Words.{◌≡◌, ℕ, ◌+◌, ◌-◌, ◌≤◌, min, List, ◌++◌, length, take, drop, ap, sym, ◌∙◌, length-append, arith, length_paste_head, drop_at, drop-drop, length-drop, common_steps}
 
 abbrev pub with_more : List ℕ → ℕ → ℕ → List ℕ → List ℕ
 with_more b w n xs = take w b ++ take n xs ++ drop (w + n) b

@@ -1,9 +1,6 @@
 -- Worked rows of the first move number that does not run: the text of a game, and the place of the
 -- number, the number, and the one before it. They are worked out by hand from the rules in words.
-use Rattle.std.proofs.Common.{◌≡◌, None, Some, refl}
-use Rattle.std.specs.Prelude.{codes}
-use Rattle.pgn_lexer.specs.TokensOf.{tokens_of}
-use Rattle.pgn_c.specs.MoveNumbers.{wrong_number}
+use Rattle.pgn_c.proofs.Words.{◌≡◌, None, Some, refl, codes, tokens_of, wrong_number}
 
 wrong_numbers : Unit {0}
 wrong_numbers =

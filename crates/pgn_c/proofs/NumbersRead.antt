@@ -1,14 +1,5 @@
 -- What the bytes of a game say of its move numbers, read in one pass.
-use Rattle.std.proofs.Common.{rules}
-use Rattle.std.proofs.lemmas.Grind.{common_steps}
-use Rattle.std.proofs.Common.{Bool, cond, get_or, map, ap₂, ◌++◌, List, [], ◌∷◌, ap, sym, ◌∙◌, arith, drop, false, true, length, refl, suc, zero, subst, take, ℕ, ◌+◌, ◌-◌, ◌<◌, ◌≤◌, ◌≡◌, inl, inr, None, Option, Some}
-use Rattle.std.specs.List.{prefix_len}
-use Rattle.std.specs.Prelude.{if◌then◌else◌, take_while, ◌==◌, ◌||◌, nat_le}
-use Rattle.std.proofs.lemmas.Bool.{cases_Bool, eqb-true, or_cases, true≢false}
-use Rattle.std.proofs.lemmas.List.Sums.{prefix_len-le-length, take_while-cons}
-use Rattle.std.proofs.lemmas.List.{drop-drop, drop_more, length-drop}
-use Rattle.std.proofs.lemmas.Option.{none-some}
-use Rattle.pgn_lexer.specs.Bytes.{continues_symbol, is_space, continues_word, is_blank, is_control, starts_symbol, is_digit, is_letter, is_line_end, is_suffix}
+use Rattle.pgn_c.proofs.Words.{rules, common_steps, Bool, cond, get_or, map, ap₂, ◌++◌, List, [], ◌∷◌, ap, sym, ◌∙◌, arith, drop, false, true, length, refl, suc, zero, subst, take, ℕ, ◌+◌, ◌-◌, ◌<◌, ◌≤◌, ◌≡◌, inl, inr, None, Option, Some, prefix_len, if◌then◌else◌, take_while, ◌==◌, ◌||◌, nat_le, cases_Bool, eqb-true, or_cases, true≢false, prefix_len-le-length, take_while-cons, drop-drop, drop_more, length-drop, none-some, continues_symbol, is_space, is_blank, is_control, starts_symbol, is_digit, is_letter, is_line_end, is_suffix, Kind, Token, Within, after_brace, after_class, after_first, begins_class, begins_first, after_line, after_run, begins, begins_after, begins_brace, begins_line, next, onto, tokens_from, tokens_of, brace, brace_word, line, line_word, column, outside, in_symbol, in_glyph, in_suffix, in_escape_line, quotes, backslash, AreAccepted, Mark, digits_with, main_line, mark_of_period, mark_of_symbol, marks_behind, number_in, wrong_behind, wrong_number, depth_after, with_other, numbered_by, plies_after, with_period, with_symbol, wrong_at_period, wrong_of, wrong_in, has_brace, with_ply, begins_unusual, skipped, to_brace, to_line_end, to_quote}
 use Rattle.pgn_lexer.specs.Class as classes
 use Rattle.pgn_lexer.specs.Class.{Class}
 use Rattle.pgn_lexer.specs.CommentClass.{CommentClass}
@@ -16,15 +7,11 @@ use Rattle.pgn_lexer.specs.CommentClass as comment_classes
 use Rattle.pgn_lexer.specs.StringClass as string_classes
 use Rattle.pgn_lexer.specs.Spelling.{Found, Reading, broken, class, closed, comment_class, gives, glyph_at, nothing, number_of, numbered_at, reading, stops, string_at, suffix_at, symbol_at, word_at}
 use Rattle.pgn_lexer.specs.Tokens as kinds
-use Rattle.pgn_lexer.specs.Tokens.{Kind, Token}
-use Rattle.pgn_lexer.specs.TokensOf.{Within, after_brace, after_class, after_first, begins_class, begins_first, after_line, after_quoted, after_run, at_end, begins, begins_after, begins_brace, begins_line, next, onto, tokens_from, tokens_of, brace, brace_word, line, line_word, column, outside, in_symbol, in_glyph, in_suffix, in_escape_line, quotes, backslash}
+use Rattle.pgn_lexer.specs.TokensOf.{at_end}
 use Rattle.pgn_c.specs.declared.move_numbers.Numbering.{Numbering}
 use Rattle.pgn_c.specs.declared.move_numbers.Digits.{Digits}
 use Rattle.pgn_lexer.specs.declared.token.LexReason.TheVariants.{SymbolTooLong}
 use Rattle.pgn_c.specs.declared.move_numbers.WrongNumber.{WrongNumber}
-use Rattle.pgn_c.specs.MoveNumbers.{AreAccepted, Mark, digits_with, main_line, mark_of_period, mark_of_symbol, marks_behind, number_in, numbered, runs, wrong_behind, wrong_number}
-use Rattle.pgn_c.specs.MoveNumberSteps.{depth_after, with_other, numbered_by, plies_after, with_period, with_symbol, wrong_at_period, wrong_of, wrong_in, has_brace, with_ply}
-use Rattle.pgn_c.specs.UnusualParts.{begins_unusual, skipped, to_brace, to_line_end, to_quote}
 
 -- ---- runs of a symbol, of a NAG and of a suffix
 
@@ -74,14 +61,6 @@ silenced k = record { depth = k.depth; plies = k.plies; before = k.before; digit
 
 abbrev pub Passes : Numbering → List Token → Numbering → List Token → Type 0
 Passes k ts k' ts' = AreAccepted ts → AreAccepted ts' × (wrong_in k ts ≡ wrong_in k' ts')
-
-silent_kind : (k : Numbering) (at : ℕ) (kind : Kind) (ts : List Token) → IsSilentKind kind → Passes k (record { at = at; kind = kind } ∷ ts) (silenced k) ts
-silent_kind k at kind ts is all = grind (arith, common_steps)
-
-pub silent : (k : Numbering) (at : ℕ) (f : Found) (ts : List Token) → IsSilent f → Passes k (onto at f ts) (silenced k) ts
-silent k at nothing ts is all = absurd is
-silent k at (gives kind) ts is all = silent_kind k at kind ts is all
-silent k at (stops place r) ts is all = absurd all.0
 
 pub glyph_is_silent : (at : ℕ) (ds : List ℕ) → IsSilent (glyph_at at ds)
 glyph_is_silent at ds = grind (arith, common_steps)
@@ -162,9 +141,6 @@ line_byte k at b bs goes c other more = grind (arith, common_steps, word_is_sile
 ends_line : (P : ℕ → Type 0) (b : ℕ) → is_line_end b ≡ true → P 10 → P 13 → P b
 ends_line P b e feed return = grind (arith, common_steps, or_cases, eqb-true)
 
-nearer : (at b : ℕ) (bs : List ℕ) → tokens_from (at + 0) outside (b ∷ bs) ≡ tokens_from at outside (b ∷ bs)
-nearer at b bs = ap (λ n. tokens_from n outside (b ∷ bs)) (omega arith)
-
 line_further : (at b : ℕ) (bs : List ℕ) → is_line_end b ≡ false → behind_line at (b ∷ bs) ≡ behind_line (at + 1) bs
 line_further at b bs e = grind (arith, later)
 
@@ -183,9 +159,6 @@ behind_quote escaping at bs = tokens_from (at + to_quote escaping bs) outside (d
 
 abbrev QuoteAt : ℕ → List ℕ → Type 0
 QuoteAt at bs = (tokens_from at quotes bs ≡ behind_quote false at bs) × (tokens_from at backslash bs ≡ behind_quote true at bs)
-
-goes_on : (x y : Bool) → after_quoted (if x then string_classes.LineEnd else (if y then string_classes.Control else string_classes.Plain)) ≡ quotes
-goes_on x y = grind (arith, common_steps)
 
 quote_byte : (at b : ℕ) (bs : List ℕ) → QuoteAt (at + 1) bs → tokens_from at quotes (b ∷ bs) ≡ behind_quote false at (b ∷ bs)
 quote_byte at b bs more = grind (arith, common_steps, cases_Bool, eqb-true)

@@ -1,10 +1,6 @@
 -- The scan of a line finds the tag pair that is on it, and no other.
-use Rattle.std.proofs.lemmas.Grind.{common_steps}
-use Rattle.pgn_c.proofs.Words.{◌≡◌, ◌≢◌, inl, inr, ℕ, ◌+◌, ◌≤◌, Bool, true, false, ◌&&◌, ◌||◌, List, [], ◌∷◌, ◌++◌, length, drop, refl, sym, ◌∙◌, ap, ap₂, arith, append_assoc, length-append, Option, None, Some, codes, in_name, PgnTag, BeginsWithTag, TagResult, no_tag, text_behind, name_length, one_more, length_to_quote, value_length, first_pair}
-use Rattle.std.specs.Prelude.{◌==◌, nat_le, if◌then◌else◌, MatchOption, IfSome}
+use Rattle.pgn_c.proofs.Words.{◌≡◌, ◌≢◌, inl, inr, ℕ, ◌+◌, ◌≤◌, Bool, true, false, ◌&&◌, ◌||◌, List, [], ◌∷◌, ◌++◌, length, drop, refl, sym, ◌∙◌, ap, ap₂, arith, append_assoc, length-append, Option, None, Some, codes, in_name, PgnTag, BeginsWithTag, TagResult, no_tag, text_behind, name_length, one_more, length_to_quote, value_length, first_pair, common_steps, ◌==◌, nat_le, if◌then◌else◌, MatchOption, IfSome, list_all, cases_Bool, true_from_ne_false, and_parts, and_from, eqb-true, eq-eqb, leb-true, le-leb}
 use denote.Ref.{Bor}
-use Rattle.std.specs.List.{list_all}
-use Rattle.std.proofs.lemmas.Bool.{cases_Bool, true_from_ne_false, and_parts, and_from, eqb-true, eq-eqb, leb-true, le-leb}
 use Rattle.std.proofs.lemmas.List.Prefix.{front_rest}
 use Rattle.pgn_layout.specs.TagLine.{needs_escape, escaped, tag_line}
 use Rattle.pgn_c.specs.declared.tag.PairLengths.{PairLengths}

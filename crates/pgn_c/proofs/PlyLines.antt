@@ -1,7 +1,5 @@
 -- The lines of plies in a buffer, one after another.
-use Rattle.std.proofs.lemmas.Grind.{common_steps}
-use Rattle.pgn_c.proofs.Words.{◌≡◌, ℕ, ◌+◌, ◌<◌, ◌≤◌, List, [], ◌∷◌, ◌++◌, length, take, drop, sym, ap, ap₂, ◌∙◌, arith, append-nil, append_assoc, length-append, drop-drop, drop_at, take_at, length-drop, IsFilled, None}
-use Rattle.pgn_game.specs.public.LineOfPlay.{Line, Ply, behind_ply}
+use Rattle.pgn_c.proofs.Words.{◌≡◌, ℕ, ◌+◌, ◌<◌, ◌≤◌, List, [], ◌∷◌, ◌++◌, length, take, drop, sym, ap, ap₂, ◌∙◌, arith, append-nil, append_assoc, length-append, drop-drop, drop_at, take_at, length-drop, IsFilled, None, common_steps, Line, Ply, behind_ply}
 use Rattle.pgn_c.specs.LinesOfPlay.{WritesLine, line_result, ply_line, ply_lines}
 use Rattle.pgn_c.specs.declared.line_of_play.PgnPlies.{PgnPlies}
 use Rattle.pgn_c.specs.declared.line_of_play.PlyFields.TheVariants.{All, Fen, Key}

@@ -1,9 +1,5 @@
 -- Two texts that are copied into a buffer, one behind the other.
-use Rattle.std.proofs.lemmas.Grind.{common_steps}
-use Rattle.std.proofs.Common.{◌≡◌, ℕ, ◌+◌, ◌≤◌, Bool, true, false, List, ◌++◌, length, take, drop, sym, ap, ap₂, ◌∙◌, arith, append_assoc, length-append, length-take-le, take_at, drop_at, drop-drop}
-use Rattle.pgn_c.specs.ItemLines.{counted}
-use Rattle.pgn_c.specs.ItemSteps.{PutsText, put_one}
-use Rattle.pgn_c.specs.declared.items.Lines.{Lines}
+use Rattle.pgn_c.proofs.Words.{common_steps, ◌≡◌, ℕ, ◌+◌, ◌≤◌, Bool, true, false, List, ◌++◌, length, take, drop, sym, ap, ap₂, ◌∙◌, arith, append_assoc, length-append, length-take-le, take_at, drop_at, drop-drop, counted, PutsText, put_one, Lines}
 
 pub put_twice : (b front word middle : List ℕ) (at : ℕ) → at + length front ≤ length b → middle ≡ take at b ++ front ++ drop (at + length front) b
     → take (at + length front) middle ++ word ++ drop (at + length front + length word) middle ≡ take at b ++ (front ++ word) ++ drop (at + length (front ++ word)) b

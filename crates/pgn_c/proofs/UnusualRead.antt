@@ -1,12 +1,5 @@
 -- What a game has that is unusual, found in one pass.
-use Rattle.std.proofs.Common.{rules}
-use Rattle.std.proofs.lemmas.Grind.{common_steps}
-use Rattle.std.proofs.Common.{ap, arith, Bool, drop, false, get_or, length, List, [], ◌∷◌, refl, subst, suc, sym, true, zero, ℕ, ◌+◌, ◌<◌, ◌≡◌, ◌∙◌}
-use Rattle.std.specs.List.{prefix_len}
-use Rattle.std.specs.Prelude.{◌||◌, if◌then◌else◌}
-use Rattle.std.proofs.lemmas.List.{drop-drop, drop_more}
-use Rattle.pgn_lexer.specs.Bytes.{continues_symbol, is_digit, is_letter, is_space, starts_symbol}
-use Rattle.pgn_c.specs.UnusualParts.{begins_unusual, belonging, is_unusual, skipped, unusual_behind, unusual_letter, unusual_number, unusual_other}
+use Rattle.pgn_c.proofs.Words.{rules, common_steps, ap, arith, Bool, drop, false, get_or, length, List, [], ◌∷◌, refl, subst, suc, sym, true, zero, ℕ, ◌+◌, ◌<◌, ◌≡◌, ◌∙◌, prefix_len, ◌||◌, if◌then◌else◌, drop-drop, drop_more, continues_symbol, is_digit, is_letter, is_space, starts_symbol, begins_unusual, belonging, is_unusual, skipped, unusual_behind, unusual_letter, unusual_number, unusual_other}
 use Rattle.pgn_c.proofs.NumbersRead.{continues, starts_by, starts_by_none, white}
 
 -- what is unusual so far, and in the bytes from a place on, is that of the text

@@ -1,7 +1,5 @@
 -- Worked rows of what is unusual in a game, worked out by hand from the rules in words.
-use Rattle.std.proofs.Common.{◌≡◌, false, refl, true}
-use Rattle.std.specs.Prelude.{codes}
-use Rattle.pgn_c.specs.UnusualParts.{is_unusual}
+use Rattle.pgn_c.proofs.Words.{◌≡◌, false, refl, true, codes, is_unusual}
 
 unusual_texts : Unit {0}
 unusual_texts =

@@ -36,11 +36,11 @@ pub use Rattle.pgn_lexer.specs.Decided.{decided}
 pub use Rattle.pgn_lexer.specs.Tokens.{Kind, Token}
 pub use Rattle.pgn_lexer.specs.TokensOf.{tokens_of}
 pub use Rattle.pgn_tool.specs.CheckedRun.{AnswersSame, AnswersTwice, BlamesTwice, EndsTwice, Gives, RunsTwice, profile_twice}
-pub use Rattle.pgn_tool.specs.Files.{FileStep, IsBegun, IsNew, added, bytes_in, closed, failures_in, file_steps, has_bytes, is_text, made, file_sink, number_after, refusal_step, taken_by, whole_files}
-pub use Rattle.pgn_tool.specs.ListLines.{CountsReadFault, IsListed, ListResult, ListStops, ListsNoMore, game_line, line_just_finished, lines_from, lines_of, list_profile, listed_value, six_fields, too_long, unread}
+pub use Rattle.pgn_tool.specs.Files.{FileStep, IsBegun, IsNew, added, bytes_in, closed, failures_in, file_steps, has_bytes, is_text, made, number_after, refusal_step, taken_by, whole_files}
+pub use Rattle.pgn_tool.specs.ListLines.{CountsReadFault, IsListed, ListResult, ListStops, ListsNoMore, game_line, line_just_finished, lines_from, lines_of, list_profile, six_fields, too_long, unread}
 unfoldable pub use Rattle.pgn_tool.specs.ListLines.{finished_game_line}
 pub use Rattle.pgn_tool.specs.Machine.{Holding, IsOpened, Machine, Reading, holds, missing}
-pub use Rattle.pgn_tool.specs.Program.{Carries, EndsUnopened, IsMissing, RunsAnswer, RunsWords, StartsFrom, by_fault, by_task, file_source, opened, opened_again, source_of, streams, unbuffered, unopened, unopened_again}
+pub use Rattle.pgn_tool.specs.Program.{Carries, EndsUnopened, IsMissing, RunsAnswer, RunsWords, StartsFrom, by_fault, by_task, file_source, opened, opened_again, source_of, unopened, unopened_again}
 pub use Rattle.pgn_tool.specs.SplitFiles.{CountsSource, CountsSplit, EndsSplit, GameSplit, IsOwn, LastFile, RunsSplit, SplitFiles, reported, settled}
 pub use Rattle.pgn_tool.specs.SplitGames.{CutFile, CutsFile, IsSplit, IsSplitWhole, Logs, LogsCut, SplitResult, SplitStops, SplitsNoMore, StopsAt, files_of, texts_in, torn_file, torn_text}
 pub use Rattle.pgn_tool.specs.BetweenGames.{ListedSoFar, SplitSoFar}

@@ -1,5 +1,4 @@
-use Rattle.pgn_c.proofs.Words.{◌≡◌, ℕ, [], length, take, false, Some, ap, sym, subst, ◌∙◌, length-take-le, profile_in, result_of}
-use Rattle.pgn_game.specs.public.Conversion.{AfterSlice}
+use Rattle.pgn_c.proofs.Words.{◌≡◌, ℕ, [], length, take, false, Some, ap, sym, subst, ◌∙◌, length-take-le, profile_in, result_of, AfterSlice}
 use Rattle.pgn_c.proofs.ConversionToBuffer.{front, filled, is_full, when_ok}
 use Rattle.pgn_c.proofs.fill.Goals as goal
 

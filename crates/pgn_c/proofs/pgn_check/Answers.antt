@@ -1,5 +1,4 @@
-use Rattle.std.proofs.lemmas.Grind.{common_steps}
-use Rattle.pgn_c.proofs.Words.{ap, sym, ◌∙◌, arith}
+use Rattle.pgn_c.proofs.Words.{ap, sym, ◌∙◌, arith, common_steps}
 use Rattle.pgn_c.proofs.ConversionToBuffer.{never_full, when_ok}
 use Rattle.pgn_c.proofs.pgn_check.Goals as goal
 

@@ -192,21 +192,3 @@ module _ (s : List ℕ) (source out : Device) (smooth : IsSmooth s source out) w
     runs_answers (exporting mode) unflushed runs = job_answers (exporting mode) runs.answer runs.works runs.ends
     runs_answers checking unflushed runs = job_answers checking runs.answer runs.works runs.ends
     runs_answers listing unflushed runs = list_answers runs.answer runs.lists runs.ends
-
--- ---- the status
-
-module _ (source out err : Device) (code : ℕ) where
-  -- it is 1 at most, and 0 only if no device failed
-  abbrev EndsAs : Type 0
-  EndsAs = (code ≤ 1) × (code ≡ 0 → IsStill source × IsStill out)
-
-  ends_as : (answer : Result Totals Fault) → Ends answer source out err code → EndsAs
-  ends_as answer ends = grind (arith, common_steps)
-
-  list_ends_as : (answer : Result Unit Stopped) → EndsList answer source out err code → EndsAs
-  list_ends_as answer ends = grind (arith, common_steps, ends_as)
-
-  pub runs_end : (job : Job) (unflushed : Option (List ℕ)) → Runs job source out unflushed err code → EndsAs
-  runs_end (exporting mode) unflushed runs = ends_as runs.answer runs.ends
-  runs_end checking unflushed runs = ends_as runs.answer runs.ends
-  runs_end listing unflushed runs = list_ends_as runs.answer runs.ends

@@ -1,7 +1,4 @@
-use Rattle.std.proofs.Common.{◌≤◌, ◌^◌, ℕ, List, ◌++◌, length, Some, arith, refl, sym, subst, ◌∙◌}
-use Rattle.pgn_game.specs.public.ItemsCalls.{GivesItem}
-use Rattle.pgn_game.specs.declared.mode.Mode.TheVariants.{Full}
-use Rattle.pgn_c.specs.Results.{profile_in}
+use Rattle.pgn_c.proofs.Words.{◌≤◌, ◌^◌, ℕ, List, ◌++◌, length, Some, arith, refl, sym, subst, ◌∙◌, GivesItem, Full, profile_in}
 use Rattle.pgn_c.proofs.ItemsGiven.{all_given_written, buffer_full, fault_written, game_written, more, room_after}
 use Rattle.pgn_c.proofs.items.write_items_to_marker.Goals as goal
 

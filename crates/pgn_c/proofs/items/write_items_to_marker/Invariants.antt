@@ -1,5 +1,4 @@
-use Rattle.pgn_game.specs.public.ItemsCalls.{items_ahead}
-use Rattle.pgn_c.specs.ItemSteps.{WritesSoFar}
+use Rattle.pgn_c.proofs.Words.{items_ahead, WritesSoFar}
 use Rattle.pgn_c.proofs.items.write_items_to_marker.Given as goal
 
 abbrev pub invariant-loop-fault : goal.invariant-loop-fault

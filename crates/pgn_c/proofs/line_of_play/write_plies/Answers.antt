@@ -1,5 +1,4 @@
-use Rattle.pgn_c.proofs.Words.{ℕ, ◌+◌, ◌<◌, sym, subst, arith, ap, length}
-use Rattle.pgn_game.specs.public.LineOfPlay.{line_ahead}
+use Rattle.pgn_c.proofs.Words.{ℕ, ◌+◌, ◌<◌, sym, subst, arith, ap, length, line_ahead}
 use Rattle.pgn_c.specs.NextLine.{IsNextLine}
 use Rattle.pgn_c.proofs.PlyLines.{PutSoFar, no_room, one_more, some_line}
 use Rattle.pgn_c.proofs.line_of_play.write_plies.Goals as goal

@@ -1,5 +1,4 @@
-use Rattle.pgn_c.proofs.Words.{length}
-use Rattle.pgn_game.specs.public.LineOfPlay.{line_ahead}
+use Rattle.pgn_c.proofs.Words.{length, line_ahead}
 use Rattle.pgn_c.proofs.PlyLines.{PutSoFar}
 use Rattle.pgn_c.proofs.line_of_play.write_plies.Given as goal
 

@@ -1,5 +1,4 @@
-use Rattle.std.proofs.Common.{◌≡◌, drop}
-use Rattle.pgn_c.specs.UnusualParts.{begins_glyph}
+use Rattle.pgn_c.proofs.Words.{◌≡◌, drop, begins_glyph}
 use Rattle.pgn_c.proofs.move_numbers.begins_glyph.Given as goal
 
 abbrev pub invariant-loop-byte : goal.invariant-loop-byte

@@ -1,5 +1,4 @@
-use Rattle.std.proofs.Common.{arith}
-use Rattle.pgn_lexer.specs.Bytes.{continues_symbol}
+use Rattle.pgn_c.proofs.Words.{arith, continues_symbol}
 use Rattle.std.proofs.lemmas.List.FromFn.{get_or-map-range_with_len}
 use Rattle.pgn_c.proofs.move_numbers.continues_symbol.Goals as goal
 

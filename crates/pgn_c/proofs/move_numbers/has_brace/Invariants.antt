@@ -1,5 +1,4 @@
-use Rattle.std.proofs.Common.{◌≡◌, take}
-use Rattle.pgn_c.specs.MoveNumberSteps.{has_brace}
+use Rattle.pgn_c.proofs.Words.{◌≡◌, take, has_brace}
 use Rattle.pgn_c.proofs.move_numbers.has_brace.Given as goal
 
 abbrev pub invariant-loop-byte : goal.invariant-loop-byte

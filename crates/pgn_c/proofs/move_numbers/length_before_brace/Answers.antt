@@ -1,5 +1,4 @@
-use Rattle.std.proofs.Common.{arith, ◌+◌, ◌-◌, ◌≡◌, drop, false, subst, sym, take, ◌∙◌}
-use Rattle.pgn_c.specs.MoveNumberSteps.{has_brace}
+use Rattle.pgn_c.proofs.Words.{arith, ◌+◌, ◌-◌, ◌≡◌, drop, false, subst, sym, take, ◌∙◌, has_brace}
 use Rattle.pgn_c.proofs.NumbersRead.{brace_ahead}
 use Rattle.pgn_c.proofs.move_numbers.length_before_brace.Goals as goal
 

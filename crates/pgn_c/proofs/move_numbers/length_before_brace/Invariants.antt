@@ -1,5 +1,4 @@
-use Rattle.std.proofs.Common.{◌≡◌, ◌+◌, ◌-◌, ◌≤◌, drop, length}
-use Rattle.pgn_c.specs.UnusualParts.{to_brace}
+use Rattle.pgn_c.proofs.Words.{◌≡◌, ◌+◌, ◌-◌, ◌≤◌, drop, length, to_brace}
 use Rattle.pgn_c.proofs.move_numbers.length_before_brace.Given as goal
 
 abbrev pub invariant-loop-at : goal.invariant-loop-at

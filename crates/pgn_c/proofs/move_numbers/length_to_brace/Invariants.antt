@@ -1,5 +1,4 @@
-use Rattle.std.proofs.Common.{◌≡◌, ◌+◌, drop}
-use Rattle.pgn_c.specs.UnusualParts.{to_brace}
+use Rattle.pgn_c.proofs.Words.{◌≡◌, ◌+◌, drop, to_brace}
 use Rattle.pgn_c.proofs.move_numbers.length_to_brace.Given as goal
 
 abbrev pub invariant-loop-index : goal.invariant-loop-index

@@ -1,5 +1,4 @@
-use Rattle.std.proofs.Common.{◌≡◌, ◌+◌, drop}
-use Rattle.pgn_c.specs.UnusualParts.{to_line_end}
+use Rattle.pgn_c.proofs.Words.{◌≡◌, ◌+◌, drop, to_line_end}
 use Rattle.pgn_c.proofs.move_numbers.line_length.Given as goal
 
 abbrev pub invariant-loop-index : goal.invariant-loop-index

@@ -1,7 +1,4 @@
-use Rattle.std.proofs.Common.{◌≡◌, ◌≤◌, true, take, fold}
-use Rattle.std.specs.List.{list_all}
-use Rattle.pgn_lexer.specs.Bytes.{is_digit}
-use Rattle.pgn_c.specs.MoveNumbers.{one_digit_more}
+use Rattle.pgn_c.proofs.Words.{◌≡◌, ◌≤◌, true, take, fold, list_all, is_digit, one_digit_more}
 use Rattle.pgn_c.proofs.move_numbers.number_in.Given as goal
 
 -- the number that the digits so far have, all of them digits

@@ -1,5 +1,4 @@
-use Rattle.std.proofs.Common.{◌≡◌, ◌+◌, drop, false}
-use Rattle.pgn_c.specs.UnusualParts.{to_quote}
+use Rattle.pgn_c.proofs.Words.{◌≡◌, ◌+◌, drop, false, to_quote}
 use Rattle.pgn_c.proofs.move_numbers.string_length.Given as goal
 
 abbrev pub invariant-loop-index : goal.invariant-loop-index

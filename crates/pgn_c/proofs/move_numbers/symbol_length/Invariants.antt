@@ -1,6 +1,4 @@
-use Rattle.std.proofs.Common.{◌≡◌, ◌≤◌, ◌+◌, ◌-◌, drop, length}
-use Rattle.std.specs.List.{prefix_len}
-use Rattle.pgn_lexer.specs.Bytes.{continues_symbol}
+use Rattle.pgn_c.proofs.Words.{◌≡◌, ◌≤◌, ◌+◌, ◌-◌, drop, length, prefix_len, continues_symbol}
 use Rattle.pgn_c.proofs.move_numbers.symbol_length.Given as goal
 
 abbrev pub invariant-loop-end : goal.invariant-loop-end

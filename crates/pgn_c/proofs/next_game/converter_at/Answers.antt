@@ -1,5 +1,4 @@
-use Rattle.pgn_c.proofs.Words.{ap, ◌∙◌}
-use Rattle.pgn_game.specs.public.ConverterCalls.{Converter}
+use Rattle.pgn_c.proofs.Words.{ap, ◌∙◌, Converter}
 use Rattle.pgn_c.proofs.next_game.converter_at.Goals as goal
 
 pub returns : goal.returns

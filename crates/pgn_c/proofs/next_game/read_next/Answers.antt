@@ -1,6 +1,4 @@
-use Rattle.std.proofs.lemmas.Grind.{common_steps}
-use Rattle.pgn_c.proofs.Words.{false, drop, profile_counting, text_from, arith}
-use Rattle.pgn_layout.specs.Device.{device}
+use Rattle.pgn_c.proofs.Words.{false, drop, profile_counting, text_from, arith, common_steps, device}
 use Rattle.pgn_c.proofs.NextGames.{finds_as}
 use Rattle.pgn_c.proofs.next_game.read_next.Goals as goal
 
@@ -13,6 +11,3 @@ returns-clause-next g c =
 
 pub returns-clause-full : goal.returns-clause-full
 returns-clause-full g c = rw c.converter_at-converter.ensures.writes at c.run_next.ensures.full
-
-pub run_next-requires : goal.run_next-requires
-run_next-requires g c = grind (arith, common_steps)

@@ -1,7 +1,4 @@
-use Rattle.std.proofs.lemmas.Grind.{common_steps}
-use Rattle.pgn_c.proofs.Words.{◌≡◌, Bool, true, false, drop, refl, ap, text_from, ◌∙◌, arith}
-use Rattle.pgn_game.specs.public.ConverterCalls.{Converter}
-use Rattle.pgn_layout.specs.Device.{nowhere}
+use Rattle.pgn_c.proofs.Words.{◌≡◌, Bool, true, false, drop, refl, ap, text_from, ◌∙◌, arith, common_steps, Converter, nowhere}
 use Rattle.pgn_c.specs.NextGameSteps.{profile_if, silenced_if}
 use Rattle.pgn_c.proofs.NextGames.{finds_as}
 use Rattle.pgn_c.proofs.next_game.read_silently.Goals as goal

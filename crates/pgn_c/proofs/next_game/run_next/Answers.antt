@@ -1,7 +1,4 @@
-use Rattle.pgn_c.proofs.Words.{Ok, Err, true, false, drop, ap, ◌∙◌, arith, length-append, take_rest, length-drop}
-use Rattle.pgn_lexer.specs.WhiteSpace.{white_space}
-use Rattle.pgn_c.specs.NextGame.{in_first_column}
-use Rattle.pgn_layout.specs.Device.{device}
+use Rattle.pgn_c.proofs.Words.{Ok, Err, true, false, drop, ap, ◌∙◌, arith, length-append, take_rest, length-drop, white_space, in_first_column, device}
 use Rattle.pgn_c.proofs.NextGames.{ends_as, game_fed, fault_fed, game_at_end, none_at_end, fault_at_end}
 use Rattle.pgn_c.proofs.next_game.run_next.Goals as goal
 

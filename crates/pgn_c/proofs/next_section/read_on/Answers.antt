@@ -1,9 +1,7 @@
-use Rattle.std.proofs.Common.{◌≡◌, ap, ◌∙◌, subst, arith}
-use Rattle.pgn_sections.specs.declared.bad_game.BadGame.{BadGame}
+use Rattle.pgn_c.proofs.Words.{◌≡◌, ap, ◌∙◌, subst, arith, BadGame, FindsSection, game_of}
 use Rattle.pgn_sections.specs.declared.bad_game.Ends.{Ends}
 use Rattle.pgn_c.specs.declared.next_section.PgnBadGame.{PgnBadGame}
 use Rattle.pgn_c.proofs.SectionStructs.{game_kept}
-use Rattle.pgn_c.specs.NextSection.{FindsSection, game_of}
 use Rattle.pgn_c.proofs.next_section.read_on.Goals as goal
 
 found : (c : goal.After-section_result) → FindsSection c.args.ends c.args.game.now c.args.piece.now c.args.is_last c.struct_of.result c.section_result.result

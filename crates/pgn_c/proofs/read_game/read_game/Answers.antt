@@ -1,11 +1,7 @@
-use Rattle.std.proofs.lemmas.Grind.{common_steps}
-use Rattle.pgn_c.proofs.Words.{length, arith, profile_counting, profile_taking}
+use Rattle.pgn_c.proofs.Words.{length, arith, profile_counting, profile_taking, common_steps}
 use Rattle.pgn_game.specs.declared.marker.Marker.TheVariants.{Unknown}
 use Rattle.pgn_c.proofs.TagSections.{in_place, reads_tags}
 use Rattle.pgn_c.proofs.read_game.read_game.Goals as goal
-
-pub read_silently-found-requires : goal.read_silently-found-requires
-read_silently-found-requires c = grind (arith, common_steps)
 
 pub returns : goal.returns
 returns c =

@@ -1,5 +1,4 @@
-use Rattle.std.proofs.lemmas.Grind.{common_steps}
-use Rattle.pgn_c.proofs.Words.{List, ℕ, sym, ◌∙◌, ap, subst, take_rest, PgnTag, TagResult, first_pair, arith}
+use Rattle.pgn_c.proofs.Words.{List, ℕ, sym, ◌∙◌, ap, subst, take_rest, PgnTag, TagResult, first_pair, arith, common_steps}
 use Rattle.pgn_c.proofs.PairsOnLines.{not_found, found_there}
 use Rattle.pgn_c.proofs.tag.tag_at.Goals as goal
 

@@ -1,22 +1,9 @@
-use Rattle.pgn_tool.proofs.Words.{rules, Bool, Device, FileStep, GameFile, List, NotMade, Option, None, Some, bytes_in, failures_in, added, ap, append_assoc, ◌∙◌, ◌++◌, ◌≡◌, ℕ, device, false, subst, ReadsNext, seen, file_sink, CountsResult, arith, common_steps}
+use Rattle.pgn_tool.proofs.Words.{rules, Bool, Device, FileStep, GameFile, List, NotMade, Option, None, Some, bytes_in, failures_in, added, ap, append_assoc, ◌∙◌, ◌++◌, ◌≡◌, ℕ, device, false, subst, ReadsNext, seen, CountsResult, arith, common_steps}
 use Rattle.pgn_tool.proofs.split.write_to_file.Goals as goal
 
 -- the sink of games that are written, as it is
 openly : (P : Device → Type 0) (silent : Bool) (d e : Device) → silent ≡ false → d ≡ e → P (seen silent d) → P e
 openly P silent d e is same h = subst P same (subst (λ (b : Bool). P (seen b d)) is h)
-
-module _ {A : Type 0} (taken : A → Option (List ℕ)) (failures : A → ℕ) (log : Option (List FileStep)) where
-  -- the sink of a game, whose file was this before it
-  abbrev begun_with : (old file : GameFile A) → Device
-  begun_with old file = record {
-    before = bytes_in taken log old;
-    after = bytes_in taken log file;
-    failures = failures_in failures old;
-    failures_after = failures_in failures file;
-  }
-
-  not_made : (old file : GameFile A) → old ≡ NotMade → begun_with old file ≡ file_sink taken failures log file
-  not_made old file is = ap (λ (f : GameFile A). begun_with f file) is
 
 -- steps added in two parts
 in_two : (log mid after : Option (List FileStep)) (front steps : List FileStep) → mid ≡ added log front → after ≡ added mid steps
