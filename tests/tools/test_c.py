@@ -68,22 +68,28 @@ class Library:
                  for it in words]
         return getattr(self.calls, name)(*itertools.chain(*parts))
 
-    def filled(self, capacity, call):
-        """The result of a call that gets a buffer, and what it wrote there. All behind it stays."""
+    def filled(self, data, capacity, call, may_be_used=False):
+        """The result of a call that gets a buffer, and what it wrote there. All behind it stays.
+
+        Without a capacity there is room for all that comes of the data.
+        """
+        capacity = 64 * len(data) + 65536 if capacity is None else capacity
         buffer = ctypes.create_string_buffer(b"\xAA" * (capacity + 8), capacity + 8)
         result = call(buffer, capacity)
-        assert buffer.raw[result.written :] == b"\xAA" * (capacity + 8 - result.written)
+        assert result.written <= capacity
+        behind = capacity if may_be_used else result.written
+        assert buffer.raw[behind:] == b"\xAA" * (capacity + 8 - behind)
         return result, buffer.raw[: result.written]
 
     def convert(self, data, mode=0, capacity=None):
         """The result for the whole text, and what was written."""
-        capacity = 64 * len(data) + 65536 if capacity is None else capacity
-        return self.filled(capacity, lambda *room: self.call("pgn_convert", data, *room, mode))
+        return self.filled(data, capacity,
+                           lambda *room: self.call("pgn_convert", data, *room, mode))
 
     def next_game(self, data, at=0, mode=0, missing=0, capacity=None, name="pgn_next_game"):
         """The result for the game behind a place, and what was written."""
-        capacity = 64 * len(data) + 65536 if capacity is None else capacity
-        return self.filled(capacity, lambda *room: self.call(name, data, at, mode, missing, *room))
+        return self.filled(data, capacity,
+                           lambda *room: self.call(name, data, at, mode, missing, *room))
 
     def read_game(self, *words):
         """The same, but the tag section alone was written."""
@@ -91,20 +97,15 @@ class Library:
 
     def line(self, fen, data, line_format=0, capacity=None):
         """The result for a line of play, and the lines that were written."""
-        capacity = 108 * (len(data) + 1) if capacity is None else capacity
         result, text = self.filled(
-            capacity, lambda *room: self.call("pgn_line", fen, data, line_format, *room))
+            data, capacity, lambda *room: self.call("pgn_line", fen, data, line_format, *room))
         assert text.count(b"\n") == result.plies
         return result, text
 
     def items(self, data, at=0, first=0, fields=ALL_FIELDS, capacity=None):
         """The result for the items of the game behind a place, and the lines that were written."""
-        capacity = 999 * (len(data) + 1) if capacity is None else capacity
-        buffer = ctypes.create_string_buffer(b"\xAA" * (capacity + 8), capacity + 8)
-        result = self.call("pgn_items", data, at, first, fields, buffer, capacity)
-        assert buffer.raw[capacity:] == b"\xAA" * 8
-        assert result.written <= capacity
-        return result, buffer.raw[: result.written]
+        return self.filled(data, capacity, lambda *room: self.call(
+            "pgn_items", data, at, first, fields, *room), may_be_used=True)
 
     def fen_by(self, name, fen, capacity=96):
         """The result of a call that writes a form of a FEN, and what it wrote."""
@@ -331,7 +332,7 @@ class Installed:
                 data = vector["input"].encode()
                 whole, text = self.library.convert(data, mode)
                 found = list(self.library.games(data, mode))
-                last = found[-1][0]
+                last = self.check_games(data, found)
                 self.assertEqual(b"".join(it for _, it in found), text)
                 self.check(last, **chosen(whole, "fault", "place", "message"))
                 if whole.status == OK:
@@ -349,27 +350,22 @@ class Installed:
             for mode, option in ((0, []), (1, ["--reduced"])):
                 ran = run([program, "export", "--checked", *option, path])
                 found = list(self.library.games(data, mode, 1))
-                message, status = found[-1][0].message, found[-1][0].status
+                last = self.check_games(data, found)
                 self.assertEqual(b"".join(it for _, it in found), ran.stdout, vector["file"])
-                self.assertEqual((message + b"\n" * bool(message), status == NO_GAME),
+                self.assertEqual((last.message + b"\n" * bool(last.message), last.status == NO_GAME),
                                  (ran.stderr, ran.returncode == 0), vector["file"])
 
-    def test_what_is_said_of_a_game(self):
-        """Where it ends, which marker it has, and where that is."""
-        count = 0
-        for vector, missing in itertools.product(vectors(), (0, 1)):
-            data = vector["input"].encode()
-            for game, text in self.library.games(data, 0, missing):
-                if game.status != OK:
-                    self.check(game, end=0, marker_at=0, plies=0, marker=0)
-                    continue
-                marker = MARKERS[game.marker]
-                self.assertEqual(data[game.marker_at : game.end], marker)
-                self.check(game, fault=0, place=0, message=b"")
-                self.assertTrue(text.endswith(marker + b"\n\n"), text)
-                self.assertEqual(dict(tag_section(self.library, text)[0])[b"Result"], marker)
-                count += 1
-        self.assertGreater(count, 100)
+    def check_games(self, data, found):
+        """Where each game ends, its marker, and where that is. Gives the result at the end."""
+        *games, (last, _) = found
+        self.check(last, end=0, marker_at=0, plies=0, marker=0)
+        for game, text in games:
+            marker = MARKERS[game.marker]
+            self.assertEqual(data[game.marker_at : game.end], marker)
+            self.check(game, fault=0, place=0, message=b"")
+            self.assertTrue(text.endswith(marker + b"\n\n"), text)
+            self.assertEqual(dict(tag_section(self.library, text)[0])[b"Result"], marker)
+        return last
 
     def test_games_of_archives(self):
         """Plies and the last position are those of `list`."""
@@ -422,18 +418,9 @@ class Installed:
             # before the place
             self.check_nothing(call(TEXT, len(TEXT) + 1, 2), NO_MODE)
 
-    def test_conversions_into_buffers_of_each_size(self):
-        """A front is written, and nothing behind it."""
+    def test_conversions(self):
         all_games, whole = self.library.convert(TEXT)
         self.check(all_games, status=OK, games=2, plies=3, message=b"")
-        for capacity in range(len(whole)):
-            part, text = self.library.convert(TEXT, 0, capacity)
-            self.check(part, status=FULL, fault=51, games=0)
-            self.assertEqual(text, whole[:capacity])
-            self.assertLessEqual(part.place, len(TEXT))
-        for capacity in range(len(whole), len(whole) + 3):
-            same, text = self.library.convert(TEXT, 0, capacity)
-            self.assertEqual((fields(same), text), (fields(all_games), whole))
         none, text = self.library.convert(TEXT, 2)
         self.assertEqual((none.status, text), (NO_MODE, b""))
         reduced, text = self.library.convert(TEXT, 1)
@@ -441,22 +428,25 @@ class Installed:
         self.assertLess(len(text), len(whole))
 
     def test_buffers_of_each_size(self):
-        """For a game, and for its tag section alone."""
-        calls = self.library.next_game, self.library.read_game
-        for call, missing in itertools.product(calls, (0, 1)):
-            game, whole = call(TEXT, 0, 0, missing)
-            self.assertEqual((game.status, game.written), (OK, len(whole)))
+        """A front is written of all games, of a game, and of its tag section alone."""
+        read, game = self.library.read_game, {"end": 0, "marker": 0, "plies": 0, "fen": b""}
+        for call, words, nothing in ((self.library.convert, [0], {"games": 0}),
+                                     (self.library.next_game, [0, 0, 0], game),
+                                     (self.library.next_game, [0, 0, 1], game),
+                                     (read, [0, 0, 0], game), (read, [0, 0, 1], game)):
+            result, whole = call(TEXT, *words)
+            self.assertEqual((result.status, result.written), (OK, len(whole)))
             for capacity in range(len(whole)):
-                short, text = call(TEXT, 0, 0, missing, capacity)
-                self.check(short, status=FULL, fault=51, end=0, marker=0, plies=0, fen=b"",
+                short, text = call(TEXT, *words, capacity)
+                self.check(short, status=FULL, fault=51, **nothing,
                            message=b"byte %d: output cannot be written" % short.place)
                 self.assertEqual(text, whole[:capacity])
-                self.assertLessEqual(short.place, game.end)
-                if call == self.library.read_game:
-                    self.assertEqual(short.place, game.marker_at)
-            for capacity in (len(whole), len(whole) + 1):
-                same, text = call(TEXT, 0, 0, missing, capacity)
-                self.assertEqual((fields(same), text), (fields(game), whole))
+                self.assertLessEqual(short.place, getattr(result, "end", len(TEXT)))
+                if call == read:
+                    self.assertEqual(short.place, result.marker_at)
+            for capacity in range(len(whole), len(whole) + 3):
+                same, text = call(TEXT, *words, capacity)
+                self.assertEqual((fields(same), text), (fields(result), whole))
 
     def test_tag_sections_alone(self):
         """The result is that of the conversion, and the section its text up to the empty line."""
@@ -471,20 +461,19 @@ class Installed:
 
     def test_escape_lines(self):
         """`%` begins one in the first column of the text, whatever the place of the call."""
-        for before in (b"*\n", b"*\r", b"*\r\n", b"", b"\xEF\xBB\xBF", b"\n\n"):
-            text, at = before + b"% 1-0\n*", len(before)
-            game, _ = self.library.next_game(text, at)
-            self.check(game, before, status=OK, marker=4, end=at + 7)
-            lines, written = self.library.items(text, at)
-            self.assertEqual((lines.status, written), (OK, b"R\t*\n"), before)
-        for before in (b"* ", b"*", b"*\n ", b"\xBB\xBF", b"*\xEF\xBB\xBF", b"\n\xEF\xBB\xBF"):
-            text, at = before + b"% 1-0\n*", len(before)
-            game, _ = self.library.next_game(text, at)
-            self.check(game, before, status=FAULT, fault=1, place=at,
-                       message=b"byte %d: stray byte" % at)
-            lines, written = self.library.items(text, at)
-            self.check(lines, before, status=FAULT, fault=1, place=at, written=0)
-            self.assertEqual(written, b"")
+        lines_begin = b"*\n", b"*\r", b"*\r\n", b"", b"\xEF\xBB\xBF", b"\n\n"
+        for before in (*lines_begin, b"* ", b"*", b"*\n ", b"\xBB\xBF", b"*\xEF\xBB\xBF",
+                       b"\n\xEF\xBB\xBF"):
+            at = len(before)
+            game, _ = self.library.next_game(before + b"% 1-0\n*", at)
+            lines, written = self.library.items(before + b"% 1-0\n*", at)
+            if before in lines_begin:
+                self.check(game, before, status=OK, marker=4, end=at + 7)
+                self.assertEqual((lines.status, written), (OK, b"R\t*\n"), before)
+            else:
+                fault = {"status": FAULT, "fault": 1, "place": at}
+                self.check(game, before, **fault, message=b"byte %d: stray byte" % at)
+                self.check(lines, before, **fault, written=0)
 
     # ---- what else is said
 
@@ -584,9 +573,7 @@ class Installed:
 
     def test_lines_of_archives(self):
         """They are what pgn_san says of each move, and end in the last position of the game."""
-        for game, export in self.library.games(archive(40, "plain", 30)):
-            if game.status != OK:
-                break
+        for game, export in list(self.library.games(archive(40, "plain", 30)))[:-1]:
             movetext = export.partition(b"\n\n")[2][: -len(MARKERS[game.marker]) - 2]
             words = [it for it in movetext.split() if not it.endswith(b".")]
             _, text = self.library.line(INITIAL, movetext)
@@ -728,14 +715,13 @@ class Installed:
         If that is all, a comment of a line ends with it.
         """
         at = max([0] + [game.end for game, _ in self.library.games(front)])
-        for comment_end in (b"", b"}", b"\n"):
-            for depth in range(33):
-                for marker in MARKERS.values():
-                    end = comment_end + b" " + b")" * depth + b" " + marker
-                    game, export = self.library.next_game(front + end, at)
-                    if game.status == OK and game.end == len(front + end):
-                        is_closed = is_all and comment_end == b"\n"
-                        return export, -1 - depth - (len(comment_end) if not is_closed else 0)
+        for comment_end, depth, marker in itertools.product((b"", b"}", b"\n"), range(33),
+                                                            MARKERS.values()):
+            end = comment_end + b" " + b")" * depth + b" " + marker
+            game, export = self.library.next_game(front + end, at)
+            if game.status == OK and game.end == len(front + end):
+                is_closed = is_all and comment_end == b"\n"
+                return export, -1 - depth - (len(comment_end) if not is_closed else 0)
         # no item of movetext
         return []
 
@@ -800,14 +786,13 @@ class Installed:
     def test_items_from_each_number(self):
         replay = Replay(self.library)
         for data in (TEXT, archive(1, "annotated"), b"e4 (d4 {a word} d5 (c5)) e5 {one two"):
-            result, whole = self.library.items(data)
+            result, _ = self.library.items(data)
             texts = self.wanted(replay, data, *self.library.next_game(data))
             for first in (*range(len(texts) + 3), 1 << 32, (1 << 64) - 1):
                 same, text = self.library.items(data, 0, first)
                 self.assertEqual(text, b"".join(texts[first:]))
                 result.written = len(text)
                 self.assertEqual(fields(same), fields(result))
-            self.assertEqual(b"".join(texts), whole)
 
     def test_items_before_a_fault(self):
         """The lines before it, and where it is. A comment that is open has no line feed."""
