@@ -74,7 +74,8 @@ def texts_of(games):
 
 def pairs_of(texts):
     """The tag pairs of each export text."""
-    return [re.findall(r'(?m)^\[(\w+) "(.*)"\]$', it.decode()) for it in texts]
+    found = (re.findall(r'(?m)^\[(\w+) "(.*)"\]$', it.decode()) for it in texts)
+    return [[(name, re.sub(r"\\(.)", r"\1", value)) for name, value in it] for it in found]
 
 
 def first_game(data, **options):
@@ -323,8 +324,6 @@ class Games(Test):
 class LateTexts(Folder):
     """A game keeps its bytes of the source, and its text is made of them when it is asked for."""
 
-    ONE = (b'[Event "?"]\n[Site "?"]\n[Date "????.??.??"]\n[Round "?"]\n[White "%s"]\n'
-           b'[Black "?"]\n[Result "%s"]\n\n1. e4 %s\n\n')
     ARCHIVES = {
         "comments": b"{a % b} ; c {\n{d}\n[White {e} \"Ada\"] ;f\n{g} 1. e4 {h ; i} e5 ;j\n*{k}\n"
                     b"{l}\n1. d4 ! $7 {m\n%n} *",
@@ -333,10 +332,14 @@ class LateTexts(Folder):
                      b'[SetUp "1"] [FEN "4k3/8/8/8/8/8/4P3/4K3 b - - 00 01"] *1. e4 *',
         "line ends": b'\r\n[White "Ada"]\r\n\r\n1. e4 ; a\r\n{b\r\nc} e5\r\n*\r\n% d\r\n\r\n* e4\r*',
         "escapes": b"%\n% { a\n1. e4 *\n%b\n%c {\n \n% d\r% 1. e4 *\r\n*  e4\n%e }\n{\n%f\n} e5 *\n%\n%",
+        "comments, escapes and line ends": b'{a}\n%b\r\n1. e4 ; c\r\n (1. d4) *[White "a\\"b"] e4 *'
+                                           b"\n%\n\re4 *",
         "byte order mark": b"\xef\xbb\xbf1. e4 *\n1. d4 *",
+        "byte order mark and a game in an escape": b"\xef\xbb\xbf% 1. d4 *\n1. e4 *",
         "byte order mark and escape": b"\xef\xbb\xbf%a\n\n1. e4 *1. d4 *",
         "joined": b"e4**{a}*;b\n*e4 e5*",
         "results": b'[Result "1-0"] e4 1-0 [Result "0-1"] 0-1 [Result "1/2-1/2"]1/2-1/2 e4 *',
+        "missing results": b'e4 1-0 [White "a"] e4 0-1\n[Result "1/2-1/2"] e4 1/2-1/2 e4 *',
         "one": b"*", "none": b"", "no game": b"% a\n{b}\n",
         "tags": b"".join(b'[A%02d "%s"]\n' % (it, b"x" * 240) for it in range(57)) + b"1. e4 **",
         "a text of more than twice its bytes": b"Nf3!Nf6!Ng1!Ng8!" * 500 + b"* e4 *",
@@ -360,7 +363,9 @@ class LateTexts(Folder):
     def test_archives(self):
         options = ({}, {"checked": True}, {"reduced": True})
         for (name, data), options in itertools.product(self.ARCHIVES.items(), options):
-            if (name, options) == ("positions", {"reduced": True}):
+            # these are faults
+            if (name, *options) in (("positions", "reduced"), ("missing results", "reduced"),
+                                    ("missing results",)):
                 continue
             answers = self.answers(data, **options)
             wanted = [text for _, text in answers]
@@ -383,24 +388,6 @@ class LateTexts(Folder):
                 held = list(gillspoon.games(data, checked=True))
                 self.assertEqual(texts_of(held), wanted, name)
                 self.assertEqual(texts_of(gillspoon.games(data, checked=True)), wanted, name)
-
-    def test_literal_texts(self):
-        star = self.ONE % (b"?", b"*", b"*")
-        for data, wanted in (
-                (b"1. e4 *", [star]), (b"\xef\xbb\xbf% 1. d4 *\n1. e4 *", [star]),
-                (b"{a}\n%b\r\n1. e4 ; c\r\n (1. d4) *", [
-                    star.replace(b"e4", b"e4 { c } ( 1. d4 )")]),
-                (b'[White "a\\"b"] e4 *\n%\n\re4 *', [self.ONE % (b'a\\"b', b"*", b"*"), star])):
-            for source in self.sources(data):
-                self.assertEqual(texts_of(list(gillspoon.games(source))), wanted)
-        # a missing result from the marker, and one that is there
-        data = b'e4 1-0 [White "a"] e4 0-1\n[Result "1/2-1/2"] e4 1/2-1/2 e4 *'
-        players, results = (b"?", b"a", b"?", b"?"), (b"1-0", b"0-1", b"1/2-1/2", b"*")
-        wanted = [self.ONE % (name, it, it) for name, it in zip(players, results)]
-        for source in self.sources(data):
-            held = list(gillspoon.games(source, checked=True))
-            self.assertEqual([it.tags["Result"].encode() for it in held], list(results))
-            self.assertEqual(texts_of(held), wanted)
 
     def test_faults_between_games(self):
         """The sound games have the texts that they have by themselves."""
@@ -548,10 +535,7 @@ class Positions(Test):
             self.assertEqual((line.fen, [(it.number, it.san) for it in line]),
                              (fen, list(enumerate(sans, 1))))
             self.check(game, line)
-
-    def test_castling_and_promotion(self):
-        game = first_game(b'[FEN "r3k3/6P1/8/8/8/8/8/4K2R w Kq - 0 1"] O-O O-O-O g8=N *')
-        self.assertEqual([it.uci for it in game.mainline()], ["e1g1", "e8c8", "g7g8n"])
+        self.check(first_game(b'[FEN "r3k3/6P1/8/8/8/8/8/4K2R w Kq - 0 1"] O-O O-O-O g8=N *'))
 
     def test_a_call_for_each_line(self):
         game = first_game(b"e4 e5 (c5 Nf3 (c3) Nc6) Nf3 *")
@@ -736,18 +720,10 @@ class Positions(Test):
         self.assertEqual(found, list(range(0, 72, 2)))
         self.assertEqual(key, "rnbqkb1r/p1pp1ppp/1p2pn2/8/2PP4/5N2/PP2PPPP/RNBQKB1R w KQkq -")
 
-    def test_rights_and_targets_in_keys(self):
-        """A king that went and came back, and a pawn that may be taken, make another position."""
-        begun, still, kings, taken, untaken = (built(it).plies[-1].key for it in (
-            "e4 e5", "e4 e5 Nf3 Nf6 Ng1 Ng8", "e4 e5 Ke2 Ke7 Ke1 Ke8", "e4 a6 e5 d5",
-            "e3 d6 e4 a6 e5 d5"))
-        self.assertEqual(begun, still)
-        self.assertNotEqual(still, kings)
-        self.assertEqual((taken[:-2], taken[-2:], untaken[-1:]), (untaken[:-1], "d6", "-"))
-
     def test_keys_of_variations(self):
         line = first_line(b"1. e4 e5 ( 1... c5 2. Nf3 ) 2. Nf3 *")
-        for _, ply in steps(line):
+        others = built("e4 e5 Ke2 Ke7 Ke1 Ke8"), built("e4 a6 e5 d5"), built("e3 d6 e4 a6 e5 d5")
+        for _, ply in itertools.chain.from_iterable(map(steps, (line, *others))):
             self.assertEqual(ply.key, gillspoon.position_key(ply.fen))
         self.assertEqual(line.plies[1].variations[0].plies[0].key,
                          "rnbqkbnr/pp1ppppp/8/2p5/4P3/8/PPPP1PPP/RNBQKBNR w KQkq -")
@@ -1526,7 +1502,7 @@ class InPieces(unittest.TestCase):
         wanted = [b"".join(texts_of(gillspoon.games(it))) for it in texts]
         for size in (2000, gillspoon._games.PIECE):
             with mock.patch.object(gillspoon._games, "PIECE", size), \
-                    mock.patch.object(gillspoon._games, "games", side_effect=AssertionError):
+                    mock.patch.object(gillspoon._games, "_each", side_effect=AssertionError):
                 self.assertEqual([gillspoon.convert(it) for it in texts], wanted)
 
     def test_threads_convert_at_the_same_time(self):
