@@ -30,6 +30,7 @@ PACKAGE = ROOT + "/python"
 # The export of a game of nothing, up to the marker.
 HEAD = (b'[Event "?"]\n[Site "?"]\n[Date "????.??.??"]\n[Round "?"]\n[White "?"]\n[Black "?"]\n'
         b'[Result "*"]\n\n')
+UNKNOWN = HEAD + b"*\n\n"
 # Debian keeps games apart.
 PATH = os.environ.get("PATH", "") + ":/usr/games:/usr/sbin"
 DEBIAN = "/usr/share/cargo/registry"
@@ -278,6 +279,21 @@ def on_a_terminal(words, **more):
                 break
     os.close(ours)
     return shown.decode(errors="replace")
+
+
+def run_on_a_disk(size, script, folder, *words, **more):
+    """Runs a script of the shell with words, of which the first is a folder: a disk of this size.
+
+    The test is left out if none can be mounted.
+    """
+    need("unshare", "mount")
+    # root needs no other rights for this, and a chroot has no others
+    unshare = ["unshare", "-m" if os.geteuid() == 0 else "-rm"]
+    script = 'mount -t tmpfs -o size=%s none "$0" || exit 77; %s' % (size, script)
+    ran = run([*unshare, "sh", "-c", script, folder, *words], **more)
+    if ran.returncode == 77 or b"unshare" in ran.stderr:
+        not_tried("no file system can be mounted here")
+    return ran
 
 
 @contextlib.contextmanager

@@ -5,14 +5,30 @@ import unittest
 import programs
 from programs import PACKERS, ROOT, Folder, library, need, run, zip_of
 
-# A bad game of 30 bytes between two sound ones of 27; what is mended of it, and its place.
+# A bad game between two sound ones; what is mended of it, its place, and what BAD says of it.
 SOUND = b'[White "Ada"]\n\n1. e4 e5 *\n\n'
-TEXT = SOUND + b'[White "Bob"]\n\n1. e2-e4 e5 *\n\n' + SOUND
-MENDED = TEXT.replace(b"e2-e4", b"e2e4")
+OLD, NEW = b"1. e2-e4 e5 *\n", b"1. e2e4 e5 *\n"
+TEXT = SOUND + b'[White "Bob"]\n\n' + OLD + b"\n" + SOUND
 PLACE = 45
-# How gillspoon names the file in a zip, and what it is called otherwise.
-MEMBER = b"<stdin>:games.pgn:", b"<stdin>:"
-MEMBER_NOTE = b" of <stdin>:games.pgn"
+BAD = b"""%% byte 45%s: not a move; line 7
+%% bytes 27 to 57, up to the next line that begins a tag section, which is a guess
+""" + TEXT[27:58]
+EDIT = b"<stdin>:7:4: %s: long notation: e2-e4 \xe2\x86\x92 e2e4\n1 file, 3 games, 0 faults, 1 edit\n"
+FAULT = 1, b"<stdin>:7:4: not a move (game 2, Bob \xe2\x80\x93 ?)\n", b""
+MENDED = 0, TEXT.replace(OLD, NEW), EDIT % b"fixed"
+# Words of gillspoon, with @ for a file or a hyphen, and what they give.
+CALLS = {
+    "lint --quiet": FAULT, "lint --quiet @": FAULT, "lint --fix": MENDED, "lint --fix -": MENDED,
+    "lint --quiet --fix": (*MENDED[:2], b""),
+    "lint --diff @": (1, b"--- <stdin>\n+++ <stdin> mended\n@@ -4,7 +4,7 @@\n \n"
+                      b' [White "Bob"]\n \n-%s+%s \n [White "Ada"]\n \n' % (OLD, NEW),
+                      EDIT % b"would fix"),
+    "where @ %d" % PLACE: (0, b"<stdin>: line 7, column 4 (byte %d)\n%s   ^\n"
+                           b'game 2: White "Bob", Black "?", Event "?"\n' % (PLACE, OLD), b""),
+    "fmt --check @": (1, b"", b"gillspoon: <stdin>: byte %d: not a move\n" % PLACE),
+    "sieve @ good bad": (1, b"good: 2 games\nbad: 1 bad game set aside, 30 bytes\nThe end of a bad "
+                         b"game is a guess: the next line that begins a tag section.\n", b""),
+}
 
 
 class Compressed(Folder, unittest.TestCase):
@@ -34,44 +50,31 @@ class Compressed(Folder, unittest.TestCase):
         """The text, and what each kind makes of it."""
         return {"plain": text, **{kind: pack(text) for kind, pack in PACKERS.items()}}.items()
 
-    def test_each_script_reads_standard_input(self):
-        """It gives what it gives for the plain text.
+    def test_each_script_reads_it(self):
+        """From standard input and from a file it gives what it gives for the plain text.
 
         The file in a zip is named, and --fix writes an empty line behind it.
         """
         need("diff")
-        sound, head = SOUND * 2, b"<stdin>:7:4: "
-        fault = 1, head + b"not a move (game 2, Bob \xe2\x80\x93 ?)\n", b""
-        mended = 0, MENDED, head + (b"fixed: long notation: e2-e4 \xe2\x86\x92 e2e4\n"
-                                    b"1 file, 3 games, 0 faults, 1 edit\n")
-        wanted = {
-            "lint --quiet": fault, "lint --quiet -": fault, "lint --fix -": mended,
-            "lint --fix": mended, "lint --quiet --fix": (0, MENDED, b""),
-            "where - %d" % PLACE: (
-                0, b'<stdin>: line 7, column 4 (byte %d)\n1. e2-e4 e5 *\n   ^\n'
-                b'game 2: White "Bob", Black "?", Event "?"\n' % PLACE, b""),
-            "fmt --check -": (1, b"", b"gillspoon: <stdin>: byte %d: not a move\n" % PLACE),
-            "sieve - good bad": (
-                1, b"good: 2 games\nbad: 1 bad game set aside, 30 bytes\nThe end of a bad game is "
-                b"a guess: the next line that begins a tag section.\n", b""),
-        }
-        for kind, data in self.texts():
-            for line, said in wanted.items():
-                with self.subTest(kind=kind, line=line):
-                    status, out, told = self.call(line, data)
-                    if kind == "zip":
-                        out = out[:-2] if "--fix" in line else out.replace(*MEMBER)
-                        told = told.replace(*MEMBER)
-                    self.assertEqual((status, out, told), said)
-            self.assertIn(b"% byte 45" + MEMBER_NOTE * (kind == "zip") + b": not a move; line 7\n",
-                          self.get("bad"))
-            status, out, told = self.call("lint --diff -", data)
-            name = b"<stdin>" + MEMBER[0][7:-1] * (kind == "zip")
-            self.assertEqual((status, out.splitlines()[:2]), (
-                1, [b"--- " + name, b"+++ " + name + b" mended"]), told)
-            self.assertIn(b"\n-1. e2-e4 e5 *\n+1. e2e4 e5 *\n", out)
+        sound = SOUND * 2
         exported = self.call("fmt", sound)
         self.assertEqual(exported[0], 0)
+        for kind, data in self.texts():
+            file = self.put("a.pgn." + kind, data)
+            for line, said in CALLS.items():
+                for name in ("<stdin>", os.path.basename(file)) if "@" in line else ["<stdin>"]:
+                    member = b":games.pgn" * (kind == "zip")
+                    status, *told = self.call(line.replace("@", name.replace("<stdin>", "-")), data)
+                    told = [it.replace(name.encode() + member * (line[:5] != "where"), b"<stdin>")
+                            for it in told]
+                    if kind == "zip" and "--fix" in line:
+                        told[0] = told[0][:-2]
+                    with self.subTest(kind=kind, line=line, name=name):
+                        self.assertEqual((status, *told), said)
+                    if "sieve" in line:
+                        of = b" of %s%s" % (name.encode(), member) if member else b""
+                        self.assertEqual((self.get("good"), self.get("bad")),
+                                         (exported[1], BAD % of))
         for kind, data in self.texts(sound):
             self.assertEqual(self.call("fmt", data), exported, kind)
             self.assertEqual(self.call("lint", data),
@@ -79,22 +82,6 @@ class Compressed(Folder, unittest.TestCase):
             # what is sound comes out plain too
             status, out, _ = self.call("lint --fix -", data)
             self.assertEqual((status, out), (0, sound + b"\n\n" * (kind == "zip")), kind)
-
-    def test_each_script_reads_a_file(self):
-        for kind, data in self.texts():
-            name = "a.pgn" if kind == "plain" else "a.pgn." + kind
-            self.put(name, data)
-            for line, status, said in (
-                    ("lint %s", 1, b"%s:7:4: not a move"),
-                    ("where %%s %d" % PLACE, 0, b"%s: line 7, column 4"),
-                    ("fmt --check %s", 1, b"%s: byte 45: not a move"),
-                    ("sieve %s good bad", 1, b"1 bad game set aside")):
-                found, out, told = self.call(line % name)
-                self.assertEqual(found, status, (kind, line, told))
-                member = b":games.pgn" * (kind == "zip" and not line.startswith("where"))
-                self.assertIn(said.replace(b"%s", name.encode() + member), out + told)
-            name = b" of a.pgn.zip:games.pgn" * (kind == "zip")
-            self.assertIn(b"% byte 45" + name + b": not a move; line 7\n", self.get("bad"))
 
     def test_what_is_cut_off_is_told_without_a_temporary_name(self):
         """The status is 3, in one line; an output that is there stays as it is."""
@@ -105,10 +92,11 @@ class Compressed(Folder, unittest.TestCase):
                 self.put_all({"good": b"old", "bad": b"old"})
                 with self.subTest(kind=kind, line=line):
                     status, out, told = self.call(line, data[:len(data) * 3 // 4])
-                    lines = told.decode().splitlines()
                     self.assertEqual(status, 3)
-                    self.assertRegex(lines[0], r"^gillspoon: <stdin>: \S")
-                    self.assertNotIn("/", lines[0])
+                    self.assertRegex(told, rb"\Agillspoon: <stdin>: [^\n/]+\n\Z")
+                    if kind == "gz":
+                        self.assertIn(b": Compressed file ended before the end-of-stream marker was "
+                                      b"reached\n", told)
                     self.assertEqual((self.get("good"), self.get("bad")), (b"old", b"old"), out)
 
     def test_no_games(self):

@@ -13,8 +13,8 @@ import subprocess
 import sys
 import unittest
 
-from programs import (HEAD, PACKAGE, ROOT, bytes_of, files_up_to, need, need_package, not_tried,
-                      output_of, run, signalled, text_of)
+from programs import (HEAD, PACKAGE, ROOT, bytes_of, files_up_to, need, need_package, output_of, run,
+                      run_on_a_disk, signalled, text_of)
 from spellings import DOUBTFUL, LEFT, SAFE, UNSAFE
 from test_lint import LINT, Lint
 
@@ -514,11 +514,6 @@ class Command(Lint):
         before = os.stat(self.folder + "/a.pgn").st_ino
         self.says("--fix a.pgn", 0, "1 file, 1 game, 0 faults, 0 edits\n")
         self.assertEqual(os.stat(self.folder + "/a.pgn").st_ino, before)
-        # standard input
-        for line in ("--fix -", "--fix"):
-            self.says(line, 0, MENDED.decode(), LINE.replace("a.pgn", "<stdin>")
-                      + "1 file, 1 game, 0 faults, 1 edit\n", input=BAD)
-        self.says("--fix --quiet -", 0, MENDED.decode(), input=MENDED)
 
     def test_what_is_left(self):
         """It is reported by the lines of the new text, and unsafe edits are counted."""
@@ -543,10 +538,6 @@ class Command(Lint):
                          ["-1. e2-e4 e5 *", "+1. e2e4 e5 *"])
         self.assertEqual(self.get("a.pgn"), BAD)
         self.says("--diff --quiet a.pgn", 0, of=MENDED)
-        # a compressed file is compared, and not mended
-        self.assertEqual(self.lint("--fix a.pgn.gz", of=gzip.compress(BAD))[::2], (
-            3, "gillspoon: a.pgn.gz: is compressed: unpack it, or give it to --fix -\n"))
-        self.assertIn("+1. e2e4 e5 *", self.lint("--diff a.pgn.gz")[1])
 
     def test_names(self):
         self.assertEqual(self.lint("--fix --ignore long-notation a.pgn", of=BAD)[0], 1)
@@ -662,19 +653,13 @@ class Command(Lint):
 
     def test_a_full_file_system(self):
         """Files that have room are mended all the same."""
-        need("unshare", "mount")
         self.put_all({"text": BAD * 900, "small": BAD})
         os.mkdir(self.folder + "/disk")
         # 64 KiB, of which the first file has 40 and the second one 4
-        script = ('mount -t tmpfs -o size=64k none disk || exit 77; cp text disk/a.pgn; '
-                  'cp small disk/b.pgn; "$@" --fix disk/a.pgn disk/b.pgn; echo "status $?"; '
-                  'ls -A disk; cmp text disk/a.pgn && cat disk/b.pgn')
-        unshare = ["unshare", "-m" if os.geteuid() == 0 else "-rm"]
+        script = 'cp text disk/a.pgn; cp small disk/b.pgn; "$@" --fix disk/a.pgn disk/b.pgn; ' \
+            'echo "status $?"; ls -A disk; cmp text disk/a.pgn && cat disk/b.pgn'
         for words in ([], ["-j", "2"], ["--unsafe-fixes", "--verbose"]):
-            ran = run([*unshare, "sh", "-c", script, "sh", *LINT, *words], cwd=self.folder,
-                      env=self.env)
-            if ran.returncode == 77 or b"unshare" in ran.stderr:
-                not_tried("no file system can be mounted here")
+            ran = run_on_a_disk("64k", script, "disk", *LINT, *words, cwd=self.folder, env=self.env)
             self.assertEqual(ran.stdout.decode(), (
                 "disk/b.pgn:4:4: fixed: long notation: e2-e4 \u2192 e2e4\n"
                 "1 file, 1 game, 0 faults, 1 edit\nstatus 3\na.pgn\nb.pgn\n" + MENDED.decode()))
@@ -726,12 +711,9 @@ class ManyEdits(Lint):
     def test_quiet_has_none(self):
         need("diff")
         for count in (1, 250):
-            lines = self.fill(count)
+            self.fill(count)
             self.assertEqual(self.lint("--diff --quiet a.pgn")[2], "")
             self.says("--fix --quiet a.pgn", 0, files=self.mended(count))
-            self.fill(count)
-            self.assertEqual(len(self.lint("--fix a.pgn")[1].splitlines()),
-                             min(len(lines), 201) + 1)
         # what is left is written all the same
         self.says("--fix --quiet a.pgn", 1, ["a.pgn:4:9: not a move (game 1, Ada \u2013 Bob)"],
                   of=BAD.replace(b"e5", b"e9"))

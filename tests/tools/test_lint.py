@@ -9,7 +9,6 @@ import os
 import random
 import re
 import signal
-import stat
 import subprocess
 import sys
 import time
@@ -18,7 +17,7 @@ import unittest
 import programs
 from documents import blocks_of, lines_of
 from programs import (PACKAGE, PACKERS, ROOT, Folder, bytes_of, full_device, need, need_module,
-                      need_package, not_tried, run, text_of, vectors, zip_of)
+                      need_package, not_tried, run, text_of, vectors, without_rights, zip_of)
 from test_python import REAL
 
 setUpModule = need_package
@@ -102,34 +101,34 @@ BOARDS = {
 }
 
 
-def board_of(line, column, fen=None, said=None):
-    """What --board shows below the line of a fault."""
-    shown = [line, " " * column + "^"]
-    if fen:
-        ranks, side = fen.split()[:2]
-        for number, rank in zip(range(8, 0, -1), ranks.split("/")):
-            squares = re.sub(r"\d", lambda empty: int(empty[0]) * ".", rank)
-            shown.append("%d  %s" % (number, " ".join(squares)))
-        shown.append("   a b c d e f g h   %s to move" % ("White" if side == "w" else "Black"))
-        shown += [fen, said]
-    return "".join("  %s\n" % it if it else "\n" for it in shown)
+def board_of(fen, said):
+    """The lines that --board shows of a rejected move."""
+    ranks, side = fen.split()[:2]
+    for number, rank in zip(range(8, 0, -1), ranks.split("/")):
+        squares = re.sub(r"\d", lambda empty: int(empty[0]) * ".", rank)
+        yield "%d  %s" % (number, " ".join(squares))
+    yield "   a b c d e f g h   %s to move" % ("White" if side == "w" else "Black")
+    yield from (fen, said)
+
+
+def indented(lines):
+    return "".join("  %s\n" % it if it else "\n" for it in lines)
 
 
 WAYS_IN_A_FOLDER = {"ways/%s.pgn" % name: text for name, (text, _) in WAYS.items()}
 PACKED = ("gz", "bz2", "zst")
 NO_FILE = "has no file *.pgn, also with .gz, .bz2, .xz, .zst or .zip after it"
-QUEENS = "1k6/8/8/8/4Q2Q/8/8/K6Q w - - 0 1"
-KINGS = "4k3/8/8/8/8/8/8/4K3 %s - - 0 %s"
 CASTLING = ("White may not castle by %s here: the right is lost, a square between is occupied, "
             "or the king is in check, or passes or reaches an attacked square.")
 KING, PAWN = "The %s king cannot go to %s.", "No white pawn can go to %s."
-# For each vector in which a move is rejected the position before it, and the sentence.
+# For each vector in which a move is rejected the position before it, if that is not the first one
+# of the game, and the sentence.
 VECTORS = {
-    "faults.34": (INITIAL, KING % ("white", "e2")),
+    "faults.34": (None, KING % ("white", "e2")),
     "faults.34-a-number-joined-to-a-move": (
-        INITIAL, "No white pawn can go to e4 as 1e4 says, but one may from e2."),
+        None, "No white pawn can go to e4 as 1e4 says, but one may from e2."),
     "faults.34-no-letter": (
-        INITIAL, "A move without a letter is a pawn's: for the knight on g1 write Nf3."),
+        None, "A move without a letter is a pawn's: for the knight on g1 write Nf3."),
     "faults.34-illegal-king-move": (AFTER_E4_E5, KING % ("white", "e3")),
     "faults.34-castling": (AFTER_E4_E5, CASTLING % "O-O"),
     "faults.34-castling-after-the-king-moved": (
@@ -140,32 +139,25 @@ VECTORS = {
     "faults.34-in-a-second-game": (AFTER_E4_E5, KING % ("white", "e3")),
     "limits.a-line-that-is-full-before-the-fault": (AFTER_E4_E5, KING % ("white", "e3")),
     "position_faults.35-three-queens": (
-        QUEENS, "3 white queens may go to e1, from h1, e4 and h4: write Q1e1, Qee1 or Qh4e1."),
+        None, "3 white queens may go to e1, from h1, e4 and h4: write Q1e1, Qee1 or Qh4e1."),
     "position_faults.35-three-queens-a-file": (
-        QUEENS, "2 white queens may go to e1, from h1 and h4: write Q1e1 or Qh4e1."),
+        None, "2 white queens may go to e1, from h1 and h4: write Q1e1 or Qh4e1."),
     "position_faults.35-three-queens-a-rank": (
-        QUEENS, "2 white queens may go to e1, from e4 and h4: write Qee1 or Qh4e1."),
+        None, "2 white queens may go to e1, from e4 and h4: write Qee1 or Qh4e1."),
     "position_faults.34-en-passant-discovers": (
-        "8/8/8/K2pP2r/8/8/8/7k w - d6 0 1",
-        "A white pawn can go to d6 from e5, but its king would then be in check."),
-    "position_faults.34-castling-through-an-attack": (
-        "4k3/8/8/8/8/5r2/8/4K2R w K - 0 1", CASTLING % "O-O"),
-    "position_faults.34-castling-as-a-king-s-move": (
-        "r3k2r/8/8/8/8/8/8/R3K2R w KQkq - 0 1", KING % ("white", "g1")),
-    "position_faults.34-bare-promotion": (
-        "8/P6k/8/8/8/8/8/K7 w - - 0 1", "A white pawn is promoted on a8: write a8=Q."),
-    "position_faults.36-number-limit": (
-        KINGS % ("b", "99999"), "No FEN has a move number above 99,999."),
-    "position_faults.34-no-such-move-at-the-limit": (
-        KINGS % ("b", "99999"), KING % ("black", "d6")),
-    "position_faults.34-the-side-not-to-move": (KINGS % ("w", "1"), KING % ("white", "d8")),
+        None, "A white pawn can go to d6 from e5, but its king would then be in check."),
+    "position_faults.34-castling-through-an-attack": (None, CASTLING % "O-O"),
+    "position_faults.34-castling-as-a-king-s-move": (None, KING % ("white", "g1")),
+    "position_faults.34-bare-promotion": (None, "A white pawn is promoted on a8: write a8=Q."),
+    "position_faults.36-number-limit": (None, "No FEN has a move number above 99,999."),
+    "position_faults.34-no-such-move-at-the-limit": (None, KING % ("black", "d6")),
+    "position_faults.34-the-side-not-to-move": (None, KING % ("white", "d8")),
     "position_faults.34-a-king-beside-a-king": (
-        "4k3/4p3/4K3/8/8/8/8/8 w - - 0 1",
-        "The white king can go to e7, but would be in check there."),
+        None, "The white king can go to e7, but would be in check there."),
     "variations.a-move-from-the-position-after-the-variation": (AFTER_E4_E5, PAWN % "d5"),
     "variations.a-move-from-the-position-after-the-variation-reduced": (AFTER_E4_E5, PAWN % "d5"),
-    "variations.a-move-of-the-side-not-to-move-in-a-variation": (INITIAL, PAWN % "e5"),
-    "variations.a-move-of-the-side-not-to-move-in-a-variation-reduced": (INITIAL, PAWN % "e5"),
+    "variations.a-move-of-the-side-not-to-move-in-a-variation": (None, PAWN % "e5"),
+    "variations.a-move-of-the-side-not-to-move-in-a-variation-reduced": (None, PAWN % "e5"),
 }
 FIELDS = ["kind", "file", "line", "column", "offset", "number", "reason", "note", "game", "white",
           "black", "begin", "end", "text", "before", "fen", "move", "legal", "exposing",
@@ -302,8 +294,10 @@ class Faults(Lint):
             with self.subTest(name):
                 text, lines = WAYS[name]
                 _, out, _ = self.lint("--board --quiet a.pgn", of=text)
-                self.assertEqual(re.sub(r"(?m)^ +$", "", out),
-                                 "a.pgn:%s\n%s\n" % (lines[0], board_of(*shown)))
+                line, column, *board = shown
+                board = board_of(*board) if board else []
+                self.assertEqual(out, "a.pgn:%s\n%s\n" % (
+                    lines[0], indented([line, " " * column + "^", *board])))
         # a check mark behind a pawn's move belongs to no promotion that is proposed
         promotes = b'[FEN "8/P6k/8/8/8/8/8/K7 w - - 0 1"]\n[SetUp "1"]\n\n1. a8+ *\n'
         for text, said in ((promotes, "A white pawn is promoted on a8: write a8=Q."),
@@ -323,7 +317,7 @@ class Faults(Lint):
                   if it.get("fault", {}).get("number") in (34, 35, 36)}
         self.assertEqual(set(wanted), set(VECTORS))
         self.put_all({"all/%s.pgn" % name: it["input"] for name, it in wanted.items()})
-        found, boards = {}, self.boards("all")
+        found, boards = {}, self.lint("--board --quiet all")[1]
         for it in self.records("all"):
             found.setdefault(it.get("file"), it)
         for name, vector in wanted.items():
@@ -331,20 +325,12 @@ class Faults(Lint):
                 first = found["all/%s.pgn" % name]
                 self.assertEqual((first["number"], first["offset"]),
                                  (vector["fault"]["number"], vector["fault"]["place"]))
-                self.assertEqual((first["fen"], first["explanation"]), VECTORS[name])
-                self.assertEqual(boards["all/%s.pgn" % name], first["fen"].split()[:2])
-
-    def boards(self, folder):
-        """For each file the first two fields of a FEN, as the first board of it shows them."""
-        found = {}
-        for name, lines in re.findall(r"(?m)^(\S+\.pgn):\d+:\d+: .*\n((?:  .*\n)+)", self.lint(
-                "--board --quiet " + folder)[1]):
-            rows = re.findall(r"(?m)^  [1-8]  ((?:[.\w] ){7}[.\w])$", lines)
-            fields = "/".join(re.sub(r"\.+", lambda it: str(len(it[0])), row.replace(" ", ""))
-                              for row in rows)
-            side = re.search(r"(?m)^     a b c d e f g h   (White|Black) to move$", lines)[1]
-            found.setdefault(name, [fields, side[0].lower()])
-        return found
+                fen, said = VECTORS[name]
+                tag = re.search(r'\[FEN "(.*)"\]', vector["input"])
+                fen = fen or (tag[1] if tag else INITIAL)
+                self.assertEqual((first["fen"], first["explanation"]), (fen, said))
+                shown = boards.partition("all/%s.pgn:" % name)[2].split("\n", 3)[3]
+                self.assertTrue(shown.startswith(indented(board_of(fen, said)) + "\n"), shown)
 
     def test_doctests(self):
         for name in ("_doubts", "_findings", "_kinds", "_reports", "_warnings"):
@@ -520,11 +506,6 @@ class Files(Lint):
         self.assertEqual(self.lint("--quiet a.pgn", of=text, env=env)[1],
                          "a.pgn:4:13: move is not legal (game 1, Ad? - Bob)\n")
 
-    def test_standard_input(self):
-        self.put("good.pgn", GOOD)
-        for line in ("", "-", "-j 2 - good.pgn"):
-            self.says("--quiet " + line, 1, "<stdin>:%s\n" % BAD_LINE, input=BAD)
-
     def test_what_cannot_be_read(self):
         self.put_all({"good.pgn": GOOD, "bad.pgn": BAD,
                       "cut.pgn.gz": gzip.compress(GOOD * 100)[:-20]})
@@ -545,20 +526,12 @@ class Files(Lint):
         self.put("a.pgn", GOOD)
         os.chmod(self.folder + "/a.pgn", 0)
         os.chmod(self.folder, 0o755)
-        words = [sys.executable, *LINT, "a.pgn"]
-        if os.geteuid() == 0:
-            need("setpriv")
-            words = ["setpriv", "--reuid=65534", "--clear-groups", *words]
+        words = [*without_rights(self, LINT[0])[:-1], *LINT, "a.pgn"]
         ran = run(words, cwd=self.folder, env=self.env)
         if b"build" in ran.stderr or b"cannot be used" in ran.stderr:
             not_tried("another user cannot read the library")
         self.assertEqual((ran.returncode, ran.stderr),
                          (3, b"gillspoon: a.pgn: Permission denied\n"))
-
-    def test_no_library(self):
-        status, out, told = self.lint("a.pgn", env=dict(self.env, GILLSPOON_LIBRARY="/missing.so"))
-        self.assertEqual((status, out), (127, ""))
-        self.assertIn("/missing.so cannot be used", told)
 
 
 NO_TEXT = "is not a text of games: UTF-16 has to be converted, and another archive unpacked"
@@ -766,9 +739,9 @@ class Options(Lint):
         for number in range(20):
             self.put("all/%d.pgn" % number, b"\n".join([GOOD, BAD, GOOD][:number % 4] * number))
         for line in ("--board", "--json", "--sarif", "--quiet", "--max 7"):
-            one = self.lint(line + " all missing")
+            one = self.lint(line + " all missing -", input=BAD)
             self.assertEqual(one[0], 3)
-            self.says(line + " -j 3 all missing", *one)
+            self.says(line + " -j 3 all missing -", *one, input=BAD)
 
     def test_json(self):
         fault, summary = self.records("a.pgn", of=WAYS["an exposed king"][0])
@@ -1062,8 +1035,3 @@ class Others(Lint):
         result, = json.loads(self.get(name))["runs"][0]["results"]
         place = result["locations"][0]["physicalLocation"]
         self.assertEqual(place["artifactLocation"]["uri"], "games/a.pgn")
-
-
-class Script(unittest.TestCase):
-    def test_it_can_be_run(self):
-        self.assertTrue(os.stat(LINT[0]).st_mode & stat.S_IXUSR)

@@ -57,7 +57,7 @@ class Kept(Folder, unittest.TestCase):
         before = sorted(os.listdir(self.folder))
         ran = self.call(*words, **more)
         with self.subTest(words):
-            self.assertEqual((ran.returncode, ran.stderr.count(b"\n")), (status, 1), ran.stderr)
+            self.check_refused(ran, status)
             self.assertEqual([self.get(name) for name in outputs], [OLD] * len(outputs))
             self.assertEqual(sorted(os.listdir(self.folder)), before)
 
@@ -195,8 +195,11 @@ class Lint(Kept):
                 self.assertEqual((ran.returncode, self.get(name)), (status, before), name)
 
     def test_without_a_library(self):
-        ran = self.call("lint", "--fix", "bad.pgn", env={"GILLSPOON_LIBRARY": "/none"})
-        self.assertEqual((ran.returncode, self.get("bad.pgn")), (127, SOUND + BAD))
+        for words in (["--fix"], []):
+            ran = self.call("lint", *words, "bad.pgn", env={"GILLSPOON_LIBRARY": "/none"})
+            self.check_refused(ran, 127)
+            self.assertIn(b"/none cannot be used", ran.stderr)
+            self.assertEqual(self.get("bad.pgn"), SOUND + BAD)
 
 
 class Split(Kept):

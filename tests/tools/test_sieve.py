@@ -1,5 +1,4 @@
 """Tests of gillspoon sieve."""
-import gzip
 import os
 import random
 import re
@@ -221,10 +220,6 @@ class SieveTest(programs.Folder, unittest.TestCase):
         done = Sieved(self, (A + bad + b"\n") * 3)
         self.sieved(done.bad.replace(b"e9 *", b"e5 *"), [], good=bad.replace(b"e9", b"e5") * 3)
 
-    def test_good_exports_to_itself(self):
-        done = Sieved(self, A + BAD[0][1] + b"\n" + B)
-        self.assertEqual(export(done.good), done.good)
-
     def test_random_damage(self):
         rng = random.Random(7)
         base = b"".join(sound(b"%d" % n, it) for n, it in enumerate([
@@ -267,24 +262,6 @@ class SieveTest(programs.Folder, unittest.TestCase):
         self.assertEqual(sorted(os.listdir(folder)), ["a.pgn", "link.pgn"])
         self.assertEqual(self.get("a.pgn"), A)
 
-    def test_a_compressed_archive(self):
-        """Where it is cut off, the outputs stay as they are."""
-        plain = Sieved(self, A + b"1. e9 *\n")
-        self.assertIn(b"1. e9 *", plain.bad)
-        packed = gzip.compress(plain.text)
-        done = Sieved(self, packed)
-        self.assertEqual((done.good, done.bad), (plain.good, plain.bad))
-        outputs = [plain.folder + "/g", plain.folder + "/b"]
-        self.assertEqual(call(["-", *outputs], input=packed).returncode, 1)
-        self.outputs(plain, *outputs)
-        plain.put("in.pgn", packed[:-9])
-        for name, more in (("-", {"input": packed[:-9]}), (plain.paths[0], {})):
-            said = "<stdin>" if name == "-" else name
-            self.check(call([name, *outputs], **more), 3, b"", (
-                "gillspoon: %s: Compressed file ended before the end-of-stream marker was "
-                "reached\n" % said).encode())
-            self.outputs(plain, *outputs)
-
     def test_a_pipe_is_read(self):
         done = Sieved(self, A + BAD[0][1])
         script = 'cat in.pgn | "$@" /dev/stdin g b'
@@ -324,12 +301,12 @@ class SieveTest(programs.Folder, unittest.TestCase):
             self.assertEqual(done.get(done.folder + "/it"), wanted)
 
     def test_standard_input(self):
+        """It is a file; test_compressed has a pipe."""
         done = Sieved(self, A + BAD[0][1] + b"\n" + B + BAD[-1][1])
         outputs = [done.folder + "/g", done.folder + "/b"]
         with open(done.paths[0], "rb") as file:
-            for more in ({"input": done.text}, {"stdin": file}):
-                output_of(call(["-", *outputs], **more), 1)
-                self.outputs(done, *outputs)
+            output_of(call(["-", *outputs], stdin=file), 1)
+        self.outputs(done, *outputs)
         self.assertEqual(call(["-", *done.paths[1:]], input=A).returncode, 0)
 
     def test_dev_null_as_an_output(self):
@@ -386,14 +363,6 @@ class SieveTest(programs.Folder, unittest.TestCase):
         done = Sieved(self, A)
         with programs.closed_pipe() as closed:
             output_of(call(done.paths, stdout=closed), 3)
-
-    def test_without_the_library(self):
-        done = Sieved(self, A)
-        env = dict(os.environ, GILLSPOON_LIBRARY=done.folder + "/none")
-        ran = run([sys.executable, *SIEVE, *done.paths], env=env)
-        self.check_refused(ran, 127)
-        self.assertIn(b"in the repository run bin/build_program --library", ran.stderr)
-        self.assertEqual(sorted(os.listdir(done.folder)), ["bad.pgn", "good.pgn", "in.pgn"])
 
     def test_outputs_keep_their_mode_and_follow_links(self):
         done = Sieved(self, A)

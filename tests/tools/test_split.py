@@ -1,12 +1,13 @@
-"""Tests of `pgn_tool split` with real files, folders and devices, and of FILE and its absence."""
+"""Tests of `pgn_tool split` with real files, folders and devices."""
 import os
+import resource
 import subprocess
 import tempfile
 import unittest
 
-from programs import HEAD, Folder, files_up_to, full_device, output_of, run, without_rights
+from programs import (HEAD, UNKNOWN, Folder, files_up_to, full_device, output_of, run,
+                      without_rights)
 
-UNKNOWN = HEAD + b"*\n\n"
 UNWRITTEN = b"byte %d: output cannot be written\n"
 
 
@@ -82,29 +83,11 @@ class SplitTest(Folder, unittest.TestCase):
         self.assertEqual(len(files["000002.pgn"]), 512)
 
     def test_each_file_is_closed(self):
-        ran = self.split(b"*\n" * 200, preexec_fn=limit_open_files)
+        limits = resource.RLIMIT_NOFILE, (64, 64)
+        ran = self.split(b"*\n" * 200, preexec_fn=lambda: resource.setrlimit(*limits))
         self.check(ran, 0, b"", {"%06d.pgn" % it: UNKNOWN for it in range(1, 201)})
 
     def test_closed_standard_streams(self):
         output_of(subprocess.run(["sh", "-c", 'exec "$@" >&- 2>&-', "sh", self.program, "split",
                                   self.folder], input=b"*", check=False), err=None)
         self.assertEqual(self.files(), {"000001.pgn": UNKNOWN})
-
-
-def limit_open_files():
-    import resource
-    resource.setrlimit(resource.RLIMIT_NOFILE, (64, 64))
-
-
-class InputTest(Folder, unittest.TestCase):
-    """FILE is what is read; without it, standard input."""
-
-    def test_input(self):
-        for words, text in (([self.put("games.pgn", b"* * *")], b"games: 3, plies: 0\n"),
-                            ([], b"games: 1, plies: 0\n")):
-            self.check(run([self.program, "check", *words], input=b"*"), 0, text)
-        # a file that cannot be opened
-        for command in ("export", "check", "list"):
-            for name in ("/missing/file", "/"):
-                self.check(run([self.program, command, name], input=b"*"), 1, b"",
-                           b"byte 0: input cannot be read\n")

@@ -5,10 +5,9 @@ import subprocess
 import threading
 import unittest
 
-from programs import (HEAD, Folder, full_device, need, not_tried, opens_closed_streams, output_of,
-                      run, without_rights)
+from programs import (HEAD, UNKNOWN, Folder, full_device, opens_closed_streams, output_of, run,
+                      run_on_a_disk, without_rights)
 
-UNKNOWN = HEAD + b"*\n\n"
 TWO = b"1. e4 e5 2. Nf3 * *\n"
 UNREAD = b"byte 0: input cannot be read\n"
 UNWRITTEN = b"output cannot be written\n"
@@ -52,11 +51,12 @@ class StreamTest(Folder, unittest.TestCase):
         self.check(ran, 0, WRITTEN["check"])
 
     def test_file_that_cannot_be_read(self):
-        """It is a broken link, or a user may not."""
+        """It is a broken link or a folder, or a user may not."""
         link, path = self.folder + "/link", self.put("hidden.pgn", TWO)
         os.symlink("nowhere", link)
         for task in WRITTEN:
-            self.check(run([self.program, task, link], input=TWO), 1, b"", UNREAD)
+            for name in (link, self.folder, "/missing/file"):
+                self.check(run([self.program, task, name], input=TWO), 1, b"", UNREAD)
         os.chmod(path, 0)
         os.chmod(self.folder, 0o755)
         words = without_rights(self, self.program)
@@ -141,15 +141,9 @@ class StreamTest(Folder, unittest.TestCase):
             self.check(self.closing("2>&1", *words.split(), path), 1, text + NO_MOVE)
 
     def test_full_file_system(self):
-        need("unshare", "mount")
-        script = ('mount -t tmpfs -o size=16k none "$2" || exit 77; "$1" split "$2"; '
-                  'echo "status $?"; cat "$2/000001.pgn"')
+        script = '"$1" split "$0"; echo "status $?"; cat "$0/000001.pgn"'
         text = b"* 1. e4 {" + b"word " * 20000 + b"} *"
-        # root needs no other rights for this, and a chroot has no others
-        unshare = ["unshare", "-m" if os.geteuid() == 0 else "-rm"]
-        ran = run([*unshare, "sh", "-c", script, "sh", self.program, self.folder], input=text)
-        if ran.returncode == 77 or b"unshare" in ran.stderr:
-            not_tried("no file system can be mounted here")
+        ran = run_on_a_disk("16k", script, self.folder, self.program, input=text)
         self.assertEqual(ran.stdout, b"status 1\n" + UNKNOWN)
         self.assertRegex(ran.stderr, rb"^byte \d+: output cannot be written\n$")
 
