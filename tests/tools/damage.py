@@ -16,7 +16,6 @@ import os
 import random
 import re
 import sys
-from typing import NamedTuple
 
 if __name__ == "__main__":
     sys.path.insert(0, os.path.dirname(os.path.realpath(__file__)))
@@ -34,7 +33,8 @@ QUOTES = ("\u201c".encode(), "\u201d".encode())
 # A move, or a marker of more than one byte.
 MOVE = re.compile(rb"(?<![\w+#=:/\[\"-])(?:[KQRBN]?[a-h]?[1-8]?x?[a-h][1-8](?:=[QRBN])?|O-O(?:-O)?)"
                   rb"[+#]*|(?<!\S)(?:1-0|0-1|1/2-1/2)")
-PAIR_LINE = re.compile(rb"(?m)^\[(\w+) \"[^\"\n]*\"\][ \t]*\n")
+# The name of a tag pair, its quotes, and its bracket.
+PAIR_LINE = re.compile(rb"(?m)^\[(\w+) (\")[^\"\n]*(\")(\])[ \t]*\n")
 # Two moves behind a number with one period; a capture of a pawn; a comment in braces.
 PAIR_OF_MOVES = re.compile(rb"(?<![\w.])[0-9]+\.[ \n]?(?:%(move)s)([ \n])(?=%(move)s)" % {
     b"move": MOVE.pattern})
@@ -44,14 +44,8 @@ COMMENT = re.compile(rb"\{[^{}]*\}")
 RESULT = re.compile(rb"(?<!\S)(?:1-0|0-1|1/2-1/2)(?=\s)")
 LINE = re.compile(rb"[^\n]*\n")
 MOVE_LINE = re.compile(rb"(?m)^[^\[\n][^\n]*\n")
-
-
-class Damaged(NamedTuple):
-    """A text with damages, each with its name and whether it is silent."""
-
-    reference: bytes
-    text: bytes
-    damages: list
+# A text with damages: of each its name, whether it is silent, and its edits.
+Damaged = collections.namedtuple("Damaged", "reference text damages")
 
 
 # ---- sound games
@@ -134,20 +128,13 @@ def at_one(pattern, edits_of, place=anywhere):
     return damage
 
 
-def quotes_of(pair):
-    """The places of the first and the last quote of a tag pair."""
-    return pair.start() + pair[0].index(b'"'), pair.start() + pair[0].rindex(b'"')
-
-
-def wrapped_move(rng, move):
-    at = rng.randrange(move.start() + 1, move.end())
-    return [(at, at, rng.choice((b"\n", b"\n", b"\r\n", b"\r")))]
+def put_in(at, new):
+    return [(at, at, new)]
 
 
 def replaced(pattern, *texts, place=movetext_or_all):
     """A damage by which one of some texts is in the place of a match."""
-    return at_one(pattern, lambda rng, found: [
-        (*found.span(), rng.choice(texts) if texts[1:] else texts[0])], place)
+    return at_one(pattern, lambda rng, found: [(*found.span(), rng.choice(texts))], place)
 
 
 def zero_width(rng, text):
@@ -156,7 +143,7 @@ def zero_width(rng, text):
         at = rng.randint(*move.span()) if move else 0
     else:
         at = rng.randrange(len(text))
-    return [(at, at, rng.choice(ZERO_WIDTH))]
+    return put_in(at, rng.choice(ZERO_WIDTH))
 
 
 def confused(*letters):
@@ -178,7 +165,7 @@ def byte_dropped(rng, text):
 
 def byte_doubled(rng, text):
     at = byte_of_a_move(rng, text)
-    return [(at, at, text[at:at + 1])]
+    return put_in(at, text[at:at + 1])
 
 
 def line_dropped(rng, text):
@@ -202,7 +189,7 @@ def tag_doubled(rng, text):
         return []
     # in most cases it is behind its line, in some behind another one or on its line
     at = rng.choice((pair.end(), pair.end(), other.end(), pair.end() - 1))
-    return [(at, at, pair[0])]
+    return put_in(at, pair[0])
 
 
 def files_joined(rng, text):
@@ -226,7 +213,7 @@ def file_cut(rng, text):
 def other_quotes(*quotes):
     """A damage by which a value has other quotes at both ends, or at one."""
     def edits_of(rng, pair):
-        edits = [(at, at + 1, new) for at, new in zip(quotes_of(pair), rng.choice(quotes))]
+        edits = [(*pair.span(quote), new) for quote, new in zip((2, 3), rng.choice(quotes))]
         return rng.choice((edits, edits, edits[:1], edits[1:]))
 
     return at_one(PAIR_LINE, edits_of)
@@ -234,15 +221,10 @@ def other_quotes(*quotes):
 
 def sign_behind_name(rng, pair):
     """In some pairs the quotes are curly too."""
-    at, last = pair.end(1), quotes_of(pair)[1]
+    at, last = pair.end(1), pair.start(3)
     edits = [(at, at + rng.choice((0, 1)), rng.choice((b":", b"=", b": ", b" = ")))]
     is_curly = rng.random() < 0.4
     return edits + [(at + 1, at + 2, QUOTES[0]), (last, last + 1, QUOTES[1])] * is_curly
-
-
-def bracket_missing(rng, pair):
-    at = pair.start() + pair[0].rindex(b"]")
-    return [(at, at + 1, b"")]
 
 
 def look_alike(rng, move):
@@ -257,29 +239,12 @@ def braces_in_a_comment(rng, comment):
     return [(first, first, b"{"), (last, last, b"}")] if first < last else [(first, first, b"{}")]
 
 
-def capture_without_rank(rng, text):
-    found = one_of(rng, PAWN_CAPTURE.finditer(text))
-    sign = rng.choice((b"", b"x"))
-    return [(*found.span(), found[1] + sign + found[2])] if found else []
-
-
-def king_for_castling(rng, text):
-    found = one_of(rng, CASTLING.finditer(text))
-    square = b"K%s%d" % (b"c" if found and found[1] else b"g", rng.choice((1, 8)))
-    return [(*found.span(), square)] if found else []
-
-
-def time_of_a_move(rng, move):
-    time = b" (%d:%02d)" % (rng.randrange(60), rng.randrange(60))
-    return [(move.end(), move.end(), time)]
-
-
 def soft_hyphen(rng, text):
     """In most cases it is beside a blank."""
     blank = one_of(rng, re.compile(rb"[ \n]").finditer(text, *movetext_or_all(rng, text)))
     is_beside = blank and rng.random() < 0.8
     at = rng.choice(blank.span()) if is_beside else rng.randrange(len(text))
-    return [(at, at, SOFT_HYPHEN)]
+    return put_in(at, SOFT_HYPHEN)
 
 
 def result_misread(rng, found):
@@ -291,11 +256,6 @@ def result_misread(rng, found):
     return [(*found.span(), new)] if new != old else []
 
 
-def space_put_in(rng, text):
-    at = rng.randrange(*movetext_or_all(rng, text))
-    return [(at, at, b" ")]
-
-
 def cr_for_lf(rng, text):
     ends = [(*it.span(), b"\r") for it in re.finditer(rb"\n", text)]
     return ends if rng.random() < 0.3 else [rng.choice(ends)] if ends else []
@@ -303,34 +263,41 @@ def cr_for_lf(rng, text):
 
 # The kinds of damage, which are equally frequent, and in each its damages.
 KINDS = (
-    {"a line wrapped inside a move": at_one(MOVE, wrapped_move), "CR for LF": cr_for_lf},
+    {"a line wrapped inside a move": at_one(MOVE, lambda rng, move: put_in(
+        rng.randrange(move.start() + 1, move.end()), rng.choice((b"\n", b"\n", b"\r\n", b"\r")))),
+     "CR for LF": cr_for_lf},
     {"a no-break space": replaced(rb" ", *NO_BREAK), "a zero-width character": zero_width},
     {"8 and B": confused(b"8", b"B")},
     {"0 and O": confused(b"0", b"O")},
     {"1, l and I": confused(b"1", b"l", b"I")},
     {"a byte dropped": byte_dropped, "a byte doubled": byte_doubled,
      "a line dropped": line_dropped,
-     "a line doubled": at_one(LINE, lambda rng, line: [(line.end(), line.end(), line[0])]),
+     "a line doubled": at_one(LINE, lambda rng, line: put_in(line.end(), line[0])),
      "a tag dropped": tag_dropped, "a tag doubled": tag_doubled},
     {"files joined without an end": files_joined},
     {"a cut file": file_cut},
     {"curly quotes": other_quotes(QUOTES)},
-    {"a space put in": space_put_in, "a space taken out": replaced(rb"[ \n]", b"")},
+    {"a space put in": lambda rng, text: put_in(
+        rng.randrange(*movetext_or_all(rng, text)), b" "),
+     "a space taken out": replaced(rb"[ \n]", b"")},
     {"a look-alike letter": at_one(MOVE, look_alike)},
     {"two moves joined": at_one(PAIR_OF_MOVES, lambda rng, pair: [(*pair.span(1), b"")]),
      "a result misread": at_one(RESULT, result_misread)},
     {"quotes missing": other_quotes((b"", b"")), "single quotes": other_quotes((b"'", b"'")),
      "a sign behind a name": at_one(PAIR_LINE, sign_behind_name),
-     "a bracket missing": at_one(PAIR_LINE, bracket_missing)},
+     "a bracket missing": at_one(PAIR_LINE, lambda rng, pair: [(*pair.span(4), b"")])},
     {"a soft hyphen": soft_hyphen,
      "a line break of a page": replaced(rb"[ \n]", b"<br>", b"<BR/>", b"<br>\n"),
      # a mail program writes =3D for an =
      "=3D": replaced(rb"(?<=[a-h][18])=(?=[QRBN])", b"=3D", place=anywhere)},
     {"an ellipsis": replaced(rb"\.\.\.", ELLIPSIS, place=anywhere),
      "braces in a comment": at_one(COMMENT, braces_in_a_comment)},
-    {"a capture without a rank": capture_without_rank,
-     "a time of a move": at_one(MOVE, time_of_a_move),
-     "a king's move for castling": king_for_castling},
+    {"a capture without a rank": at_one(PAWN_CAPTURE, lambda rng, found: [
+        (*found.span(), found[1] + rng.choice((b"", b"x")) + found[2])]),
+     "a time of a move": at_one(MOVE, lambda rng, move: put_in(
+         move.end(), b" (%d:%02d)" % (rng.randrange(60), rng.randrange(60)))),
+     "a king's move for castling": at_one(CASTLING, lambda rng, found: [
+         (*found.span(), b"K%s%d" % (b"c" if found[1] else b"g", rng.choice((1, 8))))])},
 )
 DAMAGES = [name for kind in KINDS for name in kind]
 # The library reads CR as the end of a line everywhere, so this one is always silent.
@@ -393,10 +360,10 @@ def mended(text):
 def outcome(it):
     """What the safe fixes make of a damaged text, and their edits."""
     text, edits = mended(it.text)
-    if not edits:
-        return SILENT if is_sound(text) else UNMENDED, edits
     if not is_sound(text):
         return UNMENDED, edits
+    if not edits:
+        return SILENT, edits
     return RIGHT if content(text) == content(it.reference) else WRONG, edits
 
 
