@@ -232,6 +232,11 @@ class Folder:
         """The bytes of a file."""
         return bytes_of(self.folder, name)
 
+    def files(self, folder=""):
+        """The bytes of the files of that folder, or of one in it, by their names."""
+        path = os.path.join(self.folder, folder)
+        return {it: bytes_of(path, it) for it in os.listdir(path)}
+
     def check(self, ran, status, out=b"", err=b"", files=()):
         """A program ended so, and these files have these texts."""
         self.assertEqual((ran.returncode, ran.stdout, ran.stderr), (status, out, err))
@@ -250,6 +255,12 @@ def load(script):
     module = importlib.util.module_from_spec(importlib.util.spec_from_loader(loader.name, loader))
     loader.exec_module(module)
     return module
+
+
+def planted(change):
+    """The words that call gillspoon after a piece of Python that changes it."""
+    return [sys.executable, "-c", "import sys; sys.path.insert(0, %r)\n%s\n"
+            "from gillspoon._command import main\nsys.exit(main())" % (PACKAGE, change)]
 
 
 def without_rights(test, program):
@@ -340,6 +351,14 @@ def signalled(words, number, folder, files=1, text=None, **more):
         child.send_signal(number)
         out, told = child.communicate(text, timeout=20)
     return child.returncode, out, told
+
+
+def check_stopped(test, words, *numbers, **more):
+    """A signal ends a program, and each file of the folder stays; none is added."""
+    before = test.files()
+    for number in (signal.SIGTERM, signal.SIGHUP, signal.SIGINT):
+        test.assertEqual(signalled(words, number, test.folder, **more)[:2], (-number, b""))
+        test.assertEqual(test.files(), before)
 
 
 def run(words, **more):

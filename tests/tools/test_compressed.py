@@ -88,8 +88,8 @@ class Compressed(Folder, unittest.TestCase):
         for kind, pack in PACKERS.items():
             data = pack(TEXT * 50)
             for line in ("lint -", "lint --fix -", "lint --diff -", "where - 7", "fmt -",
-                         "fmt -o good -", "sieve - good bad"):
-                self.put_all({"good": b"old", "bad": b"old"})
+                         "fmt -o good -", "fmt -o good sound -", "sieve - good bad"):
+                self.put_all({"good": b"old", "bad": b"old", "sound": SOUND})
                 with self.subTest(kind=kind, line=line):
                     status, out, told = self.call(line, data[:len(data) * 3 // 4])
                     self.assertEqual(status, 3)

@@ -13,8 +13,8 @@ import subprocess
 import sys
 import unittest
 
-from programs import (HEAD, PACKAGE, ROOT, bytes_of, files_up_to, need, need_package, output_of, run,
-                      run_on_a_disk, signalled, text_of)
+from programs import (HEAD, PACKAGE, ROOT, bytes_of, check_stopped, files_up_to, need, need_package,
+                      output_of, run, run_on_a_disk, signalled, text_of)
 from spellings import DOUBTFUL, LEFT, SAFE, UNSAFE
 from test_lint import LINT, Lint
 
@@ -491,8 +491,6 @@ class Statistics(Lint):
                 "      1  move is not legal", "      1  stray byte", "      4  fix: long notation",
                 "      1  fix: comma"], line)
         self.assertNotIn("  3  not a move", self.lint("all")[1])
-        for word in ("--quiet", "--sarif"):
-            self.check_usage("--statistics a.pgn " + word)
 
         # in records
         self.put("a.pgn", b"1. e2-e4 e7-e5 2. Ke3 *\n")
@@ -581,11 +579,6 @@ class Command(Lint):
         for text in ("1. Pe4 Pe5 2. Pf3 Pc6 *\n", "1. Pe4 e5 2. Pf3 Pe9 *\n"):
             self.assertEqual(self.lint("--fix --language nl", input=text.encode())[1], text)
 
-    def test_wrong_words(self):
-        for line in ("--fix --diff a", "--fix --sarif a", "--fix - a", "--unsafe-fixes a",
-                     "--quiet --verbose --fix a", "--verbose a"):
-            self.check_usage(line)
-
     def test_table(self):
         """It has each fix, is that of the document, and gives names that are taken."""
         from gillspoon._fixes import LISTED
@@ -667,15 +660,10 @@ class Command(Lint):
                 "gillspoon: disk/a.pgn: No space left on device; it is left as it is\n"))
 
     def test_a_kill(self):
-        text = BAD * 20000
-        self.put("a.pgn", text)
-        for number in (signal.SIGTERM, signal.SIGHUP, signal.SIGINT, signal.SIGKILL):
-            ran = signalled([*LINT, "--fix", "a.pgn"], number, self.folder, env=self.env)
-            self.assertEqual(ran[:2], (-number, b""))
-            left = sorted(os.listdir(self.folder))
-            self.assertEqual(self.get("a.pgn"), text)
-            if number != signal.SIGKILL:
-                self.assertEqual(left, ["a.pgn"])
+        words = [*LINT, "--fix", self.put("a.pgn", BAD * 20000)]
+        check_stopped(self, words, env=self.env)
+        ran = signalled(words, signal.SIGKILL, self.folder, env=self.env)
+        self.assertEqual((*ran[:2], self.get("a.pgn")), (-signal.SIGKILL, b"", BAD * 20000))
 
 
 class ManyEdits(Lint):
@@ -773,9 +761,6 @@ class Processes(Lint):
         os.link(self.folder + "/all/one.pgn", self.folder + "/all/two.pgn")
         os.symlink("one.pgn", self.folder + "/all/three.pgn")
 
-    def texts(self):
-        return {it: self.get("all/" + it) for it in sorted(os.listdir(self.folder + "/all"))}
-
     def test_they_change_nothing(self):
         need("diff")
         for line in ("--fix", "--diff", "--fix --json", "--fix --unsafe-fixes", "--fix --max 2",
@@ -784,7 +769,7 @@ class Processes(Lint):
             for jobs in "13":
                 shutil.rmtree(self.folder + "/all", ignore_errors=True)
                 self.fill()
-                said.append((self.lint(line + " all missing all/01.pgn -j " + jobs), self.texts()))
+                said.append((self.lint(line + " all missing all/01.pgn -j " + jobs), self.files("all")))
             with self.subTest(line):
                 self.assertEqual(said[0], said[1])
                 (status, *_), texts = said[0]

@@ -4,13 +4,12 @@ import gzip
 import importlib
 import os
 import re
-import signal
 import sys
 import unittest
 
 import programs
-from programs import (PACKAGE, ROOT, Folder, closed_pipe, full_device, need, need_package,
-                      output_of, run, signalled, vectors, zip_of)
+from programs import (ROOT, Folder, check_stopped, closed_pipe, full_device, need, need_package,
+                      output_of, planted, run, vectors, zip_of)
 
 setUpModule = need_package
 FMT = [ROOT + "/bin/gillspoon", "fmt"]
@@ -20,16 +19,13 @@ LOOSE, TIDY = b'[White "A"] e4 e5 *', HEAD % b"A" + b"1. e4 e5 *\n\n"
 BAD = b'[White "B"] e4 e9 *\n'
 NO_MOVE = b"gillspoon: %s: byte 15: not a move\n"
 IS_COMPRESSED = b"gillspoon: %s: is compressed, and left as it is: unpack it first\n"
-# Runs the command, but a file changes once it was read.
-CHANGING = """import sys; sys.path.insert(0, %r)
-import gillspoon._fmt as fmt
-from gillspoon._command import main
+# A file changes once it was read.
+CHANGING = planted("""import gillspoon._fmt as fmt
 found = fmt._what_is_dropped
 def dropped(*words):
     open('loose.pgn', 'ab').write(b'more\\n')
     return found(*words)
-fmt._what_is_dropped = dropped
-sys.exit(main())""" % PACKAGE
+fmt._what_is_dropped = dropped""")
 # The export of a game without tags that White has won, by its marker.
 WON = (HEAD % b"?").replace(b"*", b"1-0") + b"1. e4 1-0\n\n"
 
@@ -108,11 +104,9 @@ class FmtTest(Folder, unittest.TestCase):
     def test_file_with_a_fault_adds_nothing(self):
         told = NO_MOVE % b"bad.pgn"
         self.says("loose.pgn bad.pgn tidy.pgn", 1, TIDY * 2, told)
-        self.put("all.pgn", b"old")
-        self.says("-o all.pgn loose.pgn bad.pgn", 1, b"", told, files={"all.pgn": b"old"})
+        self.says("-o all.pgn loose.pgn bad.pgn", 1, b"", told)
         self.says("", 1, b"", NO_MOVE % b"<stdin>", input=BAD)
-        self.assertEqual(sorted(os.listdir(self.folder)),
-                         ["all.pgn", "bad.pgn", "loose.pgn", "tidy.pgn"])
+        self.assertEqual(sorted(os.listdir(self.folder)), ["bad.pgn", "loose.pgn", "tidy.pgn"])
 
     def test_output_that_is_an_input(self):
         os.symlink("loose.pgn", self.folder + "/link.pgn")
@@ -155,7 +149,7 @@ class FmtTest(Folder, unittest.TestCase):
         self.assertEqual(os.listdir(self.folder + "/sub"), ["far.pgn"])
 
     def test_write_keeps_a_file_that_changed_meanwhile(self):
-        ran = run([sys.executable, "-c", CHANGING, "fmt", "-w", "loose.pgn"], cwd=self.folder)
+        ran = run([*CHANGING, "fmt", "-w", "loose.pgn"], cwd=self.folder)
         told = b"gillspoon: loose.pgn: changed while it was read; it is left as it is\n"
         self.check(ran, 3, b"", told, {"loose.pgn": LOOSE + b"more\n"})
 
@@ -239,15 +233,8 @@ class FmtTest(Folder, unittest.TestCase):
         self.check(self.piped('"$@" - <&-'), 3, b"", b"gillspoon: <stdin>: Bad file descriptor\n")
 
     def test_compressed_standard_input(self):
-        """Also where it is cut off: then an output that is there stays as it is."""
-        packed = gzip.compress(LOOSE)
-        for line in ("", "-", "--stdin-name a", "--checked -"):
-            self.says(line, 0, TIDY, input=packed)
-        self.put("all.pgn", b"old")
-        for line in ("-", "-o all.pgn -", "-o all.pgn tidy.pgn -"):
-            self.says(line, 3, b"", b"gillspoon: <stdin>: Compressed file ended before the "
-                      b"end-of-stream marker was reached\n", input=packed[:-9],
-                      files={"all.pgn": b"old"})
+        for line in ("-", "--stdin-name a", "--checked -"):
+            self.says(line, 0, TIDY, input=gzip.compress(LOOSE))
 
     def test_write_refuses_a_read_only_file(self):
         """Also as root, whom permissions do not bind. What is in form has nothing to write."""
@@ -292,10 +279,7 @@ class FmtTest(Folder, unittest.TestCase):
 
     def test_signal_leaves_the_file(self):
         self.put("loose.pgn", LOOSE * 200000)
-        for number in (signal.SIGTERM, signal.SIGINT, signal.SIGHUP):
-            self.assertEqual(signalled([*FMT, "-w", "loose.pgn"], number, self.folder)[0], -number)
-            self.assertEqual(sorted(os.listdir(self.folder)), ["bad.pgn", "loose.pgn", "tidy.pgn"])
-            self.assertEqual(self.get("loose.pgn"), LOOSE * 200000)
+        check_stopped(self, [*FMT, "-w", "loose.pgn"])
 
     def test_a_folder(self):
         """Its files are found as gillspoon lint finds them; names and paths can be left out."""

@@ -234,12 +234,6 @@ class Lint(Folder, unittest.TestCase):
         self.assertEqual(self.lint(line, *names, **more), (status, out, told), (line, names))
         self.assertEqual({it: self.get(it) for it in files}, dict(files))
 
-    def check_usage(self, line):
-        """Wrong words are said in one line, which is given."""
-        status, out, told = self.lint(line)
-        self.assertEqual((status, out, told.count("\n")), (2, "", 1), line)
-        return told
-
     def records(self, line, *names, **more):
         return list(map(json.loads, self.lint("--json " + line, *names, **more)[1].splitlines()))
 
@@ -346,13 +340,10 @@ JUNK = """e4Q e5N exd5N a8N a8Q+ axb8R h1=N Pe4=B K=Q Kxe9 N Nf N3 Nf3N Nf3=Q+ Q
 \x00 \x1a \xff a8=\u2655 N\u200bf3 D RR1d1 e8= exd6e.p. Ng1f3g5 aaa8Q K@e4 * 1-0""".split()
 MODES = ("", "--board", "--json", "--sarif", "--json --unsafe-fixes", "--diff",
          "--diff --unsafe-fixes", "--fix")
-# Plants an error in a function of the package, and runs its command.
-FAILING = """import sys; sys.path.insert(0, %r)
-import gillspoon._findings as findings, gillspoon._reports as reports, gillspoon._mend as mend
+# Plants an error in a function of the package.
+FAILING = """from gillspoon import _findings, _mend, _reports
 def failing(*words): raise KeyError('planted')
-%s = failing
-from gillspoon._command import main
-sys.exit(main())"""
+%s = failing"""
 
 
 class NoTraceback(Lint):
@@ -402,12 +393,12 @@ class NoTraceback(Lint):
         said = "an error of gillspoon, please report it: KeyError: 'planted'"
         wanted = ["gillspoon: %s.pgn:4:13: %s" % (it, said) for it in "ab"]
         for planted, words in (
-                ("findings.explained", ["--board"]), ("findings.explained", ["--json"]),
-                ("findings.line_around", []), ("reports.board", ["--board"]),
-                *(("mend.SectionMender.section", [it]) for it in ("--json", "--diff", "--sarif"))):
-            for jobs in ("1", "2"):
-                ran = run([sys.executable, "-c", FAILING % (PACKAGE, planted), "lint", *words, "-j",
-                           jobs, "a.pgn", "b.pgn"], cwd=self.folder, env=self.env)
+                ("_findings.explained", ["--board"]), ("_findings.explained", ["--json"]),
+                ("_findings.line_around", []), ("_reports.board", ["--board"]),
+                *(("_mend.SectionMender.section", [it]) for it in ("--json", "--diff", "--sarif"))):
+            for jobs in "12":
+                ran = run([*programs.planted(FAILING % planted), "lint", *words, "-j", jobs,
+                           "a.pgn", "b.pgn"], cwd=self.folder, env=self.env)
                 with self.subTest(planted, words=words, jobs=jobs):
                     told = ran.stderr.decode().splitlines()
                     own = [it for it in told if said in it]
@@ -829,8 +820,12 @@ class Options(Lint):
 
     def test_words(self):
         for line in ("--no", "--max 0 a", "--max x a", "-j -1 a", "--json --sarif a",
-                     "--board --json a"):
-            self.assertIn("(--help shows the usage)", self.check_usage(line))
+                     "--board --json a", "--fix --diff a", "--fix --sarif a", "--fix - a",
+                     "--unsafe-fixes a", "--quiet --verbose --fix a", "--verbose a",
+                     "--statistics a --quiet", "--statistics a --sarif"):
+            status, out, told = self.lint(line)
+            self.assertEqual((status, out), (2, ""), line)
+            self.assertRegex(told, r"\A.*\(--help shows the usage\)\n\Z")
         status, out, told = self.lint("--help")
         self.assertEqual((status, told), (0, ""))
         for word in ("--board", "--json", "--sarif", "--quiet", "--checked", "--max", "-j"):

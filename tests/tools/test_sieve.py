@@ -379,13 +379,8 @@ class StoppedTest(programs.Folder, unittest.TestCase):
     OUTPUTS = ["good.pgn", "bad.pgn"]
 
     def test_signals_leave_the_old_files(self):
-        old = dict.fromkeys(self.OUTPUTS, b"old")
-        self.put_all(old)
-        for number in (signal.SIGTERM, signal.SIGINT, signal.SIGHUP):
-            ran = programs.signalled([*SIEVE, "-", *self.OUTPUTS], number, self.folder, files=2,
-                                     stdin=subprocess.PIPE)
-            self.assertEqual(ran[0], -number)
-            self.assertEqual({it: self.get(it) for it in os.listdir(self.folder)}, old)
+        self.put_all(dict.fromkeys(self.OUTPUTS, b"old"))
+        programs.check_stopped(self, [*SIEVE, "-", *self.OUTPUTS], files=2, stdin=subprocess.PIPE)
 
     def test_an_ignored_signal_does_not_end_it(self):
         """As nohup has it."""
@@ -413,10 +408,9 @@ _command.run(lambda out: _replacement.Replacement(sys.argv[2]))
 
     def test_a_file_that_is_overwritten_in_place(self):
         """Its size stays the same, and so does its name."""
-        script = """
-import os, sys, time
-sys.path.insert(0, sys.argv.pop(1))
-from gillspoon import _command, _sieve
+        words = programs.planted("""
+import time
+from gillspoon import _sieve
 run = _sieve.Part.run
 def changed(part):
     counts = run(part)
@@ -425,23 +419,20 @@ def changed(part):
         file.write(b"new")
     return counts
 _sieve.Part.run = changed
-sys.exit(_command.main())
-"""
+""")
         paths = [self.put(it, b"old") for it in ("in.pgn", *self.OUTPUTS)]
-        ran = run([sys.executable, "-c", script, PACKAGE, "sieve", *paths])
+        ran = run([*words, "sieve", *paths])
         self.assertEqual((ran.returncode, ran.stdout, ran.stderr.decode()), (
             3, b"", "gillspoon: %s: changed while it was read; nothing was written\n" % paths[0]))
         self.assertEqual([self.get(it) for it in paths], [b"new", b"old", b"old"])
 
     def test_progress_on_a_terminal_alone(self):
         """It is shown after a second, which a program on the way to standard input takes."""
-        script = "import sys; sys.path.insert(0, sys.argv.pop(1))\n" \
-            "from gillspoon import _command, _reports\n" \
-            "times = iter(range(1000000)); _reports.time.monotonic = lambda: next(times)\n" \
-            "sys.exit(_command.main())"
         paths = [self.put("in.pgn", A * 1000),
                  *(os.path.join(self.folder, it) for it in self.OUTPUTS)]
-        words = [sys.executable, "-c", script, PACKAGE, "sieve", *paths]
+        words = [*programs.planted("""from gillspoon import _reports
+times = iter(range(1000000))
+_reports.time.monotonic = lambda: next(times)"""), "sieve", *paths]
         shown = programs.on_a_terminal(words)
         self.assertRegex(shown, r"gillspoon: file 1 of 1, 1,000 games, 0\.1 of 0\.1 MB, about 0:00 left")
         self.assertEqual(run(words).stderr, b"")

@@ -15,9 +15,6 @@ class SplitTest(Folder, unittest.TestCase):
     def split(self, text, *words, folder=None, **more):
         return run([self.program, "split", folder or self.folder, *words], input=text, **more)
 
-    def files(self):
-        return {name: self.get(name) for name in os.listdir(self.folder)}
-
     def check(self, ran, status, err, files):
         super().check(ran, status, b"", err)
         self.assertEqual(self.files(), files)

@@ -237,9 +237,8 @@ class WhereTest(Folder, unittest.TestCase):
         need("zstd")
         for end in ("gz", "bz2", "zst", "GZ"):
             self.put("a.pgn." + end, PACKERS[end.lower()](KE3))
-            for text in (self.messages("lint --quiet a.pgn." + end),
-                         self.call("a.pgn.%s 55" % end).stdout.decode()):
-                self.assertEqual("".join(text.splitlines(True)[1:3]), KE3_LINES)
+            text = self.messages("lint --quiet a.pgn." + end)
+            self.assertEqual("".join(text.splitlines(True)[1:3]), KE3_LINES)
         self.put("b.pgn.gz", PACKERS["gz"](KE3)[:-9])
         self.assertEqual(self.call("b.pgn.gz 55").returncode, 3)
 
@@ -259,10 +258,6 @@ class WhereTest(Folder, unittest.TestCase):
         self.check_refused(self.call("", "a: 1.zip:none.pgn", "3"), 3)
 
     def test_standard_input(self):
-        for pack in (bytes, PACKERS["gz"], PACKERS["bz2"]):
-            ran = self.call("- %d" % (len(TAGS) + 3), input=pack(TAGS + b"1. Ke2 *"))
-            self.check(ran, 0, b"<stdin>: line 5, column 4 (byte %d)\n1. Ke2 *\n   ^\n%s" % (
-                len(TAGS) + 3, GAME.encode()))
         self.check_refused(self.call("-", input=b"byte 3: move is not legal\n"), 2)
         # also by its name
         self.put("a.pgn", TAGS + b"1. e4 e9 *\n")
