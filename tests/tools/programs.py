@@ -31,6 +31,26 @@ PACKAGE = ROOT + "/python"
 HEAD = (b'[Event "?"]\n[Site "?"]\n[Date "????.??.??"]\n[Round "?"]\n[White "?"]\n[Black "?"]\n'
         b'[Result "*"]\n\n')
 UNKNOWN = HEAD + b"*\n\n"
+NO_TEXT = "is not a text of games: UTF-16 has to be converted, and another archive unpacked"
+PAGE = "is a page of HTML or XML, and no text of games"
+PDF = "is a PDF, and no text of games"
+# Files of other kinds by a name, with what is said of them.
+OTHER_KINDS = {
+    "mark.pgn": (HEAD.decode().encode("utf-16"), NO_TEXT),
+    "big-endian.pgn": (("\ufeff" + HEAD.decode()).encode("utf-16-be"), NO_TEXT),
+    "no-mark.pgn": (HEAD.decode().encode("utf-16-le"), NO_TEXT),
+    "no-mark-big-endian.pgn": (HEAD.decode().encode("utf-16-be"), NO_TEXT),
+    "no-latin-letter.pgn": ("\u4e16\u754c".encode("utf-16"), NO_TEXT),
+    "seven.pgn": (b"7z\xbc\xaf\x27\x1c\0\4" + bytes(range(256)), NO_TEXT),
+    "tape.pgn": (b"2026.pgn".ljust(257, b"\0") + b"ustar\0" + UNKNOWN, NO_TEXT),
+    "tape.pgn.gz": (gzip.compress(b"[1].pgn".ljust(257, b"\0") + b"ustar\0" + UNKNOWN), NO_TEXT),
+    "picture.pgn": (b"\x89PNG\r\n\x1a\n\0\0\0\rIHDR\0\0\1\0", NO_TEXT),
+    "nothing.pgn": (b"\0" * 2000, NO_TEXT),
+    "page.pgn": (b"\xef\xbb\xbf\r\n<!DOCTYPE html>\n<html>404 Not Found</html>\n", PAGE),
+    "tag.pgn": (b"<HTML><BODY>Too many requests\n", PAGE),
+    "feed.pgn": (b"<?xml version='1.0'?>\n<games/>\n", PAGE),
+    "guide.pgn": (b"%PDF-1.4\n%\xe2\xe3\xcf\xd3\n1 0 obj\n<</Type/Catalog>>\nendobj\n", PDF),
+}
 # Debian keeps games apart.
 PATH = os.environ.get("PATH", "") + ":/usr/games:/usr/sbin"
 DEBIAN = "/usr/share/cargo/registry"

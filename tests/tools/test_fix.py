@@ -769,7 +769,8 @@ class Processes(Lint):
             for jobs in "13":
                 shutil.rmtree(self.folder + "/all", ignore_errors=True)
                 self.fill()
-                said.append((self.lint(line + " all missing all/01.pgn -j " + jobs), self.files("all")))
+                ran = self.lint(line + " all missing all/01.pgn -j " + jobs)
+                said.append((ran, self.files("all")))
             with self.subTest(line):
                 self.assertEqual(said[0], said[1])
                 (status, *_), texts = said[0]

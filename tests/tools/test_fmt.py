@@ -1,5 +1,4 @@
 """Tests of gillspoon fmt."""
-import doctest
 import gzip
 import importlib
 import os
@@ -343,17 +342,14 @@ class LeftOut(unittest.TestCase):
     """What is counted as left out, against what the export has."""
 
     def setUp(self):
-        self.package = importlib.import_module("gillspoon")
-        self.module = importlib.import_module("gillspoon._left_out")
-
-    def count(self, text, reduced):
-        return self.module.left_out(text, False, reduced)
+        self.package = need_package()
+        self.left_out = importlib.import_module("gillspoon._left_out").left_out
 
     def test_exports_have_nothing_that_is_left_out(self):
-        self.assertEqual(doctest.testmod(self.module).failed, 0)
         for vector in vectors():
             if "fault" not in vector and vector["output"].count("\n[") < 64:
-                found = self.count(vector["output"].encode(), vector["mode"] == "reduced")
+                is_reduced = vector["mode"] == "reduced"
+                found = self.left_out(vector["output"].encode(), False, is_reduced)
                 self.assertEqual(found, (0, 0, 0), vector["file"])
 
     def test_a_part_put_anywhere(self):
@@ -365,7 +361,7 @@ class LeftOut(unittest.TestCase):
         for vector in vectors():
             text = vector["input"].encode()
             if "fault" not in vector and vector["mode"] == "full" and len(text) <= 300:
-                before = self.count(text, False)
+                before = self.left_out(text, False, False)
                 for at in range(len(text) + 1):
                     # in a comment that is left out a part is no comment of its own
                     if self.is_kept(text[:at] + b" zqz " + text[at:]) is not False:
@@ -384,7 +380,7 @@ class LeftOut(unittest.TestCase):
         is_kept = self.is_kept(text)
         if is_kept is None:
             return
-        after = self.count(text, False)
+        after = self.left_out(text, False, False)
         tried[is_kept] += 1
         self.assertEqual(after == before, is_kept, (text, before, after))
         if not is_kept and after.behind == before.behind:

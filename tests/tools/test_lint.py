@@ -1,9 +1,7 @@
 """Tests of gillspoon lint: what it says of bad games, its options and statuses, who reads it."""
 import contextlib
-import doctest
 import glob
 import gzip
-import importlib
 import json
 import os
 import random
@@ -16,8 +14,9 @@ import unittest
 
 import programs
 from documents import blocks_of, lines_of
-from programs import (PACKAGE, PACKERS, ROOT, Folder, bytes_of, full_device, need, need_module,
-                      need_package, not_tried, run, text_of, vectors, without_rights, zip_of)
+from programs import (NO_TEXT, OTHER_KINDS, PACKAGE, PACKERS, ROOT, Folder, bytes_of, full_device,
+                      need, need_module, need_package, not_tried, run, text_of, vectors,
+                      without_rights, zip_of)
 from test_python import REAL
 
 setUpModule = need_package
@@ -326,11 +325,6 @@ class Faults(Lint):
                 shown = boards.partition("all/%s.pgn:" % name)[2].split("\n", 3)[3]
                 self.assertTrue(shown.startswith(indented(board_of(fen, said)) + "\n"), shown)
 
-    def test_doctests(self):
-        for name in ("_doubts", "_findings", "_kinds", "_reports", "_warnings"):
-            module = importlib.import_module("gillspoon." + name)
-            self.assertEqual(doctest.testmod(module).failed, 0, name)
-
 
 # What stands in the place of a token: texts of moves that are none, and what is near other tokens.
 JUNK = """e4Q e5N exd5N a8N a8Q+ axb8R h1=N Pe4=B K=Q Kxe9 N Nf N3 Nf3N Nf3=Q+ Qa1a1=R# O-O=Q O O-
@@ -525,27 +519,7 @@ class Files(Lint):
                          (3, b"gillspoon: a.pgn: Permission denied\n"))
 
 
-NO_TEXT = "is not a text of games: UTF-16 has to be converted, and another archive unpacked"
-PAGE = "is a page of HTML or XML, and no text of games"
-PDF = "is a PDF, and no text of games"
-# Texts of other kinds by a name, with what is said of them.
-OTHERS = {
-    "mark.pgn": (GOOD.decode().encode("utf-16"), NO_TEXT),
-    "big-endian.pgn": (("\ufeff" + GOOD.decode()).encode("utf-16-be"), NO_TEXT),
-    "no-mark.pgn": (GOOD.decode().encode("utf-16-le"), NO_TEXT),
-    "no-mark-big-endian.pgn": (GOOD.decode().encode("utf-16-be"), NO_TEXT),
-    "no-latin-letter.pgn": ("\u4e16\u754c".encode("utf-16"), NO_TEXT),
-    "seven.pgn": (b"7z\xbc\xaf\x27\x1c\0\4" + bytes(range(256)), NO_TEXT),
-    "tape.pgn": (b"2026.pgn".ljust(257, b"\0") + b"ustar\0" + GOOD, NO_TEXT),
-    "tape.pgn.gz": (gzip.compress(b"[1].pgn".ljust(257, b"\0") + b"ustar\0" + GOOD), NO_TEXT),
-    "picture.pgn": (b"\x89PNG\r\n\x1a\n\0\0\0\rIHDR\0\0\1\0", NO_TEXT),
-    "nothing.pgn": (b"\0" * 2000, NO_TEXT),
-    "page.pgn": (b"\xef\xbb\xbf\r\n<!DOCTYPE html>\n<html>404 Not Found</html>\n", PAGE),
-    "tag.pgn": (b"<HTML><BODY>Too many requests\n", PAGE),
-    "feed.pgn": (b"<?xml version='1.0'?>\n<games/>\n", PAGE),
-    "guide.pgn": (b"%PDF-1.4\n%\xe2\xe3\xcf\xd3\n1 0 obj\n<</Type/Catalog>>\nendobj\n", PDF),
-}
-OTHERS_IN_A_FOLDER = {"all/" + name: text for name, (text, _) in OTHERS.items()}
+OTHERS_IN_A_FOLDER = {"all/" + name: text for name, (text, _) in OTHER_KINDS.items()}
 
 
 class OtherKinds(Lint):
@@ -558,7 +532,7 @@ class OtherKinds(Lint):
     def test_each_kind(self):
         for line in ("", "--board", "--json", "--sarif", "--quiet", "--checked", "--fix",
                      "--fix --unsafe-fixes", "--diff --unsafe-fixes"):
-            reasons = {name: reason for name, (_, reason) in OTHERS.items()}
+            reasons = {name: reason for name, (_, reason) in OTHER_KINDS.items()}
             if "--fix" in line:
                 reasons["tape.pgn.gz"] = "is compressed: unpack it, or give it to --fix -"
             status, out, told = self.lint(line + " all")
@@ -572,14 +546,15 @@ class OtherKinds(Lint):
 
     def test_standard_input(self):
         for name in ("mark.pgn", "tape.pgn", "tape.pgn.gz", "page.pgn", "guide.pgn"):
-            text, reason = OTHERS[name]
+            text, reason = OTHER_KINDS[name]
             for line in ("-", "--json", "--fix --unsafe-fixes", "--diff -"):
                 self.says(line + " --quiet", 3, told="gillspoon: <stdin>: %s\n" % reason,
                           input=text)
 
     def test_the_other_files_are_read(self):
         self.put_all({"all/a.pgn": BAD, "all/z.pgn": BAD})
-        told = "".join("gillspoon: all/%s: %s\n" % (it, OTHERS[it][1]) for it in sorted(OTHERS))
+        told = "".join("gillspoon: all/%s: %s\n" % (name, reason)
+                       for name, (_, reason) in sorted(OTHER_KINDS.items()))
         for line in ("all", "all -j 2"):
             self.says(line, 3, ["all/a.pgn:" + BAD_LINE, "all/z.pgn:" + BAD_LINE,
                                 "2 files, 2 games, 2 faults in 2 files"], told)
@@ -597,8 +572,8 @@ class OtherKinds(Lint):
 
     def test_what_comes_in_pieces(self):
         """A pipe may give fewer bytes than the kind is known by."""
-        for text, status in ((GOOD, 0), (BAD, 1), (OTHERS["no-mark.pgn"][0], 3),
-                             (b" " * 400 + OTHERS["tag.pgn"][0], 3)):
+        for text, status in ((GOOD, 0), (BAD, 1), (OTHER_KINDS["no-mark.pgn"][0], 3),
+                             (b" " * 400 + OTHER_KINDS["tag.pgn"][0], 3)):
             with subprocess.Popen([*LINT, "-"], env=self.env, stdin=subprocess.PIPE, bufsize=0,
                                   stdout=subprocess.DEVNULL, stderr=subprocess.DEVNULL) as child:
                 for at in range(len(text)):
@@ -651,7 +626,7 @@ class Zips(Lint):
         bad = "b.zip:y.pgn:%s\n" % BAD_LINE
         self.says("--quiet b.zip", 1, bad, of=zip_of(("y.pgn", BAD), hidden))
         # one of another kind
-        self.put("b.zip", zip_of(("u.pgn", OTHERS["mark.pgn"][0]), ("y.pgn", BAD)))
+        self.put("b.zip", zip_of(("u.pgn", OTHER_KINDS["mark.pgn"][0]), ("y.pgn", BAD)))
         for line in ("b.zip", "-j2 b.zip a.zip:sub/x.pgn"):
             self.says("--quiet " + line, 3, bad, "gillspoon: b.zip:u.pgn: %s\n" % NO_TEXT)
         # a damaged one
@@ -826,10 +801,6 @@ class Options(Lint):
             status, out, told = self.lint(line)
             self.assertEqual((status, out), (2, ""), line)
             self.assertRegex(told, r"\A.*\(--help shows the usage\)\n\Z")
-        status, out, told = self.lint("--help")
-        self.assertEqual((status, told), (0, ""))
-        for word in ("--board", "--json", "--sarif", "--quiet", "--checked", "--max", "-j"):
-            self.assertIn(word, out)
         # as a module
         self.put("a.pgn", BAD)
         ran = run([sys.executable, "-m", "gillspoon", "lint", "--quiet", "a.pgn"], cwd=self.folder,

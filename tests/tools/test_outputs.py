@@ -7,25 +7,14 @@ import os
 import unittest
 
 import programs
-from programs import PACKERS, ROOT, Folder, library, need, need_program, run, without_rights
+from programs import (OTHER_KINDS, PACKERS, ROOT, Folder, library, need, need_program, run,
+                      without_rights)
 
 SOUND = b'[White "Ada"]\n\n1. e4 e5 *\n\n'
 BAD = b'[White "Bob"]\n\n1. e4 e9 *\n\n'
 OLD = b'[White "Old"]\n\n1. d4 *\n\n'
-# What is no text of games, by a name.
-OTHERS = {
-    "utf-16.pgn": SOUND.decode().encode("utf-16"),
-    "picture.png": b"\x89PNG\r\n\x1a\n\0\0\0\rIHDR\0\0\1\0",
-    "games.7z": b"7z\xbc\xaf\x27\x1c\0\4" + bytes(range(256)),
-    "games.tar": b"games.pgn".ljust(257, b"\0") + b"ustar\0" + SOUND,
-    "guide.pdf": b"%PDF-1.4\n%\xe2\xe3\xcf\xd3\n1 0 obj\n<</Type/Catalog>>\nendobj\n",
-    "page.html": b"\xef\xbb\xbf\r\n<!DOCTYPE html>\n<html><body>404 Not Found</body></html>\n",
-}
-
-
-NO_TEXT = b"is not a text of games: UTF-16 has to be converted, and another archive unpacked"
-PAGE = b"is a page of HTML or XML, and no text of games"
-PDF = b"is a PDF, and no text of games"
+# What is no text of games.
+OTHERS = ("mark.pgn", "picture.pgn", "seven.pgn", "tape.pgn", "guide.pgn", "page.pgn")
 
 
 class Kept(Folder, unittest.TestCase):
@@ -35,7 +24,7 @@ class Kept(Folder, unittest.TestCase):
         need("zstd")
         super().setUp()
         self.env = dict(os.environ, PATH=programs.PATH, GILLSPOON_LIBRARY=library(), LC_ALL="C.UTF-8")
-        self.put_all(OTHERS)
+        self.put_all({it: OTHER_KINDS[it][0] for it in OTHERS})
         self.put_all({"cut.pgn." + kind: pack(SOUND * 99)[:-30] for kind, pack in PACKERS.items()})
         self.put_all({"not.pgn.gz": SOUND, "empty.pgn": b"", "words.pgn": b"% none\n\n",
                       "bad.pgn": SOUND + BAD, "sound.pgn": SOUND})
@@ -118,8 +107,8 @@ class Format(Kept):
 
     def test_what_is_said_of_other_kinds(self):
         """In the words of gillspoon sieve, whatever is asked for."""
-        for name, said in (("utf-16.pgn", NO_TEXT), ("games.7z", NO_TEXT), ("games.tar", NO_TEXT),
-                           ("page.html", PAGE), ("guide.pdf", PDF)):
+        for name in OTHERS:
+            said = OTHER_KINDS[name][1].encode()
             for words in ([], ["--check"], ["--write"], ["--diff"], ["--checked"]):
                 ran = self.call("fmt", *words, "sound.pgn", name)
                 self.assertIn(b"gillspoon: %s: %s\n" % (name.encode(), said), ran.stderr)
@@ -149,10 +138,9 @@ class Sieve(Kept):
             self.stays(3, ["g", "b"], "sieve", "--checked", name, "g", "b")
             self.stays(3, ["g", "b"], "sieve", "-", "g", "b", input=self.get(name))
             self.stays(3, [], "sieve", name, "g2", "b2")
-        for name, said in (("utf-16.pgn", NO_TEXT), ("page.html", PAGE), ("guide.pdf", PDF)):
             self.assertEqual(
-                self.call("sieve", name, "g", "b").stderr,
-                b"gillspoon: %s: %s; nothing was written\n" % (name.encode(), said))
+                self.call("sieve", name, "g", "b").stderr.decode(),
+                "gillspoon: %s: %s; nothing was written\n" % (name, OTHER_KINDS[name][1]))
         # a file that is damaged further down has games
         self.put("torn.pgn", SOUND + b"\0" * 600 + b"\n\n" + SOUND)
         ran = self.call("sieve", "torn.pgn", "g", "b")
@@ -210,7 +198,7 @@ class Split(Kept):
         # it takes a name for nothing: what is compressed is another text to it, and a PDF begins
         # with escape lines and a number
         for name in [it for it in [*self.unreadable(), *OTHERS, "empty.pgn", "words.pgn"]
-                     if it not in ("not.pgn.gz", "guide.pdf")]:
+                     if it not in ("not.pgn.gz", "guide.pgn")]:
             self.put("out/000001.pgn", OLD)
             run([need_program(), "split", "out", name], cwd=self.folder)
             self.assertEqual((self.get("out/000001.pgn"), os.listdir(self.folder + "/out")),

@@ -292,7 +292,6 @@ class WhereTest(Folder, unittest.TestCase):
                 ("a.pgn x", 2), ("a.pgn -1", 2), ("a.pgn 1 2", 2), ("a.pgn 3", 3), ("none 3", 3),
                 (". 0", 3), ("none", 3), ("/dev/null 1", 3)):
             self.check_refused(self.call(line, input=b""), status)
-        self.assertEqual(self.call("--help").returncode, 0)
         self.check(run(["sh", "-c", '"$@" <&-', "sh", *WHERE]),
                    3, b"", b"gillspoon: standard input is closed\n")
         ran = self.call("a.pgn 0", env=dict(os.environ, GILLSPOON_LIBRARY=self.folder + "/none"))
