@@ -32,11 +32,8 @@ def _each(name, context, new, *spellings):
 
 
 LONG, SIGN, LETTER, PROMOTION = "long notation", "capture sign", "missing letter", "promotion"
-CASTLING, CHECK, WORD_OF_MATE, PASSING = "castling", "word of check", "word of mate", "en passant"
-NUMBER, SMALL, FIGURINE, COMMA = "joined number", "small letter", "figurine", "comma"
-LIKE, JOINED = "look-alike letter", "joined moves"
-RESULT, TAG, QUOTES = "spelling of the result", "missing Result tag", "quotes around a value"
-AFTER_NAME = "sign after a tag's name"
+CASTLING, LIKE, RESULT = "castling", "look-alike letter", "spelling of the result"
+TAG, QUOTES, AFTER_NAME = "missing Result tag", "quotes around a value", "sign after a tag's name"
 DRAW, WON, LOST = ('[Result "%s"]\n\n' % it for it in ("1/2-1/2", "1-0", "0-1"))
 
 SAFE = [
@@ -53,9 +50,9 @@ SAFE = [
     # letters
     *_rows(LETTER, "1. «g1f3→Ng1f3» *", "1. e4 e5 2. «f1c4→Bf1c4» *"),
     *_rows(LONG + ", " + LETTER, "1. «g1-f3→Ng1f3» *"),
-    *_rows(SMALL, "1. «nf3→Nf3» *", CASTLES + "«ra8+→Ra8+» *", "1. e4 e5 2. «qh5→Qh5» *",
+    *_rows("small letter", "1. «nf3→Nf3» *", CASTLES + "«ra8+→Ra8+» *", "1. e4 e5 2. «qh5→Qh5» *",
            "1. e4 e5 2. «ke2→Ke2» *"),
-    *_rows(FIGURINE, "1. «\u2658f3→Nf3» *", "1. «\u265ef3→Nf3» *", "1. «\u2659e4→e4» *",
+    *_rows("figurine", "1. «\u2658f3→Nf3» *", "1. «\u265ef3→Nf3» *", "1. «\u2659e4→e4» *",
            "1. e4 e5 2. «\u2655h5→Qh5» *", "1. e4 e5 2. «\u2657c4→Bc4» *",
            "1. e4 e5 2. «\u2654e2→Ke2» *", CASTLES + "«\u2656a8+→Ra8+» *",
            PAWN + "«a8=\u2655→a8=Q» *"),
@@ -65,19 +62,19 @@ SAFE = [
            TAKES + "«axb8=3DN→axb8=N» *", TAKES + "«axb8(Q)+→axb8=Q+» *"),
     *_rows(LONG + ", " + PROMOTION, PAWN + "«a7-a8q→a7a8=Q» *"),
     *_rows(SIGN + ", " + PROMOTION, TAKES + "«a7:b8/q→a7xb8=Q» *"),
-    *_each(PASSING, PASSANT + "@ *", "exd6", "exd6ep", "exd6e.p.", "exd6 e.p.", "exd6 ep",
+    *_each("en passant", PASSANT + "@ *", "exd6", "exd6ep", "exd6e.p.", "exd6 e.p.", "exd6 ep",
            "exd6(ep)"),
-    *_rows(PASSING, PASSANT + "«exd6 (e.p.)→exd6» exd6 *"),
-    *_each(CHECK, "1. e4 f5 2. @ *", "Qh5", "Qh5ch", "Qh5 ch", "Qh5 ch.", "Qh5 check",
+    *_rows("en passant", PASSANT + "«exd6 (e.p.)→exd6» exd6 *"),
+    *_each("word of check", "1. e4 f5 2. @ *", "Qh5", "Qh5ch", "Qh5 ch", "Qh5 ch.", "Qh5 check",
            "Qh5\u2020"),
-    *_rows(CHECK, "1. e4 f5 2. «Qh5+ dis ch→Qh5+» *"),
-    *_each(WORD_OF_MATE, MATE + "@ *", "Qxf7", "Qxf7mate", "Qxf7 mate"),
-    *_rows(WORD_OF_MATE, MATE + "«Qxf7# checkmate→Qxf7#» *"),
-    *_rows(NUMBER, "«1e4→1. e4» e5 *", "1. e4 e5 «2Nf3→2. Nf3» *", "1. e4 {8.} e5 «2Nf3→2. Nf3» *",
-           "1. e4 e5 2. Nf3 Nc6 (2... d6 «3d4→3. d4») *", "1. e4 («1d4→1. d4» d5) *",
-           '[FEN "4k3/8/8/8/8/8/8/4K2R w K - 0 30"]\n\n«30Rh2→30. Rh2» *', "«1) e4→1. e4» *",
-           "«1)e4→1. e4» *"),
-    *_rows(COMMA, "1. «e4,→e4» e5 *"),
+    *_rows("word of check", "1. e4 f5 2. «Qh5+ dis ch→Qh5+» *"),
+    *_each("word of mate", MATE + "@ *", "Qxf7", "Qxf7mate", "Qxf7 mate"),
+    *_rows("word of mate", MATE + "«Qxf7# checkmate→Qxf7#» *"),
+    *_rows("joined number", "«1e4→1. e4» e5 *", "1. e4 e5 «2Nf3→2. Nf3» *",
+           "1. e4 {8.} e5 «2Nf3→2. Nf3» *", "1. e4 e5 2. Nf3 Nc6 (2... d6 «3d4→3. d4») *",
+           "1. e4 («1d4→1. d4» d5) *", "«1) e4→1. e4» *", "«1)e4→1. e4» *",
+           '[FEN "4k3/8/8/8/8/8/8/4K2R w K - 0 30"]\n\n«30Rh2→30. Rh2» *'),
+    *_rows("comma", "1. «e4,→e4» e5 *"),
     # letters of other alphabets, in the order of the ways to write them: Cyrillic, Greek
     *_each(LIKE, "1. @ e5 *", "e4", "\u04354", "\u03b54"),
     *_each(LIKE, "1. @ *", "Nc3", "N\u04413", "N\u03f23"),
@@ -95,7 +92,7 @@ SAFE = [
     *_rows(LIKE + ", " + LONG, "1. «\u04352-\u04354→e2e4» *"),
     *_rows(LIKE + ", " + CASTLING, RUY + "4. «0-\u041e→O-O» *"),
     # two moves without a blank
-    *_rows(JOINED, "1.«e4e5→e4 e5» 2. Nf3 *", "1. «e4e5→e4 e5»! {a} $1\n2. Nf3 *",
+    *_rows("joined moves", "1.«e4e5→e4 e5» 2. Nf3 *", "1. «e4e5→e4 e5»! {a} $1\n2. Nf3 *",
            "1 «e4e5→e4 e5» *", "1. e4 e5 2.«Nf3Nc6→Nf3 Nc6» 3. Bb5 *",
            RUY + "4. «O-ONf6→O-O Nf6» *", "1. e4 (1. «d4d5→d4 d5») 1... e5 *",
            "1. e4 e5 2. Qh5 Nc6 3. «Qxf7+Kxf7→Qxf7+ Kxf7» *",
@@ -157,17 +154,14 @@ SAFE = [
         MARKS, MARKS[:71], MARKS[72:])),
 ]
 
-CUT, NULL, CLOSED = "marker cut short", "null move", "comment never closed"
-APART, OUT_OF_TURN = "letter apart", "joined number out of turn"
-BRACKET, BEHIND, NO_RANK = "missing bracket", "sign after the marker", "capture without a rank"
 UNSAFE = [
-    *_rows(NULL, "1. e4 e5 (1... c5 2. «-- Nf6→{-- Nf6}») 2. Nf3 *",
+    *_rows("null move", "1. e4 e5 (1... c5 2. «-- Nf6→{-- Nf6}») 2. Nf3 *",
            "1. e4 (1. «Z0 d5 {a} (1... e5) 2. e4→{Z0 d5 (a) (1... e5) 2. e4}») e5 *",
            "1. e4 «-- 2. d4 d5→{-- 2. d4 d5}» *", "1. e4 «@@@@→{@@@@}» *"),
     *_rows("no marker", "1. e4 e5«→ *»\n", WON + "1. e4 e5«→ 1-0»\n",
            '[White "Ada"]\n\n1. e4«→ *»\n\n[White "Bob"]\n\n1. d4 *\n'),
-    *_rows(CUT, WON + "1. e4 «1-→1-0»\n", DRAW + "1. e4 «1/2-→1/2-1/2»\n", "1. e4 «0-0→*»\n",
-           WON + "1. e4 «+:-→1-0»\n", LOST + "1. e4 «-:+→0-1»\n"),
+    *_rows("marker cut short", WON + "1. e4 «1-→1-0»\n", DRAW + "1. e4 «1/2-→1/2-1/2»\n",
+           "1. e4 «0-0→*»\n", WON + "1. e4 «+:-→1-0»\n", LOST + "1. e4 «-:+→0-1»\n"),
     *_each("other Result tag", '[Result "@"]\n\n1. e4 1-0\n', "1-0", "*", "0-1"),
     *_rows("bad Result tag", '[Result "«won→1-0»"]\n\n1. e4 1-0\n'),
     *_rows("second marker", WON + "1. e4 1-0 «1-0→»\n"),
@@ -188,9 +182,9 @@ UNSAFE = [
            "1. e4 e5 * «agreed drawn→{agreed drawn}»\n"),
     *_rows("parenthesis too many", "1. e4 «)→» e5 *"),
     *_rows("diagram", "1. e4 «D→{D}» e5 *"),
-    *_rows(CLOSED, '[White "Ada"]\n\n1. e4 {Black resigns «→} »*\n\n[White "Bob"]\n\n1. d4 {\n'
-           "«→} »*\n"),
-    *_rows(CLOSED + ", no marker", "1. e4 {Black resigns«→} *»\n"),
+    *_rows("comment never closed", '[White "Ada"]\n\n1. e4 {Black resigns «→} »*\n\n'
+           '[White "Bob"]\n\n1. d4 {\n«→} »*\n'),
+    *_rows("comment never closed, no marker", "1. e4 {Black resigns«→} *»\n"),
     *_rows("line break of a page", "1. e4«<br>→ »e5 *", "1. e4 «<BR />→ »\ne5 *"),
     *_rows("value without quotes", '«[White Smith, J]→[White "Smith, J"]»\n\n1. e4 *\n',
            '«[Date 2020.01.02]→[Date "2020.01.02"]» \n\n1. e4 *\n'),
@@ -203,21 +197,22 @@ UNSAFE = [
            "1. e4 {a} («{b {c} d}→{b (c) d}» 1. d4) *"),
     # two moves that may be one of a piece, and captures without a rank
     *_rows("joined moves like one", KNIGHTS + "«Bb5a6→Bb5 a6» 4. O-O *"),
-    *_each(NO_RANK, SCANDINAVIAN + "@ *", "exd5", "ed", "exd"),
-    *_rows(NO_RANK, "1. e4 f5 2. Qh5+ g6 3. Nf3 «gh→gxh5» *"),
+    *_each("capture without a rank", SCANDINAVIAN + "@ *", "exd5", "ed", "exd"),
+    *_rows("capture without a rank", "1. e4 f5 2. Qh5+ g6 3. Nf3 «gh→gxh5» *"),
     # a knight's letter, if the rest is no move alone
-    *_each(APART, "1. e4 d6 2. Nf3 @ *", "Nbd7", "N\nbd7", "N\u200bbd7", "N {a} bd7"),
-    *_rows(APART, "1. e4 e5 2. Nf3 Nc6 3. d4 exd4 4. «N xd4→Nxd4» *"),
+    *_each("letter apart", "1. e4 d6 2. Nf3 @ *", "Nbd7", "N\nbd7", "N\u200bbd7", "N {a} bd7"),
+    *_rows("letter apart", "1. e4 e5 2. Nf3 Nc6 3. d4 exd4 4. «N xd4→Nxd4» *"),
     # numbers, where those of the game do not run
-    *_rows(OUT_OF_TURN, "1. e4 e5 3. d4 d6 «3Nf3→3. Nf3» *", "1. e4 e5 3. d4 d6 «4Nf3→4. Nf3» *",
-           "e4 e5 «2Nf3→2. Nf3» *", "11. e4 e5 «12Nf3→12. Nf3» *"),
+    *_rows("joined number out of turn", "1. e4 e5 3. d4 d6 «3Nf3→3. Nf3» *",
+           "1. e4 e5 3. d4 d6 «4Nf3→4. Nf3» *", "e4 e5 «2Nf3→2. Nf3» *",
+           "11. e4 e5 «12Nf3→12. Nf3» *"),
     # a quote too many, and a bracket too few
     *_rows("odd quotes in a value", '[WhiteElo "«"2500→\\"2500»"]\n\n1. e4 *\n',
            '[Event "«The "Open→The \\"Open»"]\n\n1. e4 *\n'),
-    *_rows(BRACKET, '[White "Smith, J"«→]»\n[Black "Jones, P"]\n\n1. e4 *\n',
+    *_rows("missing bracket", '[White "Smith, J"«→]»\n[Black "Jones, P"]\n\n1. e4 *\n',
            '[White "Smith, J"«→]» \r\n\r\n1. e4 *\r\n'),
     # what is behind a marker and begins no game
-    *_rows(BEHIND, DRAW + "1. e4 1/2-1/2«.→»\n", *(
+    *_rows("sign after the marker", DRAW + "1. e4 1/2-1/2«.→»\n", *(
         WON + "1. e4 1-0" + sign + behind for behind in ("\n", '\n\n[White "a"]\n\n*\n')
         for sign in ("«.→»", "«!→»", "«??→»", " «$10→»", " «. $1→»"))),
 ]
@@ -257,7 +252,6 @@ LEFT = [
         '0 - 0\n\n[White "Ada"]\n\n*\n')),
 ]
 
-BOTH = "1. e4 e5 2. Nf3 "
 ITALIAN = "1. e4 e5 2. Nf3 Nc6 3. Bc4 "
 PAIRS = '[Event "a"]\n[White "b"]\n[Black "c"]\n[Result "*"]\n'
 # A pawn on b3 and a bishop on f1 can both take on c4.
@@ -275,7 +269,7 @@ DOUBTFUL = [
     '[White "b"]\n[Result "1-0"][Result "1-0"]\n\n1. e4 1-0\n',
     '[White "b"]\n[Result "1-0"][Result "1-0"]\n[Result "1-0"]\n\n1. e4 1-0\n',
     # the letter of a knight, or a novelty before a pawn's move
-    *(BOTH + it + " *" for it in (
+    *("1. e4 e5 2. Nf3 %s *" % it for it in (
         "N\nc6", "N\r\nc6", "N\u00a0c6", "N\u200bc6", "N\tc6", "N {a} c6", "N ;a\nc6", "N.c6",
         "N -c6", "N \u2013 c6", "N c6", "N\ufeffc6", "N {a} \u00a0 c6", "N! c6", "N\nc6+-",
         "N\nc6,")),
