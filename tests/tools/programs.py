@@ -211,6 +211,26 @@ def archive(games, style, lines=20):
                 str(lines), "--style", style], timeout=300).stdout
 
 
+def mutated(text, rng, parts, most):
+    """A text with at most so many random changes.
+
+    One of some parts is put in or replaces a byte, some bytes go, or they are doubled elsewhere.
+    """
+    text = bytearray(text)
+    for _ in range(rng.randint(0, most)):
+        at, kind = rng.randint(0, len(text)), rng.random()
+        if kind < 0.5:
+            text[at:at] = rng.choice(parts)
+        elif kind < 0.6:
+            text[at:at + 1] = rng.choice(parts)
+        elif kind < 0.8:
+            del text[at:at + rng.randint(1, 6)]
+        else:
+            begin = rng.randint(0, len(text))
+            text[at:at] = text[begin:begin + rng.randint(1, 30)]
+    return bytes(text)
+
+
 def new_folder(test):
     """A new folder, which is removed behind a test, or behind all tests of a class."""
     folder = os.path.realpath(tempfile.mkdtemp())

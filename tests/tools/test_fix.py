@@ -13,8 +13,8 @@ import subprocess
 import sys
 import unittest
 
-from programs import (HEAD, PACKAGE, ROOT, bytes_of, check_stopped, files_up_to, need, need_package,
-                      output_of, run, run_on_a_disk, signalled, text_of)
+from programs import (HEAD, PACKAGE, ROOT, bytes_of, check_stopped, files_up_to, mutated, need,
+                      need_package, output_of, run, run_on_a_disk, signalled, text_of)
 from spellings import DOUBTFUL, LEFT, SAFE, UNSAFE
 from test_lint import LINT, Lint
 
@@ -196,17 +196,8 @@ BITS = (b"{", b"}", b"(", b")", b"[", b"]", b'"', b";", b"\n", b"%", b"*", b"1-0
 
 def damaged(rng, pool):
     """Some texts of a pool in one, with random damage."""
-    text = bytearray(b"\n\n".join(rng.choice(pool) for _ in range(rng.randint(1, 4))))
-    for _ in range(rng.randint(0, 6)):
-        at, kind = rng.randrange(len(text) + 1), rng.random()
-        if kind < 0.4:
-            text[at:at] = rng.choice(BITS)
-        elif kind < 0.7:
-            del text[at:at + rng.randint(1, 5)]
-        else:
-            other = rng.randrange(len(text) + 1)
-            text[at:at] = text[other:other + rng.randint(1, 30)]
-    return bytes(text)
+    texts = [rng.choice(pool) for _ in range(rng.randint(1, 4))]
+    return mutated(b"\n\n".join(texts), rng, BITS, 6)
 
 
 class Damaged(unittest.TestCase):
@@ -763,13 +754,14 @@ class Processes(Lint):
 
     def test_they_change_nothing(self):
         need("diff")
-        for line in ("--fix", "--diff", "--fix --json", "--fix --unsafe-fixes", "--fix --max 2",
-                     "--diff --quiet", "--fix --board"):
+        for line in ("--fix", "--diff -", "--fix --json", "--fix --unsafe-fixes", "--fix --max 2",
+                     "--diff --quiet -", "--fix --board", "--board -", "--json -", "--sarif -",
+                     "--quiet -", "--max 7 -"):
             said = []
             for jobs in "13":
                 shutil.rmtree(self.folder + "/all", ignore_errors=True)
                 self.fill()
-                ran = self.lint(line + " all missing all/01.pgn -j " + jobs)
+                ran = self.lint("-j %s %s all missing all/01.pgn" % (jobs, line), input=BAD)
                 said.append((ran, self.files("all")))
             with self.subTest(line):
                 self.assertEqual(said[0], said[1])

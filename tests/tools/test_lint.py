@@ -701,14 +701,6 @@ class Options(Lint):
             self.assertEqual((status, out.splitlines()),
                              (1, lines + ["3 files, 9 games, 9 faults in 3 files"]))
 
-    def test_processes_change_nothing(self):
-        for number in range(20):
-            self.put("all/%d.pgn" % number, b"\n".join([GOOD, BAD, GOOD][:number % 4] * number))
-        for line in ("--board", "--json", "--sarif", "--quiet", "--max 7"):
-            one = self.lint(line + " all missing -", input=BAD)
-            self.assertEqual(one[0], 3)
-            self.says(line + " -j 3 all missing -", *one, input=BAD)
-
     def test_json(self):
         fault, summary = self.records("a.pgn", of=WAYS["an exposed king"][0])
         self.assertEqual(list(fault), FIELDS)

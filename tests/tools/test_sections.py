@@ -8,7 +8,7 @@ import random
 import unittest
 
 import section_rule
-from programs import ROOT, archive, bytes_of, need_package, vectors
+from programs import ROOT, archive, bytes_of, mutated, need_package, vectors
 
 SEED = 20261128
 MUTATIONS = 10000
@@ -37,23 +37,6 @@ def texts():
         made = archive(60, style, 60)
         for at in range(0, len(made), 2000):
             yield made[at:at + 2500]
-
-
-def mutated(text, chance):
-    """A text with some changes."""
-    text = bytearray(text)
-    for _ in range(chance.randint(1, 12)):
-        at, kind = chance.randint(0, len(text)), chance.random()
-        if kind < 0.6:
-            text[at:at] = chance.choice(PARTS)
-        elif kind < 0.8:
-            del text[at:at + chance.randint(1, 6)]
-        elif kind < 0.9:
-            begin = chance.randint(0, len(text))
-            text[at:at] = text[begin:begin + chance.randint(1, 30)]
-        else:
-            text[at:at + 1] = chance.choice(PARTS)
-    return bytes(text)
 
 
 def answer(text, begin, fault, ends, chance=None):
@@ -89,7 +72,8 @@ class Rule(unittest.TestCase):
     def test_texts_and_mutations(self):
         chance = random.Random(SEED)
         given = [text[:2500] for text in texts()]
-        tried = given + [mutated(chance.choice(given), chance) for _ in range(MUTATIONS)]
+        tried = given + [mutated(chance.choice(given), chance, PARTS, 12)
+                         for _ in range(MUTATIONS)]
         found = sum(self.check(text, chance) is not None for text in tried)
         # many texts have a place, and many have none
         self.assertGreater(min(found, len(tried) - found), len(tried) // 10)

@@ -229,10 +229,7 @@ class SieveTest(programs.Folder, unittest.TestCase):
         bits = (b"{", b"}", b'"', b"[", b"]", b"\n\n", b"\n[", b"*", b"1-0 ", b"\x01", b"", b";",
                 b"%", b"(", b'[Event "z"]\n')
         for _ in range(60):
-            text = base
-            for _ in range(rng.randrange(1, 6)):
-                at = rng.randrange(len(text))
-                text = text[:at] + rng.choice(bits) + text[at + rng.randrange(3):]
+            text = programs.mutated(base, rng, bits, 5)
             done = Sieved(self, text)
             self.assertRegex(done.ran.stderr, rb"\A(gillspoon: \S+/good\.pgn: dropped .+\n)?\Z", text)
             self.assertEqual(done.good, export(done.left()), text)
