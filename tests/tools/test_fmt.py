@@ -7,8 +7,8 @@ import sys
 import unittest
 
 import programs
-from programs import (ROOT, Folder, check_stopped, closed_pipe, full_device, need, need_package,
-                      output_of, planted, run, vectors, zip_of)
+from programs import (ROOT, Folder, check_stopped, need, need_package, output_of, planted, run,
+                      vectors, zip_of)
 
 setUpModule = need_package
 FMT = [ROOT + "/bin/gillspoon", "fmt"]
@@ -196,17 +196,6 @@ class FmtTest(Folder, unittest.TestCase):
         script = 'cat loose.pgn | "$@" /dev/stdin'
         self.check(self.piped(script), 0, TIDY)
         self.check(self.piped(script, "--check"), 1, b"/dev/stdin\n")
-        with full_device() as full:
-            for line in ("loose.pgn", "--check loose.pgn"):
-                ran = self.call(line, stdout=full)
-                self.assertEqual((ran.returncode, ran.stderr.count(b"\n")), (3, 1), ran.stderr)
-        self.check(self.piped('"$@" --write loose.pgn >&-'), 3, b"",
-                   b"gillspoon: standard output is closed\n", {"loose.pgn": LOOSE})
-        # a closed pipe ends it silently
-        self.put("many.pgn", LOOSE * 3000)
-        for line in ("many.pgn", "--check loose.pgn"):
-            with closed_pipe() as closed:
-                output_of(self.call(line, stdout=closed), 3)
 
     def test_standard_input_by_a_name(self):
         """It can be checked and compared, and read twice for --checked."""
@@ -229,7 +218,6 @@ class FmtTest(Folder, unittest.TestCase):
         self.says("-o all.pgn - loose.pgn", 0, input=TIDY, files={"all.pgn": TIDY * 2})
         for line in ("- -", "--write -", "--stdin-name a - tidy.pgn"):
             self.check_refused(self.call(line, input=LOOSE), 2)
-        self.check(self.piped('"$@" - <&-'), 3, b"", b"gillspoon: <stdin>: Bad file descriptor\n")
 
     def test_compressed_standard_input(self):
         for line in ("-", "--stdin-name a", "--checked -"):

@@ -14,9 +14,9 @@ import unittest
 
 import programs
 from documents import blocks_of, lines_of
-from programs import (NO_TEXT, OTHER_KINDS, PACKAGE, PACKERS, ROOT, Folder, bytes_of, full_device,
-                      need, need_module, need_package, not_tried, run, text_of, vectors,
-                      without_rights, zip_of)
+from programs import (NO_TEXT, OTHER_KINDS, PACKAGE, PACKERS, ROOT, Folder, bytes_of, need,
+                      need_module, need_package, not_tried, run, text_of, vectors, without_rights,
+                      zip_of)
 from test_python import REAL
 
 setUpModule = need_package
@@ -818,13 +818,6 @@ class Streams(Lint):
         for _ in range(6):
             self.assertEqual(self.piped("-j4" + 8 * " a.pgn", timeout=20),
                              ("a.pgn:" + BAD_LINE, "3", b""))
-
-    def test_a_full_device(self):
-        self.put("a.pgn", BAD)
-        for line in ("a.pgn", "a.pgn --json", "a.pgn --sarif", "a.pgn -j 2 a.pgn"):
-            with full_device() as full:
-                self.assertEqual(self.lint(line, stdout=full)[::2], (
-                    3, "gillspoon: output cannot be written: No space left on device\n"))
 
     @contextlib.contextmanager
     def reading(self, line):

@@ -5,7 +5,6 @@ import re
 import signal
 import subprocess
 import sys
-import tempfile
 import unittest
 
 import programs
@@ -105,20 +104,14 @@ def call(words, **more):
     return run([sys.executable, *SIEVE, *words], **more)
 
 
-def export(text, *options):
-    with tempfile.NamedTemporaryFile() as file:
-        file.write(text)
-        file.flush()
-        ran = run([need_program(), "export", *options, file.name])
-    assert ran.returncode == 0, (ran.stderr, text)
-    return ran.stdout
+def export(text):
+    return output_of(run([need_program(), "export"], input=text))
 
 
 class Sieved(programs.Folder):
     """A run of the sieve on a text, and its two outputs."""
 
     def __init__(self, test, text, *options):
-        need_program()
         self.folder = programs.new_folder(test)
         self.paths = [self.folder + it for it in ("/in.pgn", "/good.pgn", "/bad.pgn")]
         self.put("in.pgn", text)
@@ -246,7 +239,6 @@ class SieveTest(programs.Folder, unittest.TestCase):
             self.assertIn(b": 5 games", self.sieved(text + bad, [bad]).ran.stdout)
 
     def test_refused_files(self):
-        need_program()
         folder, file = self.folder, self.put("a.pgn", A)
         link, other = folder + "/link.pgn", folder + "/b.pgn"
         os.link(file, link)
@@ -321,19 +313,20 @@ class SieveTest(programs.Folder, unittest.TestCase):
     def test_checked(self):
         """A missing Result takes the marker; one that is there is compared as ever."""
         won = b'[Event "w"]\n\n1. e4 {a} e5 1-0\n\n'
+        tagged = won.replace(b"\n\n", b'\n[Result "1-0"]\n\n', 1)
         text = won + A + b'[Result "0-1"]\n\n1. d4 1-0\n\n' + won
         done = Sieved(self, text)
         self.assertEqual([it[1] for it in done.notes], [b"result differs from the Result tag"] * 3)
         done = Sieved(self, text, "--checked")
         self.assertEqual((done.ran.returncode, done.ran.stderr), (1, b""))
-        self.assertEqual(done.good, export(won + A + won, "--checked"))
+        self.assertEqual(done.good, export(tagged + A + tagged))
         self.assertEqual(done.pieces, [b'[Result "0-1"]\n\n1. d4 1-0\n\n'])
         self.assertIn(b"good.pgn: 3 games\nbad.pgn: 1 bad game",
                       re.sub(rb"(?m)^.*/", b"", done.ran.stdout))
         self.assertEqual(export(done.good), done.good)
         done = Sieved(self, won, "--checked")
         self.assertEqual((done.ran.returncode, done.good, done.bad),
-                         (0, export(won, "--checked"), b""))
+                         (0, export(tagged), b""))
 
     def test_checked_finds_the_same_bad_games(self):
         """Where each result is that of its tag or `*`, it changes nothing."""
@@ -355,11 +348,6 @@ class SieveTest(programs.Folder, unittest.TestCase):
                 name + ":9:11: not a move (game 2, M\u00fcller \u2013 Bob)",
                 name + ":12:9: control byte (game 3, M\u00fcller \u2013 ?)"])
             self.assertEqual(len(shown.split("\n")), 6)
-
-    def test_a_closed_pipe_ends_it_silently(self):
-        done = Sieved(self, A)
-        with programs.closed_pipe() as closed:
-            output_of(call(done.paths, stdout=closed), 3)
 
     def test_outputs_keep_their_mode_and_follow_links(self):
         done = Sieved(self, A)

@@ -1,12 +1,12 @@
-"""Tests of bin/pgn_tool with pipes, and with standard streams that are closed, full or broken."""
+"""Tests of bin/pgn_tool and bin/gillspoon with pipes, and with streams that are closed, full or broken."""
 import os
 import signal
 import subprocess
 import threading
 import unittest
 
-from programs import (HEAD, UNKNOWN, Folder, full_device, opens_closed_streams, output_of, run,
-                      run_on_a_disk, without_rights)
+from programs import (HEAD, ROOT, UNKNOWN, Folder, closed_pipe, full_device, library,
+                      opens_closed_streams, output_of, run, run_on_a_disk, without_rights)
 
 TWO = b"1. e4 e5 2. Nf3 * *\n"
 UNREAD = b"byte 0: input cannot be read\n"
@@ -151,3 +151,36 @@ class StreamTest(Folder, unittest.TestCase):
         for words in ((b"check", b"a\xff.pgn"), (b"split", b"\xff"), (b"\xff",)):
             self.check(run([self.program.encode(), *words], input=TWO), 2, b"",
                        b"arguments cannot be read\n")
+
+
+class Gillspoon(Folder, unittest.TestCase):
+    """The commands of gillspoon with standard streams that are closed, full, or read by nobody."""
+
+    CALLS = ("lint a.pgn", "lint a.pgn --json", "lint a.pgn --sarif", "lint a.pgn -j 2 a.pgn",
+             "fmt b.pgn", "fmt --check b.pgn", "where a.pgn 0", "where a.pgn",
+             "sieve a.pgn good bad")
+    GAMES = b"1. e4 *\n" * 3000
+
+    def setUp(self):
+        super().setUp()
+        self.put_all({"a.pgn": b"1. e9 *\n", "b.pgn": self.GAMES})
+        self.env = dict(os.environ, GILLSPOON_LIBRARY=library())
+
+    def call(self, line, stream="", **more):
+        words = ["sh", "-c", '"$@" ' + stream, "sh", ROOT + "/bin/gillspoon", *line.split()]
+        return run(words, cwd=self.folder, env=self.env, input=b"byte 3: no\nmore\n", **more)
+
+    def test_standard_output(self):
+        for line in (*self.CALLS, "fmt --write b.pgn"):
+            self.check(self.call(line, ">&-"), 3, b"", b"gillspoon: standard output is closed\n",
+                       {"b.pgn": self.GAMES})
+        for line in self.CALLS:
+            with self.subTest(line), full_device() as full, closed_pipe() as closed:
+                output_of(self.call(line, stdout=closed), 3)
+                output_of(self.call(line, stdout=full), 3, (
+                    b"gillspoon: output cannot be written: No space left on device\n"))
+
+    def test_closed_standard_input(self):
+        self.check(self.call("where", "<&-"), 3, b"", b"gillspoon: standard input is closed\n")
+        self.check(self.call("fmt -", "<&-"), 3, b"",
+                   b"gillspoon: <stdin>: Bad file descriptor\n")

@@ -4,7 +4,7 @@ import subprocess
 import sys
 import unittest
 
-from programs import PACKERS, ROOT, Folder, closed_pipe, need, need_package, output_of, run, zip_of
+from programs import PACKERS, ROOT, Folder, need, need_package, output_of, run, zip_of
 
 setUpModule = need_package
 WHERE = [ROOT + "/bin/gillspoon", "where"]
@@ -292,8 +292,6 @@ class WhereTest(Folder, unittest.TestCase):
                 ("a.pgn x", 2), ("a.pgn -1", 2), ("a.pgn 1 2", 2), ("a.pgn 3", 3), ("none 3", 3),
                 (". 0", 3), ("none", 3), ("/dev/null 1", 3)):
             self.check_refused(self.call(line, input=b""), status)
-        self.check(run(["sh", "-c", '"$@" <&-', "sh", *WHERE]),
-                   3, b"", b"gillspoon: standard input is closed\n")
         ran = self.call("a.pgn 0", env=dict(os.environ, GILLSPOON_LIBRARY=self.folder + "/none"))
         self.check_refused(ran, 127)
         self.assertIn(b"in the repository run bin/build_program --library", ran.stderr)
@@ -306,13 +304,3 @@ class WhereTest(Folder, unittest.TestCase):
             ran = self.call("a.pgn --color " + when, input=b"byte 3: no\n")
             self.assertTrue(ran.stdout.decode().startswith(wanted), ran.stdout)
 
-    def test_closed_output(self):
-        ran = run(["sh", "-c", '"$@" examples/two-games.pgn 3 >/dev/full', "sh", *WHERE])
-        self.assertEqual((ran.returncode, ran.stderr.count(b"\n")), (3, 1), ran.stderr)
-        ran = run(["sh", "-c", '"$@" examples/two-games.pgn 3 >&-', "sh", *WHERE])
-        self.check(ran, 3, b"", b"gillspoon: standard output is closed\n")
-        # a closed pipe ends it silently
-        self.put("a.pgn", b"1. e9 *\n")
-        for line in ("a.pgn 0", "a.pgn"):
-            with closed_pipe() as closed:
-                output_of(self.call(line, stdout=closed, input=b"byte 3: no\nmore\n"), 3)
