@@ -279,13 +279,38 @@ class Folder:
 
     def check(self, ran, status, out=b"", err=b"", files=()):
         """A program ended so, and these files have these texts."""
-        self.assertEqual((ran.returncode, ran.stdout, ran.stderr), (status, out, err))
+        self.assertEqual((ran.returncode, ran.stdout, ran.stderr), (status, out, err), ran.args)
         self.assertEqual({it: self.get(it) for it in files}, dict(files))
 
     def check_refused(self, ran, status):
         """A program wrote nothing, and ended so with a line on standard error."""
         self.assertEqual((ran.returncode, ran.stdout, ran.stderr.count(b"\n")), (status, b"", 1),
                          (ran.args, ran.stderr))
+
+
+class Gillspoon(Folder):
+    """What a test has that calls gillspoon in its folder, by a line of words and by names."""
+
+    def setUp(self):
+        super().setUp()
+        self.env = dict(os.environ, PATH=ROOT + "/bin:" + PATH, LC_ALL="C.UTF-8", COLUMNS="80",
+                        PYTHONDONTWRITEBYTECODE="1")
+        for name in ("NO_COLOR", "INSIDE_EMACS"):
+            self.env.pop(name, None)
+
+    def call(self, line, *names, of=None, **more):
+        """Runs these words. A text `of` a file is first written to the last of them."""
+        words = [*line.split(), *names]
+        if of is not None:
+            self.put(words[-1], of)
+        if "input" not in more:
+            more.setdefault("stdin", subprocess.DEVNULL)
+        return run([ROOT + "/bin/gillspoon", *words],
+                   **{"cwd": self.folder, "env": self.env, **more})
+
+    def says(self, line, status, out=b"", told=b"", names=(), files=(), **more):
+        """A call ends so, and these files then have these texts."""
+        self.check(self.call(line, *names, **more), status, out, told, files)
 
 
 def load(script):

@@ -96,7 +96,7 @@ class Compressed(Folder, unittest.TestCase):
                     self.assertEqual(status, 3)
                     self.assertRegex(told, rb"\Agillspoon: <stdin>: [^\n/]+\n\Z")
                     if kind == "gz":
-                        self.assertIn(b"file ended before the end-of-stream marker was reached", told)
+                        self.assertIn(b"ended before the end-of-stream marker was reached", told)
                     self.assertEqual((self.get("good"), self.get("bad")), (b"old", b"old"), out)
 
     def test_no_games(self):

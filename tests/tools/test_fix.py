@@ -226,13 +226,12 @@ class Kept(unittest.TestCase):
 
     def mended(self, text, *edit):
         """A text after a planted fix, which proposes this edit wherever a fault is."""
-        from gillspoon._fixes import Fix
-        from gillspoon._here import Around, Change
-        from gillspoon._mend import Mending
-        from gillspoon._reading import GameReader
-        fix = Fix("planted", frozenset(range(60)), True, ("", ""), lambda here: Change(*edit))
-        around = Around(True, True, True)
-        return Mending(text, [fix], GameReader(), False, around).run().changes.text
+        from gillspoon import _fixes, _here, _mend, _reading
+        fix = _fixes.Fix("planted", frozenset(range(60)), True, ("", ""),
+                         lambda here: _here.Change(*edit))
+        around = _here.Around(True, True, True)
+        mending = _mend.Mending(text, [fix], _reading.GameReader(), False, around)
+        return mending.run().changes.text
 
     def test_a_fix_that_makes_another_game_is_refused(self):
         """Each would mend the fault, and changes a move or the first position before it."""

@@ -3,11 +3,10 @@ import gzip
 import importlib
 import os
 import re
-import sys
 import unittest
 
 import programs
-from programs import (ROOT, Folder, check_stopped, need, need_package, output_of, planted, run,
+from programs import (ROOT, Gillspoon, check_stopped, need, need_package, output_of, planted, run,
                       vectors, zip_of)
 
 setUpModule = need_package
@@ -29,20 +28,13 @@ fmt._what_is_dropped = dropped""")
 WON = (HEAD % b"?").replace(b"*", b"1-0") + b"1. e4 1-0\n\n"
 
 
-class FmtTest(Folder, unittest.TestCase):
-    """Calls are given as command lines, and names behind them."""
-
+class FmtTest(Gillspoon, unittest.TestCase):
     def setUp(self):
         super().setUp()
         self.put_all({"loose.pgn": LOOSE, "tidy.pgn": TIDY, "bad.pgn": BAD})
 
     def call(self, line="", *names, **more):
-        words = [sys.executable, *FMT, *line.split(), *names]
-        return run(words, cwd=self.folder, **more)
-
-    def says(self, line, status, out=b"", told=b"", names=(), files=(), **more):
-        """A call ends so, and these files then have these texts."""
-        self.check(self.call(line, *names, **more), status, out, told, files)
+        return super().call("fmt " + line, *names, **more)
 
     def piped(self, script, *words):
         """A call in a script of the shell, as "$@"."""
@@ -110,8 +102,7 @@ class FmtTest(Folder, unittest.TestCase):
     def test_output_that_is_an_input(self):
         os.symlink("loose.pgn", self.folder + "/link.pgn")
         for line in ("-o loose.pgn loose.pgn", "-o link.pgn tidy.pgn loose.pgn"):
-            ran = self.call(line)
-            self.assertEqual((ran.returncode, ran.stderr.count(b"\n")), (2, 1))
+            self.check_refused(self.call(line), 2)
         with open(self.folder + "/loose.pgn", "ab") as out:
             self.assertEqual(self.call("tidy.pgn loose.pgn", stdout=out).returncode, 2)
         self.assertEqual(self.get("loose.pgn"), LOOSE)

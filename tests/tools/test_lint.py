@@ -14,7 +14,7 @@ import unittest
 
 import programs
 from documents import blocks_of, lines_of
-from programs import (NO_TEXT, OTHER_KINDS, PACKAGE, PACKERS, ROOT, Folder, bytes_of, need,
+from programs import (NO_TEXT, OTHER_KINDS, PACKAGE, PACKERS, ROOT, Gillspoon, bytes_of, need,
                       need_module, need_package, not_tried, run, text_of, vectors, without_rights,
                       zip_of)
 from test_python import REAL
@@ -201,37 +201,16 @@ SARIF = record(["version", "runs"], **{"$schema": URI}, version={"enum": ["2.1.0
                runs=array(RUN, minItems=1))
 
 
-class Lint(Folder, unittest.TestCase):
-    """A test with a folder of its own, where calls are given as command lines."""
+class Lint(Gillspoon, unittest.TestCase):
+    def lint(self, line="", *names, **more):
+        """The status, the output and the errors of a call."""
+        ran = self.call("lint " + line, *names, **more)
+        return ran.returncode, ran.stdout.decode(), ran.stderr.decode()
 
-    def setUp(self):
-        super().setUp()
-        self.env = dict(os.environ, PATH=ROOT + "/bin:" + programs.PATH, LC_ALL="C.UTF-8",
-                        PYTHONDONTWRITEBYTECODE="1")
-        for name in ("NO_COLOR", "INSIDE_EMACS"):
-            self.env.pop(name, None)
-
-    def lint(self, line="", *names, of=None, **more):
-        """The status, the output and the errors of a call: a line of words, and names behind it.
-
-        A text `of` a file is first written to the last of the words.
-        """
-        words = [*line.split(), *names]
-        if of is not None:
-            self.put(words[-1], of)
-        if "input" not in more:
-            more.setdefault("stdin", subprocess.DEVNULL)
-        ran = run([*LINT, *words], **{"cwd": self.folder, "env": self.env, **more})
-        return ran.returncode, (ran.stdout or b"").decode(), (ran.stderr or b"").decode()
-
-    def says(self, line, status, out="", told="", names=(), files=(), **more):
-        """A call ends so, and these files then have these texts.
-
-        The output is given as a text, or as its lines.
-        """
+    def says(self, line, status, out="", told="", **more):
+        """As `Gillspoon.says` has it. The output is given as a text, or as its lines."""
         out = out if isinstance(out, str) else "".join("%s\n" % it for it in out)
-        self.assertEqual(self.lint(line, *names, **more), (status, out, told), (line, names))
-        self.assertEqual({it: self.get(it) for it in files}, dict(files))
+        super().says("lint " + line, status, out.encode(), told.encode(), **more)
 
     def records(self, line, *names, **more):
         return list(map(json.loads, self.lint("--json " + line, *names, **more)[1].splitlines()))
@@ -371,15 +350,12 @@ class NoTraceback(Lint):
             counts.append(len(out))
         self.assertGreater(min(counts), 100)
 
-    def test_worked_inputs(self):
+    def test_worked_inputs_and_junk_in_the_place_of_a_token(self):
         inputs = vectors()
         self.put_all({"all/%s.pgn" % it["file"]: it["input"] for it in inputs})
         self.assertGreater(len(inputs), 250)
+        self.put_all({"all/%s.pgn" % it: self.games(1200, it) for it in range(2)})
         self.try_modes("all")
-
-    def test_junk_in_the_place_of_a_token(self):
-        self.put_all({name + ".pgn": self.games(1200, seed) for seed, name in enumerate("ab")})
-        self.try_modes("a.pgn b.pgn")
 
     def test_an_error_of_its_own(self):
         """An error that is planted gives the faults without what failed, and status 3."""

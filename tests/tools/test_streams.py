@@ -1,4 +1,4 @@
-"""Tests of bin/pgn_tool and bin/gillspoon with pipes, and with streams that are closed, full or broken."""
+"""Tests of bin/pgn_tool and bin/gillspoon with pipes, and with closed, full or broken streams."""
 import os
 import signal
 import subprocess

@@ -4,7 +4,7 @@ import subprocess
 import sys
 import unittest
 
-from programs import PACKERS, ROOT, Folder, need, need_package, output_of, run, zip_of
+from programs import PACKERS, ROOT, Gillspoon, need, need_package, output_of, run, zip_of
 
 setUpModule = need_package
 WHERE = [ROOT + "/bin/gillspoon", "where"]
@@ -38,16 +38,9 @@ PLACES = (
 )
 
 
-class WhereTest(Folder, unittest.TestCase):
-    """Calls are given as command lines, and names behind them."""
-
-    def setUp(self):
-        super().setUp()
-        self.env = dict(os.environ, LC_ALL="C.UTF-8", PYTHONIOENCODING="utf-8", COLUMNS="80")
-
-    def call(self, line="", *names, command=WHERE, **more):
-        words = [sys.executable, *command, *line.split(), *names]
-        return run(words, **{"cwd": self.folder, "env": self.env, **more})
+class WhereTest(Gillspoon, unittest.TestCase):
+    def call(self, line="", *names, command="where ", **more):
+        return super().call(command + line, *names, **more)
 
     def lines(self, text, offset):
         """The lines that are printed for a byte of a text, without the file's name."""
@@ -194,7 +187,7 @@ class WhereTest(Folder, unittest.TestCase):
 
     def messages(self, line, *names):
         """What is shown of the messages of a command."""
-        told = self.call(line, *names, command=WHERE[:1], stderr=subprocess.STDOUT).stdout
+        told = self.call(line, *names, command="", stderr=subprocess.STDOUT).stdout
         return output_of(self.call(input=told), 1).decode()
 
     def test_messages_of_lint(self):
@@ -251,7 +244,7 @@ class WhereTest(Folder, unittest.TestCase):
         self.assertTrue(self.messages("lint --json", "a: 1.zip").startswith(shown))
         out = output_of(self.call("", "a: 1.zip:sub/y\n:1:2.pgn", "55"))
         self.assertEqual(out.decode().split("\n", 1)[1], KE3_LINES + GAME)
-        told = self.call("lint --quiet", command=WHERE[:1], input=self.get("a: 1.zip")).stdout
+        told = self.call("lint --quiet", command="", input=self.get("a: 1.zip")).stdout
         ran = self.call("", "a: 1.zip", input=told)
         self.assertEqual((ran.returncode, ran.stdout.decode()), (1, shown))
         self.check(self.call(input=told), 2, told, NO_FILE)
