@@ -51,7 +51,7 @@ BAD = [
     ("early variation", X + b"\n(1. e4) *\n", b"variation without a move before it", b"(1."),
     ("parenthesis", X + b"\n1. e4 ) *\n", b"closing parenthesis without an open one", b")"),
     ("open variation", X + b"\n1. e4 (1. d4 *\n", b"result inside a variation", b"*\n"),
-    ("other result", b'[Result "1-0"]\n\n1. e4 0-1\n', b"result differs from the Result tag", b"0-1"),
+    ("result", b'[Result "1-0"]\n\n1. e4 0-1\n', b"result differs from the Result tag", b"0-1"),
     ("no left bracket", b'Event "x"]\n' + SITE, b"not a move", b"Event"),
     ("words before a tag", b'Game [Event "x"]\n' + SITE, b"not a move", b"Game"),
     ("no tags", b"1. e4 e9 *\n", b"not a move", b"e9"),
