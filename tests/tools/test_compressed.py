@@ -2,9 +2,9 @@
 import os
 import unittest
 
-import programs
-from programs import PACKERS, ROOT, Folder, library, need, run, zip_of
+from programs import PACKERS, Gillspoon, need, need_package, zip_of
 
+setUpModule = need_package
 # A bad game between two sound ones; what is mended of it, its place, and what BAD says of it.
 SOUND = b'[White "Ada"]\n\n1. e4 e5 *\n\n'
 OLD, NEW = b"1. e2-e4 e5 *\n", b"1. e2e4 e5 *\n"
@@ -32,18 +32,16 @@ CALLS = {
 }
 
 
-class Compressed(Folder, unittest.TestCase):
+class Compressed(Gillspoon, unittest.TestCase):
     def setUp(self):
         need("zstd")
         super().setUp()
-        self.env = dict(os.environ, PATH=programs.PATH, GILLSPOON_LIBRARY=library(),
-                        LC_ALL="C.UTF-8", TMPDIR=self.folder + "/tmp")
-        os.mkdir(self.folder + "/tmp")
+        self.env["TMPDIR"] = self.folder + "/tmp"
+        os.mkdir(self.env["TMPDIR"])
 
     def call(self, line, data=b""):
         """Runs the words of a line, which leave no temporary file."""
-        ran = run([ROOT + "/bin/gillspoon", *line.split()], cwd=self.folder, env=self.env,
-                  input=data)
+        ran = super().call(line, input=data)
         self.assertEqual(os.listdir(self.folder + "/tmp"), [])
         return ran.returncode, ran.stdout, ran.stderr
 

@@ -312,7 +312,7 @@ class Warnings(Lint):
                 ("% byte 9: move is not legal; line 1\n% bytes 0 to 9, up to the end\n1. e4 *\n",)):
             self.warned(text, *lines)
 
-    def test_forms_of_tags(self):
+    def test_forms_and_names_of_tags(self):
         for reason, *tags in (
                 ("Date is not YYYY.MM.DD (PGN 8.1.1.3)", 'Date "2020-01-02"'),
                 ("Round is not a number, ? or - (PGN 8.1.1.4)", 'Round "one"'),
@@ -323,10 +323,16 @@ class Warnings(Lint):
                     "won by forfeit", "Forfeit", "time forfeit of both", "default", "no show",
                     r"a \"walkover\""))),
                 ("Variant tag: the moves are checked by the rules of ordinary chess",
-                 'Variant "Atomic"')):
+                 'Variant "Atomic"'),
+                # perhaps a name is misspelled
+                *(("tag %s: perhaps %s is meant" % names, names[0] + ' "x"') for names in (
+                    ("event", "Event"), ("fen", "FEN"), ("Setup", "SetUp"), ("RESULT", "Result"),
+                    ("Evnt", "Event"), ("Rounds", "Round"), ("Whitt", "White"), ("Dat", "Date")))):
             for tag in tags:
                 self.warned_of_game("[%s]\n\n*\n" % tag, "1:1", reason)
         for tag in ('Date "????.??.??"', 'Date "2020.01.??"', 'Round "1.2"', 'Round "-"',
+                    'Event "x"]\n[Evnt "y"', 'Wihte "a"', 'Opening "x"', 'SetUpp "x"',
+                    'Dates "x"]\n[Date "????.??.??"', 'WhiteElo "-"',
                     'Variant "Standard"', 'WhiteElo "2700"', 'BlackElo "-"', 'ECO "B12/13"',
                     'ECO "B12"', *('Termination "%s"' % it for it in (
                         # PGN 9.8.1 lists these; lichess.org writes some with a capital
@@ -373,16 +379,6 @@ class Warnings(Lint):
                     "best by test")), "1. e4 {; e5 2. Nf3 Nc6} *", "1. Pe4 *",
                 "1. e4 {a {; e5} {; e5 2. Nf3 Nc6} e5 {; 2. Nf3 Nc6 3. Bb5} *"):
             self.warned(text)
-
-    def test_names_of_tags(self):
-        for name, meant in (("event", "Event"), ("fen", "FEN"), ("Setup", "SetUp"),
-                            ("RESULT", "Result"), ("Evnt", "Event"), ("Rounds", "Round"),
-                            ("Whitt", "White"), ("Dat", "Date")):
-            self.warned_of_game('[%s "x"]\n\n*\n' % name, "1:1",
-                                "tag %s: perhaps %s is meant" % (name, meant))
-        for tags in ('[Event "x"]\n[Evnt "y"]', '[Wihte "a"]', '[Opening "x"]', '[SetUpp "x"]',
-                     '[Dates "x"]\n[Date "????.??.??"]', '[WhiteElo "-"]'):
-            self.warned(tags + "\n\n*\n")
 
     def test_a_game_of_nothing(self):
         nothing = "warning: a game without tags and moves after a marker (game %d, ? \u2013 ?)"

@@ -66,6 +66,7 @@ BARE, BARE_BAD = b'[Event "A"]\n1. e4 e5 *\n', b'[Event "x"]\n1. e4 e9 *\n'
 BRACKETS = (b'[Event "x"]\n\n1. e4 {[%clk 1:00]\n[%eval 0.1]\n[x]} e5 {a\n\nb}\n'
             b"2. e9 {[%clk 1:00]\n[x]} *\n")
 NOTED, PROSE = b'{a note}\n[Event "x"]\n\n1. e9 *\n', b"Games of the club,\n"
+NO_MARKER = [X + b'[Site "y"]\n\n%s\n' % it for it in (b"1. e4 e5", b"1. e4 e5 {why}", b"")]
 ILLEGAL, ESCAPE = b'[Event "x"]\n\n1. e9 *\n\n', b"% a line of the next one\n"
 MANY = b"".join(b'[T%02d "v"]\n' % n for n in range(64))
 # What is sieved, what is set aside of it, and its sound games, if they are compared; then what BAD
@@ -74,6 +75,8 @@ ROWS = (
     ("sound games", A + B, [], None, b"good.pgn: 2 games\n", b"bad.pgn: 0 bad games set aside"),
     ("joined files with byte order marks", (b"\xef\xbb\xbf" + A) * 3, [], A * 3,
      b"dropped between games: 2 byte order marks"),
+    *(("no marker", A + bad + b"\n" + B + bad, [bad, bad], A + B,
+       b"byte %d: unexpected end of input" % (len(A + B + bad + bad) + 1)) for bad in NO_MARKER),
     # 64 tag pairs and the roster: 71 tag lines, more than the program reads
     ("many tag pairs", A + MANY + b"\n*\n" + BAD[0][1] + b"\n" + B, [BAD[0][1]], None,
      b"good.pgn: 1 game with more than 64 tag lines", b"first game 2"),
@@ -169,12 +172,6 @@ class SieveTest(programs.Folder, unittest.TestCase):
         for end in (b"\r\n", b"\r"):
             done = self.sieved(text.replace(b"\n", end), [it.replace(b"\n", end) for it in games])
             self.assertEqual(done.good.count(b"[Event"), len(games))
-
-    def test_no_marker(self):
-        for movetext in (b"1. e4 e5", b"1. e4 e5 {why}", b""):
-            bad = b'[Event "x"]\n[Site "y"]\n\n%s\n' % movetext
-            done = self.sieved(A + bad + b"\n" + B + bad, [bad, bad], good=A + B)
-            self.assertEqual(done.notes[1][:2], (len(done.text), b"unexpected end of input"))
 
     def test_each_row(self):
         for name, text, bad, good, *said in ROWS:

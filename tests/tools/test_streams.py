@@ -5,7 +5,7 @@ import subprocess
 import threading
 import unittest
 
-from programs import (HEAD, ROOT, UNKNOWN, Folder, closed_pipe, full_device, library,
+from programs import (HEAD, UNKNOWN, Folder, Gillspoon, closed_pipe, full_device, need_package,
                       opens_closed_streams, output_of, run, run_on_a_disk, without_rights)
 
 TWO = b"1. e4 e5 2. Nf3 * *\n"
@@ -153,7 +153,7 @@ class StreamTest(Folder, unittest.TestCase):
                        b"arguments cannot be read\n")
 
 
-class Gillspoon(Folder, unittest.TestCase):
+class GillspoonTest(Gillspoon, unittest.TestCase):
     """The commands of gillspoon with standard streams that are closed, full, or read by nobody."""
 
     CALLS = ("lint a.pgn", "lint a.pgn --json", "lint a.pgn --sarif", "lint a.pgn -j 2 a.pgn",
@@ -162,25 +162,22 @@ class Gillspoon(Folder, unittest.TestCase):
     GAMES = b"1. e4 *\n" * 3000
 
     def setUp(self):
+        need_package()
         super().setUp()
         self.put_all({"a.pgn": b"1. e9 *\n", "b.pgn": self.GAMES})
-        self.env = dict(os.environ, GILLSPOON_LIBRARY=library())
-
-    def call(self, line, stream="", **more):
-        words = ["sh", "-c", '"$@" ' + stream, "sh", ROOT + "/bin/gillspoon", *line.split()]
-        return run(words, cwd=self.folder, env=self.env, input=b"byte 3: no\nmore\n", **more)
 
     def test_standard_output(self):
+        more = {"input": b"byte 3: no\nmore\n"}
         for line in (*self.CALLS, "fmt --write b.pgn"):
-            self.check(self.call(line, ">&-"), 3, b"", b"gillspoon: standard output is closed\n",
-                       {"b.pgn": self.GAMES})
+            self.says(line, 3, b"", b"gillspoon: standard output is closed\n",
+                      files={"b.pgn": self.GAMES}, preexec_fn=lambda: os.close(1), **more)
         for line in self.CALLS:
             with self.subTest(line), full_device() as full, closed_pipe() as closed:
-                output_of(self.call(line, stdout=closed), 3)
-                output_of(self.call(line, stdout=full), 3, (
+                output_of(self.call(line, stdout=closed, **more), 3)
+                output_of(self.call(line, stdout=full, **more), 3, (
                     b"gillspoon: output cannot be written: No space left on device\n"))
 
     def test_closed_standard_input(self):
-        self.check(self.call("where", "<&-"), 3, b"", b"gillspoon: standard input is closed\n")
-        self.check(self.call("fmt -", "<&-"), 3, b"",
-                   b"gillspoon: <stdin>: Bad file descriptor\n")
+        for line, told in (("where", b"standard input is closed"),
+                           ("fmt -", b"<stdin>: Bad file descriptor")):
+            self.says(line, 3, b"", b"gillspoon: %s\n" % told, preexec_fn=lambda: os.close(0))
