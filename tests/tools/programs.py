@@ -305,7 +305,7 @@ class Gillspoon(Folder):
             self.put(words[-1], of)
         if "input" not in more:
             more.setdefault("stdin", subprocess.DEVNULL)
-        return run([ROOT + "/bin/gillspoon", *words],
+        return run([sys.executable, ROOT + "/bin/gillspoon", *words],
                    **{"cwd": self.folder, "env": self.env, **more})
 
     def says(self, line, status, out=b"", told=b"", names=(), files=(), **more):

@@ -12,7 +12,7 @@ TEXT = SOUND + b'[White "Bob"]\n\n' + OLD + b"\n" + SOUND
 PLACE = 45
 BAD = b"""%% byte 45%s: not a move; line 7
 %% bytes 27 to 57, up to the next line that begins a tag section, which is a guess
-""" + TEXT[27:58]
+""" + TEXT[27:57]
 EDIT = (b"<stdin>:7:4: %s: long notation: e2-e4 \xe2\x86\x92 e2e4\n"
         b"1 file, 3 games, 0 faults, 1 edit\n")
 FAULT = 1, b"<stdin>:7:4: not a move (game 2, Bob \xe2\x80\x93 ?)\n", b""
