@@ -9,7 +9,6 @@ setUpModule = need_package
 SOUND = b'[White "Ada"]\n\n1. e4 e5 *\n\n'
 OLD, NEW = b"1. e2-e4 e5 *\n", b"1. e2e4 e5 *\n"
 TEXT = SOUND + b'[White "Bob"]\n\n' + OLD + b"\n" + SOUND
-PLACE = 45
 BAD = b"""%% byte 45%s: not a move; line 7
 %% bytes 27 to 57, up to the next line that begins a tag section, which is a guess
 """ + TEXT[27:57]
@@ -24,9 +23,9 @@ CALLS = {
     "lint --diff @": (1, b"--- <stdin>\n+++ <stdin> mended\n@@ -4,7 +4,7 @@\n \n"
                       b' [White "Bob"]\n \n-%s+%s \n [White "Ada"]\n \n' % (OLD, NEW),
                       EDIT % b"would fix"),
-    "where @ %d" % PLACE: (0, b"<stdin>: line 7, column 4 (byte %d)\n%s   ^\n"
-                           b'game 2: White "Bob", Black "?", Event "?"\n' % (PLACE, OLD), b""),
-    "fmt --check @": (1, b"", b"gillspoon: <stdin>: byte %d: not a move\n" % PLACE),
+    "where @ 45": (0, b"<stdin>: line 7, column 4 (byte 45)\n%s   ^\n"
+                   b'game 2: White "Bob", Black "?", Event "?"\n' % OLD, b""),
+    "fmt --check @": (1, b"", b"gillspoon: <stdin>: byte 45: not a move\n"),
     "sieve @ good bad": (1, b"good: 2 games\nbad: 1 bad game set aside, 30 bytes\nThe end of a bad "
                          b"game is a guess: the next line that begins a tag section.\n", b""),
 }
@@ -45,42 +44,40 @@ class Compressed(Gillspoon, unittest.TestCase):
         self.assertEqual(os.listdir(self.folder + "/tmp"), [])
         return ran.returncode, ran.stdout, ran.stderr
 
+    def as_plain(self, kind, line, data, name="<stdin>"):
+        """What a call gives, in the words for the plain text on standard input."""
+        status, out, told = self.call(line.replace("@", "-" if name == "<stdin>" else name), data)
+        # the file in a zip is named, but by where, and --fix writes an empty line behind it
+        member = ":games.pgn" if kind == "zip" and "where" not in line else ""
+        out, told = (it.replace((name + member).encode(), b"<stdin>") for it in (out, told))
+        return status, out[:-2] if member and "--fix" in line else out, told
+
     def texts(self, text=TEXT):
         """The text, and what each kind makes of it."""
         return {"plain": text, **{kind: pack(text) for kind, pack in PACKERS.items()}}.items()
 
     def test_each_script_reads_it(self):
-        """From standard input and from a file it gives what it gives for the plain text.
-
-        The file in a zip is named, and --fix writes an empty line behind it.
-        """
+        """From standard input and from a file it gives what it gives for the plain text."""
         need("diff")
         sound = SOUND * 2
         exported = self.call("fmt", sound)
         self.assertEqual(exported[0], 0)
         for kind, data in self.texts():
-            file = self.put("a.pgn." + kind, data)
+            self.put("a.pgn." + kind, data)
             for line, said in CALLS.items():
-                for name in ("<stdin>", os.path.basename(file)) if "@" in line else ["<stdin>"]:
-                    member = b":games.pgn" * (kind == "zip")
-                    status, *told = self.call(line.replace("@", name.replace("<stdin>", "-")), data)
-                    told = [it.replace(name.encode() + member * (line[:5] != "where"), b"<stdin>")
-                            for it in told]
-                    if kind == "zip" and "--fix" in line:
-                        told[0] = told[0][:-2]
+                for name in ("<stdin>", "a.pgn." + kind) if "@" in line else ["<stdin>"]:
                     with self.subTest(kind=kind, line=line, name=name):
-                        self.assertEqual((status, *told), said)
-                    if "sieve" in line:
-                        of = b" of %s%s" % (name.encode(), member) if member else b""
-                        self.assertEqual((self.get("good"), self.get("bad")),
-                                         (exported[1], BAD % of))
+                        self.assertEqual(self.as_plain(kind, line, data, name), said)
+                        if "sieve" in line:
+                            of = " of %s:games.pgn" % name if kind == "zip" else ""
+                            self.assertEqual((self.get("good"), self.get("bad")),
+                                             (exported[1], BAD % of.encode()))
         for kind, data in self.texts(sound):
             self.assertEqual(self.call("fmt", data), exported, kind)
             self.assertEqual(self.call("lint", data),
                              (0, b"1 file, 2 games, 0 faults\n", b""), kind)
             # what is sound comes out plain too
-            status, out, _ = self.call("lint --fix -", data)
-            self.assertEqual((status, out), (0, sound + b"\n\n" * (kind == "zip")), kind)
+            self.assertEqual(self.as_plain(kind, "lint --fix -", data)[:2], (0, sound), kind)
 
     def test_what_is_cut_off_is_told_without_a_temporary_name(self):
         """The status is 3, in one line; an output that is there stays as it is."""

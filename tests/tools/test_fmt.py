@@ -58,6 +58,8 @@ class FmtTest(Gillspoon, unittest.TestCase):
         self.says("--check packed.pgn", 1, b"packed.pgn\n")
         self.says("--write packed.pgn", 3, b"", IS_COMPRESSED % b"packed.pgn")
         self.assertIn(b"\n+1. e4 e5 *\n", self.call("--diff packed.pgn").stdout)
+        for line in ("-", "--stdin-name a", "--checked -"):
+            self.says(line, 0, TIDY, input=self.get("packed.pgn"))
         self.put("packed.pgn", gzip.compress(TIDY))
         self.says("--check packed.pgn", 0)
 
@@ -209,10 +211,6 @@ class FmtTest(Gillspoon, unittest.TestCase):
         self.says("-o all.pgn - loose.pgn", 0, input=TIDY, files={"all.pgn": TIDY * 2})
         for line in ("- -", "--write -", "--stdin-name a - tidy.pgn"):
             self.check_refused(self.call(line, input=LOOSE), 2)
-
-    def test_compressed_standard_input(self):
-        for line in ("-", "--stdin-name a", "--checked -"):
-            self.says(line, 0, TIDY, input=gzip.compress(LOOSE))
 
     def test_write_refuses_a_read_only_file(self):
         """Also as root, whom permissions do not bind. What is in form has nothing to write."""
