@@ -56,12 +56,6 @@ class WhereTest(Gillspoon, unittest.TestCase):
         self.assertEqual(lines[1:3], [shown, caret])
         return lines
 
-    def test_example(self):
-        lines = run([*WHERE, "examples/no-such-move.pgn", "77"]).stdout.decode().split("\n")
-        self.assertIn("line 4, column 37", lines[0])
-        self.assertEqual(lines[1][lines[2].index("^"):][:3], "Bd4")
-        self.assertEqual(lines[3], 'game 1: White "Nowak, A.", Black "Silva, J.", Event "?"')
-
     def test_line_ends(self):
         for end in (b"\n", b"\r", b"\r\n"):
             text = end.join((b"ab", b"", b"cde", b""))
