@@ -20,7 +20,6 @@ from test_lint import LINT, Lint
 
 BAD = b'[White "Ada"]\n[Black "Bob"]\n\n1. e2-e4 e5 *\n'
 MENDED = b'[White "Ada"]\n[Black "Bob"]\n\n1. e2e4 e5 *\n'
-LINE = "a.pgn:4:4: fixed: long notation: e2-e4 \u2192 e2e4\n"
 
 
 def setUpModule():
@@ -493,8 +492,9 @@ class Command(Lint):
     """gillspoon lint --fix, --diff and --fixes."""
 
     def test_fix(self):
-        self.says("--fix a.pgn", 0, LINE + "1 file, 1 game, 0 faults, 1 edit\n", of=BAD,
-                  files={"a.pgn": MENDED})
+        self.says("--fix a.pgn", 0, ["a.pgn:4:4: fixed: long notation: e2-e4 \u2192 e2e4",
+                                     "1 file, 1 game, 0 faults, 1 edit"],
+                  of=BAD, files={"a.pgn": MENDED})
         before = os.stat(self.folder + "/a.pgn").st_ino
         self.says("--fix a.pgn", 0, "1 file, 1 game, 0 faults, 0 edits\n")
         self.assertEqual(os.stat(self.folder + "/a.pgn").st_ino, before)
@@ -512,16 +512,6 @@ class Command(Lint):
         self.says("--fix --unsafe-fixes a.pgn", 0, [
             "a.pgn:8:9: fixed (unsafe): null move: -- 2. d4 \u2192 {-- 2. d4}",
             "1 file, 2 games, 0 faults, 1 edit"])
-
-    def test_diff(self):
-        need("diff")
-        status, out, told = self.lint("--diff a.pgn", of=BAD)
-        self.assertEqual((status, out.splitlines()[:2], told.splitlines()[0] + "\n"),
-                         (1, ["--- a.pgn", "+++ a.pgn mended"], LINE.replace("fixed", "would fix")))
-        self.assertEqual([it for it in out.splitlines()[2:] if it[0] in "+-"],
-                         ["-1. e2-e4 e5 *", "+1. e2e4 e5 *"])
-        self.assertEqual(self.get("a.pgn"), BAD)
-        self.says("--diff --quiet a.pgn", 0, of=MENDED)
 
     def test_names(self):
         self.assertEqual(self.lint("--fix --ignore long-notation a.pgn", of=BAD)[0], 1)

@@ -149,16 +149,12 @@ class FmtTest(Gillspoon, unittest.TestCase):
         need("diff")
         self.says("--diff tidy.pgn", 0)
         self.put("near.pgn", TIDY.replace(b"1. e4", b"1.e4"))
-        lines = output_of(self.call("-d tidy.pgn near.pgn"), 1).split(b"\n")
-        self.assertEqual(lines[:2], [b"--- near.pgn", b"+++ near.pgn in export format"])
-        for line in (b"-1.e4 e5 *", b"+1. e4 e5 *"):
-            self.assertIn(line, lines)
         self.says("--diff bad.pgn", 1, b"", NO_MOVE % b"bad.pgn")
         out = self.call("--diff --color always near.pgn").stdout
         self.assertIn(b"\x1b[31m-1.e4 e5 *\x1b[0m\n\x1b[32m+1. e4 e5 *\x1b[0m\n", out)
         plain = re.sub(rb"\x1b\[\d+m", b"", out)
-        for when in ("auto", "never"):
-            self.assertEqual(self.call("--diff near.pgn --color " + when).stdout, plain)
+        for line in ("-d tidy.pgn near.pgn", "-d near.pgn --color auto", "-d near.pgn --color never"):
+            self.says(line, 1, plain)
         self.assertEqual(self.call("--diff --color on near.pgn").returncode, 2)
 
     def test_checked_is_handed_on(self):
