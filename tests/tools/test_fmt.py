@@ -153,8 +153,8 @@ class FmtTest(Gillspoon, unittest.TestCase):
         out = self.call("--diff --color always near.pgn").stdout
         self.assertIn(b"\x1b[31m-1.e4 e5 *\x1b[0m\n\x1b[32m+1. e4 e5 *\x1b[0m\n", out)
         plain = re.sub(rb"\x1b\[\d+m", b"", out)
-        for line in ("-d tidy.pgn near.pgn", "-d near.pgn --color auto", "-d near.pgn --color never"):
-            self.says(line, 1, plain)
+        for words in ("tidy.pgn", "--color auto", "--color never"):
+            self.says("-d %s near.pgn" % words, 1, plain)
         self.assertEqual(self.call("--diff --color on near.pgn").returncode, 2)
 
     def test_checked_is_handed_on(self):
