@@ -750,19 +750,13 @@ class Processes(Lint):
                 said.append((ran, self.files("all")))
             with self.subTest(line):
                 self.assertEqual(said[0], said[1])
-                (status, *_), texts = said[0]
+                (status, out, _), texts = said[0]
                 wanted = MENDED if "--fix" in line else BAD
-                # the locked one stays
+                # the locked one stays, and standard input is one of the files
                 self.assertEqual(
                     (status, texts["locked.pgn"], texts["01.pgn"], texts["one.pgn"]),
                     (3, BAD, wanted, wanted))
-
-    def test_standard_input_among_files(self):
-        need("diff")
-        self.put_all({"a.pgn": BAD, "b.pgn": BAD})
-        one = self.lint("--diff a.pgn - b.pgn", input=BAD)
-        self.says("--diff a.pgn - b.pgn -j 2", *one, input=BAD)
-        self.assertEqual((one[0], one[1].count("+1. e2e4 e5 *")), (1, 3))
+                self.assertEqual("stdin" in out, line.endswith(" -"))
 
     def test_a_signal_leaves_no_file(self):
         """Each process removes the file that it writes. What was mended stays mended."""
