@@ -5,7 +5,7 @@ import time
 import unittest
 
 import programs
-from programs import Folder, not_tried, output_of, run, vectors
+from programs import Folder, output_of, run, vectors
 
 HEAD = programs.HEAD.replace(b"*", b"%s")
 DIFFERS = b"byte %d: second reading differs\n"
@@ -80,8 +80,6 @@ class CheckedTest(Folder, unittest.TestCase):
             self.check(self.export(path), 1, b"", b"byte 0: input cannot be read\n")
 
     def test_standard_input_by_its_name(self):
-        if not os.path.exists("/dev/stdin"):
-            not_tried("/dev/stdin is missing")
         # a pipe gives its bytes once: the first reading has them all
         for text in (b"1. e4 1-0", b"1-0 0-1"):
             self.check(self.export("/dev/stdin", input=text), 1, b"", DIFFERS % 0)
@@ -103,9 +101,6 @@ class CheckedTest(Folder, unittest.TestCase):
     def wait_for_both(self, process, path):
         """Waits until the program has opened the pipe twice."""
         folder = "/proc/%d/fd" % process.pid
-        if not os.path.isdir(folder):
-            process.kill()
-            not_tried("/proc is missing")
         for _ in range(600):
             links = [os.path.join(folder, it) for it in os.listdir(folder)]
             if sum(os.path.realpath(it) == os.path.realpath(path) for it in links) == 2:

@@ -242,9 +242,6 @@ class FmtTest(Gillspoon, unittest.TestCase):
                 self.says("--write --drop a.pgn", 0, b"a.pgn\n",
                           b"gillspoon: a.pgn: dropped %s\n" % what,
                           files={"a.pgn": TIDY.replace(b"1. e4", b"1. e4" + kept)})
-        self.put("a.pgn", b"; a note\n")
-        self.assertEqual(self.call("--write a.pgn").returncode, 3)
-        self.assertEqual(self.get("a.pgn"), b"; a note\n")
         # what is kept is no reason to refuse
         self.put("a.pgn", b'\xef\xbb\xbf[White "{; A"] {a} e4 ; b {\n ({c}d4) *\n\n')
         self.says("--write a.pgn", 0, b"a.pgn\n")
