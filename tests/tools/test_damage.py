@@ -44,8 +44,6 @@ class FourthSeed(Damages, unittest.TestCase):
 
 
 class Maker(unittest.TestCase):
-    """The maker itself: what it makes is what it says."""
-
     def test_planted_wrong_edit(self):
         """An edit that makes another game is found, also if the text is sound behind it."""
         import gillspoon
@@ -66,8 +64,7 @@ class Maker(unittest.TestCase):
                          (b"c5", b"c6"), (b"*", b"* 1. e4 *")):
             self.assertNotEqual(damage.content(text), damage.content(text.replace(old, new)))
 
-    def test_seeds(self):
-        """A seed gives the same texts each time, and another one others."""
+    def test_a_seed_gives_the_same_texts_each_time(self):
         pool = damage.sound_games()
         self.assertGreater(len(pool), 300)
         self.assertTrue(all(map(damage.is_sound, pool)))

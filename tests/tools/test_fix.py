@@ -489,8 +489,6 @@ class Statistics(Lint):
 
 
 class Command(Lint):
-    """gillspoon lint --fix, --diff and --fixes."""
-
     def test_fix(self):
         self.says("--fix a.pgn", 0, ["a.pgn:4:4: fixed: long notation: e2-e4 \u2192 e2e4",
                                      "1 file, 1 game, 0 faults, 1 edit"],

@@ -218,7 +218,6 @@ class Lint(Gillspoon, unittest.TestCase):
 
 class Faults(Lint):
     def test_each_way_to_be_bad(self):
-        """Each alone, and all at once."""
         self.put_all(WAYS_IN_A_FOLDER)
         wanted = {}
         for name, (_, lines) in WAYS.items():
@@ -320,8 +319,6 @@ def failing(*words): raise KeyError('planted')
 
 
 class NoTraceback(Lint):
-    """No text ends a run, in no mode."""
-
     def junk(self, rng):
         alphabet = "KQRBNPabcdefgh12345678xO0-=+#!?.NQRB"
         return rng.choice(JUNK) if rng.random() < 0.5 else "".join(
@@ -536,7 +533,6 @@ class OtherKinds(Lint):
                                 "2 files, 2 games, 2 faults in 2 files"], told)
 
     def test_damaged_games_are_no_other_kind(self):
-        """They have their faults, as ever."""
         for text, reason in (
                 (b'[White "A\0"]\n\n*\n', "1:10: control byte"),
                 (b'\xef\xbb\xbf\n[ White "A"]\n\n1. e4 \0\0 *\n', "4:7: control byte"),
@@ -807,6 +803,7 @@ class Streams(Lint):
             with open(self.folder + "/pipe.pgn", "wb", buffering=0) as pipe:
                 pipe.write(b"1. e4 ")
                 yield child, pipe
+        os.remove(self.folder + "/pipe.pgn")
 
     def test_an_interrupt(self):
         self.put("b.pgn", GOOD)
@@ -823,7 +820,6 @@ class Streams(Lint):
                     time.sleep(0.05)
                 else:
                     self.fail("a process still reads")
-            os.remove(self.folder + "/pipe.pgn")
             self.assertEqual((child.returncode, told), (-signal.SIGINT, b""))
 
     def test_lost_processes(self):
@@ -839,7 +835,6 @@ class Streams(Lint):
                 for process, number in zip(children, signals):
                     os.kill(int(process), number)
                 _, told = child.communicate(timeout=20)
-            os.remove(self.folder + "/pipe.pgn")
             self.assertEqual((child.returncode, told), (
                 3, b"gillspoon: a process ended before its file was read; try again without -j\n"))
 
