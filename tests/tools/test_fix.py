@@ -94,8 +94,7 @@ class Spellings(unittest.TestCase):
 
     def test_latin_1(self):
         for old, new in ((b"1. e4 \xbd\n", b'[Result "1/2-1/2"]\n\n1. e4 1/2-1/2\n'),
-                         (b"1. e4 \xb1 e5 *", b"1. e4 $16 e5 *"),
-                         (b"1. e4\xa0e5 *", b"1. e4 e5 *"),
+                         (b"1. e4 \xb1 e5 *", b"1. e4 $16 e5 *"), (b"1. e4\xa0e5 *", b"1. e4 e5 *"),
                          (b"1. e4 e5 2. Nf3 N\xa0c6 *", b"1. e4 e5 2. Nf3 N\xa0c6 *"),
                          (b"1. e4 d5 2. e\xd7d5 *", b"1. e4 d5 2. exd5 *")):
             self.assertEqual(applied(old, gillspoon.fixes(old)), new)
@@ -576,8 +575,7 @@ class Command(Lint):
         self.assertEqual(self.records("a.pgn")[0]["fixes"], [fix])
         log = json.loads(self.lint("--sarif a.pgn")[1])
         self.assertEqual(log["runs"][0]["results"][0]["fixes"], [{
-            "description": {"text": "long notation"},
-            "artifactChanges": [{
+            "description": {"text": "long notation"}, "artifactChanges": [{
                 "artifactLocation": {"uri": "a.pgn"},
                 "replacements": [{"deletedRegion": {"byteOffset": 32, "byteLength": 5},
                                   "insertedContent": {"text": "e2e4"}}]}]}])
@@ -751,9 +749,8 @@ class Processes(Lint):
                 (status, out, _), texts = said[0]
                 wanted = MENDED if "--fix" in line else BAD
                 # the locked one stays, and standard input is one of the files
-                self.assertEqual(
-                    (status, texts["locked.pgn"], texts["01.pgn"], texts["one.pgn"]),
-                    (3, BAD, wanted, wanted))
+                self.assertEqual((status, texts["locked.pgn"], texts["01.pgn"], texts["one.pgn"]),
+                                 (3, BAD, wanted, wanted))
                 self.assertEqual("stdin" in out, line.endswith(" -"))
 
     def test_a_signal_leaves_no_file(self):

@@ -78,8 +78,7 @@ class FmtTest(Gillspoon, unittest.TestCase):
         out = output_of(self.call("--diff all.zip"), 1, told)
         self.assertTrue(out.startswith(b"--- all.zip:sub/loose.pgn\n"), out)
         self.put("none.zip", b"PK\3\4 is cut off")
-        self.says("none.zip tidy.pgn", 3, TIDY,
-                  b"gillspoon: none.zip: File is not a zip file\n")
+        self.says("none.zip tidy.pgn", 3, TIDY, b"gillspoon: none.zip: File is not a zip file\n")
 
     def test_what_an_output_drops(self):
         """A line on standard error counts it, of all files together; sieve's own lines are none."""

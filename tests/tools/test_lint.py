@@ -65,8 +65,7 @@ WAYS = {name: (text, [it if "(game " in it else it + NOBODY for it in lines])
     ("a bad result", b'[White "Ada"]\n[Result "1"]\n[Black "Bob"]\n\n1. e4 *\n',
      "2:9: bad result value" + BOTH),
     ("a bad FEN", b'[FEN "x"]\n\n*\n', "1:6: bad FEN, field 1"),
-    ("another result", b'[Result "0-1"]\n\n1. e4 1-0\n',
-     "3:7: result differs from the Result tag"),
+    ("another result", b'[Result "0-1"]\n\n1. e4 1-0\n', "3:7: result differs from the Result tag"),
     ("no Result tag", b"1. e4 1-0\n",
      "1:7: result differs from the Result tag: there is no Result tag, which counts as *; "
      "--checked takes the result at the end"),
@@ -84,19 +83,16 @@ WAYS = {name: (text, [it if "(game " in it else it + NOBODY for it in lines])
 # position and what is said of it.
 BOARDS = {
     "no such move": ("1. e4 e5 2. Ke3 *", 12, AFTER_E4_E5, "The white king cannot go to e3."),
-    "an exposed king": (
-        "Rd2 *", 0, "4r2k/8/8/8/8/8/4R3/4K3 w - - 0 1",
-        "A white rook can go to d2 from e2, but its king would then be in check."),
-    "two knights": (
-        "1. Nd3 *", 3, "4k3/8/8/8/1N3N2/8/8/4K3 w - - 0 1",
-        "2 white knights may go to d3, from b4 and f4: write Nbd3 or Nfd3."),
+    "an exposed king": ("Rd2 *", 0, "4r2k/8/8/8/8/8/4R3/4K3 w - - 0 1",
+                        "A white rook can go to d2 from e2, but its king would then be in check."),
+    "two knights": ("1. Nd3 *", 3, "4k3/8/8/8/1N3N2/8/8/4K3 w - - 0 1",
+                    "2 white knights may go to d3, from b4 and f4: write Nbd3 or Nfd3."),
     "a move in a variation": ("1. e4 (1. Ke3) *", 10, INITIAL, "The white king cannot go to e3."),
     "UTF-8": (
         "1. e4 {\u00e4\u4e16} Ke3 *", 12,
         "rnbqkbnr/pppppppp/8/8/4P3/8/PPPP1PPP/RNBQKBNR b KQkq e3 0 1",
         "The black king cannot go to e3."),
-    "no closing quote": ('[White "Ada', 7),
-    "no result at the end": ("", 0),
+    "no closing quote": ('[White "Ada', 7), "no result at the end": ("", 0),
 }
 
 
@@ -132,9 +128,8 @@ VECTORS = {
     "faults.34-castling": (AFTER_E4_E5, CASTLING % "O-O"),
     "faults.34-castling-after-the-king-moved": (
         "rnbq1bnr/ppppkppp/8/4p3/4P3/8/PPPPKPPP/RNBQ1BNR w - - 2 3", CASTLING % "O-O-O"),
-    "faults.35": (
-        "rnbqkbnr/pppp1ppp/8/8/3N4/N1P1p3/PP1PPPPP/R1BQKB1R w KQkq - 0 5",
-        "2 white knights may go to c2, from a3 and d4: write Nac2 or Ndc2."),
+    "faults.35": ("rnbqkbnr/pppp1ppp/8/8/3N4/N1P1p3/PP1PPPPP/R1BQKB1R w KQkq - 0 5",
+                  "2 white knights may go to c2, from a3 and d4: write Nac2 or Ndc2."),
     "faults.34-in-a-second-game": (AFTER_E4_E5, KING % ("white", "e3")),
     "limits.a-line-that-is-full-before-the-fault": (AFTER_E4_E5, KING % ("white", "e3")),
     "position_faults.35-three-queens": (
@@ -844,10 +839,9 @@ class Streams(Lint):
 
     def test_colours_on_a_terminal_alone(self):
         self.put("a.pgn", BAD)
-        self.assertEqual(
-            self.shown("a.pgn", TERM="xterm"),
+        self.assertEqual(self.shown("a.pgn", TERM="xterm"), (
             "\x1b[1ma.pgn:4:13:\x1b[0m \x1b[31mmove is not legal\x1b[0m (game 1, Ada \u2013 Bob)\n"
-            "1 file, 1 game, 1 fault in 1 file\n")
+            "1 file, 1 game, 1 fault in 1 file\n"))
         for more in ({"NO_COLOR": "1"}, {"TERM": "dumb"}):
             self.assertNotIn("\x1b", self.shown("a.pgn", **more))
 
@@ -857,11 +851,10 @@ class Streams(Lint):
         self.put_all({"a": GOOD * 600, "b": BAD})
         with subprocess.Popen(["sh", "-c", "exec >pipe.pgn; cat a; sleep 1.2; cat a b"],
                               cwd=self.folder):
-            self.assertRegex(
-                self.shown("pipe.pgn", NO_COLOR="1"),
+            self.assertRegex(self.shown("pipe.pgn", NO_COLOR="1"), (
                 "\\A(\r\x1b\\[Kgillspoon: file 1 of 1, [0-9,]+ games)+\r\x1b\\[K"
                 "pipe.pgn:[0-9]+:13: move is not legal \\(game 1201, .*\n"
-                "1 file, 1,201 games, 1 fault in 1 file\n\\Z")
+                "1 file, 1,201 games, 1 fault in 1 file\n\\Z"))
 
 
 class Others(Lint):

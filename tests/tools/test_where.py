@@ -29,8 +29,7 @@ PLACES = (
     # a line is of one encoding, also where what is not UTF-8 stands behind the byte
     (b"x \xe9", 0, 1, 1, "x é", "^"),
     # wide characters take two columns of the terminal, combining ones none
-    ("局 x".encode(), 4, 1, 3, "局 x", "   ^"),
-    ("e\u0301 x".encode(), 4, 1, 4, "e\u0301 x", "  ^"),
+    ("局 x".encode(), 4, 1, 3, "局 x", "   ^"), ("e\u0301 x".encode(), 4, 1, 4, "e\u0301 x", "  ^"),
     # tabs and control bytes
     (b"\te4\te9", 4, 1, 5, "\te4\te9", "\t  \t^"),
     (b"a\x00b\x1b[31mc", 2, 1, 3, "a\ufffdb\ufffd[31mc", "  ^"),
