@@ -418,7 +418,7 @@ def signalled(words, number, folder, files=1, text=None, **more):
     return child.returncode, out, told
 
 
-def check_stopped(test, words, *numbers, **more):
+def check_stopped(test, words, **more):
     """A signal ends a program, and each file of the folder stays; none is added."""
     before = test.files()
     for number in (signal.SIGTERM, signal.SIGHUP, signal.SIGINT):
