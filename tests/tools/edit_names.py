@@ -9,6 +9,7 @@
 
 Nothing else is read. So the prover may not be able to read an edit that has all its names.
 """
+import collections
 import functools
 import glob
 import re
@@ -47,11 +48,8 @@ def type_name(text):
     return re.match(r"(?:&(?:'\w+ )?)?(?:mut )?(?:\w+::)*(\w*)", text)[1]
 
 
-class Type:
-    """A type or a trait: its members, the types of its fields, and the traits that give it more."""
-
-    def __init__(self):
-        self.members, self.fields, self.traits = set(GIVEN), {}, set()
+# A type or a trait: its members, the types of its fields, and the traits that give it more.
+Type = collections.namedtuple("Type", "members fields traits")
 
 
 class Sources:
@@ -73,7 +71,7 @@ class Sources:
             head = HEAD.match(line)
             if head:
                 kind, trait, name, bounds = head.groups()
-                at = self.types.setdefault(name, Type())
+                at = self.types.setdefault(name, Type(set(GIVEN), {}, set()))
                 at.traits.update([trait] if trait else (bounds or "").split(" + "))
             elif line == "}":
                 at = None

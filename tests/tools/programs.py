@@ -173,12 +173,9 @@ def zip_of(*members):
     return held.getvalue()
 
 
-def _zstd_of(text):
-    return subprocess.run(["zstd", "-qc"], input=text, stdout=subprocess.PIPE, check=True).stdout
-
-
 # How a text is compressed, by the end of a name.
-PACKERS = {"gz": gzip.compress, "bz2": bz2.compress, "xz": lzma.compress, "zst": _zstd_of,
+PACKERS = {"gz": gzip.compress, "bz2": bz2.compress, "xz": lzma.compress,
+           "zst": lambda text: output_of(run(["zstd", "-qc"], input=text)),
            "zip": lambda text: zip_of(("games.pgn", text))}
 
 
@@ -231,6 +228,23 @@ def mutated(text, rng, parts, most):
     return bytes(text)
 
 
+def run(words, **more):
+    """Runs words from the root of the repository."""
+    more = {"cwd": ROOT, "stdout": subprocess.PIPE, "stderr": subprocess.PIPE, "timeout": 100,
+            "env": dict(os.environ, PATH=PATH), **more}
+    return subprocess.run(words, check=False, **more)
+
+
+def output_of(ran, status=0, err=b""):
+    """What a program wrote on standard output, if it ended with this status.
+
+    It also said exactly `err` on standard error, or anything if that is None.
+    """
+    if (ran.returncode, ran.stderr if err is not None else None) != (status, err):
+        raise AssertionError((ran.args, ran.returncode, ran.stdout, ran.stderr))
+    return ran.stdout
+
+
 def new_folder(test):
     """A new folder, which is removed behind a test, or behind all tests of a class."""
     folder = os.path.realpath(tempfile.mkdtemp())
@@ -262,6 +276,12 @@ class Folder:
         path = self.put(name, "#!/bin/sh\n" + text)
         os.chmod(path, 0o755)
         return path
+
+    def shell(self, script, run=run, shell="sh", **env):
+        """Runs a script in the folder, where the program and the scripts of bin/ are commands."""
+        path = ":".join([os.path.dirname(self.program), ROOT + "/bin", PATH])
+        env = dict(os.environ, PATH=path, PGN_TOOL=self.program, **env)
+        return run([shell, "-c", script], cwd=self.folder, env=env)
 
     def put_all(self, files):
         """Writes files: their texts by their names."""
@@ -339,20 +359,23 @@ def without_rights(test, program):
     return ["setpriv", "--reuid=65534", "--clear-groups", copy]
 
 
-def on_a_terminal(words, **more):
-    """What a terminal shows of a program."""
+def on_a_terminal(words, typed=b"", begin=b"", **more):
+    """What a terminal shows of a program. This is typed there once the program has shown that."""
     ours, its = pty.openpty()
     mode = termios.tcgetattr(its)
     mode[1] &= ~termios.OPOST  # a line then ends as the program ends it
     termios.tcsetattr(its, termios.TCSANOW, mode)
-    shown = b""
-    with subprocess.Popen(words, stdin=subprocess.DEVNULL, stdout=its, stderr=its, **more):
+    shown, stdin = b"", its if typed else subprocess.DEVNULL
+    with subprocess.Popen(words, stdin=stdin, stdout=its, stderr=its, **more):
         os.close(its)
         while True:
             try:
                 shown += os.read(ours, 4096)
             except OSError:  # the last process has closed its end
                 break
+            if typed and begin in shown:
+                os.write(ours, typed)
+                typed = b""
     os.close(ours)
     return shown.decode(errors="replace")
 
@@ -424,23 +447,3 @@ def check_stopped(test, words, **more):
     for number in (signal.SIGTERM, signal.SIGHUP, signal.SIGINT):
         test.assertEqual(signalled(words, number, test.folder, **more)[:2], (-number, b""))
         test.assertEqual(test.files(), before)
-
-
-def run(words, **more):
-    """Runs words from the root of the repository."""
-    more.setdefault("cwd", ROOT)
-    more.setdefault("stdout", subprocess.PIPE)
-    more.setdefault("stderr", subprocess.PIPE)
-    more.setdefault("timeout", 100)
-    more.setdefault("env", dict(os.environ, PATH=PATH))
-    return subprocess.run(words, check=False, **more)
-
-
-def output_of(ran, status=0, err=b""):
-    """What a program wrote on standard output, if it ended with this status.
-
-    It also said exactly `err` on standard error, or anything if that is None.
-    """
-    if (ran.returncode, ran.stderr if err is not None else None) != (status, err):
-        raise AssertionError((ran.args, ran.returncode, ran.stdout, ran.stderr))
-    return ran.stdout

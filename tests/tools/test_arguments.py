@@ -15,6 +15,7 @@ import concurrent.futures
 import functools
 import itertools
 import os
+import pathlib
 import re
 import shutil
 import tempfile
@@ -71,23 +72,16 @@ def games(number):
     return b"%s {so many} *\n1. e4 1-0\n" % moves
 
 
-def make_folder():
-    """A folder with a file for each word that can be a name, and what standard input has."""
-    folder = tempfile.mkdtemp()
-    os.mkdir(os.path.join(folder, FOLDER))
-    names = [it for it in WORDS if it not in (b"", FOLDER.encode(), b"\xff")]
-    for number, name in enumerate([*names, b"stdin"], 1):
-        programs.write_file(os.path.join(folder.encode(), name), games(number))
-    return folder
-
-
 class Runner:
-    """A folder that programs run in, and the files that it had before."""
+    """A folder that programs run in, with a file for each word that can be a name."""
 
     def __init__(self):
-        self.before, self.folder = os.getcwd(), make_folder()
+        self.before, self.folder, self.device = os.getcwd(), tempfile.mkdtemp(), tempfile.mkdtemp()
         os.chdir(self.folder)
-        self.device = tempfile.mkdtemp()
+        os.mkdir(FOLDER)
+        names = [it for it in WORDS if it not in (b"", FOLDER.encode(), b"\xff")]
+        for number, name in enumerate([*names, b"stdin"], 1):
+            programs.write_file(name, games(number))
         self.had = set(os.listdir("."))
 
     def close(self):
@@ -104,21 +98,16 @@ class Runner:
         actions.append((os.POSIX_SPAWN_OPEN, 0, "stdin", os.O_RDONLY, 0))
         child = os.posix_spawn(program, [b"pgn_tool", *words], os.environ, file_actions=actions)
         status = os.waitstatus_to_exitcode(os.waitpid(child, 0)[1])
-        return (status, *map(read, outputs), self.left())
+        return (status, *(pathlib.Path(it).read_bytes() for it in outputs), self.left())
 
     def left(self):
         """The files that a run made, which go."""
         names = [it for it in os.listdir(".") if it not in self.had]
         names += [os.path.join(FOLDER, it) for it in os.listdir(FOLDER)]
-        found = {it: read(it) for it in sorted(names)}
+        found = {it: pathlib.Path(it).read_bytes() for it in sorted(names)}
         for name in names:
             os.remove(name)
         return found
-
-
-def read(name):
-    with open(name, "rb") as file:
-        return file.read()
 
 
 def compare(proved, program, share):

@@ -79,17 +79,6 @@ STRACE = """% time     seconds  usecs/call     calls    errors syscall
 """
 
 
-# What bench/run does first, where no other folder than the given one has programs.
-MISSING = """
-import shutil, sys
-sys.path.insert(0, sys.argv[1] + "/bench")
-import measure
-measure.found = lambda name: shutil.which(name, path=sys.argv[1])
-measure.check_tools(("strace",), ("hyperfine",))
-measure.check_tools(("time", "strace"), ("hyperfine",))
-"""
-
-
 def figures(wall, instructions, memory=0, mispredictions=0):
     return {"wall": wall, "memory": memory, "instructions": instructions,
             "mispredictions": mispredictions, "parts": {"lexer": 50, "find": 150},
@@ -179,20 +168,17 @@ class TheStart(unittest.TestCase):
                          if inner[-1].startswith("bench/run "))
         cls.build = next(at for at, it in enumerate(cls.block) if "rt run" in it)
         cls.start = re.search(r"\b[0-9a-f]{40}\b", lines[0])[0]
-        if run(["git", "cat-file", "-e", cls.start + "^{commit}"]).returncode:
-            raise AssertionError("this clone lacks the start, commit %s: git fetch --unshallow"
-                                 % cls.start)
+        assert run(["git", "cat-file", "-e", cls.start + "^{commit}"]).returncode == 0, \
+            "this clone lacks the start, commit %s: git fetch --unshallow" % cls.start
         folder = new_folder(cls)
         cls.new, cls.old = folder + "/new", folder + "/old"
         for words, place in ((["git", "clone", "-q", ROOT, cls.new], ROOT),
                              (["sh", "-ec", "\n".join(cls.block[:cls.build])], cls.new)):
-            ran = run(words, cwd=place)
-            if (ran.returncode, ran.stdout, ran.stderr) != (0, b"", b""):
-                raise AssertionError("%s: %s" % (words, ran))
+            assert output_of(run(words, cwd=place)) == b"", words
 
     def test_it_is_the_start(self):
         ran = run(["git", "rev-parse", "HEAD"], cwd=self.old)
-        self.assertEqual(ran.stdout.decode().strip(), self.start)
+        self.assertEqual(ran.stdout.decode(), self.start + "\n")
         for name in ("/bench/run", "/bench/workloads.txt"):
             self.assertEqual(text_of(self.old + name), text_of(self.new + name))
 
@@ -254,34 +240,35 @@ class Words(Folder, unittest.TestCase):
             self.put(build + "/bench/workloads.txt", "# a\nfirst jobs a SEED <in.txt\nnext jobs b\n")
             self.put(build + "/bench/in.txt", "read\n")
             self.put_script(build + "/crates/jobs/out/jobs", "echo $*\n%s\n" % prints)
-        call = lambda *words: run([ROOT + "/bench/run", *words], cwd=self.folder)
-        ran = call("old", "new", "7")
+        call = lambda words: run([ROOT + "/bench/run", *words.split()], cwd=self.folder)
+        ran = call("old new 7")
         self.assertEqual((ran.returncode, ran.stderr.split()), (0, [b"a", b"7", b"read", b"b"]))
         rows = [re.match(r"\| (\w+) \| [0-9.]+ \| [0-9.]+ \| [0-9.]+ \|$", it)
                 for it in ran.stdout.decode().splitlines()[2:]]
         self.assertEqual([it and it[1] for it in rows], ["first", "next"])
-        for words, said in ((("old", "other"), b"first: the two builds print different results"),
-                            (("old", "none"), b"none"), (("old", "new", "x"), b"usage"),
-                            (("old", "old"), b"the same folder")):
-            ran = call(*words)
+        for words, said in (("old other", b"first: the two builds print different results"),
+                            ("old none", b"none"), ("old new x", b"usage"),
+                            ("old old", b"the same folder")):
+            ran = call(words)
             self.assertEqual(ran.returncode, 1)
             self.assertIn(said, ran.stderr)
 
     def test_nothing_is_installed(self):
         """Of the tools only apt-get is there, which would fail, and bench/run does not call it."""
-        folder = self.folder
-        shutil.copytree(ROOT + "/bench", folder + "/bench", ignore=shutil.ignore_patterns("out"))
         for name in ("strace", "apt-get"):
-            self.put_script(name, "touch %s/called\n" % folder)
-        words = [sys.executable, "-c", MISSING, folder]
-        ran = run(words, env=dict(os.environ, PATH=folder))
-        self.assertEqual((ran.returncode, ran.stdout), (1, b""))
-        said = "%s; to install: apt-get install --no-install-recommends %s"
-        self.assertEqual(ran.stderr.decode().splitlines(), [
-            "bench/run: " + said % ("hyperfine is missing", "hyperfine")
-            + "; goes on without these figures",
-            "bench/run: " + said % ("time, hyperfine are missing", "time hyperfine")])
-        self.assertFalse(os.path.exists(folder + "/called"))
+            self.put_script(name, "touch %s/called\n" % self.folder)
+        with mock.patch.object(measure, "found", lambda it: shutil.which(it, path=self.folder)), \
+                mock.patch.dict(os.environ, PATH=self.folder), \
+                contextlib.redirect_stderr(io.StringIO()) as told, \
+                self.assertRaises(SystemExit) as stopped:
+            measure.check_tools(("strace",), ("hyperfine",))
+            measure.check_tools(("time", "strace"), ("hyperfine",))
+        said = "bench/run: %s; to install: apt-get install --no-install-recommends %s"
+        self.assertEqual(told.getvalue(), said % ("hyperfine is missing", "hyperfine")
+                         + "; goes on without these figures\n")
+        self.assertEqual(stopped.exception.code,
+                         said % ("time, hyperfine are missing", "time hyperfine"))
+        self.assertFalse(os.path.exists(self.folder + "/called"))
 
 
 class Readers(unittest.TestCase):
@@ -338,13 +325,11 @@ class OtherWork(unittest.TestCase):
 
     def test_when_it_stops(self):
         for other in (0, 0.19, 0.21, 3):
-            with self.subTest(other):
-                measure.check_quiet(other, True)
-                if other < 0.2:
-                    measure.check_quiet(other, False)
-                    continue
-                said = "other work keeps %.1f processors busy.*--busy" % other
-                self.assertRaisesRegex(SystemExit, said, measure.check_quiet, other, False)
+            measure.check_quiet(other, True)
+            said = "other work keeps %.1f processors busy.*--busy" % other
+            stops = self.assertRaisesRegex(SystemExit, said)
+            with stops if other > 0.2 else contextlib.nullcontext():
+                measure.check_quiet(other, False)
 
     @mock.patch.object(measure, "SECONDS", 0)
     def test_before_it_begins(self):
@@ -455,15 +440,13 @@ class Builds(Folder, unittest.TestCase):
 
 class Records(Folder, unittest.TestCase):
     def record(self, name, text, lines, script="bench/run"):
-        """The text of the file afterwards, or None if it was rejected and left as it was."""
-        path, is_rejected = self.put(name, text), False
+        """The text of the file afterwards, which is the only one in the folder."""
+        path = self.put(name, text)
         try:
             tables.record(path, lines, script)
-        except ValueError:
-            is_rejected = True
-            self.assertEqual(text_of(path), text)
-        self.assertEqual(os.listdir(self.folder), [name])
-        return None if is_rejected else text_of(path)
+        finally:
+            self.assertEqual(os.listdir(self.folder), [name])
+        return text_of(path)
 
     def test_a_document(self):
         form = "Before.\n\n<!-- bench/run --record: begin -->\n%s<!-- bench/run --record: end -->\nAfter.\n"
@@ -480,7 +463,8 @@ class Records(Folder, unittest.TestCase):
         others = (begin + end).replace("run", "run calls")
         self.assertIn("\nb\n", self.record("A.md", others, ["b"], "bench/run calls"))
         for text in ("", begin, end, end + begin, begin + begin + end, begin + end + end, others):
-            self.assertIsNone(self.record("A.md", text, ["b"]), text)
+            self.assertRaises(ValueError, self.record, "A.md", text, ["b"])
+            self.assertEqual(self.get("A.md").decode(), text)
 
     def test_the_documents_have_their_markers(self):
         script = load("bench/run")

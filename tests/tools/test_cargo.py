@@ -1,4 +1,5 @@
 """Tests of bin/to_cargo, and of what cargo builds from it."""
+import collections
 import glob
 import itertools
 import os
@@ -74,13 +75,11 @@ fn panicked(_: &PanicInfo) -> ! {
     loop {}
 }
 
-pub struct Line([u8; 200], usize);
+pub struct Line(u8);
 
 impl Sink for Line {
     fn write_some(&mut self, bytes: &[u8]) -> Result<usize, WriteFault> {
-        let Some(place) = self.0.get_mut(self.1) else { return Err(WriteFault) };
-        *place = bytes[0];
-        self.1 += 1;
+        self.0 = *bytes.first().ok_or(WriteFault)?;
         Ok(1)
     }
 
@@ -111,7 +110,7 @@ pub fn show(out: &mut Line, fen: &str, text: &str) -> Result<(), TextFault> {
 SAMPLE_OF_REASONS = """use pgn_game::{Fault, LexReason, Reason};
 fn main() {
     for reason in [%(values)s] {
-        let _: u8 = match reason { %(cases)s%(others)s };
+        match reason { %(cases)s => {} %(others)s }
         let fault = Fault { at: 7, reason };
         assert_eq!(fault.to_string(), format!("byte 7: {reason}"));
         println!("{}: {}", reason.number(), fault);
@@ -156,10 +155,6 @@ fn main() {
 """
 LIBRARIES = ("chess_rules", "chess_text", "pgn_lexer", "pgn_layout", "pgn_game", "pgn_sections")
 WITHOUT_STD = LIBRARIES[:4]
-# The crates whose calls of the toolchain are renamed. Of the others lines only go.
-RENAMED = ("pgn_tool", "pgn_arguments", "pgn_c")
-# The tests of files, pipes and devices, which are those of the proved program too.
-DEVICES = ("program", "split", "checked", "streams", "interrupted")
 # What stands in a line of the program that is not one of the source.
 OF_STANDARD = re.compile(
     r"rattle_std|let rt = HostRuntime;|fn (main|\w+)\(\)|rt\.words\(\)|assert\w*!\(|AllocError>\("
@@ -187,29 +182,31 @@ def built():
     return OUT + "/target/debug/pgn_tool"
 
 
-# Changes that bin/to_cargo does not understand: the file, the text, what stands for it, and why.
-CLAUSE = "        ensures done { result ≡ Ok tt }\n"
-COUNT = "    ghost failures = { λ _. 0 };"
-VERSION = "        .version(VERSION)\n"
-INDEX = "        self.index as usize\n"
-CONDITION = '    // Cargo: assert!(u32::MAX - probes.count() >= 8, "'
-NOT_ONCE = ": not there once: self.index as usize"
-NOT_UNDERSTOOD = [(file, old, new, why) for file, why, rows in (
-    ("crates/pgn_layout/src/nowhere.rt", ":", (
-        (CLAUSE, CLAUSE.replace(" }", "")), (CLAUSE, CLAUSE.replace("}", "} more")),
-        (COUNT, "    /// A count.\n" + COUNT), (COUNT, COUNT + " fn f() {}"),
-        (CLAUSE, CLAUSE.replace("ensures", "promises")))),
-    ("crates/pgn_arguments/src/arguments.rt", ":", (
-        (VERSION, VERSION + "        .author(rt; VERSION)\n"),
-        (VERSION, VERSION + "        .author(std::alloc::NAME)\n"),
-        ('matches.get_str("file") {', "matches.get_str(\n"))),
-    ("crates/chess_rules/src/square.rt", NOT_ONCE, (
-        (INDEX, INDEX.replace("usize", "usize + 0")), (INDEX, INDEX * 2))),
-    ("crates/pgn_game/src/find.rt", ":", (
-        (CONDITION, CONDITION.replace(', "', ": ")), (CONDITION, CONDITION.replace("assert", "is")))),
-) for old, new in rows]
-# The heads of the table of these lines.
-OTHER_LINES = ("Function", "In", "The source has", "Cargo has")
+# What bin/to_cargo does not understand: a file, a line there, and changes of that line.
+NOT_UNDERSTOOD = (
+    ("crates/pgn_layout/src/nowhere.rt", "        ensures done { result ≡ Ok tt }\n",
+     (" }", ""), ("}", "} more"), ("ensures", "promises")),
+    ("crates/pgn_layout/src/nowhere.rt", "    ghost failures = { λ _. 0 };",
+     ("    ", "    /// A count.\n    "), (";", "; fn f() {}")),
+    ("crates/pgn_arguments/src/arguments.rt", "        .version(VERSION)\n",
+     ("\n", "\n        .author(rt; VERSION)\n"), ("\n", "\n        .author(std::alloc::NAME)\n")),
+    ("crates/pgn_arguments/src/arguments.rt", 'matches.get_str("file") {', ('"file") {', "\n")),
+    ("crates/chess_rules/src/square.rt", "        self.index as usize\n",
+     ("usize", "usize + 0"), ("\n", "\n        self.index as usize\n")),
+    ("crates/pgn_game/src/find.rt", '    // Cargo: assert!(u32::MAX - probes.count() >= 8, "',
+     (', "', ": "), ("assert", "is")),
+)
+
+
+def shown(ran):
+    return ran.returncode, ran.stdout, ran.stderr
+
+
+def answer(program, words):
+    """How a call ends, and the files that it leaves."""
+    with tempfile.TemporaryDirectory() as folder:
+        ran = run([program, *words], cwd=folder)
+        return shown(ran), {it: text_of(folder, it) for it in os.listdir(folder)}
 
 
 def packages(names):
@@ -225,8 +222,12 @@ def count_of_tests(files, mark="#[test]"):
     return sum(text_of(it).count(mark) for it in files)
 
 
-class CargoTest(unittest.TestCase):
+class CargoTest(Folder, unittest.TestCase):
     """A test with calls of cargo that have to pass."""
+
+    def setUp(self):
+        need_cargo()
+        super().setUp()
 
     def passed(self, *words, **env):
         """What cargo says, which has no warning."""
@@ -241,7 +242,7 @@ class Built(CargoTest):
     """What cargo makes of it."""
 
     def setUp(self):
-        need_cargo()
+        super().setUp()
         write_out()
 
     def test_the_tests_of_each_crate_pass(self):
@@ -294,14 +295,12 @@ class Built(CargoTest):
 
     def bare(self, features, *words):
         """What cargo says of a library that has std only if its dependencies have it."""
-        folder = programs.new_folder(self)
-        os.mkdir(folder + "/src")
-        shutil.copytree(OUT + "/.cargo", folder + "/.cargo")
+        shutil.copytree(OUT + "/.cargo", self.folder + "/.cargo", dirs_exist_ok=True)
         needs = "".join('%s = { path = "%s/crates/%s", %s }\n' % (it, OUT, it, features)
                         for it in WITHOUT_STD)
-        write_file(folder + "/Cargo.toml", BARE_PACKAGE + needs)
-        write_file(folder + "/src/lib.rs", BARE)
-        return cargo("build", "--quiet", *words, folder=folder, target="bare")
+        self.put("Cargo.toml", BARE_PACKAGE + needs)
+        self.put("src/lib.rs", BARE)
+        return cargo("build", "--quiet", *words, folder=self.folder, target="bare")
 
     def targets_without_std(self):
         root = run(["rustc", "--print=sysroot"]).stdout.decode().strip() + "/lib/rustlib/"
@@ -335,11 +334,10 @@ class Built(CargoTest):
         self.assertEqual(others[0], "Lexical")
         self.assertEqual(reasons, lexical + others[1:])
         self.assertEqual([int(row[0]) < 20 for row in rows], [it in lexical for it in reasons])
-        arms = ["Lexical(LexReason::%s)" % it for it in lexical]
-        arms += [it + "(_)" * (it == "BadFen") for it in others[1:]]
-        values = "".join("Reason::%s, " % it.replace("(_)", "(3)") for it in arms)
-        cases = "".join("Reason::%s => %d, " % (it, at) for at, it in enumerate(arms))
-        text = {"values": values, "cases": cases, "others": "_ => 255"}
+        arms = ["Reason::Lexical(LexReason::%s)" % it for it in lexical]
+        arms += ["Reason::" + it + "(_)" * (it == "BadFen") for it in others[1:]]
+        text = {"values": ", ".join(arms).replace("(_)", "(3)"), "cases": " | ".join(arms),
+                "others": "_ => {}"}
         self.build_libraries()
         # More reasons may come: a match that has all of them needs a wildcard all the same.
         said = self.compiled(SAMPLE_OF_REASONS % {**text, "others": ""}).stderr.decode()
@@ -355,30 +353,18 @@ class Built(CargoTest):
         ran = run(["bin/pgn_conform", "--counts", program + " check", program, "export"])
         row = b"| all | %d | %d | 0 | 0 | 0 |\n" % (2 * (len(programs.vectors()),))
         self.assertIn(row, output_of(ran, err=None))
+        # Those of files, pipes and devices, which are tests of the proved program too.
+        names = ["program", "split", "checked", "streams", "interrupted"]
         env = dict(os.environ, PGN_TOOL=program)
-        output_of(run(["bin/test_tools", *DEVICES], env=env, timeout=500), err=None)
+        output_of(run(["bin/test_tools", *names], env=env, timeout=500), err=None)
 
     def test_the_program_does_what_the_proved_one_does(self):
         proved, program = programs.need_proved_program(), built()
-        folder = programs.new_folder(self)
         files = sorted(glob.glob(ROOT + "/examples/*.pgn"))
-        for style in ("plain", "annotated"):
-            file = "%s/%s.pgn" % (folder, style)
-            write_file(file, programs.archive(60, style, 60))
-            files.append(file)
-        calls = [["export"], ["export", "--reduced"], ["export", "--checked"], ["check"], ["list"]]
-        for words in [it + [file] for file in files + [folder + "/none"] for it in calls]:
-            ours, theirs = run([proved, *words]), run([program, *words])
-            self.assertEqual(shown(ours), shown(theirs), words)
-        for file in files:
-            parts = [self.parts(it, file, folder) for it in (proved, program)]
-            self.assertEqual(parts[0], parts[1], file)
-
-    def parts(self, program, file, folder):
-        """What `split` answers and leaves."""
-        to = tempfile.mkdtemp(dir=folder)
-        ran = run([program, "split", to, file])
-        return shown(ran), {os.path.basename(it): text_of(it) for it in glob.glob(to + "/*")}
+        files += [self.put(it, programs.archive(60, it, 60)) for it in ("plain", "annotated")]
+        calls = ("export", "export --reduced", "export --checked", "check", "list", "split .")
+        for words in [[*it.split(), file] for file in files + ["none"] for it in calls]:
+            self.assertEqual(answer(proved, words), answer(program, words), words)
 
     def compiled(self, text):
         """What rustc says of a program with the libraries."""
@@ -389,13 +375,12 @@ class Built(CargoTest):
         return run(words, cwd=OUT)
 
     def run_sample(self, text):
-        called = re.search(r"fn (\w+)\(input: &\[u8\], text: &mut Vec<u8>\)", text)
-        reader = re.search(r"impl<R: Read> Read for (\w+)<R>", text)
-        if called and "fn main(" not in text:
-            text += CALL.replace("NAME", called[1])
-        elif reader and "fn main(" not in text:
-            text += READS.replace("NAME", reader[1])
-        elif "fn main(" not in text:
+        for form, more in ((r"fn (\w+)\(input: &\[u8\], text: &mut Vec<u8>\)", CALL),
+                           (r"impl<R: Read> Read for (\w+)<R>", READS)):
+            named = re.search(form, text)
+            if named and "fn main(" not in text:
+                text += more.replace("NAME", named[1])
+        if "fn main(" not in text:
             text = "fn main() {\n%s}\n" % text
         output_of(self.compiled(text), err=None)
         return run([OUT + "/target/sample"])
@@ -407,22 +392,21 @@ class Built(CargoTest):
 
     def test_a_program_in_another_folder(self):
         """The one of LIBRARY, which depends on the crates by their paths."""
-        folder = programs.new_folder(self)
-        os.makedirs(folder + "/mine/src")
-        os.symlink(OUT, folder + "/gillspoon-cargo")
-        shutil.copytree(OUT + "/.cargo", folder + "/mine/.cargo")
+        mine = self.folder + "/mine"
+        os.symlink(OUT, self.folder + "/gillspoon-cargo")
+        shutil.copytree(OUT + "/.cargo", mine + "/.cargo")
         lines = lines_of("docs/LIBRARY.md")
         begin = lines.index("### A program of your own")
         blocks = [it for number, _, it in blocks_of(lines) if number > begin]
         for name, block in zip(("Cargo.toml", "src/main.rs"), blocks):
-            write_file("%s/mine/%s" % (folder, name), "\n".join(block) + "\n")
-        call = {"folder": folder + "/mine", "target": "dependent"}
-        ran = cargo("run", "--quiet", "--", ROOT + "/examples/two-games.pgn", **call)
+            self.put("mine/" + name, "\n".join(block) + "\n")
+        words = "run", "--quiet", "--"
+        ran = cargo(*words, ROOT + "/examples/two-games.pgn", folder=mine, target="dependent")
         plies = output_of(ran).decode().splitlines()
         listed = run([built(), "list", "examples/two-games.pgn"]).stdout.decode().splitlines()
         self.assertEqual(plies, ["%s plies: %s" % tuple(it.split("\t")[-2:]) for it in listed])
         bad = ROOT + "/examples/no-such-move.pgn"
-        ran = cargo("run", "--quiet", "--", bad, **call)
+        ran = cargo(*words, bad, folder=mine, target="dependent")
         said = b"%s: byte 77: move is not legal\n" % os.fsencode(bad)
         self.assertEqual(shown(ran), (0, b"", said))
 
@@ -456,12 +440,8 @@ class Memory(unittest.TestCase):
             self.assertGreaterEqual(reported, asks, words)
 
 
-class Release(Folder, CargoTest):
+class Release(CargoTest):
     """What bin/dist writes."""
-
-    def setUp(self):
-        need_cargo()
-        super().setUp()
 
     def test_a_package_for_each_crate(self):
         """In a repository of git, where cargo would package what is committed alone."""
@@ -502,10 +482,6 @@ class Release(Folder, CargoTest):
         self.passed("clippy", "--workspace", "--all-targets")
 
 
-def shown(ran):
-    return ran.returncode, ran.stdout, ran.stderr
-
-
 class Workspace(unittest.TestCase):
     """What bin/to_cargo writes, without cargo."""
 
@@ -514,7 +490,7 @@ class Workspace(unittest.TestCase):
         cls.out = programs.new_folder(cls) + "/out"
         write_out(cls.out)
 
-    def pairs(self, crates=(*LIBRARIES, *RENAMED)):
+    def pairs(self, crates=(*LIBRARIES, "pgn_tool", "pgn_arguments", "pgn_c")):
         """Each file that is written from one of ours, and that one, which its first line names."""
         for crate in crates:
             folder = "%s/crates/%s/src/" % (self.out, crate)
@@ -584,8 +560,8 @@ class Workspace(unittest.TestCase):
 
     def test_each_line_that_is_another_has_its_row(self):
         """In the README of the workspace, with the reason."""
-        rows = [[it.strip("`") for it in row] for row in table("cargo/README.md", *OTHER_LINES)]
-        for _, file, line, other, reason in rows:
+        rows = table("cargo/README.md", "Function", "In", "The source has", "Cargo has")
+        for _, file, line, other, reason in ([it.strip("`") for it in row] for row in rows):
             text = " ".join(text_of(self.out + "/crates/" + file).split())
             self.assertIn("// Written for Cargo. The source has `%s` %s" % (line, other), text)
             self.assertRegex(reason, r"\w+ \w+")
@@ -660,70 +636,72 @@ class Written(Folder, unittest.TestCase):
                      "crates/pgn_c/pgn.h", "cargo/[!o]*/**/*.*", "crates/*/src/**/*.rt"):
             for name in glob.glob(form, root_dir=ROOT, recursive=True):
                 self.put(name, text_of(name))
-        for file, old, new, why in NOT_UNDERSTOOD:
+        for file, line, *changes in NOT_UNDERSTOOD:
             text = text_of(file)
-            self.assertEqual(text.count(old), 1, old)
-            self.put(file, text.replace(old, new))
-            _, status, said = self.write(self.folder + "/bin/to_cargo")
+            self.assertEqual(text.count(line), 1, line)
+            why = " not there once: self.index as usize" if file.endswith("square.rt") else ""
+            for old, new in changes:
+                self.put(file, text.replace(line, line.replace(old, new)))
+                _, status, said = self.write(self.folder + "/bin/to_cargo")
+                self.assertEqual(status, 1, (new, said))
+                self.assertIn("not understood: " + file + ":" + why, said)
+                self.assertFalse(os.path.exists(self.folder + "/out"))
             self.put(file, text)
-            self.assertEqual(status, 1, (new, said))
-            self.assertIn("not understood: " + file + why, said)
-            self.assertFalse(os.path.exists(self.folder + "/out"))
         self.assertEqual(self.write(self.folder + "/bin/to_cargo")[1], 0)
 
 
 def without_added(path, lines, source):
     """The lines of a file without those that bin/to_cargo adds, each of which has to be there."""
     file = "crates/%s.rt" % path.split("/crates/")[1][:-3]
-    joined = re.sub(r"\n *// (?!Cargo: )", " ", source)
-    conditions = re.findall(r'// Cargo: (\w+)!\((.*), "(.*)"\)', joined)
-    added = [line for words in conditions for line in TO_CARGO.assertion(*words)]
-    for _, line, others in TO_CARGO.other_lines(file):
-        added += [TO_CARGO.SOURCE_HAS % line, *others]
-    for mark, modules in (
-            ("// Written for Cargo, not proved.", ("traits", "text", "played_moves", "ffi")),
-            ("#[cfg(test)]", ("conditions", "own_pair"))):
-        for module in ("mod %s;" % it for it in modules):
-            added += [mark, module] * (module in lines and module not in source.split("\n"))
-    if path.endswith("/lib.rs"):
-        more, lines = added_to_root(file.split("/")[1], lines)
-        added += more
-    if file == "crates/pgn_game/src/reason.rt":
-        added += ["#[non_exhaustive]"]
-    left, hints = [], ["#[track_caller]"] + ["#[inline]"] * (file.split("/")[1] in LIBRARIES)
+    crate, left = file.split("/")[1], []
+    added = collections.Counter(it.strip() for it in added_to(file, crate, lines, source))
+    hints = ["#[track_caller]"] + ["#[inline]"] * (crate in LIBRARIES)
     for line in lines:
-        found = next((it for it in added if it.strip() == line.strip()), None)
-        if found is not None:
-            added.remove(found)
+        if added[line.strip()]:
+            added[line.strip()] -= 1
         elif line.strip() not in hints:
             left.append(line)
-    assert not added, (path, added)
+    assert not any(added.values()), (path, added)
     while left[-2:] == ["", ""]:
         left.pop()
     return left
 
 
-def added_to_root(crate, lines):
-    """The lines that bin/to_cargo adds to the first file of a crate, and its others."""
-    added = ["#[doc(hidden)]"] * ("pub mod laws;" in lines)
+def added_to(file, crate, lines, source):
+    """The lines that bin/to_cargo adds to a file."""
+    joined = re.sub(r"\n *// (?!Cargo: )", " ", source)
+    for words in re.findall(r'// Cargo: (\w+)!\((.*), "(.*)"\)', joined):
+        yield from TO_CARGO.assertion(*words)
+    for _, line, others in TO_CARGO.other_lines(file):
+        yield from (TO_CARGO.SOURCE_HAS % line, *others)
+    for mark, modules in (
+            ("// Written for Cargo, not proved.", ("traits", "text", "played_moves", "ffi")),
+            ("#[cfg(test)]", ("conditions", "own_pair"))):
+        for module in ("mod %s;" % it for it in modules):
+            if module in lines and module not in source.split("\n"):
+                yield from (mark, module)
+    if file == "crates/pgn_game/src/reason.rt":
+        yield "#[non_exhaustive]"
+    if not file.endswith("/lib.rt"):
+        return
+    if "pub mod laws;" in lines:
+        yield "#[doc(hidden)]"
     if crate in TO_CARGO.COPIED:
-        added += ["// What reads and writes a FEN is also in chess_text."]
-        added += ["mod %s;" % it for it in TO_CARGO.COPIED[crate][1]]
+        yield "// What reads and writes a FEN is also in chess_text."
+        yield from ("mod %s;" % it for it in TO_CARGO.COPIED[crate][1])
     if crate == "chess_rules":
-        added += ["pub use text::TextFault;"]
+        yield "pub use text::TextFault;"
     if "mod played_moves;" in lines:
-        added += ["pub use played_moves::PlayedMoves;"]
+        yield "pub use played_moves::PlayedMoves;"
     if crate in TO_CARGO.WITHOUT_STD:
-        added += [TO_CARGO.NO_STD, *TO_CARGO.OTHER_LINKS.get(crate, [])]
-        added += ['#[cfg(feature = "std")]'] * (2 * (crate == "pgn_layout"))
+        yield from (TO_CARGO.NO_STD, *TO_CARGO.OTHER_LINKS.get(crate, []))
+        yield from ['#[cfg(feature = "std")]'] * (2 * (crate == "pgn_layout"))
         # The page of cargo/CRATE/lib.md ends the documentation of the crate.
         page, own = TO_CARGO.first_page(crate), text_of("cargo/%s/lib.md" % crate)
         assert "\n".join(it[4:] for it in page).startswith("\n" + own.rstrip()), crate
         end = max(at for at, it in enumerate(lines) if it.startswith("//!")) + 1
-        begin = end - len(page)
-        assert lines[begin:end] == page and "//! # Without std" in page, crate
-        lines = lines[:begin] + lines[end:]
-    return added, lines
+        assert lines[end - len(page) : end] == page and "//! # Without std" in page, crate
+        yield from page
 
 
 # What a line of the source has, and what may stand for it in Cargo's.

@@ -24,8 +24,6 @@ BUILT = ["%s/%s" % (ROOT, it) for it in (
 # What each crate uses, by crates.txt.
 USES = {it.split(":")[0].split()[0]: it.split(":")[1].split()
         for it in lines_of("crates.txt") if it and not it.startswith("#")}
-# Names the files below the folders that follow, new ones too.
-WORKING = ["git", "ls-files", "--cached", "--others", "--exclude-standard", "--"]
 # Shows a command, and leaves the status of the one before as it is.
 SAY = 'say() { set -- "$?" "$1"; printf "%s\\n" "$2"; return "$1"; }'
 
@@ -209,7 +207,8 @@ class Names(unittest.TestCase):
 
     def words(self, *folders):
         """Every word of the files below the folders, and of the names of these files."""
-        found, listed = set(), run([*WORKING, *folders]).stdout.decode()
+        ran = run(["git", "ls-files", "--cached", "--others", "--exclude-standard", "--", *folders])
+        found, listed = set(), ran.stdout.decode()
         for name in listed.split("\n")[:-1]:
             path = os.path.join(ROOT, name)
             if os.path.isfile(path) and not name.endswith(".md"):
@@ -220,13 +219,14 @@ class Names(unittest.TestCase):
     def test_names_are_of_the_repository(self):
         known = self.words(".") | self.ELSEWHERE
         for document in ("ARCHITECTURE", "DECISIONS", "GLOSSARY", "LIBRARY", "PERF", "PROVED"):
-            for number, line in enumerate(prose_of(lines_of("docs/%s.md" % document)), 1):
-                with self.subTest("docs/%s.md:%d" % (document, number)):
-                    self.assertEqual([it for it in code_of(line) if it not in known], [])
+            lines = prose_of(lines_of("docs/%s.md" % document))
+            unknown = [(number, it) for number, line in enumerate(lines, 1)
+                       for it in code_of(line) if it not in known]
+            self.assertEqual(unknown, [], document)
 
     def test_rows_name_what_their_crate_has(self):
         """Functions and clauses of a row of the ledger are of its crates, or of those they use."""
-        crates, found = [], 0
+        crates, found, unknown = [], 0, []
         for number, line in enumerate(lines_of("docs/PROVED.md"), 1):
             if line.startswith("## "):
                 crates = code_of(line)
@@ -235,8 +235,8 @@ class Names(unittest.TestCase):
             elif crates and line.startswith("| "):
                 found += 1
                 names = code_of(line.rsplit(" | ", 1)[1])
-                with self.subTest("docs/PROVED.md:%d" % number):
-                    self.assertEqual([it for it in names if it not in known], [])
+                unknown += [(number, it) for it in names if it not in known]
+        self.assertEqual(unknown, [])
         self.assertGreater(found, 100)
 
     def test_crates(self):
@@ -254,10 +254,8 @@ class Names(unittest.TestCase):
                 ("crates/*/specs/**/*.antt", 50, r"^-- \*\*(Definition|Bookkeeping)\*\*")):
             paths = glob.glob(files, root_dir=ROOT, recursive=True)
             self.assertGreater(len(paths), least)
-            for path in paths:
-                if os.path.basename(path) != "Lib.antt":
-                    with self.subTest(path):
-                        self.assertRegex(lines_of(path)[0], form)
+            wrong = [it for it in paths if not re.search(form, lines_of(it)[0])]
+            self.assertEqual([it for it in wrong if os.path.basename(it) != "Lib.antt"], [])
 
 
 class Way(unittest.TestCase):
@@ -301,10 +299,8 @@ class Way(unittest.TestCase):
 
 
 class Written(unittest.TestCase):
-    def test_what_a_script_writes_is_what_its_sources_give(self):
-        for script in ("bin/write_tables", "bin/write_vectors"):
-            with self.subTest(script):
-                output_of(run([script, "--check"]))
+    def test_the_tables_are_what_their_sources_give(self):
+        output_of(run(["bin/write_tables", "--check"]))
 
     def test_the_first_page_is_short(self):
         self.assertLessEqual(len(lines_of("README.md")) - 1, 200)

@@ -11,7 +11,7 @@ import threading
 import unittest
 
 from edit_names import missing_names
-from programs import ROOT, Folder, load, run, text_of
+from programs import ROOT, Folder, load, output_of, run, text_of
 
 SCRIPT = load("bin/try_edits")
 # Rows of docs/PROVED.md that the proof alone holds, by some of their names. Those with conditions
@@ -23,10 +23,9 @@ PROOF_ALONE = (
 )
 
 
-def call(*words):
-    """The status, the output and the errors of a call."""
-    ran = run(["bin/try_edits", *words])
-    return ran.returncode, ran.stdout.decode(), ran.stderr.decode()
+def printed(*words):
+    """The output of a call that finds no fault, as one of --list where an edit does not fit."""
+    return output_of(run(["bin/try_edits", *words])).decode()
 
 
 def names_in(text):
@@ -53,26 +52,18 @@ class Edits(unittest.TestCase):
         self.each = [it for it in self.edits if it.each_change]
         self.guards = list(itertools.chain(*SCRIPT.guards_by_crate().values()))
 
-    def said(self, *words):
-        """The output of a call that finds no fault, as one of --list where an edit does not fit."""
-        status, out, told = call(*words)
-        self.assertEqual((status, told), (0, ""))
-        return out
-
     def test_each_fits_its_source_and_is_listed(self):
-        self.assertGreater(len(self.edits), 200)
-        self.assertTrue(self.each)
-        for words, edits in ([], self.edits), (["--each-change"], self.each):
-            lines = self.said("--list", *words).split("\n")
-            self.assertEqual(lines[:-3], ["%s/%s" % (it.crate, it.name) for it in edits])
-            self.assertRegex(lines[-3], r"^\d+ edits, ")
-        lines = self.said("--list", "--only", "flush-counts").split("\n")
-        self.assertEqual(lines[:-3], ["pgn_layout/outlet-flush-counts-no-failure"])
-        self.assertRegex(lines[-3], r"^\d+ edits, ")
-
-    def test_each_has_a_name_of_its_own(self):
         names = [it.name for it in self.edits]
         self.assertEqual(sorted(set(names)), sorted(names))
+        self.assertGreater(len(self.edits), 200)
+        self.assertTrue(self.each)
+        path = "{0.crate}/{0.name}".format
+        for words, wanted in (
+                ([], map(path, self.edits)), (["--each-change"], map(path, self.each)),
+                (["--only", "flush-counts"], ["pgn_layout/outlet-flush-counts-no-failure"])):
+            lines = printed("--list", *words).split("\n")
+            self.assertEqual(lines[:-3], list(wanted))
+            self.assertRegex(lines[-3], r"^\d+ edits, ")
 
     def test_a_file_has_the_edits_of_a_crate_by_function(self):
         self.assertEqual(set(os.listdir(ROOT + "/edits")),
@@ -84,7 +75,7 @@ class Edits(unittest.TestCase):
             self.assertEqual([it for it in groups if groups.count(it) > 1], [], crate)
 
     def test_each_function_that_a_row_names_has_an_edit(self):
-        self.assertEqual(self.said("--guards", "--check"), "")
+        self.assertEqual(printed("--guards", "--check"), "")
 
     def test_each_row_is_guarded_but_those_that_the_proof_alone_holds(self):
         rows = SCRIPT.rows_of(text_of("docs", "PROVED.md"))
@@ -103,7 +94,7 @@ class Edits(unittest.TestCase):
             self.assertNotRegex(root, r"pub (use|mod) %s\b" % it.file, it.name)
 
     def test_the_page_names_each(self):
-        page, names = names_in(self.said("--guards")), {it.name for it in self.edits}
+        page, names = names_in(printed("--guards")), {it.name for it in self.edits}
         self.assertEqual(sorted(page ^ names), [])
         named = names_in(text_of("edits", "README.md"))
         self.assertEqual(sorted(named - names), [])
@@ -138,9 +129,9 @@ class Edits(unittest.TestCase):
 
     def test_counts(self):
         rows = [names_in(it)
-                for it in self.said("--guards").partition("## Private")[0].split("\n- ")]
+                for it in printed("--guards").partition("## Private")[0].split("\n- ")]
         each = {it.name for it in self.each}
-        self.assertEqual(self.said("--list").split("\n")[-3:], [
+        self.assertEqual(printed("--list").split("\n")[-3:], [
             "%d edits, %d of them tried on each change" % (len(self.edits), len(each)),
             "%d rows of docs/PROVED.md have edits, %d of them one that is tried on each change"
             % (sum(bool(it) for it in rows), sum(bool(it & each) for it in rows)), ""])
@@ -148,7 +139,9 @@ class Edits(unittest.TestCase):
     def test_words_without_an_edit(self):
         for words, why in ((["no_such_crate"], "there is no file edits/no_such_crate.edits"),
                            (["--list", "--only", "no such text"], "there is no such edit")):
-            self.assertEqual(call(*words), (2, "", "bin/try_edits: %s\n" % why))
+            ran = run(["bin/try_edits", *words])
+            self.assertEqual((ran.returncode, ran.stdout, ran.stderr.decode()),
+                             (2, b"", "bin/try_edits: %s\n" % why))
 
 
 class Names(unittest.TestCase):
@@ -390,9 +383,9 @@ class Fitting(Folder, unittest.TestCase):
 class Verdicts(unittest.TestCase):
     """The word for an edit, from what a check said."""
 
-    def check(self, word, status, *lines):
-        said = "checked a::f, 1 of 2\n" + "".join(it + "\n" for it in lines)
-        self.assertEqual(SCRIPT.verdict(status, said, ["proofs/B.antt"])[0], word)
+    def check(self, word, *lines, status=1, last="logic=not-proved"):
+        told = "\n".join(["checked a::f, 1 of 2", *lines, last, ""])
+        self.assertEqual(SCRIPT.verdict(status, told, ["proofs/B.antt"])[0], word, told)
 
     def test_refused(self):
         for line in (
@@ -400,9 +393,9 @@ class Verdicts(unittest.TestCase):
             "./proofs/A.antt:4:2: error: `returns`: expected type `a`, but this has type `b`",
             "fn a::f: no proof: expected answers in ./proofs/f/Answers.antt",
         ):
-            self.check("refused", 1, line, "logic=not-proved", "rt: rt lemma WORD.. finds a lemma")
+            self.check("refused", line, "logic=not-proved", last="rt: rt lemma WORD.. finds a lemma")
             # what a check of one function says
-            self.check("refused", 1, line, "fn a::f: not proved", "only=2 proved=1")
+            self.check("refused", line, "fn a::f: not proved", last="only=2 proved=1")
 
     def test_only_a_proof_names_what_is_gone(self):
         """A message goes on on indented lines, which say of what it is, not of the line after it.
@@ -410,6 +403,7 @@ class Verdicts(unittest.TestCase):
         The prover prints a term with a variable that the text binds as `_`: that is not gone.
         """
         place, note = "./proofs/A.antt:4:2: error: ", "note: src/a.rt:3:1: it is not proved that"
+        gone = place + "`returns`: `x` is not in scope"
         cites = ["./proofs/A.antt:9:1: error: 1 declaration that depends on `returns`, which was "
                  "rejected, was not checked: b",
                  "./proofs/C.antt:1:1: error: 2 declarations that depend on `b`, which was not "
@@ -417,44 +411,44 @@ class Verdicts(unittest.TestCase):
         field = [place + "`returns`: the record `a → (b : c) × d` of", "  `in-B` has no field",
                  "    `step`", "./proofs/C.antt:1:1: error: 1 declaration that depends on `A`, which",
                  "  was not admitted, was not checked: b"]
-        shown = ["error: `returns`: computed as a goal is, one side reads `a` (expected)",
-                 "  but this has type `b out`",
-                 "  `out` is not in scope here, so what is shown does not paste back as it stands"]
-        for word, lines in (
-            ("refused, but", [place + "`returns`: `x` is not in scope", *cites]),
-            ("refused", [place + "`returns`: `x` is not in scope", *cites,
-                         note + " the index is in range"]),
-            ("refused", [place + "`a`: expected type `b`, but this has type `c`", *cites]),
-            ("refused, but", field),
-            ("refused", [*field, note, "  the index is in range"]),
-            ("refused", [place + "`returns`: expected type", "  `a`, but this has `b`",
-                         "a line that has no field"]),
-            ("BAD EDIT", ["src/a.rt:3:1: error: `f`: the record `a`", "  has no field"]),
-            ("refused", ["src/a.rt:4:2: " + shown[0], *shown[1:]]),
-            ("refused", ["./proofs/A.antt:4:2: " + shown[0], *shown[1:]]),
+        shown = ("error: `returns`: computed as a goal is, one side reads `a` (expected)\n"
+                 "  but this has type `b out`\n"
+                 "  `out` is not in scope here, so what is shown does not paste back as it stands")
+        for word, *lines in (
+            ("refused, but", gone, *cites),
+            ("refused", gone, *cites, note + " the index is in range"),
+            ("refused", place + "`a`: expected type `b`, but this has type `c`", *cites),
+            ("refused, but", *field),
+            ("refused", *field, note, "  the index is in range"),
+            ("refused", place + "`returns`: expected type", "  `a`, but this has `b`",
+             "a line that has no field"),
+            ("BAD EDIT", "src/a.rt:3:1: error: `f`: the record `a`", "  has no field"),
+            ("refused", "src/a.rt:4:2: " + shown),
+            ("refused", "./proofs/A.antt:4:2: " + shown),
         ):
-            self.check(word, 1, *lines, "logic=not-proved")
+            self.check(word, *lines)
 
     def test_nothing_was_tried_or_refused(self):
         unread = "1:1: error: expected the end of the item"
         cites = "error: 1 declaration that depends on `f`, which was rejected, was not checked: g"
-        for word, lines in (
+        for word, *lines in (
             # a source, a definition and what the edit changes are to be read
-            ("BAD EDIT", ["src/a.rt:" + unread]), ("BAD EDIT", ["./specs/A.antt:" + unread]),
-            ("BAD EDIT", ["./proofs/B.antt:" + unread]),
+            ("BAD EDIT", "src/a.rt:" + unread), ("BAD EDIT", "./specs/A.antt:" + unread),
+            ("BAD EDIT", "./proofs/B.antt:" + unread),
             # another proof may not be
-            ("refused", ["./proofs/A.antt:" + unread]),
-            ("BAD EDIT", ["src/a.rt:1:1: error: `f`: `x` is not in scope"]),
-            ("refused", ["./specs/A.antt:1:1: error: `f`: expected type `a`"]),
-            ("refused", ["./proofs/B.antt:1:1: error: `f`: expected type `a`",
-                         "./proofs/B.antt:9:1: " + cites]),
-            ("BAD EDIT", ["error: module `Rattle-low-a` has changed. Run the lower steps again"]),
+            ("refused", "./proofs/A.antt:" + unread),
+            ("BAD EDIT", "src/a.rt:1:1: error: `f`: `x` is not in scope"),
+            ("refused", "./specs/A.antt:1:1: error: `f`: expected type `a`"),
+            ("refused", "./proofs/B.antt:1:1: error: `f`: expected type `a`",
+             "./proofs/B.antt:9:1: " + cites),
+            ("BAD EDIT", "error: module `Rattle-low-a` has changed. Run the lower steps again"),
         ):
-            self.check(word, 1, *lines, "logic=not-proved")
+            self.check(word, *lines)
         for status, last in ((1, "logic=proved functions=2 sum=1"), (2, "logic=not-proved"),
                              (-9, "logic=not-proved"), (1, "error[E0308]"), (0, "")):
-            self.check("BAD EDIT", status, last)
-        self.check("NOT REFUSED", 0, "logic=proved functions=2 sum=1 incremental=trusted")
+            self.check("BAD EDIT", status=status, last=last)
+        self.check("NOT REFUSED", status=0,
+                   last="logic=proved functions=2 sum=1 incremental=trusted")
 
 
 SOURCE = """const A: u8 = 1;
@@ -633,17 +627,15 @@ class Lanes(Folder, unittest.TestCase):
         self.assertNotIn("chess_text is tried", calls)
 
     def test_a_copy_has_the_work_that_a_check_needs(self):
-        files = (
-            "HANDLES", "crates.txt", "crates/low/src/lib.rt", "crates/low/out/rlib/low",
-            "crates/low/out/incremental/a", "crates/top/src/lib.rt", "crates/top/out/incremental/b",
-            "crates/top/out/rlib/top", "crates/other/src/lib.rt", "crates/other/out/rlib/other",
-        )
-        self.put_all({"a/" + name: "low:\nother:\ntop staticlib: low std\n" for name in files})
+        kept = [
+            "HANDLES", "crates.txt", "crates/low/out/rlib/low", "crates/low/src/lib.rt",
+            "crates/other/src/lib.rt", "crates/top/out/incremental/b", "crates/top/src/lib.rt",
+        ]
+        for name in (*kept, "crates/low/out/incremental/a", "crates/top/out/rlib/top",
+                     "crates/other/out/rlib/other"):
+            self.put("a/" + name, "low:\nother:\ntop staticlib: low std\n")
         copy = self.folder + "/b"
         SCRIPT.copy_repository("top", self.folder + "/a", copy)
         there = [os.path.relpath(os.path.join(at, it), copy)
                  for at, _, found in os.walk(copy) for it in found]
-        self.assertEqual(sorted(there), sorted([
-            "HANDLES", "crates.txt", "crates/low/src/lib.rt", "crates/low/out/rlib/low",
-            "crates/top/src/lib.rt", "crates/top/out/incremental/b", "crates/other/src/lib.rt",
-        ]))
+        self.assertEqual(sorted(there), kept)

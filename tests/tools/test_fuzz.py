@@ -59,12 +59,10 @@ class Corpus(unittest.TestCase):
     def copied(self):
         """A copy of the workspace and the laws, in which a bug can be planted."""
         copy = OUT + "/copy"
+        shutil.copytree(ROOT + "/fuzz", copy + "/fuzz", dirs_exist_ok=True,
+                        ignore=shutil.ignore_patterns("out", "corpus", "*.lock"))
         os.makedirs(copy + "/cargo", exist_ok=True)
         output_of(run([sys.executable, "bin/to_cargo", copy + "/cargo/out"]), err=None)
-        for name in glob.glob("**/*.*", root_dir=ROOT + "/fuzz", recursive=True):
-            if name.endswith((".rs", ".toml")) and not name.startswith("out/"):
-                os.makedirs(os.path.dirname("%s/fuzz/%s" % (copy, name)), exist_ok=True)
-                shutil.copy2("%s/fuzz/%s" % (ROOT, name), "%s/fuzz/%s" % (copy, name))
         return copy
 
     def test_no_law_is_broken(self):

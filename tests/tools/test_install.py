@@ -5,7 +5,7 @@ import unittest
 
 import programs
 from programs import ROOT, run, text_of
-from small_repository import CARGO, Repository
+from small_repository import CARGO, MAIN, Repository
 
 INSTALL, UNINSTALL, LIST = "bin/install", "bin/uninstall", "share/pgn_tool/files"
 MODULES = ROOT + "/python/gillspoon"
@@ -30,42 +30,34 @@ def below(folder, are_folders=False):
                   for it in names[0 if are_folders else 1])
 
 
-class Small(unittest.TestCase):
+class Small(Repository, unittest.TestCase):
     """In a small repository, whose commands build nothing real."""
 
+    script = INSTALL
+
     def setUp(self):
-        self.here = Repository(self, ("cargo", "rustc", "rt", "cc"))
-        self.prefix = self.here.root + "/to there"
+        super().setUp()
+        self.prefix = self.folder + "/to there"
 
-    def call(self, *words, script=INSTALL, **more):
-        return self.here.told(*words, script=script, **more)
-
-    def said(self, *words, status=0, **more):
-        """What a call says that has this status; where that is not 0, nothing is installed."""
-        ended, out, told = self.call(*words, **more)
-        self.assertEqual(ended, status, told)
-        self.assertTrue(status == 0 or out == "")
-        return told
-
-    def program(self):
+    def printed(self):
         """What the installed program says."""
         return run([self.prefix + "/bin/pgn_tool", "x"]).stdout
 
     def check_not_built(self):
-        self.assertNotEqual(self.here.call("--built", script="bin/build_program").returncode, 0)
+        self.said("--built", script="bin/build_program", status=1)
 
     def check_not_installed(self):
         self.assertFalse(os.path.exists(self.prefix))
 
     def test_everything_in_place(self):
         for _ in range(2):
-            status, out, told = self.call(self.prefix)
+            status, out, told = self.told(self.prefix)
             self.assertEqual(status, 0, told)
             self.assertEqual(below(self.prefix), FILES)
-            listed = text_of(self.prefix + "/" + LIST).splitlines()
+            listed = text_of(self.prefix, LIST).splitlines()
             self.assertEqual(sorted(listed), FILES)
             self.assertEqual(out.splitlines(), [self.prefix + "/" + it for it in listed])
-        self.assertEqual(self.program(), b"cargo built one, called with x\n")
+        self.assertEqual(self.printed(), b"cargo built one, called with x\n")
 
     def test_what_is_installed_is_said_and_the_library_is_built_as_the_program(self):
         by_cargo = (b"cargo", "cargo built static", "cargo built shared", "-lpthread")
@@ -78,43 +70,43 @@ class Small(unittest.TestCase):
             told = self.said(*options, self.prefix)
             self.assertIn(first, told)
             self.assertRegex(told, "is installed under %s: %s" % (self.prefix, kind))
-            self.assertEqual(self.program().split()[0], program)
-            built = [text_of(self.prefix + "/lib/libpgn_c" + it).strip() for it in (".a", ".so")]
+            self.assertEqual(self.printed().split()[0], program)
+            built = [text_of(self.prefix, "lib/libpgn_c" + it).strip() for it in (".a", ".so")]
             self.assertEqual(built, [static, shared], options)
             self.assertEqual(os.readlink(self.prefix + "/lib/libpgn_c.so"), "libpgn_c.so.1.2")
             # the file for pkg-config
-            lines = text_of(self.prefix + "/lib/pkgconfig/pgn_c.pc").splitlines()
+            lines = text_of(self.prefix, "lib/pkgconfig/pgn_c.pc").splitlines()
             self.assertEqual(lines[0], "prefix=" + self.prefix)
             self.assertRegex(lines[-1], r"^Libs.private:.*" + needs)
             self.assertNotIn("libpgn_c is", told)
 
     def test_each_build_is_said_where_they_differ(self):
-        self.assertEqual(self.here.told("--proved", script="bin/build_program")[0], 0)
+        self.said("--proved", script="bin/build_program")
         told = self.said(self.prefix)
         self.assertIn("is installed under %s: proved and built by rt\n" % self.prefix, told)
         self.assertIn("libpgn_c is built by Cargo from the proved sources; not proved itself", told)
 
     def test_a_newer_source_of_the_library_builds_it_anew(self):
-        self.call(self.prefix)
-        path = self.here.root + "/cargo/out/libpgn_c.a"
+        self.said(self.prefix)
+        path = self.folder + "/cargo/out/libpgn_c.a"
         for source in ("crates/pgn_c/src/lib.rt", "cargo/pgn_c/ffi.rs", "crates/pgn_game/src/lib.rt"):
-            self.here.make_older()
+            self.make_older()
             before = os.stat(path).st_ino
-            self.call(self.prefix)
+            self.said(self.prefix)
             self.assertEqual(os.stat(path).st_ino, before)
-            self.here.change(source)
-            self.assertIn("newer than the library", self.call(self.prefix)[2])
+            self.add(source)
+            self.assertIn("newer than the library", self.said(self.prefix))
             self.assertNotEqual(os.stat(path).st_ino, before)
 
     def test_the_proved_library_needs_a_c_compiler(self):
-        os.unlink(self.here.root + "/path/cc")
+        self.remove_commands("cc")
         self.assertIn("the shared library needs a C compiler, and cc is not on the PATH",
                       self.said("--proved", self.prefix, status=127))
         self.said("--proved", self.prefix, env={"CC": "rt"}, status=127)
 
     def test_the_command_says_what_to_run_without_the_library(self):
-        self.call(self.prefix)
-        env = {"PATH": self.here.root + "/path"}
+        self.said(self.prefix)
+        env = {"PATH": self.folder + "/path"}
         for is_there in (True, False):
             if not is_there:
                 os.unlink(self.prefix + "/lib/libpgn_c.so")
@@ -125,23 +117,22 @@ class Small(unittest.TestCase):
             self.assertTrue(ran.stderr.endswith(b": run bin/install again\n"), ran.stderr)
 
     def test_package(self):
-        package = self.here.root + "/package"
+        package = self.folder + "/package"
         env = {"DESTDIR": package}
-        told = self.said("/usr", env=env)
-        self.assertIn("prefix=/usr\n", text_of(package + "/usr/lib/pkgconfig/pgn_c.pc"))
-        self.assertEqual(below(package + "/usr"), FILES)
         # where the package goes, no shell looks
-        self.assertNotIn("completes", told)
+        self.assertNotIn("completes", self.said("/usr", env=env))
+        self.assertIn("prefix=/usr\n", text_of(package, "usr/lib/pkgconfig/pgn_c.pc"))
+        self.assertEqual(below(package + "/usr"), FILES)
         self.assertEqual(self.said("/usr", script=UNINSTALL, env=env), "")
         self.assertEqual((below(package), below(package, True)), ([], ["usr"]))
 
     def test_uninstall_removes_exactly_what_was_installed(self):
         own = ["bin/mine", "share/man/man1/mine.1", "share/pgn_tool/mine"]
         for name in own:
-            self.here.write(os.path.join(self.prefix, name), "mine")
-        self.call(self.prefix)
+            self.put(os.path.join(self.prefix, name), "mine")
+        self.said(self.prefix)
         self.assertEqual(below(self.prefix), sorted(FILES + own))
-        status, out, told = self.call(self.prefix, script=UNINSTALL)
+        status, out, told = self.told(self.prefix, script=UNINSTALL)
         self.assertEqual((status, told), (0, ""))
         self.assertEqual(sorted(out.splitlines()), [self.prefix + "/" + it for it in FILES])
         self.assertEqual(below(self.prefix), own)
@@ -152,22 +143,21 @@ class Small(unittest.TestCase):
 
     def test_the_list_of_an_older_installation(self):
         """A file in it goes, and one that is not below the prefix stays."""
-        self.call(self.prefix)
+        self.said(self.prefix)
         for name in ("share/pgn_tool/old", "share/pgn_tool/mine", "../other"):
-            self.here.write(os.path.join(self.prefix, name), "text")
-        self.here.write(self.prefix + "/" + LIST, "share/pgn_tool/old\n", "a")
-        self.assertEqual(self.call(self.prefix)[0], 0)
+            self.put(os.path.join(self.prefix, name), "text")
+        self.add(self.prefix + "/" + LIST, "share/pgn_tool/old\n")
+        self.said(self.prefix)
         self.assertEqual(below(self.prefix), sorted(FILES + ["share/pgn_tool/mine"]))
-        self.here.write(self.prefix + "/" + LIST, "../other\n", "a")
-        status, _, told = self.call(self.prefix, script=UNINSTALL)
+        self.add(self.prefix + "/" + LIST, "../other\n")
+        status, _, told = self.told(self.prefix, script=UNINSTALL)
         self.assertEqual(status, 1)
         self.assertIn("names ../other, which bin/install does not write", told)
-        self.assertTrue(os.path.exists(self.here.root + "/other"))
+        self.assertTrue(os.path.exists(self.folder + "/other"))
 
     def test_a_folder_that_cannot_be_written_is_refused_before_any_build(self):
-        self.here.write("file", "text")
-        for prefix, at in ((self.here.root + "/file", "/file"),
-                           (self.here.root + "/file/below", "/file"),
+        file = self.put("file", "text")
+        for prefix, at in ((file, "/file"), (file + "/below", "/file"),
                            ("/dev/null/x", "/dev/null")):
             told = self.said(prefix, status=1)
             self.assertRegex(told, "%s is not a folder that you can write to\n" % at)
@@ -175,20 +165,20 @@ class Small(unittest.TestCase):
             self.assertIn('or as root: bin/install "%s"\n' % prefix, told)
             self.check_not_built()
         self.assertIn('bin/install --cargo --deps "$HOME/.local"',
-                      self.call("--cargo", "--deps", "/dev/null/x")[2])
+                      self.told("--cargo", "--deps", "/dev/null/x")[2])
 
     def test_a_folder_of_another_user_is_refused_before_any_build(self):
         os.makedirs(self.prefix + "/share/man")
         os.chmod(self.prefix + "/share/man", 0o555)
-        words = [self.here.root + "/" + INSTALL, self.prefix]
+        words = [self.folder + "/" + INSTALL, self.prefix]
         if os.geteuid() == 0:
             programs.need("setpriv")
-            os.chmod(self.here.root, 0o755)
+            os.chmod(self.folder, 0o755)
             words = [programs.found("setpriv"), "--reuid", "65534", "--clear-groups", *words]
             os.chown(self.prefix, 65534, -1)
         else:
             self.addCleanup(os.chmod, self.prefix + "/share/man", 0o755)
-        ran = run(words, env={"PATH": self.here.root + "/path", "HOME": self.here.root})
+        ran = run(words, env={"PATH": self.folder + "/path", "HOME": self.folder})
         self.assertEqual((ran.returncode, ran.stdout), (1, b""))
         self.assertIn(b"is not a folder that you can write to", ran.stderr)
         self.check_not_built()
@@ -196,15 +186,15 @@ class Small(unittest.TestCase):
     def test_a_build_that_fails(self):
         for source, what, options in (("crates/pgn_c/src/lib.rt", "library", []),
                                       ("crates/pgn_c/src/lib.rt", "library", ["--proved"]),
-                                      ("crates/pgn_tool/src/main.rt", "program", [])):
-            self.here.write(source, "broken")
+                                      (MAIN, "program", [])):
+            self.put(source, "broken")
             told = self.said(*options, self.prefix, status=127)
             self.assertIn("the %s was not built" % what, told)
             self.check_not_installed()
 
     def test_neither_cargo_nor_rt(self):
-        status, out, told = Repository(self, ()).told(self.prefix, script=INSTALL)
-        self.assertEqual((status, out), (127, ""))
+        self.remove_commands(*self.commands)
+        told = self.said(self.prefix, status=127)
         self.assertIn("cargo is not on the PATH", told)
         self.assertIn('on Debian, as root: bin/install --deps "%s"\n' % self.prefix, told)
         self.check_not_installed()
@@ -216,20 +206,14 @@ class Small(unittest.TestCase):
         self.assertIn("proved and built by rt", told)
 
     def test_deps(self):
-        os.unlink(self.here.root + "/path/cargo")
-        os.unlink(self.here.root + "/path/id")
-        self.here.command("id", "#!/bin/sh\necho 0\n")
-        self.here.write("cargo-of-debian", CARGO)
-        self.here.command("apt-get", "#!/bin/sh\n[ $1 = update ] && exit\n"
-                          "cp %s/cargo-of-debian %s/path/cargo\nchmod 755 %s/path/cargo\n"
-                          % ((self.here.root,) * 3))
+        self.put_apt(cargo=CARGO)
         self.assertIn("built by Cargo", self.said("--deps", self.prefix))
 
     def test_advice(self):
         told = self.said(self.prefix)
         self.assertIn('export PATH="%s/bin:$PATH"' % self.prefix, told)
         self.assertIn("bash completes them with this line in ~/.bashrc: . '%s" % self.prefix, told)
-        env = {"PATH": "%s/bin:%s/path" % (self.prefix, self.here.root),
+        env = {"PATH": "%s/bin:%s/path" % (self.prefix, self.folder),
                "XDG_DATA_HOME": self.prefix + "/share"}
         self.assertEqual(self.said(self.prefix, env=env).count("\n"), 1)
 
@@ -237,19 +221,11 @@ class Small(unittest.TestCase):
         """It is asked for where the loader knows the folder, and not yet the library there."""
         known = "echo '%s/lib: (from /etc/ld.so.conf.d/libc.conf:2)'" % self.prefix
         cached = "echo '\tlibpgn_c.so.1.2 (libc6,x86-64) => %s/lib/libpgn_c.so.1.2'" % self.prefix
-        for folders_of, cache, asks in ((known, ":", True), (known, cached, False),
-                                        (":", ":", False)):
-            self.here.command("ldconfig", "#!/bin/sh\ncase $* in '-N -X -v') %s ;; -p) %s ;;\n"
-                              "*) exit 9 ;; esac\n" % (folders_of, cache))
+        script = "case $* in '-N -X -v') %s ;; -p) %s ;; *) exit 9 ;; esac\n"
+        for *said, asks in ((known, ":", True), (known, cached, False), (":", ":", False)):
+            self.put_command("ldconfig", script % tuple(said))
             told = self.said(self.prefix)
             self.assertEqual("as root: ldconfig\n" in told, asks, told)
-
-    def test_arguments(self):
-        for script in (INSTALL, UNINSTALL):
-            for words in (["--no"], ["a", "b"], ["--cargo", "--proved"]):
-                status, out, told = self.call(*words, script=script)
-                self.assertEqual((status, out, told.count("\n")), (2, "", 1), words)
-            self.assertEqual(self.said("--help", script=script), "")
 
 
 class Installed(unittest.TestCase):

@@ -29,74 +29,47 @@ def folder_of(build):
     return folder
 
 
-class Builder(unittest.TestCase):
+class Builder(Repository, unittest.TestCase):
     """examples/build, in a small repository whose commands build nothing real."""
 
-    def setUp(self):
-        self.here = Repository(self, ("cargo", "rustc", "rt", "cc"))
-        shutil.copytree(ROOT + "/examples", self.here.root + "/examples",
-                        ignore=shutil.ignore_patterns("out"))
+    script = "examples/build"
 
-    def build(self, *words, **env):
-        return self.here.told(*words, script="examples/build", cwd=self.here.root, env=env)
+    def setUp(self):
+        super().setUp()
+        shutil.copytree(ROOT + "/examples", self.folder + "/examples",
+                        ignore=shutil.ignore_patterns("out"))
 
     def test_either_build(self):
         for words in ([], ["--proved"], ["--cargo"]):
-            status, _, told = self.build(*words, "to")
-            self.assertEqual(status, 0, told)
-            self.assertEqual(os.listdir(self.here.root + "/to"), ["pgn_check"])
+            self.said(*words, "to", cwd=self.folder)
+            self.assertEqual(os.listdir(self.folder + "/to"), ["pgn_check"])
 
     def test_without_cargo_and_the_toolchain(self):
-        for name in ("cargo", "rt"):
-            os.unlink(self.here.root + "/path/" + name)
-        status, out, told = self.build("to")
-        self.assertEqual((status, out), (127, ""))
+        self.remove_commands("cargo", "rt")
+        told = self.said("to", cwd=self.folder, status=127)
         self.assertIn("so the library cannot be built", told)
-        self.assertFalse(os.path.exists(self.here.root + "/to"))
+        self.assertFalse(os.path.exists(self.folder + "/to"))
 
     def test_without_a_compiler(self):
-        self.assertEqual(self.build("to", CC="/missing/cc")[0], 127)
-
-    def test_arguments(self):
-        for words in (["--no"], ["a", "b"]):
-            status, out, told = self.build(*words)
-            self.assertEqual((status, out, told.count("\n")), (2, "", 1), words)
-        for word in ("-h", "--help"):
-            status, out, told = self.build(word)
-            self.assertEqual((status, told), (0, ""))
-            self.assertIn("usage: examples/build [--proved | --cargo] [FOLDER]", out)
+        self.said("to", cwd=self.folder, env={"CC": "/missing/cc"}, status=127)
 
 
 # ---- the header and the exports, each as the declarations of the other
 
-C_TYPES = {"u8": "uint8_t", "u32": "uint32_t", "u64": "uint64_t", "usize": "size_t"}
 STRUCTS = {"PgnResult": "pgn_result", "PgnText": "pgn_text", "PgnMove": "pgn_move",
            "PgnPlies": "pgn_plies", "PgnGame": "pgn_game", "PgnTag": "pgn_tag",
            "PgnItems": "pgn_item_lines", "PgnExplanation": "pgn_explanation",
            "PgnBadGame": "pgn_bad_game", "PgnSection": "pgn_section",
            "PgnNumber": "pgn_number"}
+# A slice is a pointer and a length, and a struct is passed by its address.
+C_TYPES = {"u8": "uint8_t", "u32": "uint32_t", "u64": "uint64_t", "usize": "size_t",
+           "&[u8]": "const void *, size_t", "&mut [u8]": "uint8_t *, size_t", **STRUCTS,
+           **{"&mut " + name: it + " *" for name, it in STRUCTS.items()}}
 
 
 def bare_header():
     """The header without comments."""
     return re.sub(r"/\*.*?\*/", " ", source("pgn.h"), flags=re.S)
-
-
-def c_parameters(rust):
-    """The C types of the parameters of an export: a slice is a pointer and a length.
-
-    A struct is passed by its address.
-    """
-    types = []
-    for parameter in filter(None, (it.strip() for it in rust.split(","))):
-        kind = parameter.split(":", 1)[1].strip()
-        if kind in ("&[u8]", "&mut [u8]"):
-            types += ["uint8_t *" if "mut" in kind else "const void *", "size_t"]
-        elif kind.startswith("&mut "):
-            types.append(STRUCTS[kind[5:]] + " *")
-        else:
-            types.append(C_TYPES[kind])
-    return types
 
 
 def sources():
@@ -109,16 +82,22 @@ def exported():
     rows = re.findall(
         r'#\[unsafe\(no_mangle\)\]\s*pub (?:unsafe )?extern "C" fn (\w+)\((.*?)\) -> (\w+)',
         sources(), re.S)
-    return {name: (STRUCTS.get(result) or C_TYPES[result], c_parameters(parameters))
-            for name, parameters, result in rows}
+    found = {}
+    for name, parameters, result in rows:
+        types = [C_TYPES[it] for it in re.findall(r": ([^,]*[^,\s])", parameters)]
+        found[name] = (C_TYPES[result], ", ".join(types))
+    return found
 
 
 def declared():
     """The same of the header."""
     rows = re.findall(r"^(\w+)\s+(\w+)\((.*?)\);", bare_header(), re.S | re.M)
-    return {name: (result, [re.sub(r"\w+$", "", it.strip()).strip()
-                            for it in parameters.split(",") if it != "void"])
-            for result, name, parameters in rows}
+    return {name: (result, types_of(parameters.split(","))) for result, name, parameters in rows}
+
+
+def types_of(parameters):
+    """The types of parameters of C."""
+    return ", ".join(re.sub(r"\w+$", "", it.strip()).strip() for it in parameters if it != "void")
 
 
 def rust_structs():

@@ -1,10 +1,7 @@
 """Tests of the manual pages and of the completions: against the programs and their sources."""
-import contextlib
 import glob
 import os
-import pty
 import re
-import subprocess
 import unittest
 
 import programs
@@ -15,8 +12,6 @@ PAGE, COMMAND_PAGE, LIBRARY_PAGE = (ROOT + "/share/man/man%s" % it for it in (
     "1/pgn_tool.1", "1/gillspoon.1", "3/pgn_c.3"))
 COMMAND_PAGES = {"pgn_tool": PAGE, "gillspoon": COMMAND_PAGE}
 SUBCOMMANDS = ("lint", "fmt", "where", "sieve")
-# Each command of gillspoon, and itself.
-CALLS = ([], *([it] for it in SUBCOMMANDS))
 # What has completions beside pgn_tool; pgn_conform is not installed, so it has no page.
 COMPLETED = (("gillspoon",), *(("gillspoon", it) for it in SUBCOMMANDS), ("pgn_conform",))
 COMPLETIONS = ROOT + "/share/completions/"
@@ -39,20 +34,14 @@ GAMES = "for n in $(seq 9000); do echo '1. e4 *'; done"
 KILLED = (-11, 128 + 11, -6, 128 + 6)
 
 
-def reasons():
-    """Number and words of each reason, read from the source by bin/write_vectors."""
-    module = programs.load("bin/write_vectors")
-    return {number: words for _, number, words in module.reasons().values()}
-
-
 def section(page, name):
     """A section of a page, by its path."""
     return re.search(r"^\.Sh %s\n(.*?)(?=^\.Sh |\Z)" % name, text_of(page), re.M | re.S)[1]
 
 
-def help_of(*words):
-    ran = run([programs.need_program(), *words, "--help"])
-    return ran.stdout.decode()
+def help_of(name, *words):
+    program = programs.need_program() if name == "pgn_tool" else "bin/" + name
+    return output_of(run([program, *words, "--help"])).decode()
 
 
 def rows_of(text, head):
@@ -61,12 +50,16 @@ def rows_of(text, head):
 
 
 def commands():
-    return re.findall(r"^  (\w+)", rows_of(help_of(), "Commands"), re.M)
+    return re.findall(r"^  (\w+)", rows_of(help_of("pgn_tool"), "Commands"), re.M)
 
 
-def options(*words):
-    """The options that the help lists, `--help` too."""
-    return sorted(re.findall(r"--[\w-]+", rows_of(help_of(*words), "Options")))
+def options(name, *words):
+    """The options that the help lists, `--help` too: the long ones of pgn_tool, else all."""
+    text = help_of(name, *words)
+    if name == "pgn_tool":
+        return sorted(re.findall(r"--[\w-]+", rows_of(text, "Options")))
+    listed = re.findall(r"^  (-.*?)(?:  .*)?$", rows_of(text, "options"), re.M)
+    return sorted(re.findall(r"(?<![\w-])--?[\w-]+", "\n".join(listed)))
 
 
 def blocks_of(text):
@@ -74,34 +67,31 @@ def blocks_of(text):
 
 
 class Shell(Folder, unittest.TestCase):
-    def shell(self, script, run=run, **more):
-        path = ":".join((os.path.dirname(self.program), ROOT + "/bin", programs.PATH))
-        env = dict(os.environ, PATH=path, NO_COLOR="1", LC_ALL="C.UTF-8")
-        return run(["bash", "-c", script], cwd=more.pop("cwd", self.folder), env=env, **more)
+    def shell(self, script, run=run):
+        return super().shell(script, run, "bash", NO_COLOR="1", LC_ALL="C.UTF-8")
 
 
 class Page(Shell):
     def test_every_fault_is_there(self):
         rows = re.findall(r"^\.It (\d+) Em (.*)$", section(PAGE, "DIAGNOSTICS"), re.M)
-        found = {int(number): words for number, words in rows}
-        wanted = dict(reasons())
-        wanted[26] = wanted[26] + "N"
-        self.assertEqual(found, wanted)
-        self.assertEqual([int(number) for number, _ in rows], sorted(found))
+        reasons = programs.load("bin/write_vectors").reasons().values()
+        wanted = {number: words + "N" * (number == 26) for _, number, words in reasons}
+        self.assertEqual([(int(number), words) for number, words in rows], sorted(wanted.items()))
 
     def test_every_command_and_option_is_there_and_what_the_help_says_of_it(self):
         page = text_of(PAGE)
         words = re.sub(r"\s+", " ", re.sub(r"^\.(?:Nm|Pa) ?", "", page, flags=re.M))
-        helped = dict(re.findall(r"^  (\w+) +(.*)$", rows_of(help_of(), "Commands"), re.M))
+        text = help_of("pgn_tool")
+        helped = dict(re.findall(r"^  (\w+) +(.*)$", rows_of(text, "Commands"), re.M))
         self.assertEqual(list(helped), commands())
         self.assertEqual(re.findall(r"^\.Cm (\w+)", section(PAGE, "SYNOPSIS"), re.M), commands())
         for command, about in helped.items():
             row = re.search(r"^\.It Cm %s (.*)$" % command, page, re.M)[1]
             said = ["-" + it for it in re.findall(r"Fl (-[\w-]+)", row)]
-            self.assertEqual(sorted([*said, "--help"]), options(command), command)
+            self.assertEqual(sorted([*said, "--help"]), options("pgn_tool", command), command)
             self.assertIn(about, words)
-            self.assertEqual(help_of(command).split("\n")[0], about)
-        about = help_of().split("\n")[0]
+            self.assertEqual(help_of("pgn_tool", command).split("\n")[0], about)
+        about = text.split("\n")[0]
         self.assertIn(about[0].lower() + about[1:] + ".", words)
 
     def test_the_version(self):
@@ -176,9 +166,7 @@ class LibraryPage(Folder, unittest.TestCase):
         for result, text in re.findall(r"^\.Ft (\w+)\n(.*(?:\n\.Fa .*|\n\.Fc)*)",
                                        section(LIBRARY_PAGE, "SYNOPSIS"), re.M):
             name = re.match(r"\.F[no] (\w+)", text)[1]
-            types = [re.sub(r"\w+$", "", it).strip() for it in re.findall('"(.*?)"', text)
-                     if it != "void"]
-            calls[name] = (result, types)
+            calls[name] = (result, test_library.types_of(re.findall('"(.*?)"', text)))
         self.assertEqual(calls, declared)
         enum = re.search(r"enum \{\s*(PGN_OK.*?)\}", test_library.bare_header(), re.S)[1]
         for form, part, names in ((r"^\.Nm (\w+)", "NAME", calls),
@@ -200,9 +188,6 @@ class LibraryPage(Folder, unittest.TestCase):
 class Command(Folder, unittest.TestCase):
     """What the help of gillspoon says is in its page, and the other way round."""
 
-    def help_of(self, *words):
-        return output_of(run(["bin/gillspoon", *words, "--help"])).decode()
-
     def test_options(self):
         parts = re.split(r"^\.Ss (\w+)\n", section(COMMAND_PAGE, "DESCRIPTION"), flags=re.M)
         described = dict(zip(parts[1::2], parts[2::2]))
@@ -210,7 +195,7 @@ class Command(Folder, unittest.TestCase):
         synopsis = re.split(r"^\.Nm\n", section(COMMAND_PAGE, "SYNOPSIS"), flags=re.M)
         shared = self.rows(parts[0])
         for name in SUBCOMMANDS:
-            text = self.help_of(name)
+            text = help_of("gillspoon", name)
             listed = re.findall(r"^  (-.*?)(?:  .*)?$", rows_of(text, "options"), re.M)
             # one row can have two options
             helped = {word for it in listed for word in it.split(", ")}
@@ -224,9 +209,8 @@ class Command(Folder, unittest.TestCase):
                 sorted(set(re.findall(r"(?<![\w-])-(-?[\w-]+)", usage)) - {"h", "-version"}), name)
             for word in re.findall(r"\b[A-Z]+\b", usage):
                 self.assertIn(word, mine)
-        known = {word for name in SUBCOMMANDS for word in self.help_of(name).split()}
-        for row in shared:
-            self.assertIn(row.split()[0], " ".join(known).replace(",", ""))
+        known = {it for name in SUBCOMMANDS for it in options("gillspoon", name)}
+        self.assertLessEqual({it.split()[0] for it in shared}, known)
 
     def rows(self, text):
         """The options that rows of a page describe, each with its word."""
@@ -236,36 +220,25 @@ class Command(Folder, unittest.TestCase):
 
     def test_versions(self):
         wanted = run([programs.need_program(), "--version"]).stdout.split()[1]
-        for words in CALLS:
-            self.check(run(["bin/gillspoon", *words, "--version"]), 0, b"gillspoon %s\n" % wanted)
+        for name, *words in COMPLETED:
+            said = b"%s %s\n" % (name.encode(), wanted)
+            self.check(run(["bin/" + name, *words, "--version"]), 0, said)
 
     def test_statuses_and_environment(self):
         for name, row, text in (
                 ("status", r"^\.It (\d+)$", section(COMMAND_PAGE, "EXIT STATUS")),
                 ("environment", r"^\.It Ev (\w+)$", text_of(COMMAND_PAGE))):
-            for words in CALLS:
-                helped = re.findall(r"^  (\w+)  ", rows_of(self.help_of(*words), name), re.M)
+            for words in COMPLETED[:-1]:
+                helped = re.findall(r"^  (\w+)  ", rows_of(help_of(*words), name), re.M)
                 self.assertEqual(re.findall(row, text, re.M), helped, words)
-
-    def test_words(self):
-        for words in ([], ["lnt"], ["--none"], ["lint", "--none"], ["fmt", "--none"],
-                      ["where", "--none"], ["sieve", "--none"], ["sieve", "a", "b"]):
-            ran = run(["bin/gillspoon", *words])
-            self.check_refused(ran, 2)
-            self.assertTrue(ran.stderr.endswith(b"(--help shows the usage)\n"), ran.stderr)
 
 
 class Statuses(Shell):
     def test_statuses(self):
-        for script, status in (("pgn_tool --help", 0), ("pgn_tool --version", 0),
-                               ("echo '*' | pgn_tool check", 0), ("echo 'e9' | pgn_tool check", 1),
-                               ("pgn_tool check --reduced", 2)):
-            self.assertEqual(self.shell(script).returncode, status, script)
-        self.check(self.shell("pgn_tool export $'\\xff'"), 2, b"", b"arguments cannot be read\n")
+        self.assertEqual(self.shell("pgn_tool check --reduced").returncode, 2)
+        self.put("games", "*\n")
         for words in ("export missing", "check .", "check - <games"):
-            ran = self.shell("echo '*' >games; pgn_tool " + words)
-            self.check(ran, 1, b"", b"byte 0: input cannot be read\n")
-        self.check(self.shell("cp games ./-; pgn_tool check -"), 0, b"games: 1, plies: 0\n")
+            self.check(self.shell("pgn_tool " + words), 1, b"", b"byte 0: input cannot be read\n")
 
     def test_caveats_of_the_file_that_is_read(self):
         ran = self.shell("echo '1. e4 *' > F; pgn_tool export F > F")
@@ -283,8 +256,6 @@ class Statuses(Shell):
         # The first block of 64 KiB of output is that of some 700 games, 8 bytes of input each.
         place = int(re.fullmatch(rb"byte (\d+): output cannot be written\n", ran.stderr)[1])
         self.assertTrue(600 * 8 < place < 800 * 8, place)
-        self.check(self.shell("echo '*' | pgn_tool export > /dev/full"), 1, b"",
-                   b"output cannot be written\n")
         ran = self.shell("set -o pipefail; (%s | pgn_tool export) | head -n 1" % GAMES)
         self.assertEqual(ran.returncode, 1)
         self.assertIn(b"output cannot be written", ran.stderr)
@@ -293,10 +264,9 @@ class Statuses(Shell):
         size = int(re.search(r"^\.It stack\n(\d+) KiB", text_of(PAGE), re.M)[1])
         output_of(run(["bin/pgn_conform", "--files", self.folder]))
         self.assertEqual(len(glob.glob(self.folder + "/*.in")), len(programs.vectors()))
-        script = "ulimit -s %d; failed=0; for file in *.in; do" \
+        script = "ulimit -s %d; for file in *.in; do" \
             " for words in export 'export --checked' check list; do" \
-            " pgn_tool $words $file >/dev/null 2>&1; [ $? -le 1 ] || failed=1; done; done;" \
-            " exit $failed"
+            " pgn_tool $words $file >/dev/null 2>&1; [ $? -le 1 ] || exit 1; done; done"
         self.assertEqual(self.shell(script % size).returncode, 0)
         self.assertIn(self.shell("ulimit -s 24; echo '*' | pgn_tool export").returncode, KILLED)
 
@@ -310,111 +280,97 @@ class Statuses(Shell):
 
 
 class Completions(Shell):
-    def words(self, *line):
-        """What bash completes as the last word of a line."""
-        programs.need("bash")
+    """The words that a shell completes as the last one of a line."""
+
+    FILE = ["some games.pgn"]
+
+    def setUp(self):
+        super().setUp()
+        self.put(self.FILE[0], "")
+
+    def check_words(self, completed, *rows):
+        """Each row has words, and lines that are completed so."""
+        for wanted, *lines in rows:
+            for line in lines:
+                self.assertEqual(completed(line), wanted, line)
+
+    def check_options(self, completed, calls, begin):
+        for words in calls:
+            line = " ".join([*words, begin])
+            self.assertEqual(completed(line), options(*words), line)
+
+    def bash(self, line):
+        words = line.split(" ")
         script = 'source %s%s.bash; COMP_WORDS=("$@"); COMP_CWORD=$(($# - 1)); _%s;' \
-            ' printf "%%s\\n" "${COMPREPLY[@]}"' % (COMPLETIONS, line[0], line[0])
-        ran = run(["bash", "-c", script, "sh", *line], cwd=self.folder)
-        self.assertEqual(ran.stderr, b"")
-        return sorted(it for it in ran.stdout.decode().split("\n") if it)
+            ' printf "%%s\\n" "${COMPREPLY[@]}"' % (COMPLETIONS, words[0], words[0])
+        ran = run(["bash", "-c", script, "sh", *words], cwd=self.folder)
+        return sorted(it for it in output_of(ran).decode().split("\n") if it)
 
     def test_bash(self):
-        self.assertEqual(self.words("pgn_tool", ""), sorted(commands()))
-        for words in ([], *([it] for it in commands())):
-            self.assertEqual(self.words("pgn_tool", *words, "--"), options(*words), words)
-        self.put("some games.pgn", "")
-        for words in (["check", "some"], ["export", "--reduced", "s"]):
-            self.assertEqual(self.words("pgn_tool", *words), ["some games.pgn"])
-
-    def test_fish(self):
-        programs.need("fish")
-        self.put("games.pgn", "")
-        self.assertEqual(self.fish_words("pgn_tool "), sorted(commands()))
-        for command in commands():
-            self.assertEqual(self.fish_words("pgn_tool %s --" % command), options(command))
-        self.assertEqual(self.fish_words("gillspoon "), sorted(SUBCOMMANDS))
+        programs.need("bash")
+        calls = [["pgn_tool", it] for it in commands()]
+        self.check_options(self.bash, [["pgn_tool"], *calls], "--")
+        self.check_options(self.bash, COMPLETED, "-")
         for words in COMPLETED:
-            self.assertEqual(self.fish_words(" ".join(words) + " -"), self.script_options(*words))
-        for line in ("pgn_tool list ga", "gillspoon sieve --bad ga", "gillspoon fmt ga"):
-            self.assertEqual(self.fish_words(line), ["games.pgn"], line)
-
-    def test_zsh(self):
-        programs.need("zsh")
-        output_of(run(["zsh", "-n", COMPLETIONS + "_pgn_tool"]))
-        text = text_of(COMPLETIONS + "_pgn_tool")
-        self.assertEqual(re.findall(r"^ +'([a-z]+):[a-z]", text, re.M), commands())
-        for option in {*options(), *options("export")} - {"--help"}:
-            self.assertIn(option, text)
-
-    def script_options(self, *words):
-        """The options that the help of a script lists."""
-        text = run(["bin/" + words[0], *words[1:], "--help"]).stdout.decode()
-        listed = re.findall(r"^  (-.*?)(?:  .*)?$", rows_of(text, "options"), re.M)
-        return sorted(re.findall(r"(?<![\w-])--?[\w-]+", "\n".join(listed)))
-
-    def test_bash_for_the_scripts(self):
-        self.put("some games.pgn", "")
-        self.assertEqual(self.words("gillspoon", ""), sorted(SUBCOMMANDS))
-        for words in COMPLETED:
-            self.assertIn("--version", self.script_options(*words))
-            self.assertEqual(self.words(*words, "-"), self.script_options(*words), words)
+            self.assertIn("--version", options(*words))
             if words != ("gillspoon",):
-                self.assertEqual(self.words(*words, "some"), ["some games.pgn"], words)
-        self.assertIn("--sarif", self.script_options("gillspoon", "lint"))
-        for lines, wanted in (
-                (["lint --board some", "fmt --output s", "sieve --good s", "sieve a --bad s"],
-                 ["some games.pgn"]),
-                (["lint --max s", "fmt --stdin-name s", "sieve -j s", "fmt --exclude s"], []),
-                (["where --color a"], ["always", "auto"])):
-            for line in lines:
-                self.assertEqual(self.words("gillspoon", *line.split()), wanted, line)
-        for lines, wanted in (
-                (["--files s", "cat s", "--theme x --list cat s", "cat - s"], ["some games.pgn"]),
-                (["--full s", "--list --theme ", "cat --th"], [])):
-            for line in lines:
-                self.assertEqual(self.words("pgn_conform", *line.split(" ")), wanted, line)
+                self.check_words(self.bash, (self.FILE, " ".join(words) + " some"))
+        self.assertIn("--sarif", options("gillspoon", "lint"))
+        self.check_words(
+            self.bash, (sorted(commands()), "pgn_tool "), (sorted(SUBCOMMANDS), "gillspoon "),
+            (self.FILE, "pgn_tool check some", "pgn_tool export --reduced s",
+             "gillspoon lint --board some", "gillspoon fmt --output s", "gillspoon sieve --good s",
+             "gillspoon sieve a --bad s", "pgn_conform --files s", "pgn_conform cat s",
+             "pgn_conform --theme x --list cat s", "pgn_conform cat - s"),
+            ([], "gillspoon lint --max s", "gillspoon fmt --stdin-name s", "gillspoon sieve -j s",
+             "gillspoon fmt --exclude s", "pgn_conform --full s", "pgn_conform --list --theme ",
+             "pgn_conform cat --th"),
+            (["always", "auto"], "gillspoon where --color a"))
 
-    def fish_words(self, line):
-        """What fish completes as the last word of a line."""
+    def fish(self, line):
         script = "source %s%s.fish; complete -C '%s'" % (COMPLETIONS, line.split()[0], line)
         env = dict(os.environ, HOME=self.folder, XDG_CONFIG_HOME=self.folder)
         ran = run(["fish", "-c", script], cwd=self.folder, env=env)
         return sorted(it.split("\t")[0] for it in ran.stdout.decode().splitlines())
 
-    def zsh_words(self, line):
-        """What zsh completes as the last word of a line: it runs on a terminal."""
+    def test_fish(self):
+        programs.need("fish")
+        self.put("games.pgn", "")
+        self.check_options(self.fish, [["pgn_tool", it] for it in commands()], "--")
+        self.check_options(self.fish, COMPLETED, "-")
+        self.check_words(
+            self.fish, (sorted(commands()), "pgn_tool "), (sorted(SUBCOMMANDS), "gillspoon "),
+            (["games.pgn"], "pgn_tool list ga", "gillspoon sieve --bad ga", "gillspoon fmt ga"))
+
+    def zsh(self, line):
+        """It runs on a terminal."""
         folder = programs.new_folder(self)
         write_file(folder + "/some games.pgn", "")
         write_file(folder + "/.zshrc", ZSHRC % COMPLETIONS)
         env = dict(os.environ, ZDOTDIR=folder, TERM="xterm")
-        ours, its = pty.openpty()
-        with subprocess.Popen(["zsh", "-d", "-i"], stdin=its, stdout=its, stderr=its, env=env,
-                              cwd=folder, start_new_session=True):
-            os.close(its)
-            shown = b""
-            # it then edits a line
-            while b"\x1b[?2004h" not in shown:
-                shown += os.read(ours, 4096)
-            os.write(ours, line.encode() + b"\t\x15exit\n")
-            with contextlib.suppress(OSError):
-                while os.read(ours, 4096):
-                    pass
-        os.close(ours)
+        # when it edits a line
+        begin = b"\x1b[?2004h"
+        programs.on_a_terminal(["zsh", "-d", "-i"], line.encode() + b"\t\x15exit\n", begin, env=env,
+                               cwd=folder, start_new_session=True)
         return sorted(set(text_of(folder + "/words").split("\n")) - {""})
 
-    def test_zsh_for_the_scripts(self):
+    def test_zsh(self):
         programs.need("zsh")
+        for name in ("pgn_tool", "gillspoon", "pgn_conform"):
+            output_of(run(["zsh", "-n", COMPLETIONS + "_" + name]))
+        text = text_of(COMPLETIONS + "_pgn_tool")
+        self.assertEqual(re.findall(r"^ +'([a-z]+):[a-z]", text, re.M), commands())
+        for option in {*options("pgn_tool"), *options("pgn_tool", "export")} - {"--help"}:
+            self.assertIn(option, text)
         for words in COMPLETED:
-            output_of(run(["zsh", "-n", COMPLETIONS + "_" + words[0]]))
             line = " ".join(words)
-            found = self.zsh_words(line + " -")
-            self.assertEqual([it for it in found if it != "-"], self.script_options(*words))
+            self.assertEqual([it for it in self.zsh(line + " -") if it != "-"], options(*words))
             # options are not left out because others begin so
-            self.assertEqual(self.zsh_words(line + " --vers"), ["--version"])
-        for words in ("gillspoon lint s", "gillspoon lint --fix s", "gillspoon fmt --output s",
-                      "gillspoon where s", "gillspoon sieve a s", "gillspoon sieve --bad s",
-                      "pgn_conform cat - s"):
-            self.assertEqual(self.zsh_words(words), ["some\\ games.pgn"], words)
-        self.assertEqual(self.zsh_words("gillspoon lint --language "), "de es fr it nl ru".split())
-        self.assertEqual(self.zsh_words("gillspoon wh"), ["where"])
+            self.assertEqual(self.zsh(line + " --vers"), ["--version"])
+        self.check_words(
+            self.zsh,
+            (["some\\ games.pgn"], "gillspoon lint s", "gillspoon lint --fix s",
+             "gillspoon fmt --output s", "gillspoon where s", "gillspoon sieve a s",
+             "gillspoon sieve --bad s", "pgn_conform cat - s"),
+            ("de es fr it nl ru".split(), "gillspoon lint --language "),
+            (["where"], "gillspoon wh"))

@@ -14,26 +14,18 @@ NOTES = ("best", "better is 3. Nf3", "1. e4 (2. d4) 7...", "see game 12.", "a; b
 def numbers_of(movetext):
     """The place of each number of the main line with a period behind, and the plies before it.
 
-    White space may be before the period (PGN 8.2.2.1). It reads letter by letter: a comment ends at
-    its brace, and one from `;` at the line's end.
+    White space may be before the period (PGN 8.2.2.1). A comment ends at its brace, and one from
+    `;` at the line's end.
     """
-    found, plies, depth, at = [], 0, 0, 0
-    while at < len(movetext):
-        letter, end = movetext[at], at + 1
-        if letter == "{":
-            end = movetext.index("}", at) + 1
-        elif letter == ";":
-            end = movetext.index("\n", at) + 1
-        elif letter in "()":
-            depth += 1 if letter == "(" else -1
-        elif letter == "$" or letter.isalnum():
-            while end < len(movetext) and (movetext[end].isalnum() or movetext[end] in "+#=:/-"):
-                end += 1
-            word = movetext[at:end]
-            if depth == 0 and word.isdigit() and movetext[end:].lstrip().startswith("."):
-                found.append((at, int(word), plies))
-            plies += depth == 0 and letter.isalpha()
-        at = end
+    found, plies, depth = [], 0, 0
+    for it in re.finditer(r"\{[^}]*\}|;.*\n|[()]|[$\w][\w+#=:/-]*", movetext):
+        word = it[0]
+        if word in "()":
+            depth += 1 if word == "(" else -1
+        elif depth == 0 and word[0].isalnum():
+            if word.isdigit() and movetext[it.end():].lstrip().startswith("."):
+                found.append((it.start(), int(word), plies))
+            plies += word[0].isalpha()
     return found
 
 

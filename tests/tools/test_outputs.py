@@ -4,6 +4,7 @@ Each script and option that writes a file is tried with inputs that are bad, cut
 kind, or missing. bin/pgn_conform is tried by test_vectors, and bin/to_cargo by test_cargo.
 """
 import os
+import shlex
 import unittest
 
 import programs
@@ -15,215 +16,177 @@ BAD = b'[White "Bob"]\n\n1. e4 e9 *\n\n'
 OLD = b'[White "Old"]\n\n1. d4 *\n\n'
 # What is no text of games.
 OTHERS = ("mark.pgn", "picture.pgn", "seven.pgn", "tape.pgn", "guide.pgn", "page.pgn")
+SAID = {it: OTHER_KINDS[it][1].encode() for it in OTHERS}
+NO_STREAM = ["missing.pgn", "folder", "not.pgn.gz"]
+UNREADABLE = NO_STREAM + ["cut.pgn." + it for it in PACKERS]
+WITHOUT_LIBRARY = {"GILLSPOON_LIBRARY": "/none"}
 
 
 class Kept(Folder, unittest.TestCase):
-    """A test with a folder in which each output has text."""
+    """A test with a folder of inputs."""
 
     def setUp(self):
         need("zstd")
         super().setUp()
-        self.env = dict(os.environ, PATH=programs.PATH, GILLSPOON_LIBRARY=library(), LC_ALL="C.UTF-8")
+        self.env = dict(os.environ, PATH=programs.PATH, GILLSPOON_LIBRARY=library(),
+                        LC_ALL="C.UTF-8")
         self.put_all({it: OTHER_KINDS[it][0] for it in OTHERS})
         self.put_all({"cut.pgn." + kind: pack(SOUND * 99)[:-30] for kind, pack in PACKERS.items()})
         self.put_all({"not.pgn.gz": SOUND, "empty.pgn": b"", "words.pgn": b"% none\n\n",
                       "bad.pgn": SOUND + BAD, "sound.pgn": SOUND})
         os.mkdir(self.folder + "/folder")
 
-    def unreadable(self):
-        """Names of what no script can read."""
-        return ["missing.pgn", "folder", "not.pgn.gz"] + ["cut.pgn." + it for it in PACKERS]
+    def call(self, line, env=(), **more):
+        """Runs a script of bin/, or gillspoon with a subcommand."""
+        words = shlex.split(line)
+        if words[0] != "build_page":
+            words.insert(0, "gillspoon")
+        words[0] = ROOT + "/bin/" + words[0]
+        return run(words, cwd=self.folder, env={**self.env, **dict(env)}, **more)
 
-    def call(self, subcommand, *words, env=None, **more):
-        script = [ROOT + "/bin/gillspoon", subcommand]
-        if subcommand == "build_page":
-            script = [ROOT + "/bin/build_page"]
-        return run([*script, *words], cwd=self.folder, env=dict(self.env, **(env or {})), **more)
+    def stays(self, status, name, *lines, env=()):
+        """Each call ends with a status and one line, each output stays, and no file is added.
 
-    def stays(self, status, outputs, *words, **more):
-        """A call ends with a status and one line, and each output stays; no file is added."""
-        self.put_all(dict.fromkeys(outputs, OLD))
-        before = sorted(os.listdir(self.folder))
-        ran = self.call(*words, **more)
-        with self.subTest(words):
-            self.check_refused(ran, status)
-            self.assertEqual([self.get(name) for name in outputs], [OLD] * len(outputs))
-            self.assertEqual(sorted(os.listdir(self.folder)), before)
+        NAME is a file, whose text is standard input at the end of a line with `<`.
+        """
+        for line in lines:
+            text = self.get(name) if line.endswith("<") else None
+            outputs = {it: OLD for it in line.split() if it in ("out", "good", "bad")}
+            self.put_all(outputs)
+            before = sorted(os.listdir(self.folder))
+            ran = self.call(line.replace("NAME", name).rstrip("<"), env, input=text)
+            with self.subTest(line, name=name):
+                self.assertEqual((ran.returncode, ran.stderr.count(b"\n")), (status, 1), ran.stderr)
+                self.assertEqual({it: self.get(it) for it in outputs}, outputs)
+                self.assertEqual(sorted(os.listdir(self.folder)), before)
 
-    def standard_input(self, name):
-        """The text of a file as standard input, or nothing if it is none."""
-        path = os.path.join(self.folder, name)
-        return self.get(name) if os.path.isfile(path) and name != "not.pgn.gz" else None
+    def check_file(self, name, text, status, line, env=()):
+        """A call ends so, and leaves a file with this text."""
+        ran = self.call(line, env)
+        self.assertEqual((ran.returncode, self.get(name)), (status, text), (line, ran.stderr))
 
 
 class Format(Kept):
     """gillspoon fmt --output and --write."""
 
     def test_output(self):
-        for name in self.unreadable():
-            self.stays(3, ["out"], "fmt", "-o", "out", name)
-            self.stays(3, ["out"], "fmt", "-o", "out", "sound.pgn", name)
-            self.stays(3, ["out"], "fmt", "--checked", "--output", "out", name)
-            if self.standard_input(name):
-                self.stays(3, ["out"], "fmt", "-o", "out", "-", input=self.standard_input(name))
-        for name in [*OTHERS, "bad.pgn"]:
-            status = 3 if name in OTHERS else 1
-            self.stays(status, ["out"], "fmt", "-o", "out", name)
-            self.stays(status, ["out"], "fmt", "-o", "out", "sound.pgn", name)
-            self.stays(status, ["out"], "fmt", "-o", "out", input=self.get(name))
+        for name in [*UNREADABLE, *OTHERS, "bad.pgn"]:
+            status = 1 if name == "bad.pgn" else 3
+            self.stays(status, name, "fmt -o out NAME", "fmt -o out sound.pgn NAME",
+                       "fmt --checked --output out NAME")
+            if name not in NO_STREAM:
+                self.stays(status, name, "fmt -o out - <", "fmt -o out <")
 
     def test_output_of_no_game(self):
         """A filter that failed gives none. An output that is not there is made."""
-        for words in (["empty.pgn"], ["words.pgn"], ["empty.pgn", "words.pgn"]):
-            self.stays(3, ["out"], "fmt", "-o", "out", *words)
-        self.stays(3, ["out"], "fmt", "-o", "out", "-", input=b"")
-        self.assertEqual(self.call("fmt", "-o", "out", "empty.pgn").stderr,
+        self.stays(3, "empty.pgn", "fmt -o out NAME", "fmt -o out NAME words.pgn", "fmt -o out - <")
+        self.stays(3, "words.pgn", "fmt -o out NAME")
+        self.assertEqual(self.call("fmt -o out empty.pgn").stderr,
                          b"gillspoon: out: is left as it is: the input has no game\n")
-        self.assertEqual(self.call("fmt", "-o", "new", "empty.pgn").returncode, 0)
-        self.assertEqual(self.call("fmt", "-o", "new", "empty.pgn").returncode, 0)
-        self.assertEqual(self.call("fmt", "-o", "/dev/null", "empty.pgn").returncode, 0)
+        for name in ("new", "new", "/dev/null"):
+            self.assertEqual(self.call("fmt -o %s empty.pgn" % name).returncode, 0)
         self.assertEqual(self.get("new"), b"")
 
-    def test_without_a_library(self):
-        self.stays(127, ["out"], "fmt", "-o", "out", "sound.pgn",
-                   env={"GILLSPOON_LIBRARY": "/none"})
-
     def test_write(self):
-        for name in [*OTHERS, "bad.pgn"]:
-            self.put("copy", self.get(name))
-            ran = self.call("fmt", "--write", "--drop", "copy")
-            self.assertEqual((ran.returncode, self.get("copy")), (
-                3 if name in OTHERS else 1, self.get(name)))
-        for name in [it for it in os.listdir(self.folder) if it.startswith("cut")] + ["not.pgn.gz"]:
-            before = self.get(name)
-            ran = self.call("fmt", "--write", "--drop", name)
-            self.assertEqual((ran.returncode, self.get(name)), (3, before))
+        for name in [*UNREADABLE[2:], *OTHERS, "bad.pgn"]:
+            text, copy = self.get(name), name if name in UNREADABLE else "copy"
+            self.put(copy, text)
+            self.check_file(copy, text, 1 if name == "bad.pgn" else 3, "fmt --write --drop " + copy)
         # comments alone would leave an empty file
         self.put("copy", b"{only} ; this\n")
-        ran = self.call("fmt", "--write", "copy")
-        self.assertEqual((ran.returncode, self.get("copy")), (3, b"{only} ; this\n"))
-        self.call("fmt", "--write", "sound.pgn", env={"GILLSPOON_LIBRARY": "/none"})
-        self.assertEqual(self.get("sound.pgn"), SOUND)
+        self.check_file("copy", b"{only} ; this\n", 3, "fmt --write copy")
 
     def test_what_is_said_of_other_kinds(self):
         """In the words of gillspoon sieve, whatever is asked for."""
-        for name in OTHERS:
-            said = OTHER_KINDS[name][1].encode()
-            for words in ([], ["--check"], ["--write"], ["--diff"], ["--checked"]):
-                ran = self.call("fmt", *words, "sound.pgn", name)
+        for name, said in SAID.items():
+            for words in ("", "--check", "--write", "--diff", "--checked"):
+                ran = self.call("fmt %s sound.pgn %s" % (words, name))
                 self.assertIn(b"gillspoon: %s: %s\n" % (name.encode(), said), ran.stderr)
                 self.assertEqual(ran.returncode, 3)
-            self.check(self.call("fmt", "--check", "-", input=self.get(name)),
+            self.check(self.call("fmt --check -", input=self.get(name)),
                        3, b"", b"gillspoon: <stdin>: %s\n" % said)
 
     def test_the_name_of_a_packed_file_is_said_once(self):
-        self.check(self.call("fmt", "--check", "not.pgn.gz"), 3, b"",
+        self.check(self.call("fmt --check not.pgn.gz"), 3, b"",
                    b"gillspoon: not.pgn.gz: Not a gzipped file (b'[W')\n")
 
 
 class Sieve(Kept):
     """gillspoon sieve FILE GOOD BAD."""
 
-    def test_what_cannot_be_read(self):
-        for name in self.unreadable():
-            self.stays(3, ["g", "b"], "sieve", name, "g", "b")
-            self.stays(3, ["g", "b"], "sieve", "--checked", name, "g", "b")
-            if self.standard_input(name):
-                self.stays(3, ["g", "b"], "sieve", "-", "g", "b", input=self.standard_input(name))
-
-    def test_what_is_no_text(self):
+    def test_what_cannot_be_read_or_is_no_text(self):
         """Also with outputs that are not there: none is made."""
-        for name in OTHERS:
-            self.stays(3, ["g", "b"], "sieve", name, "g", "b")
-            self.stays(3, ["g", "b"], "sieve", "--checked", name, "g", "b")
-            self.stays(3, ["g", "b"], "sieve", "-", "g", "b", input=self.get(name))
-            self.stays(3, [], "sieve", name, "g2", "b2")
-            self.assertEqual(
-                self.call("sieve", name, "g", "b").stderr.decode(),
-                "gillspoon: %s: %s; nothing was written\n" % (name, OTHER_KINDS[name][1]))
+        for name in [*UNREADABLE, *OTHERS]:
+            self.stays(3, name, "sieve NAME good bad", "sieve --checked NAME good bad",
+                       "sieve NAME good2 bad2")
+            if name not in NO_STREAM:
+                self.stays(3, name, "sieve - good bad <")
+        for name, said in SAID.items():
+            self.assertEqual(self.call("sieve %s good bad" % name).stderr,
+                             b"gillspoon: %s: %s; nothing was written\n" % (name.encode(), said))
         # a file that is damaged further down has games
         self.put("torn.pgn", SOUND + b"\0" * 600 + b"\n\n" + SOUND)
-        ran = self.call("sieve", "torn.pgn", "g", "b")
-        self.assertEqual((ran.returncode, ran.stdout.splitlines()[0]), (1, b"g: 2 games"))
+        ran = self.call("sieve torn.pgn good bad")
+        self.assertEqual((ran.returncode, ran.stdout.splitlines()[0]), (1, b"good: 2 games"))
 
     def test_no_game(self):
         for name in ("empty.pgn", "words.pgn"):
-            self.stays(3, ["g", "b"], "sieve", name, "g", "b")
-            self.stays(3, ["b"], "sieve", name, "/dev/null", "b")
-            self.stays(3, ["g", "b"], "sieve", "-", "g", "b", input=self.get(name))
-        self.assertEqual(self.call("sieve", "empty.pgn", "g", "b").stderr,
-                         b"gillspoon: empty.pgn: has no game; g is left as it is\n")
+            self.stays(3, name, "sieve NAME good bad", "sieve NAME /dev/null bad",
+                       "sieve - good bad <")
+        self.assertEqual(self.call("sieve empty.pgn good bad").stderr,
+                         b"gillspoon: empty.pgn: has no game; good is left as it is\n")
         for _ in range(2):
-            self.assertEqual(self.call("sieve", "empty.pgn", "g3", "b3").returncode, 0)
-            self.assertEqual((self.get("g3"), self.get("b3")), (b"", b""))
+            self.check_file("good2", b"", 0, "sieve empty.pgn good2 bad2")
+            self.assertEqual(self.get("bad2"), b"")
 
     def test_all_games_are_bad(self):
         """That is understood: the old text goes."""
-        self.put_all({"all.pgn": BAD * 2, "g": OLD, "b": OLD})
-        self.assertEqual(self.call("sieve", "all.pgn", "g", "b").returncode, 1)
-        self.assertEqual((self.get("g"), self.get("b").count(BAD)), (b"", 2))
+        self.put_all({"all.pgn": BAD * 2, "good": OLD, "bad": OLD})
+        self.check_file("good", b"", 1, "sieve all.pgn good bad")
+        self.assertEqual(self.get("bad").count(BAD), 2)
+
+
+class Rest(Kept):
+    """Other scripts, and what is the same for all."""
+
+    def test_lint_fix(self):
+        """Its output is its input."""
+        for name in [*UNREADABLE[2:], *OTHERS, "empty.pgn", "words.pgn", "sound.pgn", "bad.pgn"]:
+            status = 1 if name == "bad.pgn" else 3 if name in [*UNREADABLE, *OTHERS] else 0
+            for words in ("--fix", "--fix --unsafe-fixes --ignore 'trailing text'"):
+                self.check_file(name, self.get(name), status,
+                                "lint --quiet %s %s" % (words, name))
 
     def test_without_a_library(self):
-        self.stays(127, ["g", "b"], "sieve", "bad.pgn", "g", "b",
-                   env={"GILLSPOON_LIBRARY": "/none"})
-
-
-class Lint(Kept):
-    """gillspoon lint --fix, whose output is its input."""
-
-    def test_fix(self):
-        for name in sorted(os.listdir(self.folder)):
-            if os.path.isdir(os.path.join(self.folder, name)):
-                continue
-            before = self.get(name)
-            status = 0 if name in ("empty.pgn", "words.pgn", "sound.pgn") else \
-                3 if name in OTHERS or name.startswith(("cut", "not")) else 1
-            for words in (["--fix"], ["--fix", "--unsafe-fixes", "--ignore", "trailing text"]):
-                ran = self.call("lint", "--quiet", *words, name)
-                self.assertEqual((ran.returncode, self.get(name)), (status, before), name)
-
-    def test_without_a_library(self):
-        for words in (["--fix"], []):
-            ran = self.call("lint", *words, "bad.pgn", env={"GILLSPOON_LIBRARY": "/none"})
-            self.check_refused(ran, 127)
-            self.assertIn(b"/none cannot be used", ran.stderr)
-            self.assertEqual(self.get("bad.pgn"), SOUND + BAD)
-
-
-class Split(Kept):
-    """pgn_tool split, which replaces the file of a game once its movetext has begun."""
+        self.stays(127, "bad.pgn", "fmt -o out sound.pgn", "sieve NAME good bad",
+                   env=WITHOUT_LIBRARY)
+        self.check_file("bad.pgn", SOUND + BAD, 127, "lint --fix bad.pgn", WITHOUT_LIBRARY)
+        self.check_file("sound.pgn", SOUND, 127, "fmt --write sound.pgn", WITHOUT_LIBRARY)
 
     def test_split(self):
+        """pgn_tool replaces the file of a game once its movetext has begun."""
         os.mkdir(self.folder + "/out")
         # it takes a name for nothing: what is compressed is another text to it, and a PDF begins
         # with escape lines and a number
-        for name in [it for it in [*self.unreadable(), *OTHERS, "empty.pgn", "words.pgn"]
+        for name in [it for it in [*UNREADABLE, *OTHERS, "empty.pgn", "words.pgn"]
                      if it not in ("not.pgn.gz", "guide.pgn")]:
             self.put("out/000001.pgn", OLD)
             run([need_program(), "split", "out", name], cwd=self.folder)
             self.assertEqual((self.get("out/000001.pgn"), os.listdir(self.folder + "/out")),
                              (OLD, ["000001.pgn"]), name)
 
-
-class Page(Kept):
-    """bin/build_page OUT."""
-
-    def test_a_module_that_is_none(self):
+    def test_a_page_with_a_module_that_is_none(self):
         for name in ("missing.pgn", "folder", "sound.pgn", "empty.pgn"):
-            self.stays(1, ["page.html"], "build_page", "--module", name, "page.html")
+            self.stays(1, name, "build_page --module NAME out")
 
-
-class Rights(Kept):
-    """An input without permission to read it."""
-
-    def test_sieve_and_fmt(self):
+    def test_without_permission_to_read(self):
         os.chmod(self.folder, 0o777)
         os.chmod(self.folder + "/sound.pgn", 0)
-        for words in (["sieve", "sound.pgn", "g", "b"], ["fmt", "-o", "g", "sound.pgn"]):
-            for name in ("g", "b"):
-                self.put(name, OLD)
-                os.chmod(os.path.join(self.folder, name), 0o666)
+        for line in ("sieve sound.pgn good bad", "fmt -o good sound.pgn"):
+            for name in ("good", "bad"):
+                os.chmod(self.put(name, OLD), 0o666)
             user = without_rights(self, need_program())[:-1]
-            ran = run([*user, ROOT + "/bin/gillspoon", *words], cwd=self.folder, env=self.env)
-            self.assertEqual((ran.returncode, self.get("g"), self.get("b")), (3, OLD, OLD),
+            words = [*user, ROOT + "/bin/gillspoon", *line.split()]
+            ran = run(words, cwd=self.folder, env=self.env)
+            self.assertEqual((ran.returncode, self.get("good"), self.get("bad")), (3, OLD, OLD),
                              ran.stderr)

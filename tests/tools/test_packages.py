@@ -16,18 +16,6 @@ PACKAGES = ("libpgn-c-dev", "libpgn-c0", "pgn-tool", "python3-gillspoon")
 # A game, and what PGN 3.2 and 8 ask for.
 LOOSE = b'[White "A"] e4 e5 *'
 TIDY = programs.HEAD.replace(b'White "?"', b'White "A"') + b"1. e4 e5 *\n\n"
-SOURCE = r"""
-#include <stdio.h>
-#include <pgn.h>
-
-int main(void) {
-  uint8_t text[1024];
-  const char *game = "[White \"A\"] e4 e5 *";
-  pgn_result found = pgn_convert(game, 19, text, sizeof text, PGN_FULL_FORMAT);
-  fwrite(text, 1, found.written, stdout);
-  return found.status != PGN_OK;
-}
-"""
 
 
 class Debian(unittest.TestCase):
@@ -88,16 +76,16 @@ class Debian(unittest.TestCase):
 
     def test_a_program_in_c(self):
         """It is built by what pkg-config says, with the shared library and with the static one."""
-        source = self.folder + "/a.c"
-        write_file(source, SOURCE)
+        write_file(self.folder + "/a.pgn", LOOSE)
         env = dict(os.environ, PKG_CONFIG_LIBDIR=self.libraries, PKG_CONFIG_SYSROOT_DIR=self.root)
         for number, static in enumerate(([], ["--static"])):
             words = run(["pkg-config", "--cflags", "--libs", *static, "pgn_c"], env=env).stdout
             program = "%s/program%d" % (self.folder, number)
-            subprocess.run(["cc", source, "-o", program, *words.decode().split(),
-                            *(["-static"] if static else [])], check=True)
-            ran = run([program], env={} if static else self.env(), cwd=self.folder)
-            self.assertEqual((ran.returncode, ran.stdout), (0, TIDY), ran.stderr)
+            subprocess.run(["cc", ROOT + "/examples/c/pgn_check.c", "-o", program,
+                            *words.decode().split(), *(["-static"] if static else [])], check=True)
+            ran = run([program, "--export", "a.pgn"], env={} if static else self.env(),
+                      cwd=self.folder)
+            self.assertEqual(output_of(ran), TIDY)
 
     def test_manuals_and_completions(self):
         usr = self.root + "/usr/share/"

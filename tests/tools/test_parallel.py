@@ -21,11 +21,6 @@ def blocks():
     return [it.replace(*BLOCK) for blocks in found for it in blocks]
 
 
-def functions(block):
-    """The two functions of a block that differ from place to place."""
-    return block[: block.index("\n}\n") + 3]
-
-
 def archive(games=600):
     """Games as someone might have typed them, of different lengths."""
     moves = ["1. e4 e5 {a word}", "d4 d5 (Nf6 c4)", "1.c4! Nf6 $1 2. Nc3", "f4 ;rest\ne5 fxe5"]
@@ -54,14 +49,11 @@ class Spread(Folder, unittest.TestCase):
         programs.need("parallel")
         super().setUp()
 
-    def shell(self, script, **more):
-        path = os.path.dirname(programs.need_program()) + ":" + programs.PATH
-        return run(["sh", "-c", script], cwd=self.folder, env=dict(os.environ, PATH=path, **more))
-
     def script(self, kind):
-        """The script that is right in all cases, with these functions."""
-        whole = blocks()[WHOLE]
-        return whole.replace(functions(whole), functions(blocks()[kind]))
+        """The script that is right in all cases, with the two functions of this kind."""
+        whole, other = blocks()[WHOLE], blocks()[kind]
+        ours, theirs = (it[: it.index("\n}\n") + 3] for it in (whole, other))
+        return whole.replace(ours, theirs)
 
     def agrees(self, text, kind=WHOLE, status=0, **more):
         """The script and one run write the same bytes and messages, with this status."""
@@ -75,6 +67,10 @@ class Spread(Folder, unittest.TestCase):
         self.check(ran, status, b"", one.stderr)
         self.assertTrue(self.get("export.pgn") == one.stdout, "other bytes")
         return [line.split(b"\t") for line in self.get("blocks.log").splitlines()[1:]]
+
+    def check_refused_block(self, jobs):
+        """A block really ended inside a comment, or on a machine without the program."""
+        self.assertTrue(any(job[6] != b"0" for job in jobs))
 
 
 class OneMachine(Spread):
@@ -109,9 +105,7 @@ class OneMachine(Spread):
 
     def test_a_cut_inside_a_comment(self):
         for event in (1, 599):
-            jobs = self.agrees(with_comment(event))
-            # A block really ended there and was refused.
-            self.assertTrue(any(job[6] != b"0" for job in jobs), event)
+            self.check_refused_block(self.agrees(with_comment(event)))
         self.agrees(with_comment(300) + "e9", status=1)
 
     def test_games_without_an_event(self):
@@ -139,23 +133,14 @@ class OneMachine(Spread):
         self.assertEqual(ran.stdout, b"games: 600, plies: 1500\n")
 
 
-class Streams(Spread):
-    def setUp(self):
-        super().setUp()
-        programs.need("zstd")
-
     def test_a_compressed_file(self):
-        jobs = self.agrees(archive(), STREAM)
-        self.assertGreater(len(jobs), 3)
-
-    def test_faults_at_their_places(self):
+        """Also with faults, and with a cut inside a comment."""
+        programs.need("zstd")
         text = archive()
+        self.assertGreater(len(self.agrees(text, STREAM)), 3)
         for it in (*(put_before(text, "e9 ", event) for event in (0, 300, 599)), text[:-4]):
             self.agrees(it, STREAM, 1)
-
-    def test_a_cut_inside_a_comment(self):
-        jobs = self.agrees(with_comment(300), STREAM)
-        self.assertTrue(any(job[6] != b"0" for job in jobs))
+        self.check_refused_block(self.agrees(with_comment(300), STREAM))
 
 
 class Server(Folder):
@@ -228,5 +213,4 @@ class SeveralMachines(Spread):
     def test_a_machine_without_the_program(self):
         script = self.server.client + ' "$@"; case $* in *beta*) exit 127;; esac'
         lacking = self.server.put_script("lacking", script + "\n")
-        jobs = self.agrees(archive(), REMOTE, PARALLEL_SSH=lacking)
-        self.assertTrue(any(job[6] != b"0" for job in jobs))
+        self.check_refused_block(self.agrees(archive(), REMOTE, PARALLEL_SSH=lacking))

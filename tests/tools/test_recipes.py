@@ -6,7 +6,7 @@ import unittest
 
 import programs
 from documents import blocks_of, lines_of, prose_of
-from programs import ROOT, Folder, output_of, run, text_of
+from programs import ROOT, Folder, output_of, text_of
 
 RECIPES = ROOT + "/docs/RECIPES.md"
 
@@ -32,11 +32,6 @@ def game(moves="1. e4 e5 *", result="*", **tags):
 
 
 class Recipe(Folder, unittest.TestCase):
-    def shell(self, script):
-        path = ":".join([os.path.dirname(self.program), ROOT + "/bin", programs.PATH])
-        env = dict(os.environ, PATH=path, PGN_TOOL=self.program)
-        return run(["sh", "-c", script], cwd=self.folder, env=env)
-
     def recipe(self, title, block=0, of=None):
         """Runs a block, perhaps with these texts of games in games.pgn."""
         if of is not None:
@@ -162,12 +157,12 @@ class Whole(Recipe):
 
     def test_how_far(self):
         programs.need("pv")
-        ran = self.recipe("See how far a long check is", of=game() * 1000)
-        self.assertEqual((ran.returncode, ran.stdout), (0, b"games: 1000, plies: 2000\n"))
+        out = output_of(self.recipe("See how far a long check is", of=game() * 1000), err=None)
+        self.assertEqual(out, b"games: 1000, plies: 2000\n")
         self.assertEqual(self.recipe("See how far a long check is", of="e9").returncode, 1)
         os.remove(self.folder + "/games.pgn")
         ran = self.recipe("See how far a long check is")
-        self.assertEqual((ran.returncode, ran.stdout), (0, b"games: 0, plies: 0\n"))
+        self.assertEqual(output_of(ran, err=None), b"games: 0, plies: 0\n")
         self.assertIn(b"No such file", ran.stderr)
 
 

@@ -314,24 +314,11 @@ class Conform(Folder, unittest.TestCase):
             words = ["bin/pgn_conform", "--theme", "limits", "cat"]
             programs.output_of(run(words, stdout=closed), 3)
 
-    def test_the_words_of_the_call(self):
-        for words in ([], ["--full", "cat", "cat"], ["no-such-converter"], ["--theme", "x", "cat"],
-                      ["--files", "out", "cat"], ["--files", "-"], ["--full", "'"],
-                      ["--full", " "], ["--counts", " ", "cat"], ["--refusal", "(", "cat"],
-                      ["--seconds", "x", "cat"], ["--none"]):
-            ran = self.conform(*words)[2]
-            self.check_refused(ran, 2)
-            self.assertTrue(ran.stderr.startswith(b"pgn_conform: "), ran.stderr)
-
     def test_a_dash_is_a_word_of_the_converter(self):
         for words in (["cat", "-"], ["--", "cat", "-"], ["--full", "cat -"]):
             found, plain = (self.conform("--theme", "main_lines", "--reduced", "", *it)[:2]
                             for it in (words, ["cat"]))
             self.assertEqual(found, plain)
-
-    def test_the_version(self):
-        wanted = run([programs.need_program(), "--version"]).stdout.split()[1]
-        self.check(run(["bin/pgn_conform", "--version"]), 0, b"pgn_conform %s\n" % wanted)
 
     def test_files_that_cannot_be_written(self):
         """The status is 3, and what is there stays as it is."""
