@@ -65,7 +65,6 @@ class Sources:
                 self.read_types(code)
 
     def read_types(self, text):
-        """Adds the types of a source."""
         at = None
         for line in text.split("\n"):
             head = HEAD.match(line)

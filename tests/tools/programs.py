@@ -59,7 +59,6 @@ OLDEST_CARGO = (1, 74)
 
 
 def found(name):
-    """The path of a program, or None."""
     return shutil.which(name, path=PATH)
 
 
@@ -289,7 +288,6 @@ class Folder:
             self.put(name, data)
 
     def get(self, name):
-        """The bytes of a file."""
         return bytes_of(self.folder, name)
 
     def files(self, folder=""):

@@ -117,7 +117,6 @@ class Repository(Folder):
             file.write(text)
 
     def put_command(self, name, text):
-        """Puts a script on the PATH."""
         self.put_script("path/" + name, text)
 
     def remove_commands(self, *names):

@@ -51,7 +51,6 @@ WORDING = [
 
 
 def in_present_words(text):
-    """The messages of clap as 4.6 says them."""
     text = text.decode()
     for old, new in WORDING:
         text = re.sub(old, new, text)

@@ -273,7 +273,6 @@ class Words(Folder, unittest.TestCase):
 
 class Readers(unittest.TestCase):
     def test_callgrind(self):
-        """The totals, the parts, and what is inlined."""
         totals, own, by_call = costs = measure.read_callgrind(CALLGRIND.splitlines(True))
         self.assertEqual(totals, {"Ir": 215, "Bc": 40, "Bcm": 6, "Bi": 3, "Bim": 2})
         loop = "pgn_game::converter::Converter::feed::<#12ab>"

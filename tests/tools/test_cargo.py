@@ -223,8 +223,6 @@ def count_of_tests(files, mark="#[test]"):
 
 
 class CargoTest(Folder, unittest.TestCase):
-    """A test with calls of cargo that have to pass."""
-
     def setUp(self):
         need_cargo()
         super().setUp()
@@ -239,8 +237,6 @@ class CargoTest(Folder, unittest.TestCase):
 
 
 class Built(CargoTest):
-    """What cargo makes of it."""
-
     def setUp(self):
         super().setUp()
         write_out()
@@ -367,7 +363,6 @@ class Built(CargoTest):
             self.assertEqual(answer(proved, words), answer(program, words), words)
 
     def compiled(self, text):
-        """What rustc says of a program with the libraries."""
         write_file(OUT + "/target/sample.rs", text)
         words = ["rustc", "--edition=2021", "-Dwarnings", "-Ltarget/debug/deps", "target/sample.rs",
                  "-otarget/sample"]
@@ -668,7 +663,6 @@ def without_added(path, lines, source):
 
 
 def added_to(file, crate, lines, source):
-    """The lines that bin/to_cargo adds to a file."""
     joined = re.sub(r"\n *// (?!Cargo: )", " ", source)
     for words in re.findall(r'// Cargo: (\w+)!\((.*), "(.*)"\)', joined):
         yield from TO_CARGO.assertion(*words)

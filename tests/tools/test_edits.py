@@ -34,14 +34,12 @@ def names_in(text):
 
 
 def edit_of(name, *changes, crate="low"):
-    """An edit that makes these changes."""
     edit = SCRIPT.Edit(crate, name, "low.edits:1")
     edit.changes = list(changes)
     return edit
 
 
 def files_of(pattern):
-    """The paths of files of the repository."""
     return glob.glob(pattern, root_dir=ROOT, recursive=True)
 
 
@@ -145,8 +143,6 @@ class Edits(unittest.TestCase):
 
 
 class Names(unittest.TestCase):
-    """The names that an edit uses are in the sources."""
-
     def missing(self, edit):
         used = SCRIPT.uses_of(edit.crate, ROOT)
         crates = (it for it in used if os.path.isdir(os.path.join(ROOT, "crates", it)))
@@ -194,8 +190,6 @@ EACH_CHANGE = "edit: lib-f-is-wrong (on each change)\n"
 
 
 class Reading(Folder, unittest.TestCase):
-    """How an edit is written."""
-
     def read(self, text):
         return SCRIPT.read_guards(self.put("low.edits", text), "low")
 
@@ -363,8 +357,6 @@ No edit and no test is named for:
 
 
 class Fitting(Folder, unittest.TestCase):
-    """What an edit makes of the files of a crate."""
-
     def test_pairs_apply_in_turn_if_they_fit(self):
         self.put_all({"src/lib.rt": "one\ntwo\ntwo\n", "other": "one\n"})
         lib, no_file = "src/lib.rt", "there is no file %s in src/, specs/ or proofs/"

@@ -36,27 +36,24 @@ class Gate(Folder, unittest.TestCase):
         self.said = ran.stdout.decode().splitlines()
         return ran.returncode, sorted(self.get("log").decode().splitlines())
 
-    def test_calls(self):
+    def test_calls_and_what_was_skipped(self):
+        """What was skipped is named by the last lines."""
         edits = "try_edits --each-change.*"
-        for words, wanted in (
-                ([], ["rt ci", edits]),
+        for words, wanted, *skipped in (
+                ([], ["rt ci", edits],
+                 "the library for C, the page, and the tests of the scripts"),
                 (["--all"], ["build_page ", "build_program --library --proved",
-                             "build_program --proved", "rt ci", "test_tools --all", edits]),
-                (["--quick"], [r"rt all test --jobs \d+"])):
+                             "build_program --proved", "rt ci", "test_tools --all", edits],
+                 "[1] test_c.py:8: cc is missing",
+                 "wrong bodies that are not tried on each change"),
+                (["--quick"], [r"rt all test --jobs \d+"],
+                 "proofs from nothing, wrong bodies, and the tests of the scripts")):
             status, calls = self.call(*words)
             self.assertEqual((status, len(calls)), (0, len(wanted)), words)
             for call, form in zip(calls, wanted):
                 self.assertRegex(call, "^%s$" % form)
-
-    def test_what_was_skipped_is_the_last_line(self):
-        of_all = "wrong bodies that are not tried on each change"
-        for words, skipped in (
-                ([], ["the library for C, the page, and the tests of the scripts"]),
-                (["--all"], ["[1] test_c.py:8: cc is missing", of_all]),
-                (["--quick"], ["proofs from nothing, wrong bodies, and the tests of the scripts"])):
-            self.call(*words)
-            wanted = ["bin/test: skipped: " + it for it in skipped]
-            self.assertEqual(self.said[-len(wanted):], wanted)
+            self.assertEqual(self.said[-len(skipped):],
+                             ["bin/test: skipped: " + it for it in skipped])
 
     def test_status(self):
         for name in ("rt", *SCRIPTS):

@@ -9,19 +9,16 @@ from small_repository import CARGO, MAIN, Repository
 
 INSTALL, UNINSTALL, LIST = "bin/install", "bin/uninstall", "share/pgn_tool/files"
 MODULES = ROOT + "/python/gillspoon"
-FILES = [
-    "bin/gillspoon", "bin/pgn_tool",
-    "include/pgn.h", "lib/libpgn_c.a", "lib/libpgn_c.so", "lib/libpgn_c.so.1.2",
-    "lib/pkgconfig/pgn_c.pc",
-    "share/bash-completion/completions/gillspoon", "share/bash-completion/completions/pgn_tool",
-    "share/fish/vendor_completions.d/gillspoon.fish",
-    "share/fish/vendor_completions.d/pgn_tool.fish",
-    "share/man/man1/gillspoon.1", "share/man/man1/pgn_tool.1", "share/man/man3/pgn_c.3",
-    LIST, *("share/pgn_tool/gillspoon/" + it for it in sorted(os.listdir(MODULES) + ["VERSION"])
-            if it != "__pycache__"),
-    "share/zsh/site-functions/_gillspoon", "share/zsh/site-functions/_pgn_tool",
-]
 PAGES = ("pgn_tool", "gillspoon")
+FILES = sorted([
+    LIST, "include/pgn.h", "lib/libpgn_c.a", "lib/libpgn_c.so", "lib/libpgn_c.so.1.2",
+    "lib/pkgconfig/pgn_c.pc", "share/man/man3/pgn_c.3",
+    *(form % it for it in PAGES for form in (
+        "bin/%s", "share/bash-completion/completions/%s", "share/fish/vendor_completions.d/%s.fish",
+        "share/man/man1/%s.1", "share/zsh/site-functions/_%s")),
+    *("share/pgn_tool/gillspoon/" + it for it in {*os.listdir(MODULES), "VERSION"}
+      if it != "__pycache__"),
+])
 
 
 def below(folder, are_folders=False):

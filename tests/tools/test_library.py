@@ -73,7 +73,6 @@ def bare_header():
 
 
 def sources():
-    """The text of all sources of the crate."""
     return "".join(map(text_of, glob.glob(CRATE + "/src/*.rt")))
 
 
@@ -198,8 +197,6 @@ def c_program(sample):
 
 
 class CExample:
-    """The tests of a build."""
-
     build = None
 
     def path(self, name):

@@ -35,7 +35,6 @@ KILLED = (-11, 128 + 11, -6, 128 + 6)
 
 
 def section(page, name):
-    """A section of a page, by its path."""
     return re.search(r"^\.Sh %s\n(.*?)(?=^\.Sh |\Z)" % name, text_of(page), re.M | re.S)[1]
 
 

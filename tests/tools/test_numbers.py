@@ -49,7 +49,6 @@ class Maker:
         self.words = []
 
     def number(self):
-        """The number of the next move, or one that is not that."""
         number = self.ply // 2
         if not self.is_sound and self.rng.random() < 0.1:
             number = self.rng.choice((number + 1, number - 1, number + 7, 1, 10 * number, number % 10))

@@ -121,13 +121,6 @@ class Sources(unittest.TestCase):
 class Lacking(Folder, unittest.TestCase):
     """What bin/dist says where something is missing."""
 
-    def dist(self, part):
-        env = {"PATH": self.folder + "/bin"}
-        os.makedirs(env["PATH"], exist_ok=True)
-        ran = run([sys.executable, ROOT + "/bin/dist", "--part", part, self.folder + "/out"],
-                  env=env)
-        return ran.returncode, ran.stdout.decode(), ran.stderr.decode()
-
     def test_a_part_that_was_asked_for(self):
         # the scripts on the PATH, the part, and what is missing
         old_cargo = "echo '      --no-verify  Do not verify the contents'\n"  # as Debian 12's
@@ -140,9 +133,10 @@ class Lacking(Folder, unittest.TestCase):
                 ({"cargo": old_cargo}, "cargo", "this cargo is too old to write packages")):
             for name, text in scripts.items():
                 self.put_script("bin/" + name, text)
-            status, out, told = self.dist(part)
-            self.assertEqual((status, out), (127, ""), why)
-            self.assertRegex(told, r"\Abin/dist: .*" + why)
+            ran = run([sys.executable, "bin/dist", "--part", part, self.folder + "/out"],
+                      env={"PATH": self.folder + "/bin"})
+            self.assertEqual((ran.returncode, ran.stdout), (127, b""), why)
+            self.assertRegex(ran.stderr.decode(), r"\Abin/dist: .*" + why)
 
 
 class Others(Folder, unittest.TestCase):

@@ -110,8 +110,6 @@ class ByCargo(EachBuild, unittest.TestCase):
 
 
 class Choice(Repository, unittest.TestCase):
-    """Which build it is."""
-
     commands, script = ("cargo", "rustc", "rt"), "bin/build_program"
 
     def setUp(self):
@@ -235,8 +233,6 @@ class Choice(Repository, unittest.TestCase):
 
 
 class Words(Folder, unittest.TestCase):
-    """What the scripts say of words of a call."""
-
     def test_words_that_are_rejected(self):
         """One line begins with the name of the script, and mostly ends with where the usage is."""
         for script, name, calls in (
