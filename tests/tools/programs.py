@@ -108,12 +108,12 @@ def opens_closed_streams(program):
     return os.path.realpath(program).startswith(os.path.join(ROOT, "cargo", ""))
 
 
-def need_proved_program():
-    """The program that rt built; the test is left out if it is missing or a source is newer."""
-    program = printed_by_build("--built", "--proved")
-    if not program or program != printed_by_build():
-        not_tried("bin/build_program --proved has not built the proved program")
-    return program
+def need_proved_program(*options):
+    """The program or `--library` that rt built; the test is left out if a source is newer."""
+    path = printed_by_build(*options, "--built", "--proved")
+    if not path or path != printed_by_build(*options):
+        not_tried("%s has not built it" % " ".join(["bin/build_program", *options, "--proved"]))
+    return path
 
 
 def need_cargo():
@@ -134,13 +134,10 @@ def need_library(build):
     The test is left out if it cannot be built by Cargo, or if rt has not built it.
     """
     need("cc")
-    if build == "--cargo":
-        need_cargo()
-        return printed_by_build("--library", build) or not_tried("the library cannot be built")
-    library = printed_by_build("--library", build, "--built")
-    if not library or library != printed_by_build("--library"):
-        not_tried("bin/build_program --library --proved has not built the proved library")
-    return library
+    if build == "--proved":
+        return need_proved_program("--library")
+    need_cargo()
+    return printed_by_build("--library", build) or not_tried("the library cannot be built")
 
 
 def library():

@@ -226,15 +226,7 @@ class Words(Folder, unittest.TestCase):
         self.assertIn(b"--record", output_of(run([ROOT + "/bench/run", "--help"])))
         self.assertFalse(os.path.exists(ROOT + "/bench/__pycache__"))
 
-    def test_words_that_are_rejected(self):
-        for words, said in ((["--record", "--program", "/bin/true"], b"leave out --program"),
-                            (["parallel", "--record", "--program", "x"], b"leave out --program"),
-                            (["speed"], b"invalid choice: 'speed'")):
-            ran = run([ROOT + "/bench/run", *words])
-            self.assertEqual((ran.returncode, ran.stdout), (2, b""))
-            self.assertIn(said, ran.stderr)
-
-    def test_two_builds(self):
+    def test_two_builds_and_words_that_are_rejected(self):
         """Programs that print their words and what they read stand for the builds."""
         for build, prints in (("old", "cat -"), ("new", "cat -"), ("other", "echo other")):
             self.put(build + "/bench/workloads.txt", "# a\nfirst jobs a SEED <in.txt\nnext jobs b\n")
@@ -246,11 +238,14 @@ class Words(Folder, unittest.TestCase):
         rows = [re.match(r"\| (\w+) \| [0-9.]+ \| [0-9.]+ \| [0-9.]+ \|$", it)
                 for it in ran.stdout.decode().splitlines()[2:]]
         self.assertEqual([it and it[1] for it in rows], ["first", "next"])
-        for words, said in (("old other", b"first: the two builds print different results"),
-                            ("old none", b"none"), ("old new x", b"usage"),
-                            ("old old", b"the same folder")):
+        for status, words, said in (
+                (1, "old other", b"first: the two builds print different results"),
+                (1, "old none", b"none"), (1, "old new x", b"usage"),
+                (1, "old old", b"the same folder"), (2, "speed", b"invalid choice: 'speed'"),
+                (2, "--record --program /bin/true", b"leave out --program"),
+                (2, "parallel --record --program x", b"leave out --program")):
             ran = call(words)
-            self.assertEqual(ran.returncode, 1)
+            self.assertEqual((ran.returncode, ran.stdout), (status, b""), words)
             self.assertIn(said, ran.stderr)
 
     def test_nothing_is_installed(self):
@@ -271,22 +266,19 @@ class Words(Folder, unittest.TestCase):
         self.assertFalse(os.path.exists(self.folder + "/called"))
 
 
-class Readers(unittest.TestCase):
+class Measure(unittest.TestCase):
     def test_callgrind(self):
         totals, own, by_call = costs = measure.read_callgrind(CALLGRIND.splitlines(True))
         self.assertEqual(totals, {"Ir": 215, "Bc": 40, "Bcm": 6, "Bi": 3, "Bim": 2})
         loop = "pgn_game::converter::Converter::feed::<#12ab>"
         self.assertEqual(own, {"(below main)": 7, "main": 3, loop: 100, "memcpy": 35,
                                "pgn_game::find::named_move": 50, "chess_rules::legal::allows": 20})
-        self.assertEqual(sum(own.values()), totals["Ir"])
-        self.assertEqual(by_call[loop, "memcpy"], 30)
-        self.assertEqual(by_call["main", loop], 205)
-        self.assertEqual(by_call["chess_rules::legal::allows", "memcpy"], 5)
+        calls = ((loop, "memcpy"), ("main", loop), ("chess_rules::legal::allows", "memcpy"))
+        self.assertEqual([by_call[it] for it in calls], [30, 205, 5])
         spent = {part: it for part, it in measure.by_part(costs).items() if it}
         self.assertEqual(spent, {"converter's loop": 130, "find": 75, "rest": 10})
         missing = measure.inlined(costs)
-        self.assertEqual(missing["lexer"], ["Lexer::whole_token"])
-        self.assertNotIn("find", missing)
+        self.assertEqual((missing["lexer"], "find" in missing), (["Lexer::whole_token"], False))
 
     def test_the_difference_of_two_archives(self):
         small = ({"Ir": 1000, "Bcm": 8, "Bim": 2}, {"pgn_lexer::lexer::Lexer::whole_token": 400}, {})
@@ -310,9 +302,7 @@ class Readers(unittest.TestCase):
         spent = measure.memory(["sh", "-c", "printf 'Games: 1000\\r' >&2"])
         self.assertTrue(0.1 < spent < 100, spent)
 
-
-class OtherWork(unittest.TestCase):
-    def test_how_much(self):
+    def test_how_much_other_work_there_is(self):
         for after, other in (((10, 27, 9), 0.8), ((10, 17, 7), 0), ((20, 20, 0), 0.5)):
             self.assertEqual(measure.other_work((0, 10, 0), after), other)
         self.assertEqual(measure.other_work((5, 10, 2), (15, 20, 3)), 0.9)
@@ -322,7 +312,7 @@ class OtherWork(unittest.TestCase):
         self.assertEqual(len(before), 3)
         self.assertTrue(all(a <= b for a, b in zip(before, after)), (before, after))
 
-    def test_when_it_stops(self):
+    def test_other_work_that_stops_it(self):
         for other in (0, 0.19, 0.21, 3):
             measure.check_quiet(other, True)
             said = "other work keeps %.1f processors busy.*--busy" % other
@@ -331,7 +321,7 @@ class OtherWork(unittest.TestCase):
                 measure.check_quiet(other, False)
 
     @mock.patch.object(measure, "SECONDS", 0)
-    def test_before_it_begins(self):
+    def test_other_work_before_it_begins(self):
         for busy, expected in ((1.9, contextlib.nullcontext()),
                                (2.1, self.assertRaises(SystemExit))):
             answers = [(0, 10, 1), (10, 10 + busy, 1)]

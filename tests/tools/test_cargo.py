@@ -405,19 +405,14 @@ class Built(CargoTest):
         said = b"%s: byte 77: move is not legal\n" % os.fsencode(bad)
         self.assertEqual(shown(ran), (0, b"", said))
 
-
-class Memory(unittest.TestCase):
-    """The program that cargo makes, with allocations refused."""
-
     def test_want_of_memory_has_status_3_where_the_program_asks_for_it(self):
         programs.need("cc")
-        folder = programs.new_folder(self)
         tries = programs.load("bin/try_allocations")
         tries.BUILT = built()
-        library = tries.build(folder)
+        library = tries.build(self.folder)
         # The name of FILE or DIR, the buffer of standard output, and the path of each file.
         for words, asks in ((["export", "GAMES"], 2), (["check"], 1), (["split", "FOLDER"], 4)):
-            call = tries.Call(library, folder, words, tries.GAMES)
+            call = tries.Call(library, self.folder, words, tries.GAMES)
             right, whole, _ = call.run()
             reported = 0
             for number in itertools.count(1):

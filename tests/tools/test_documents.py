@@ -257,6 +257,12 @@ class Names(unittest.TestCase):
             wrong = [it for it in paths if not re.search(form, lines_of(it)[0])]
             self.assertEqual([it for it in wrong if os.path.basename(it) != "Lib.antt"], [])
 
+    def test_the_tables_are_what_their_sources_give(self):
+        output_of(run(["bin/write_tables", "--check"]))
+
+    def test_the_first_page_is_short(self):
+        self.assertLessEqual(len(lines_of("README.md")) - 1, 200)
+
 
 class Way(unittest.TestCase):
     """The calls from `main` to a written letter, as ARCHITECTURE draws them."""
@@ -296,12 +302,3 @@ class Way(unittest.TestCase):
             above[depth:] = [(crate, name)]
             count += 1
         self.assertLess(12, count)
-
-
-class Written(unittest.TestCase):
-    def test_the_tables_are_what_their_sources_give(self):
-        output_of(run(["bin/write_tables", "--check"]))
-
-    def test_the_first_page_is_short(self):
-        self.assertLessEqual(len(lines_of("README.md")) - 1, 200)
-

@@ -158,28 +158,27 @@ class Names(unittest.TestCase):
         reader = "pgn_game", "reader.rt", "        self.levels.depth()\n", "        %s\n"
         variant = "pgn_lexer", "class.rt", "is_in(byte, Set::LineEnd)", "is_in(byte, Set::%s)"
         for (crate, path, old, new), word, missing in (
-            (section, "end_tags(out)", []),
-            (section, "if pairs.len() == 0 { Ok(()) } else { end_tags(out) }", []),
-            # types have a method of this name, but not this one
-            (section, "if pairs.is_empty() { Ok(()) } else { end_tags(out) }",
-             ["is_empty of OrderedPairs"]),
-            (mode, "Nothing", ["Nothing of Mode"]),
-            (section, "out.close()", ["close of Sink"]),
-            (section, "{ pairs.stored.is_full(); end_tags(out) }", []),
-            (section, "put_word(out)", ["put_word"]),
-            (section, "crate::number::put_word(out)", ["crate::number::put_word"]),
-            (section, "pgn_layout::end_tags(out)", []),
-            (section, "pgn_layout::end_section(out)", ["pgn_layout::end_section"]),
-            (section, "write(NAMELESS, out)", ["write", "NAMELESS"]),
-            (section, "{ let end = |it| it; end(end_tags(out)) }", []),
-            (section, '{ let _ = b"a.gone()"; end_tags(out) }', []),
-            (section, "end_tags(out.no_such_word())", ["no_such_word of Sink", "no_such_word"]),
-            (reader, "self.levels.around()", ["around of Levels"]),
-            (reader, "self.level.depth()", ["level of Reader"]),
-            (reader, "Self::nothing(self.levels)", ["nothing of Reader"]),
-            # a variant with its number
-            (variant, "Space", []), (variant, "Nothing", ["Nothing of Set"]),
-        ):
+                (section, "end_tags(out)", []),
+                (section, "if pairs.len() == 0 { Ok(()) } else { end_tags(out) }", []),
+                # types have a method of this name, but not this one
+                (section, "if pairs.is_empty() { Ok(()) } else { end_tags(out) }",
+                 ["is_empty of OrderedPairs"]),
+                (mode, "Nothing", ["Nothing of Mode"]),
+                (section, "out.close()", ["close of Sink"]),
+                (section, "{ pairs.stored.is_full(); end_tags(out) }", []),
+                (section, "put_word(out)", ["put_word"]),
+                (section, "crate::number::put_word(out)", ["crate::number::put_word"]),
+                (section, "pgn_layout::end_tags(out)", []),
+                (section, "pgn_layout::end_section(out)", ["pgn_layout::end_section"]),
+                (section, "write(NAMELESS, out)", ["write", "NAMELESS"]),
+                (section, "{ let end = |it| it; end(end_tags(out)) }", []),
+                (section, '{ let _ = b"a.gone()"; end_tags(out) }', []),
+                (section, "end_tags(out.no_such_word())", ["no_such_word of Sink", "no_such_word"]),
+                (reader, "self.levels.around()", ["around of Levels"]),
+                (reader, "self.level.depth()", ["level of Reader"]),
+                (reader, "Self::nothing(self.levels)", ["nothing of Reader"]),
+                # a variant with its number
+                (variant, "Space", []), (variant, "Nothing", ["Nothing of Set"])):
             edit = edit_of("a-f-x", ("src/" + path, old, new % word), crate=crate)
             self.assertEqual(SCRIPT.edited(edit, os.path.join(ROOT, "crates", crate))[1], None)
             self.assertEqual(self.missing(edit), missing, word)
@@ -242,11 +241,22 @@ class Reading(Folder, unittest.TestCase):
                 (HEAD + "file: a\nold: a\nnew: b\nfile: a\n", 6))),
         ):
             for text, number in rows:
-                with self.assertRaises(SCRIPT.Mistake) as raised:
+                said = re.escape(why.replace("LINE", text.split("\n")[number - 1]))
+                with self.assertRaisesRegex(SCRIPT.Mistake, r"low\.edits:%d: %s$" % (number, said)):
                     self.read(text)
-                said = why.replace("LINE", text.split("\n")[number - 1])
-                self.assertRegex(str(raised.exception), "low.edits:%d: " % number, text)
-                self.assertTrue(str(raised.exception).endswith(": " + said), text)
+
+    def test_pairs_apply_in_turn_if_they_fit(self):
+        self.put_all({"src/lib.rt": "one\ntwo\ntwo\n", "other": "one\n"})
+        lib, no_file = "src/lib.rt", "there is no file %s in src/, specs/ or proofs/"
+        for changes, found in (
+                ([(lib, "one", "three"), (lib, "three", "")], ({lib: "\ntwo\ntwo\n"}, None)),
+                ([(lib, "two", "x")], ({}, "the text 'two' is there 2 times")),
+                ([(lib, "four", "x")], ({}, "the text 'four' is there 0 times")),
+                ([("other", "one", "x")], ({}, no_file % "other")),
+                ([("src/../other", "one", "x")], ({}, no_file % "src/../other")),
+                ([("src/a.rt", "one", "x")], ({}, no_file % "src/a.rt"))):
+            edit = edit_of("lib-f-is-wrong", *changes)
+            self.assertEqual(SCRIPT.edited(edit, self.folder), found)
 
 
 class Guards(unittest.TestCase):
@@ -287,10 +297,9 @@ class Guards(unittest.TestCase):
         """A test alone is none, and what a caller has to keep needs none."""
         puts = "edit", "lib-put-a", "Puts"
         for guards, missing in (
-            ([], ["end", "g", "put"]), ([("edit", "lib-put-a", "put, text")], ["end", "g"]),
-            ([puts, ("test", "a", "all of it")], ["end"]),
-            ([puts, ("edit", "lib-end-a", "never")], []),
-        ):
+                ([], ["end", "g", "put"]), ([("edit", "lib-put-a", "put, text")], ["end", "g"]),
+                ([puts, ("test", "a", "all of it")], ["end"]),
+                ([puts, ("edit", "lib-end-a", "never")], [])):
             found = list(itertools.starmap(self.guard, guards))
             known = {"put", "g", "end", "off", "other"}
             self.assertEqual(SCRIPT.without_edit(self.LEDGER, found, known), missing)
@@ -349,27 +358,10 @@ No edit and no test is named for:
 
     def test_a_guard_names_one_row(self):
         for guard, count in (("Puts, all of it", 0), ("text, put, other", 0), ("end", 2)):
-            with self.assertRaises(SCRIPT.Mistake) as raised:
+            said = "^low.edits:1: %d rows of docs/PROVED.md have %s as function and clause$" % (
+                count, ", ".join(sorted(guard.split(", "))))
+            with self.assertRaisesRegex(SCRIPT.Mistake, said):
                 self.page(("edit", "lib-put-a", guard))
-            said = ", ".join(sorted(guard.split(", ")))
-            self.assertEqual(str(raised.exception), "low.edits:1: %d rows of docs/PROVED.md have %s"
-                             " as function and clause" % (count, said))
-
-
-class Fitting(Folder, unittest.TestCase):
-    def test_pairs_apply_in_turn_if_they_fit(self):
-        self.put_all({"src/lib.rt": "one\ntwo\ntwo\n", "other": "one\n"})
-        lib, no_file = "src/lib.rt", "there is no file %s in src/, specs/ or proofs/"
-        for changes, found in (
-            ([(lib, "one", "three"), (lib, "three", "")], ({lib: "\ntwo\ntwo\n"}, None)),
-            ([(lib, "two", "x")], ({}, "the text 'two' is there 2 times")),
-            ([(lib, "four", "x")], ({}, "the text 'four' is there 0 times")),
-            ([("other", "one", "x")], ({}, no_file % "other")),
-            ([("src/../other", "one", "x")], ({}, no_file % "src/../other")),
-            ([("src/a.rt", "one", "x")], ({}, no_file % "src/a.rt")),
-        ):
-            edit = edit_of("lib-f-is-wrong", *changes)
-            self.assertEqual(SCRIPT.edited(edit, self.folder), found)
 
 
 class Verdicts(unittest.TestCase):
@@ -381,10 +373,9 @@ class Verdicts(unittest.TestCase):
 
     def test_refused(self):
         for line in (
-            "note: src/a.rt:3:1: it is not proved that what the function ensures holds",
-            "./proofs/A.antt:4:2: error: `returns`: expected type `a`, but this has type `b`",
-            "fn a::f: no proof: expected answers in ./proofs/f/Answers.antt",
-        ):
+                "note: src/a.rt:3:1: it is not proved that what the function ensures holds",
+                "./proofs/A.antt:4:2: error: `returns`: expected type `a`, but this has type `b`",
+                "fn a::f: no proof: expected answers in ./proofs/f/Answers.antt"):
             self.check("refused", line, "logic=not-proved", last="rt: rt lemma WORD.. finds a lemma")
             # what a check of one function says
             self.check("refused", line, "fn a::f: not proved", last="only=2 proved=1")
@@ -407,17 +398,16 @@ class Verdicts(unittest.TestCase):
                  "  but this has type `b out`\n"
                  "  `out` is not in scope here, so what is shown does not paste back as it stands")
         for word, *lines in (
-            ("refused, but", gone, *cites),
-            ("refused", gone, *cites, note + " the index is in range"),
-            ("refused", place + "`a`: expected type `b`, but this has type `c`", *cites),
-            ("refused, but", *field),
-            ("refused", *field, note, "  the index is in range"),
-            ("refused", place + "`returns`: expected type", "  `a`, but this has `b`",
-             "a line that has no field"),
-            ("BAD EDIT", "src/a.rt:3:1: error: `f`: the record `a`", "  has no field"),
-            ("refused", "src/a.rt:4:2: " + shown),
-            ("refused", "./proofs/A.antt:4:2: " + shown),
-        ):
+                ("refused, but", gone, *cites),
+                ("refused", gone, *cites, note + " the index is in range"),
+                ("refused", place + "`a`: expected type `b`, but this has type `c`", *cites),
+                ("refused, but", *field),
+                ("refused", *field, note, "  the index is in range"),
+                ("refused", place + "`returns`: expected type", "  `a`, but this has `b`",
+                 "a line that has no field"),
+                ("BAD EDIT", "src/a.rt:3:1: error: `f`: the record `a`", "  has no field"),
+                ("refused", "src/a.rt:4:2: " + shown),
+                ("refused", "./proofs/A.antt:4:2: " + shown)):
             self.check(word, *lines)
 
     def test_nothing_was_tried_or_refused(self):
@@ -484,21 +474,19 @@ class Sharing(Folder, unittest.TestCase):
         self.put_all(dict.fromkeys(("src/lib.rt", "specs/A.antt"), SOURCE))
         body, other = ("src/lib.rt", "self.is", "true"), ("src/lib.rt", "self.one()", "2")
         for changes, does in (
-            ([body], True), ([other], False), ([body, other], False),
-            ([("src/lib.rt", "result ≡ 1", "result ≡ 2")], False),
-            ([("src/lib.rt", "A: u8 = 1", "A: u8 = 2")], False),
-            ([("specs/A.antt", "self.is", "true")], False),
-            ([("src/lib.rt", "u8", "u16")], False), ([("src/no.rt", "u8", "u16")], False),
-        ):
+                ([body], True), ([other], False), ([body, other], False),
+                ([("src/lib.rt", "result ≡ 1", "result ≡ 2")], False),
+                ([("src/lib.rt", "A: u8 = 1", "A: u8 = 2")], False),
+                ([("specs/A.antt", "self.is", "true")], False),
+                ([("src/lib.rt", "u8", "u16")], False), ([("src/no.rt", "u8", "u16")], False)):
             edit = edit_of("lib-one-is-wrong", *changes)
             self.assertEqual(SCRIPT.changes_a_body(edit, self.folder), does, changes)
 
     def test_the_functions_of_an_edit(self):
         paths = ["low::a::T::one", "low::a::U::one", "low::b::T::one", "low::ab::one", "low::alone"]
         for path, found in (
-            ("src/a.rt", paths[:2]), ("src/b.rt", paths[2:3]), ("src/ab.rt", paths[3:4]),
-            ("src/c.rt", paths[:4]), ("specs/A.antt", paths[:4]),
-        ):
+                ("src/a.rt", paths[:2]), ("src/b.rt", paths[2:3]), ("src/ab.rt", paths[3:4]),
+                ("src/c.rt", paths[:4]), ("specs/A.antt", paths[:4])):
             edit = edit_of("file-one-is-wrong", (path, "", ""))
             self.assertEqual(SCRIPT.functions_of(edit, paths), found, path)
         self.assertEqual(SCRIPT.functions_of(edit, paths[4:]), ["one"])
@@ -544,27 +532,23 @@ class Sharing(Folder, unittest.TestCase):
         no_proof = "fn low::T::one: no proof: expected answers in ./proofs/T/one/Answers.antt"
         calls = "fn low::T::one: no proof: it calls `low::T::two`, which is not proved"
         for line in (
-            "note: src/lib.rt:5:5: it is not proved that what the function ensures holds",
-            "note: src/lib.rt:11:9: it is not proved that the index is in range",
-            "./proofs/T/one/Answers.antt:4:2: error: `returns`: expected type `a`",
-        ):
+                "note: src/lib.rt:5:5: it is not proved that what the function ensures holds",
+                "note: src/lib.rt:11:9: it is not proved that the index is in range",
+                "./proofs/T/one/Answers.antt:4:2: error: `returns`: expected type `a`"):
             self.assertEqual(self.reason(line, no_proof), line)
             self.assertEqual(self.reason("checked low::T::two, 1 of 2", line, no_proof), line)
             for more in [], [no_proof.replace("one", "two")], [calls]:
                 self.assertEqual(self.reason(line, *more), None)
         # what is said of another function
         for line in (
-            "note: src/lib.rt:19:9: it is not proved that what `one` requires holds",
-            "note: src/other.rt:5:5: it is not proved that what the function ensures holds",
-            "./proofs/T/two/Answers.antt:4:2: error: `returns`: expected type `a`",
-            "./proofs/one/two/Answers.antt:4:2: error: `returns`: expected type `a`",
-            "./proofs/T/one/Answers.antt:4:2: error: `returns`: `x` is not in scope",
-            "src/lib.rt:11:9: help: write a proof",
-        ):
+                "note: src/lib.rt:19:9: it is not proved that what `one` requires holds",
+                "note: src/other.rt:5:5: it is not proved that what the function ensures holds",
+                "./proofs/T/two/Answers.antt:4:2: error: `returns`: expected type `a`",
+                "./proofs/one/two/Answers.antt:4:2: error: `returns`: expected type `a`",
+                "./proofs/T/one/Answers.antt:4:2: error: `returns`: `x` is not in scope",
+                "src/lib.rt:11:9: help: write a proof"):
             self.assertEqual(self.reason(line, "fn low::T::one: not proved"), None, line)
 
-
-class Lanes(Folder, unittest.TestCase):
     def test_functions_share_checks_where_lanes_have_enough_of_them(self):
         """There is a lane for each processor that has 4 GB. Edits of one function stay together."""
         for given, lanes in ((4, 24000000), 4), ((8, 15999999), 3), ((4, 1000000), 1):

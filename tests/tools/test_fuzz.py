@@ -8,7 +8,6 @@ import io
 import os
 import re
 import shutil
-import sys
 import unittest
 
 import programs
@@ -16,7 +15,7 @@ import test_cargo
 from programs import ROOT, output_of, run, text_of, write_file
 
 CORPUS = ROOT + "/fuzz/corpus"
-OUT = ROOT + "/fuzz/out/test"
+COPY = ROOT + "/fuzz/out/test/copy"
 QUOTED = "byte == b'\"' || byte == b'\\\\'"
 # A bug for each law: the law, the file of the Cargo workspace, the text there, and the bug.
 PLANTED = [
@@ -42,43 +41,35 @@ def files():
     return glob.glob(CORPUS + "/*")
 
 
-class Corpus(unittest.TestCase):
+class Corpus(test_cargo.CargoTest):
     def setUp(self):
-        test_cargo.need_cargo()
-
-    def check_run(self, root):
-        """Builds the laws over the workspace below this folder, and runs the corpus."""
-        # the corpus takes a moment, so what is quick to build is quickest
-        env = dict(os.environ, PATH=programs.PATH, CARGO_TARGET_DIR=OUT + "/target",
-                   CARGO_PROFILE_DEV_OPT_LEVEL="0", CARGO_PROFILE_DEV_DEBUG="0")
-        words = ["cargo", "build", "--offline", "--manifest-path", root + "/fuzz/Cargo.toml"]
-        ran = run(words, cwd=root + "/cargo/out", env=env, timeout=500)
-        self.assertTrue(ran.returncode == 0 and b"warning" not in ran.stderr, ran.stderr.decode())
-        return run([OUT + "/target/debug/pgn_fuzz", CORPUS], timeout=300)
-
-    def copied(self):
-        """A copy of the workspace and the laws, in which a bug can be planted."""
-        copy = OUT + "/copy"
-        shutil.copytree(ROOT + "/fuzz", copy + "/fuzz", dirs_exist_ok=True,
+        """There is a copy of the workspace and the laws, in which a bug can be planted."""
+        super().setUp()
+        shutil.copytree(ROOT + "/fuzz", COPY + "/fuzz", dirs_exist_ok=True,
                         ignore=shutil.ignore_patterns("out", "corpus", "*.lock"))
-        os.makedirs(copy + "/cargo", exist_ok=True)
-        output_of(run([sys.executable, "bin/to_cargo", copy + "/cargo/out"]), err=None)
-        return copy
+        os.makedirs(COPY + "/cargo", exist_ok=True)
+        test_cargo.write_out(COPY + "/cargo/out")
+
+    def check_run(self):
+        """Builds the laws over the workspace, and runs the corpus."""
+        # the corpus takes a moment, so what is quick to build is quickest
+        self.passed("build", "--manifest-path", COPY + "/fuzz/Cargo.toml", target="fuzz",
+                    folder=COPY + "/cargo/out", CARGO_PROFILE_DEV_OPT_LEVEL="0")
+        return run([test_cargo.OUT + "/fuzz/debug/pgn_fuzz", CORPUS], timeout=300)
 
     def test_no_law_is_broken(self):
-        said = output_of(self.check_run(self.copied()), err=None)
+        said = output_of(self.check_run(), err=None)
         self.assertEqual(said.decode(), "%d inputs, no finding\n" % len(files()))
 
     def test_a_planted_bug_is_found_by_each_law(self):
-        copy = self.copied()
         for law, name, old, new in PLANTED:
             with self.subTest(law):
-                path = "%s/cargo/out/crates/%s" % (copy, name)
+                path = "%s/cargo/out/crates/%s" % (COPY, name)
                 right = text_of(path)
                 self.assertEqual(right.count(old), 1, old)
                 write_file(path, right.replace(old, new))
                 try:
-                    ran = self.check_run(copy)
+                    ran = self.check_run()
                 finally:
                     write_file(path, right)
                 self.assertEqual(ran.returncode, 101, ran.stderr.decode()[-2000:])

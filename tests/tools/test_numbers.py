@@ -38,39 +38,28 @@ def wrong(numbers):
     return None
 
 
-class Maker:
-    """Makes movetext whose numbers may be wrong or missing."""
-
-    def __init__(self, rng, first, is_black):
-        self.rng, self.ply = rng, 2 * first + is_black
-        self.is_sound = rng.random() < 0.4
-        self.blank = rng.choice((" ", "", "\n"))
-        self.noise = rng.choice((0, 0.05, 0.3))
-        self.words = []
-
-    def number(self):
-        number = self.ply // 2
-        if not self.is_sound and self.rng.random() < 0.1:
-            number = self.rng.choice((number + 1, number - 1, number + 7, 1, 10 * number, number % 10))
-        return max(number, 0)
-
-    def add(self, move):
-        """Adds a move, and what is before and behind it."""
-        rng, is_black = self.rng, self.ply % 2
-        if rng.random() < (0.08 if self.is_sound else 0.2):
-            is_black = not is_black
-        if not is_black:
-            dots = "..." if self.ply % 2 else rng.choice((".", ".", ".", ".", ".", " .", ""))
-            self.words.append("%d%s%s" % (self.number(), dots, self.blank or " " * (dots != "...")))
-        self.words.append(move + " ")
-        if rng.random() < self.noise:
-            self.words.append("{%s} " % rng.choice(NOTES))
-        if rng.random() < self.noise:
-            inner = rng.choice(("%s {%s} (%s)" % (move, rng.choice(NOTES), move), move, "1. " + move))
-            self.words.append("(%d%s%s) " % (self.ply // 2, ".." * (self.ply % 2) + ". ", inner))
-        if rng.random() < self.noise / 4:
-            self.words.append("; 2. a\n")
-        self.ply += 1
+def movetext_of(rng, moves, first):
+    """Movetext whose numbers may be wrong or missing. `first` is the ply of the first move."""
+    is_sound, words = rng.random() < 0.4, []
+    blank, noise = rng.choice((" ", "", "\n")), rng.choice((0, 0.05, 0.3))
+    for ply, move in enumerate(moves, first):
+        number, is_black = ply // 2, ply % 2
+        if (rng.random() < (0.08 if is_sound else 0.2)) == is_black:
+            dots = "..." if is_black else rng.choice((".", ".", ".", ".", ".", " .", ""))
+            told = number
+            if not is_sound and rng.random() < 0.1:
+                told = rng.choice((number + 1, number - 1, number + 7, 1, 10 * number, number % 10))
+            words.append("%d%s%s" % (max(told, 0), dots, blank or " " * (dots != "...")))
+        words.append(move + " ")
+        if rng.random() < noise:
+            words.append("{%s} " % rng.choice(NOTES))
+        if rng.random() < noise:
+            noted = "%s {%s} (%s)" % (move, rng.choice(NOTES), move)
+            inner = rng.choice((noted, move, "1. " + move))
+            words.append("(%d%s%s) " % (number, ".." * is_black + ". ", inner))
+        if rng.random() < noise / 4:
+            words.append("; 2. a\n")
+    return "".join(words)
 
 
 def games(rng):
@@ -86,10 +75,7 @@ def games(rng):
             fields, moves = (fen + [moves])[:4], (fen + [moves])[4:]
             first, is_black = rng.randrange(1, 60), fields[1] == "b"
             tags = '[SetUp "1"]\n[FEN "%s 0 %d"]\n' % (" ".join(fields), first)
-        maker = Maker(rng, first, is_black)
-        for move in moves:
-            maker.add(move)
-        yield '[Event "a"]\n%s\n' % tags, "".join(maker.words)
+        yield '[Event "a"]\n%s\n' % tags, movetext_of(rng, moves, 2 * first + is_black)
 
 
 class Numbers(test_lint.Lint):

@@ -12,6 +12,7 @@ import zipfile
 import programs
 from programs import ROOT, Folder, bytes_of, output_of, run, text_of, write_file
 
+DIST = programs.load("bin/dist")
 PACKAGES = ("libpgn-c-dev", "libpgn-c0", "pgn-tool", "python3-gillspoon")
 # A game, and what PGN 3.2 and 8 ask for.
 LOOSE = b'[White "A"] e4 e5 *'
@@ -118,10 +119,8 @@ class Sources(unittest.TestCase):
         self.assertEqual(ran.stdout.decode().split(), ["debian/" + it for it in left])
 
 
-class Lacking(Folder, unittest.TestCase):
-    """What bin/dist says where something is missing."""
-
-    def test_a_part_that_was_asked_for(self):
+class Dist(Folder, unittest.TestCase):
+    def test_what_is_missing_for_a_part_that_was_asked_for(self):
         # the scripts on the PATH, the part, and what is missing
         old_cargo = "echo '      --no-verify  Do not verify the contents'\n"  # as Debian 12's
         for scripts, part, why in (
@@ -138,23 +137,16 @@ class Lacking(Folder, unittest.TestCase):
             self.assertEqual((ran.returncode, ran.stdout), (127, b""), why)
             self.assertRegex(ran.stderr.decode(), r"\Abin/dist: .*" + why)
 
-
-class Others(Folder, unittest.TestCase):
-    def setUp(self):
-        super().setUp()
-        self.dist = programs.load("bin/dist")
-
     def test_the_proved_program(self):
         """It is in a tar file, whose SHA-256 is beside it in the form of sha256sum."""
-        program = programs.need_program()
-        self.dist.pack(program, self.folder, "1.2.3")
+        DIST.pack(self.program, self.folder, "1.2.3")
         path, = glob.glob(self.folder + "/*.tar.gz")
         name = "pgn_tool-1.2.3-proved-" + os.uname().machine
         self.assertEqual(os.path.basename(path), name + ".tar.gz")
         with tarfile.open(path) as archive:
             self.assertEqual(sorted(archive.getnames()), sorted(
                 name + it for it in ("/pgn_tool", "/pgn_tool.1", "/LICENSE-MIT")))
-            self.assertTrue(archive.extractfile(name + "/pgn_tool").read() == bytes_of(program))
+            self.assertTrue(archive.extractfile(name + "/pgn_tool").read() == bytes_of(self.program))
             self.assertTrue(archive.getmember(name + "/pgn_tool").mode & 0o111)
         programs.need("sha256sum")
         output_of(run(["sha256sum", "-c", path + ".sha256"], cwd=self.folder), err=None)
@@ -162,8 +154,7 @@ class Others(Folder, unittest.TestCase):
                       self.get(os.path.basename(path) + ".sha256").decode())
 
     def test_the_wheel(self):
-        wheel = self.dist.loaded("python/build_wheel.py")
-        name = wheel.build_wheel(self.folder)
+        name = DIST.loaded("python/build_wheel.py").build_wheel(self.folder)
         with zipfile.ZipFile(os.path.join(self.folder, name)) as archive:
             names = archive.namelist()
             entry, = [it for it in names if it.endswith("/entry_points.txt")]

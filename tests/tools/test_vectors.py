@@ -8,10 +8,11 @@ import sys
 import unittest
 
 import programs
-from programs import ROOT, Folder, run, text_of, write_file
+from programs import ROOT, Folder, bytes_of, run, text_of
 
-DATA = ("vectors", "crates/pgn_vectors/src", "crates/pgn_game/src/reason.rt", "bin/write_vectors",
-        "bin/pgn_conform", "bin/build_program", "python/gillspoon", "bench/tables.py")
+DATA = ("vectors/*.*", "crates/pgn_vectors/src/**/*.rt", "crates/pgn_game/src/reason.rt",
+        "bin/write_vectors", "bin/pgn_conform", "bin/build_program", "python/gillspoon/*.*",
+        "bench/tables.py")
 # PGN 3.2.4: the export of the game of the standard, as its printed text has it.
 SAMPLE_END = "40. Rd6 Kc5 41. Ra6 Nf2 42. g4 Bd3 43. Re6 1/2-1/2\n\n"
 HEAD = programs.HEAD.decode()[:-1]
@@ -29,26 +30,24 @@ def of_theme(*themes):
     return [it for it in programs.vectors() if it["theme"] in themes]
 
 
-class Copy:
+class Copy(Folder):
     """A copy of the data and of what is written from it, in which a text is another one."""
 
     def __init__(self, test, *change):
-        self.root = programs.new_folder(test)
-        for path in DATA:
-            to = os.path.join(self.root, path)
-            os.makedirs(os.path.dirname(to), exist_ok=True)
-            copy = shutil.copytree if os.path.isdir(os.path.join(ROOT, path)) else shutil.copy
-            copy(os.path.join(ROOT, path), to)
+        self.folder = programs.new_folder(test)
+        for form in DATA:
+            for name in glob.glob(form, root_dir=ROOT, recursive=True):
+                shutil.copymode(os.path.join(ROOT, name), self.put(name, bytes_of(name)))
         for file, old, new in [change] if change else []:
             text = self.text(file)
             assert old in text, (file, old)
-            write_file(os.path.join(self.root, file), text.replace(old, new, 1))
+            self.put(file, text.replace(old, new, 1))
 
     def text(self, file):
-        return text_of(os.path.join(self.root, file))
+        return self.get(file).decode()
 
     def run(self, *words):
-        ran = run([sys.executable, self.root + "/bin/write_vectors", *words], cwd=self.root)
+        ran = run([sys.executable, "bin/write_vectors", *words], cwd=self.folder)
         return ran.returncode, (ran.stdout + ran.stderr).decode()
 
     def vectors(self):
@@ -101,11 +100,7 @@ class Files(unittest.TestCase):
                 '[FEN "7k/5K2/8/8/8/8/8/6Q1 w - - 0 1"]\n[SetUp "1"]\n\n1. Qg6 *\n\n', 1, 1),
             "limits.long-word": ("1. e4 {%s} *" % (79 * "w"),
                                  HEAD + "\n1. e4 {\n%s\n} *\n\n" % (79 * "w"), 1, 1),
-        }
-        for name, row in rows.items():
-            found = [vectors[name][it] for it in ("input", "output", "games", "plies")]
-            self.assertEqual(tuple(found), row, name)
-        refused = {
+            # refused ones have no counts
             "faults.1": (" % *", ""),
             "faults.3-in-movetext": ("e4 <1> *", HEAD + "\n"),
             "faults.34-in-a-second-game": ("* 1. e4 e5 2. Ke3 *", HEAD + "\n*\n\n" + HEAD + "\n"),
@@ -113,9 +108,9 @@ class Files(unittest.TestCase):
             "limits.a-line-that-is-full-before-the-fault": (
                 "e4 {%s x} e5 Ke3 *" % (72 * "w"), HEAD + "\n1. e4 {\n%s x }\n" % (72 * "w")),
         }
-        for name, row in refused.items():
-            self.assertEqual((vectors[name]["input"], vectors[name]["output"]), row, name)
-            self.assertNotIn("games", vectors[name])
+        for name, row in rows.items():
+            shown = ("input", "output", "games", "plies")
+            self.assertEqual(tuple(vectors[name][it] for it in shown if it in vectors[name]), row)
 
 
 class Writer(unittest.TestCase):
@@ -134,7 +129,7 @@ class Writer(unittest.TestCase):
     def test_a_theme_and_a_table_are_added_in_one_place(self):
         copy = Copy(self)
         text = 'shows = "More."\n\n[words]\nshows = "Words."\n\n' + ONE_MORE
-        write_file(copy.root + "/vectors/more.toml", text.replace("few_tokens", "words"))
+        more = copy.put("vectors/more.toml", text.replace("few_tokens", "words"))
         self.assertEqual(copy.run()[0], 0)
         self.assertIn("more.one-more", copy.vectors())
         themes = copy.text("crates/pgn_vectors/src/themes.rt")
@@ -142,11 +137,11 @@ class Writer(unittest.TestCase):
         self.assertIn("        more::words(),\n", themes)
         wanted = len(re.findall(r"^ {8}\w+::\w+\(\),$", themes, re.MULTILINE))
         self.assertIn("pub fn tables() -> [&'static [Vector]; %d] {" % wanted, themes)
-        os.remove(copy.root + "/vectors/more.toml")
+        os.remove(more)
         file = "crates/pgn_vectors/src/themes/more.rt"
         self.assertIn(file + ": not what the data gives\n", copy.run("--check")[1])
         self.assertEqual(copy.run()[0], 0)
-        self.assertFalse(os.path.exists(os.path.join(copy.root, file)))
+        self.assertFalse(os.path.exists(os.path.join(copy.folder, file)))
 
     def test_each_file_that_differs_is_named(self):
         changes = [
@@ -288,7 +283,7 @@ class Conform(Folder, unittest.TestCase):
     def test_the_table_is_recorded(self):
         copy = Copy(self)
         before = copy.text("vectors/README.md")
-        ran = run([copy.root + "/bin/pgn_conform", "--record", "--theme", "limits", "cat"])
+        ran = run([copy.folder + "/bin/pgn_conform", "--record", "--theme", "limits", "cat"])
         self.assertEqual((ran.returncode, ran.stderr), (1, b""))
         begin, end = ("<!-- bin/pgn_conform --record: %s -->" % it for it in ("begin", "end"))
         self.assertIn("\n| limits | ", ran.stdout.decode())
@@ -333,9 +328,9 @@ class Conform(Folder, unittest.TestCase):
         """The status is 3 too if the vectors cannot be read."""
         copy = Copy(self, "vectors/README.md", "<!-- bin/pgn_conform --record: end -->", "")
         before = copy.text("vectors/README.md")
-        words = [copy.root + "/bin/pgn_conform", "--record", "--theme", "limits", "cat"]
+        words = [copy.folder + "/bin/pgn_conform", "--record", "--theme", "limits", "cat"]
         ran = run(words)
         self.assertEqual((ran.returncode, ran.stderr.count(b"\n")), (3, 1))
-        os.remove(copy.root + "/vectors/vectors.json")
+        os.remove(copy.folder + "/vectors/vectors.json")
         self.check_refused(run(words), 3)
         self.assertEqual(copy.text("vectors/README.md"), before)
