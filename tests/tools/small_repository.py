@@ -75,12 +75,6 @@ case $* in *--assume-no*) cat $here/size; exit 1 ;; esac
 cp $here/cargo-of-debian $here/path/cargo
 chmod 755 $here/path/cargo
 """
-CRATES = """# crates
-pgn_tool: pgn_game std # more
-pgn_game:
-pgn_vectors: pgn_game
-pgn_c staticlib: pgn_game
-"""
 MAIN = "crates/pgn_tool/src/main.rt"
 FILES = ("crates/pgn_tool/src/lib.rt", "crates/pgn_tool/specs/a.antt",
          "crates/pgn_tool/proofs/a.antt", "crates/pgn_game/src/lib.rt",
@@ -103,7 +97,8 @@ class Repository(Folder):
         self.put_all(dict.fromkeys(FILES, "text"))
         self.put(MAIN, "one")
         self.put("crates/pgn_arguments/src/arguments.rt", 'const VERSION: &str = "1.2.3";\n')
-        self.put("crates.txt", CRATES)
+        self.put("crates.txt", "# crates\npgn_tool: pgn_game std # more\npgn_game:\n"
+                 "pgn_vectors: pgn_game\npgn_c staticlib: pgn_game\n")
         self.put_command("python3", 'exec %s "$@"\n' % sys.executable)
         for name in SYSTEM:
             os.symlink(shutil.which(name), self.folder + "/path/" + name)

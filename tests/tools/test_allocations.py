@@ -40,8 +40,7 @@ class AllocationsTest(Folder, unittest.TestCase):
         subprocess.run(["cc", "-O0", "-o", program, source], check=True)
         module = load("bin/try_allocations")
         module.BUILT = program
-        text = io.StringIO()
-        with contextlib.redirect_stdout(text):
+        with contextlib.redirect_stdout(io.StringIO()) as text:
             call = module.Call(module.build(self.folder), self.folder, ["a"], b"")
             # one by itself, and one with all that come after it
             self.assertEqual(module.try_call(call), 2)

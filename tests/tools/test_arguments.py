@@ -65,12 +65,6 @@ def lists():
     yield from itertools.product(SUBCOMMANDS, texts, texts, texts)
 
 
-def games(number):
-    """Two games. The first has so many plies and a comment, and the second no Result tag."""
-    moves = b" ".join((b"Nf3", b"Nf6", b"Ng1", b"Ng8")[it % 4] for it in range(number))
-    return b"%s {so many} *\n1. e4 1-0\n" % moves
-
-
 class Runner:
     """A folder that programs run in, with a file for each word that can be a name."""
 
@@ -79,8 +73,10 @@ class Runner:
         os.chdir(self.folder)
         os.mkdir(FOLDER)
         names = [it for it in WORDS if it not in (b"", FOLDER.encode(), b"\xff")]
+        # Two games: the first of so many plies has a comment, and the second no Result tag.
         for number, name in enumerate([*names, b"stdin"], 1):
-            programs.write_file(name, games(number))
+            moves = b" ".join((b"Nf3", b"Nf6", b"Ng1", b"Ng8")[it % 4] for it in range(number))
+            programs.write_file(name, b"%s {so many} *\n1. e4 1-0\n" % moves)
         self.had = set(os.listdir("."))
 
     def close(self):

@@ -198,15 +198,12 @@ NOT_UNDERSTOOD = (
 )
 
 
-def shown(ran):
-    return ran.returncode, ran.stdout, ran.stderr
-
-
 def answer(program, words):
     """How a call ends, and the files that it leaves."""
     with tempfile.TemporaryDirectory() as folder:
         ran = run([program, *words], cwd=folder)
-        return shown(ran), {it: text_of(folder, it) for it in os.listdir(folder)}
+        files = {it: text_of(folder, it) for it in os.listdir(folder)}
+        return ran.returncode, ran.stdout, ran.stderr, files
 
 
 def packages(names):
@@ -283,7 +280,11 @@ class Built(CargoTest):
         word = "clippy" if programs.found("cargo-clippy") else "check"
         for words in ([word], ["doc", "--no-deps"]):
             self.passed(*words, "--no-default-features", *packages(WITHOUT_STD))
-        for words in ([], *(["--target=" + it] for it in self.targets_without_std())):
+        root = run(["rustc", "--print=sysroot"]).stdout.decode().strip() + "/lib/rustlib/"
+        with_core, with_std = ({os.path.relpath(it, root).split("/")[0]
+                                for it in glob.glob("%s*/lib/lib%s-*.rlib" % (root, name))}
+                               for name in ("core", "std"))
+        for words in ([], *(["--target=" + it] for it in sorted(with_core - with_std))):
             output_of(self.bare("default-features = false", *words))
         # The same with std is refused.
         ran = self.bare("default-features = true")
@@ -297,13 +298,6 @@ class Built(CargoTest):
         self.put("Cargo.toml", BARE_PACKAGE + needs)
         self.put("src/lib.rs", BARE)
         return cargo("build", "--quiet", *words, folder=self.folder, target="bare")
-
-    def targets_without_std(self):
-        root = run(["rustc", "--print=sysroot"]).stdout.decode().strip() + "/lib/rustlib/"
-        with_core, with_std = ({os.path.relpath(it, root).split("/")[0]
-                                for it in glob.glob("%s*/lib/lib%s-*.rlib" % (root, name))}
-                               for name in ("core", "std"))
-        return sorted(with_core - with_std)
 
     def test_a_call_needs_room_for_its_pairs(self):
         self.build_libraries()
@@ -402,8 +396,7 @@ class Built(CargoTest):
         self.assertEqual(plies, ["%s plies: %s" % tuple(it.split("\t")[-2:]) for it in listed])
         bad = ROOT + "/examples/no-such-move.pgn"
         ran = cargo(*words, bad, folder=mine, target="dependent")
-        said = b"%s: byte 77: move is not legal\n" % os.fsencode(bad)
-        self.assertEqual(shown(ran), (0, b"", said))
+        self.check(ran, 0, b"", b"%s: byte 77: move is not legal\n" % os.fsencode(bad))
 
     def test_want_of_memory_has_status_3_where_the_program_asks_for_it(self):
         programs.need("cc")

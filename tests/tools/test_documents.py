@@ -88,20 +88,16 @@ class Console(unittest.TestCase):
         for document in documents():
             blocks = [it for it in blocks_of(lines_of(document)) if is_console(it[2])]
             home = Home(self) if blocks else None
-            for number, before, lines in blocks:
-                if not MARK.fullmatch(before.strip()):
-                    with self.subTest("%s:%d" % (document, number)):
-                        self.check(home, lines)
-
-    def check(self, home, lines):
-        if any("examples/build" in it for it in lines):
-            programs.need("cc")
-        if any("bin/try_allocations" in it for it in lines):
-            programs.need_proved_program()
-        shown = home.shown(lines)
-        differences = difflib.unified_diff(lines, shown.split("\n")[:-1], "the document",
-                                           "the terminal", lineterm="")
-        self.assertTrue(agrees(lines, shown), "\n" + "\n".join(differences))
+            for number, _, lines in (it for it in blocks if not MARK.fullmatch(it[1].strip())):
+                with self.subTest("%s:%d" % (document, number)):
+                    if any("examples/build" in it for it in lines):
+                        programs.need("cc")
+                    if any("bin/try_allocations" in it for it in lines):
+                        programs.need_proved_program()
+                    shown = home.shown(lines)
+                    differences = difflib.unified_diff(lines, shown.split("\n")[:-1],
+                                                       "the document", "the terminal", lineterm="")
+                    self.assertTrue(agrees(lines, shown), "\n" + "\n".join(differences))
 
     def test_marks(self):
         """Each has a reason, and is on the line before a console block, of which there are some."""
@@ -202,9 +198,6 @@ class Links(unittest.TestCase):
 class Names(unittest.TestCase):
     """What the documents name in code is in the repository, and what they list is all of it."""
 
-    # what a decision names of the toolchain's std
-    ELSEWHERE = {"BufWriter"}
-
     def words(self, *folders):
         """Every word of the files below the folders, and of the names of these files."""
         ran = run(["git", "ls-files", "--cached", "--others", "--exclude-standard", "--", *folders])
@@ -217,7 +210,8 @@ class Names(unittest.TestCase):
         return found
 
     def test_names_are_of_the_repository(self):
-        known = self.words(".") | self.ELSEWHERE
+        # the last is of the toolchain's std
+        known = self.words(".") | {"BufWriter"}
         for document in ("ARCHITECTURE", "DECISIONS", "GLOSSARY", "LIBRARY", "PERF", "PROVED"):
             lines = prose_of(lines_of("docs/%s.md" % document))
             unknown = [(number, it) for number, line in enumerate(lines, 1)

@@ -364,10 +364,34 @@ No edit and no test is named for:
                 self.page(("edit", "lib-put-a", guard))
 
 
-class Verdicts(unittest.TestCase):
-    """The word for an edit, from what a check said."""
+SOURCE = """const A: u8 = 1;
 
-    def check(self, word, *lines, status=1, last="logic=not-proved"):
+impl T {
+    // one
+    pub(crate) fn one(
+        self,
+    ) -> u8
+        ensures { result ≡ 1 }
+    {
+        if self.is {
+            1
+        }
+    }
+
+    const B: u8 = 2;
+
+    #[inline]
+    fn two(self) -> u8 {
+        self.one()
+    }
+}
+"""
+
+
+class Checks(Folder, unittest.TestCase):
+    """What a check says of an edit, and which edits share a check."""
+
+    def check_word(self, word, *lines, status=1, last="logic=not-proved"):
         told = "\n".join(["checked a::f, 1 of 2", *lines, last, ""])
         self.assertEqual(SCRIPT.verdict(status, told, ["proofs/B.antt"])[0], word, told)
 
@@ -376,9 +400,9 @@ class Verdicts(unittest.TestCase):
                 "note: src/a.rt:3:1: it is not proved that what the function ensures holds",
                 "./proofs/A.antt:4:2: error: `returns`: expected type `a`, but this has type `b`",
                 "fn a::f: no proof: expected answers in ./proofs/f/Answers.antt"):
-            self.check("refused", line, "logic=not-proved", last="rt: rt lemma WORD.. finds a lemma")
+            self.check_word("refused", line, last="logic=not-proved\nrt: rt lemma WORD.. finds one")
             # what a check of one function says
-            self.check("refused", line, "fn a::f: not proved", last="only=2 proved=1")
+            self.check_word("refused", line, "fn a::f: not proved", last="only=2 proved=1")
 
     def test_only_a_proof_names_what_is_gone(self):
         """A message goes on on indented lines, which say of what it is, not of the line after it.
@@ -408,7 +432,7 @@ class Verdicts(unittest.TestCase):
                 ("BAD EDIT", "src/a.rt:3:1: error: `f`: the record `a`", "  has no field"),
                 ("refused", "src/a.rt:4:2: " + shown),
                 ("refused", "./proofs/A.antt:4:2: " + shown)):
-            self.check(word, *lines)
+            self.check_word(word, *lines)
 
     def test_nothing_was_tried_or_refused(self):
         unread = "1:1: error: expected the end of the item"
@@ -425,40 +449,12 @@ class Verdicts(unittest.TestCase):
              "./proofs/B.antt:9:1: " + cites),
             ("BAD EDIT", "error: module `Rattle-low-a` has changed. Run the lower steps again"),
         ):
-            self.check(word, *lines)
+            self.check_word(word, *lines)
         for status, last in ((1, "logic=proved functions=2 sum=1"), (2, "logic=not-proved"),
                              (-9, "logic=not-proved"), (1, "error[E0308]"), (0, "")):
-            self.check("BAD EDIT", status=status, last=last)
-        self.check("NOT REFUSED", status=0,
+            self.check_word("BAD EDIT", status=status, last=last)
+        self.check_word("NOT REFUSED", status=0,
                    last="logic=proved functions=2 sum=1 incremental=trusted")
-
-
-SOURCE = """const A: u8 = 1;
-
-impl T {
-    // one
-    pub(crate) fn one(
-        self,
-    ) -> u8
-        ensures { result ≡ 1 }
-    {
-        if self.is {
-            1
-        }
-    }
-
-    const B: u8 = 2;
-
-    #[inline]
-    fn two(self) -> u8 {
-        self.one()
-    }
-}
-"""
-
-
-class Sharing(Folder, unittest.TestCase):
-    """Which edits share a check, and what that says of each."""
 
     def test_the_function_at_a_place(self):
         for text, found in (

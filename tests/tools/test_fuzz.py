@@ -12,7 +12,7 @@ import unittest
 
 import programs
 import test_cargo
-from programs import ROOT, output_of, run, text_of, write_file
+from programs import ROOT, Folder, output_of, run, text_of, write_file
 
 CORPUS = ROOT + "/fuzz/corpus"
 COPY = ROOT + "/fuzz/out/test/copy"
@@ -37,10 +37,6 @@ PLANTED = [
 ]
 
 
-def files():
-    return glob.glob(CORPUS + "/*")
-
-
 class Corpus(test_cargo.CargoTest):
     def setUp(self):
         """There is a copy of the workspace and the laws, in which a bug can be planted."""
@@ -59,7 +55,7 @@ class Corpus(test_cargo.CargoTest):
 
     def test_no_law_is_broken(self):
         said = output_of(self.check_run(), err=None)
-        self.assertEqual(said.decode(), "%d inputs, no finding\n" % len(files()))
+        self.assertEqual(said.decode(), "%d inputs, no finding\n" % len(os.listdir(CORPUS)))
 
     def test_a_planted_bug_is_found_by_each_law(self):
         for law, name, old, new in PLANTED:
@@ -76,20 +72,19 @@ class Corpus(test_cargo.CargoTest):
                 self.assertIn("%s: " % law, ran.stderr.decode())
 
 
-class Files(unittest.TestCase):
+class Files(Folder, unittest.TestCase):
     """What is there, without cargo."""
 
     def test_the_corpus_is_small(self):
-        sizes = [os.path.getsize(it) for it in files()]
+        sizes = [os.path.getsize(it) for it in glob.glob(CORPUS + "/*")]
         self.assertTrue(50 < len(sizes) < 500 and sum(sizes) < 200_000, (len(sizes), sum(sizes)))
 
     def test_an_input_written_by_hand_stays(self):
         """Here a program that keeps nothing stands for libFuzzer."""
-        fuzz, folder = programs.load("bin/fuzz"), programs.new_folder(self)
+        fuzz, folder = programs.load("bin/fuzz"), self.folder
         fuzz.OUT, fuzz.CORPUS, fuzz.seeds = folder + "/out", folder + "/corpus", lambda: folder
-        os.makedirs(fuzz.CORPUS)
         for name in ("09e2b5bc40dfc0980b9be3410625549275e492eb", "two-backslashes"):
-            write_file(os.path.join(fuzz.CORPUS, name), "*")
+            self.put("corpus/" + name, "*")
         with contextlib.redirect_stdout(io.StringIO()) as said:
             fuzz.keep("true")
         self.assertEqual(said.getvalue(), "1 inputs, 1 bytes\n")

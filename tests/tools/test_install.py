@@ -36,16 +36,6 @@ class Small(Repository, unittest.TestCase):
         super().setUp()
         self.prefix = self.folder + "/to there"
 
-    def printed(self):
-        """What the installed program says."""
-        return run([self.prefix + "/bin/pgn_tool", "x"]).stdout
-
-    def check_not_built(self):
-        self.said("--built", script="bin/build_program", status=1)
-
-    def check_not_installed(self):
-        self.assertFalse(os.path.exists(self.prefix))
-
     def test_everything_in_place(self):
         for _ in range(2):
             status, out, told = self.told(self.prefix)
@@ -54,7 +44,8 @@ class Small(Repository, unittest.TestCase):
             listed = text_of(self.prefix, LIST).splitlines()
             self.assertEqual(sorted(listed), FILES)
             self.assertEqual(out.splitlines(), [self.prefix + "/" + it for it in listed])
-        self.assertEqual(self.printed(), b"cargo built one, called with x\n")
+        ran = run([self.prefix + "/bin/pgn_tool", "x"])
+        self.check(ran, 0, b"cargo built one, called with x\n")
 
     def test_what_is_installed_is_said_and_the_library_is_built_as_the_program(self):
         by_cargo = (b"cargo", "cargo built static", "cargo built shared", "-lpthread")
@@ -67,7 +58,8 @@ class Small(Repository, unittest.TestCase):
             told = self.said(*options, self.prefix)
             self.assertIn(first, told)
             self.assertRegex(told, "is installed under %s: %s" % (self.prefix, kind))
-            self.assertEqual(self.printed().split()[0], program)
+            ran = run([self.prefix + "/bin/pgn_tool", "x"])
+            self.assertEqual(ran.stdout.split()[0], program)
             built = [text_of(self.prefix, "lib/libpgn_c" + it).strip() for it in (".a", ".so")]
             self.assertEqual(built, [static, shared], options)
             self.assertEqual(os.readlink(self.prefix + "/lib/libpgn_c.so"), "libpgn_c.so.1.2")
@@ -160,7 +152,7 @@ class Small(Repository, unittest.TestCase):
             self.assertRegex(told, "%s is not a folder that you can write to\n" % at)
             self.assertIn('bin/install "$HOME/.local"', told)
             self.assertIn('or as root: bin/install "%s"\n' % prefix, told)
-            self.check_not_built()
+            self.said("--built", script="bin/build_program", status=1)
         self.assertIn('bin/install --cargo --deps "$HOME/.local"',
                       self.told("--cargo", "--deps", "/dev/null/x")[2])
 
@@ -178,7 +170,7 @@ class Small(Repository, unittest.TestCase):
         ran = run(words, env={"PATH": self.folder + "/path", "HOME": self.folder})
         self.assertEqual((ran.returncode, ran.stdout), (1, b""))
         self.assertIn(b"is not a folder that you can write to", ran.stderr)
-        self.check_not_built()
+        self.said("--built", script="bin/build_program", status=1)
 
     def test_a_build_that_fails(self):
         for source, what, options in (("crates/pgn_c/src/lib.rt", "library", []),
@@ -187,18 +179,17 @@ class Small(Repository, unittest.TestCase):
             self.put(source, "broken")
             told = self.said(*options, self.prefix, status=127)
             self.assertIn("the %s was not built" % what, told)
-            self.check_not_installed()
+            self.assertFalse(os.path.exists(self.prefix))
 
     def test_neither_cargo_nor_rt(self):
         self.remove_commands(*self.commands)
         told = self.said(self.prefix, status=127)
         self.assertIn("cargo is not on the PATH", told)
         self.assertIn('on Debian, as root: bin/install --deps "%s"\n' % self.prefix, told)
-        self.check_not_installed()
+        self.assertFalse(os.path.exists(self.prefix))
 
     def test_an_old_cargo(self):
-        env = {"CARGO_VERSION": "1.65.0", "RUSTC_VERSION": "1.63.0"}
-        told = self.said(self.prefix, env=env)
+        told = self.said(self.prefix, env={"RUSTC_VERSION": "1.63.0"})
         self.assertIn("/path/rustc is 1.63.0, and 1.74 is needed", told)
         self.assertIn("proved and built by rt", told)
 
@@ -236,9 +227,7 @@ class Installed(unittest.TestCase):
         cls.env = {"PATH": cls.prefix + "/bin:/usr/bin:/bin", "HOME": cls.folder,
                    "LC_ALL": "C.UTF-8"}
         cls.ran = run([ROOT + "/" + INSTALL, cls.prefix], timeout=None)
-
-    def setUp(self):
-        self.assertEqual(self.ran.returncode, 0, self.ran.stderr)
+        assert cls.ran.returncode == 0, cls.ran.stderr
 
     def shell(self, script, name="sh", words=("-c",), **env):
         programs.need(name)

@@ -15,10 +15,6 @@ from small_repository import Repository
 CRATE = ROOT + "/crates/pgn_c"
 
 
-def source(name):
-    return text_of(CRATE, name)
-
-
 @functools.lru_cache(maxsize=None)
 def folder_of(build):
     """What examples/build makes of a build of the library, once for all tests."""
@@ -69,7 +65,7 @@ C_TYPES = {"u8": "uint8_t", "u32": "uint32_t", "u64": "uint64_t", "usize": "size
 
 def bare_header():
     """The header without comments."""
-    return re.sub(r"/\*.*?\*/", " ", source("pgn.h"), flags=re.S)
+    return re.sub(r"/\*.*?\*/", " ", text_of(CRATE, "pgn.h"), flags=re.S)
 
 
 def sources():
@@ -126,7 +122,7 @@ class HeaderTest(unittest.TestCase):
     def test_version(self):
         """That of the program, as text and as a number."""
         text, number = re.search(r'#define PGN_VERSION "(.*)"\n#define PGN_VERSION_NUMBER (\d+)\n',
-                                 source("pgn.h")).groups()
+                                 text_of(CRATE, "pgn.h")).groups()
         major, minor, patch = map(int, text.split("."))
         said = run([need_program(), "--version"]).stdout.decode()
         self.assertEqual(said, "pgn_tool %s\n" % text)
@@ -137,7 +133,7 @@ class HeaderTest(unittest.TestCase):
         self.assertEqual(sorted(c_structs()), sorted(STRUCTS.values()))
 
     def test_statuses(self):
-        texts = source("src/pgn_result.rt") + source("src/game_result.rt")
+        texts = text_of(CRATE, "src/pgn_result.rt") + text_of(CRATE, "src/game_result.rt")
         consts = dict(re.findall(r"pub const (\w+): u32 = (\d+);", texts))
         self.assertEqual(sorted(consts), ["BAD_PLACE", "FAULT", "FULL", "MORE", "NO_GAME",
                                           "NO_MODE", "OK"])
@@ -155,7 +151,7 @@ class HeaderTest(unittest.TestCase):
                 rows = run(["nm", "-D", "--defined-only", shared]).stdout.decode().split("\n")
                 self.assertEqual({it.split()[-1] for it in rows if it}, set(exported()))
                 said = run(["readelf", "-d", shared]).stdout
-                minor = re.search(r'PGN_VERSION "(\d+\.\d+)\.', source("pgn.h"))[1]
+                minor = re.search(r'PGN_VERSION "(\d+\.\d+)\.', text_of(CRATE, "pgn.h"))[1]
                 self.assertIn(b"Library soname: [libpgn_c.so.%s]" % minor.encode(), said)
 
     def test_symbols(self):

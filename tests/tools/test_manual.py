@@ -156,6 +156,50 @@ class Page(Shell):
         output_of(self.shell("pgn_tool export games.pgn | cmp - export.pgn"))
         self.assertGreater(os.path.getsize(self.folder + "/export.pgn"), 100000)
 
+    def test_statuses(self):
+        self.assertEqual(self.shell("pgn_tool check --reduced").returncode, 2)
+        self.put("games", "*\n")
+        for words in ("export missing", "check .", "check - <games"):
+            self.check(self.shell("pgn_tool " + words), 1, b"", b"byte 0: input cannot be read\n")
+
+    def test_caveats_of_the_file_that_is_read(self):
+        ran = self.shell("echo '1. e4 *' > F; pgn_tool export F > F")
+        self.assertEqual(ran.returncode, 0)
+        self.assertEqual(os.path.getsize(self.folder + "/F"), 0)
+        grown = self.shell(GAMES + " > F; ulimit -f 20000; trap '' XFSZ; pgn_tool export F >> F")
+        self.assertEqual(grown.returncode, 1)
+        self.assertIn(b"output cannot be written", grown.stderr)
+        # One export of these games has less than a megabyte.
+        self.assertGreater(os.path.getsize(self.folder + "/F"), 19000 * 1024)
+
+    def test_caveats_of_output(self):
+        ran = self.shell(GAMES + " | pgn_tool export > /dev/full")
+        self.assertEqual(ran.returncode, 1)
+        # The first block of 64 KiB of output is that of some 700 games, 8 bytes of input each.
+        place = int(re.fullmatch(rb"byte (\d+): output cannot be written\n", ran.stderr)[1])
+        self.assertTrue(600 * 8 < place < 800 * 8, place)
+        ran = self.shell("set -o pipefail; (%s | pgn_tool export) | head -n 1" % GAMES)
+        self.assertEqual(ran.returncode, 1)
+        self.assertIn(b"output cannot be written", ran.stderr)
+
+    def test_the_stack(self):
+        size = int(re.search(r"^\.It stack\n(\d+) KiB", text_of(PAGE), re.M)[1])
+        output_of(run(["bin/pgn_conform", "--files", self.folder]))
+        self.assertEqual(len(glob.glob(self.folder + "/*.in")), len(programs.vectors()))
+        script = "ulimit -s %d; for file in *.in; do" \
+            " for words in export 'export --checked' check list; do" \
+            " pgn_tool $words $file >/dev/null 2>&1; [ $? -le 1 ] || exit 1; done; done"
+        self.assertEqual(self.shell(script % size).returncode, 0)
+        self.assertIn(self.shell("ulimit -s 24; echo '*' | pgn_tool export").returncode, KILLED)
+
+    def test_the_memory(self):
+        programs.need("time")
+        game = '[Event "x"]\\n\\n1. e4 {a word} e5 *\\n\\n'
+        ran = self.shell("for n in $(seq 40000); do printf '%s'; done > F;"
+                         " $(type -P time) -f %%M pgn_tool export F >/dev/null" % game)
+        self.assertEqual(ran.returncode, 0)
+        self.assertLess(int(ran.stderr.split()[-1]), 3000)
+
 
 class LibraryPage(Folder, unittest.TestCase):
     """The page of the library for C, against its header."""
@@ -230,52 +274,6 @@ class Command(Folder, unittest.TestCase):
             for words in COMPLETED[:-1]:
                 helped = re.findall(r"^  (\w+)  ", rows_of(help_of(*words), name), re.M)
                 self.assertEqual(re.findall(row, text, re.M), helped, words)
-
-
-class Statuses(Shell):
-    def test_statuses(self):
-        self.assertEqual(self.shell("pgn_tool check --reduced").returncode, 2)
-        self.put("games", "*\n")
-        for words in ("export missing", "check .", "check - <games"):
-            self.check(self.shell("pgn_tool " + words), 1, b"", b"byte 0: input cannot be read\n")
-
-    def test_caveats_of_the_file_that_is_read(self):
-        ran = self.shell("echo '1. e4 *' > F; pgn_tool export F > F")
-        self.assertEqual(ran.returncode, 0)
-        self.assertEqual(os.path.getsize(self.folder + "/F"), 0)
-        grown = self.shell(GAMES + " > F; ulimit -f 20000; trap '' XFSZ; pgn_tool export F >> F")
-        self.assertEqual(grown.returncode, 1)
-        self.assertIn(b"output cannot be written", grown.stderr)
-        # One export of these games has less than a megabyte.
-        self.assertGreater(os.path.getsize(self.folder + "/F"), 19000 * 1024)
-
-    def test_caveats_of_output(self):
-        ran = self.shell(GAMES + " | pgn_tool export > /dev/full")
-        self.assertEqual(ran.returncode, 1)
-        # The first block of 64 KiB of output is that of some 700 games, 8 bytes of input each.
-        place = int(re.fullmatch(rb"byte (\d+): output cannot be written\n", ran.stderr)[1])
-        self.assertTrue(600 * 8 < place < 800 * 8, place)
-        ran = self.shell("set -o pipefail; (%s | pgn_tool export) | head -n 1" % GAMES)
-        self.assertEqual(ran.returncode, 1)
-        self.assertIn(b"output cannot be written", ran.stderr)
-
-    def test_the_stack(self):
-        size = int(re.search(r"^\.It stack\n(\d+) KiB", text_of(PAGE), re.M)[1])
-        output_of(run(["bin/pgn_conform", "--files", self.folder]))
-        self.assertEqual(len(glob.glob(self.folder + "/*.in")), len(programs.vectors()))
-        script = "ulimit -s %d; for file in *.in; do" \
-            " for words in export 'export --checked' check list; do" \
-            " pgn_tool $words $file >/dev/null 2>&1; [ $? -le 1 ] || exit 1; done; done"
-        self.assertEqual(self.shell(script % size).returncode, 0)
-        self.assertIn(self.shell("ulimit -s 24; echo '*' | pgn_tool export").returncode, KILLED)
-
-    def test_the_memory(self):
-        programs.need("time")
-        game = '[Event "x"]\\n\\n1. e4 {a word} e5 *\\n\\n'
-        ran = self.shell("for n in $(seq 40000); do printf '%s'; done > F;"
-                         " $(type -P time) -f %%M pgn_tool export F >/dev/null" % game)
-        self.assertEqual(ran.returncode, 0)
-        self.assertLess(int(ran.stderr.split()[-1]), 3000)
 
 
 class Completions(Shell):

@@ -97,8 +97,8 @@ class Debian(unittest.TestCase):
         self.assertTrue(os.path.isfile(usr + "man/man3/pgn_c.3.gz"))
 
 
-class Sources(unittest.TestCase):
-    """What debian/ says beside what is built."""
+class Others(Folder, unittest.TestCase):
+    """What debian/ says beside what is built, and what else bin/dist writes."""
 
     def test_the_build_depends_on_what_the_build_by_cargo_needs(self):
         control = text_of("debian/control")
@@ -118,8 +118,6 @@ class Sources(unittest.TestCase):
         ran = run(["git", "check-ignore", *("debian/" + it for it in left + kept)], cwd=ROOT)
         self.assertEqual(ran.stdout.decode().split(), ["debian/" + it for it in left])
 
-
-class Dist(Folder, unittest.TestCase):
     def test_what_is_missing_for_a_part_that_was_asked_for(self):
         # the scripts on the PATH, the part, and what is missing
         old_cargo = "echo '      --no-verify  Do not verify the contents'\n"  # as Debian 12's

@@ -161,15 +161,9 @@ class Server(Folder):
         if run(words + ["-t"]).returncode:
             programs.not_tried("a server of ssh does not start here")
         with open(self.folder + "/log", "wb") as log:
-            self.process = subprocess.Popen(words, stdin=subprocess.DEVNULL, stdout=log, stderr=log)
-        test.addCleanup(self.stop)
-
-    def answers(self):
-        return run(self.client.split() + ["alpha", "pgn_tool", "--version"]).returncode == 0
-
-    def stop(self):
-        self.process.terminate()
-        self.process.wait()
+            process = subprocess.Popen(words, stdin=subprocess.DEVNULL, stdout=log, stderr=log)
+        test.addCleanup(process.wait)
+        test.addCleanup(process.terminate)
 
 
 SERVER = """ListenAddress 127.0.0.1
@@ -201,7 +195,7 @@ class SeveralMachines(Spread):
         programs.need("ssh", "sshd", "ssh-keygen")
         path = os.path.dirname(programs.need_program()) + ":/usr/local/bin:/usr/bin:/bin"
         self.server = Server(self, path)
-        if not self.server.answers():
+        if run(self.server.client.split() + ["alpha", "pgn_tool", "--version"]).returncode:
             programs.not_tried("a server of ssh does not start here")
 
     def test_over_ssh(self):

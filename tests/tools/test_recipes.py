@@ -50,8 +50,6 @@ class Recipe(Folder, unittest.TestCase):
         self.assertEqual(exported.stdout.decode(), wanted)
         return out.decode()
 
-
-class Whole(Recipe):
     def test_every_block_has_a_test(self):
         text = text_of(os.path.realpath(__file__))
         for title, blocks in sections().items():
@@ -165,8 +163,6 @@ class Whole(Recipe):
         self.assertEqual(output_of(ran, err=None), b"games: 0, plies: 0\n")
         self.assertIn(b"No such file", ran.stderr)
 
-
-class Encodings(Recipe):
     def test_dos_and_latin(self):
         text = '[White "Müller"]\r\n\r\n1. e4 {schön} *\r\n\x1a'
         wanted = game("1. e4 { schön } *", White="Müller")
@@ -188,8 +184,6 @@ class Encodings(Recipe):
             self.assertEqual(self.recipe("Read files from DOS and Windows", 1).returncode, 0)
             self.check_file("export.pgn", game("1. e4 *", White="Müller"))
 
-
-class Mended(Recipe):
     def test_mend(self):
         """The fixes give what the text means, and no comment or tag changes."""
         text = '[Event "The "Open""]\n[Round "1/2"]\n\n1. e2-e4 {e2-e4} d7-d5 2. e4:d5 g8f6 1/2\n'

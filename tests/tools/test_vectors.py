@@ -89,28 +89,25 @@ class Files(unittest.TestCase):
 
     def test_each_short_form(self):
         vectors = by_file()
-        rows = {
-            "main_lines.empty-input": ("", "", 0, 0),
-            "main_lines.two-games": ("1. e4 *1. d4 d5 *", HEAD + "\n1. e4 *\n\n" + HEAD +
-                                     "\n1. d4 d5 *\n\n", 2, 3),
-            "tag_pairs.tag-order": ('[b "2"][Site "x\\"y\\\\z\\q"][A "1"] *', HEAD.replace(
-                '[Site "?"]', '[Site "x\\"y\\\\z\\\\q"]') + '[A "1"]\n[b "2"]\n\n*\n\n', 1, 0),
-            "positions.stalemate": (
-                '[FEN "7k/5K2/8/8/8/8/8/6Q1 w - - 0 1"]\nQg6 *', HEAD +
-                '[FEN "7k/5K2/8/8/8/8/8/6Q1 w - - 0 1"]\n[SetUp "1"]\n\n1. Qg6 *\n\n', 1, 1),
-            "limits.long-word": ("1. e4 {%s} *" % (79 * "w"),
-                                 HEAD + "\n1. e4 {\n%s\n} *\n\n" % (79 * "w"), 1, 1),
-            # refused ones have no counts
-            "faults.1": (" % *", ""),
-            "faults.3-in-movetext": ("e4 <1> *", HEAD + "\n"),
-            "faults.34-in-a-second-game": ("* 1. e4 e5 2. Ke3 *", HEAD + "\n*\n\n" + HEAD + "\n"),
-            "faults.41-in-a-second-game": ("* 1-0", HEAD + "\n*\n\n"),
-            "limits.a-line-that-is-full-before-the-fault": (
-                "e4 {%s x} e5 Ke3 *" % (72 * "w"), HEAD + "\n1. e4 {\n%s x }\n" % (72 * "w")),
-        }
-        for name, row in rows.items():
+        for name, *row in (
+                ("main_lines.empty-input", "", "", 0, 0),
+                ("main_lines.two-games", "1. e4 *1. d4 d5 *",
+                 HEAD + "\n1. e4 *\n\n" + HEAD + "\n1. d4 d5 *\n\n", 2, 3),
+                ("tag_pairs.tag-order", '[b "2"][Site "x\\"y\\\\z\\q"][A "1"] *', HEAD.replace(
+                    '[Site "?"]', '[Site "x\\"y\\\\z\\\\q"]') + '[A "1"]\n[b "2"]\n\n*\n\n', 1, 0),
+                ("positions.stalemate", '[FEN "7k/5K2/8/8/8/8/8/6Q1 w - - 0 1"]\nQg6 *', HEAD +
+                 '[FEN "7k/5K2/8/8/8/8/8/6Q1 w - - 0 1"]\n[SetUp "1"]\n\n1. Qg6 *\n\n', 1, 1),
+                ("limits.long-word", "1. e4 {%s} *" % (79 * "w"),
+                 HEAD + "\n1. e4 {\n%s\n} *\n\n" % (79 * "w"), 1, 1),
+                # refused ones have no counts
+                ("faults.1", " % *", ""), ("faults.3-in-movetext", "e4 <1> *", HEAD + "\n"),
+                ("faults.34-in-a-second-game", "* 1. e4 e5 2. Ke3 *",
+                 HEAD + "\n*\n\n" + HEAD + "\n"),
+                ("faults.41-in-a-second-game", "* 1-0", HEAD + "\n*\n\n"),
+                ("limits.a-line-that-is-full-before-the-fault", "e4 {%s x} e5 Ke3 *" % (72 * "w"),
+                 HEAD + "\n1. e4 {\n%s x }\n" % (72 * "w"))):
             shown = ("input", "output", "games", "plies")
-            self.assertEqual(tuple(vectors[name][it] for it in shown if it in vectors[name]), row)
+            self.assertEqual([vectors[name][it] for it in shown if it in vectors[name]], row, name)
 
 
 class Writer(unittest.TestCase):
