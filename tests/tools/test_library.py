@@ -193,8 +193,6 @@ def c_program(sample):
 
 
 class CExample:
-    build = None
-
     def path(self, name):
         return folder_of(self.build) + "/" + name
 

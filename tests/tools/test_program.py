@@ -4,27 +4,19 @@ import shlex
 import shutil
 import unittest
 
-from programs import HEAD, Folder, need_program, output_of, run
+from programs import HEAD, Folder, output_of, run
 from small_repository import CARGO, MAIN, Repository
 
-FEN = b'[FEN "4k3/8/8/8/8/8/8/4K3 w - - 0 1"]'
 
-
-class Examples(unittest.TestCase):
+class Examples(Folder, unittest.TestCase):
     def test_examples(self):
-        """A task, a text, and what it is answered with."""
-        pairs = b'[ECO "A00"]\n' + FEN + b'\n[SetUp "1"]\n[Zeta "z"]\n'
-        for task, text, *answer in (
-                ("check", b'[A "1"]', 1, b"", b"byte 7: unexpected end of input\n"),
-                # a value of 256 bytes, and no game
-                ("check", b'[A "%s"]' % (b"x" * 256), 1, b"", b"byte 3: string is too long\n"),
-                # pairs before a space and the marker
-                ("export", b'[Zeta "z"] ' + FEN + b' [ECO "A00"] *', 0,
-                 HEAD[:-1] + pairs + b"\n*\n\n", b"")):
-            ran = run([need_program(), task], input=text)
-            self.assertEqual([ran.returncode, ran.stdout, ran.stderr], answer)
-        self.assertEqual(run([need_program(), "check", "examples/two-games.pgn"]).stdout,
-                         b"games: 2, plies: 0\n")
+        ran = run([self.program, "check", "examples/two-games.pgn"])
+        self.check(ran, 0, b"games: 2, plies: 0\n")
+        # pairs before a space and the marker
+        fen, code = b'[FEN "4k3/8/8/8/8/8/8/4K3 w - - 0 1"]', b'[ECO "A00"]'
+        ran = run([self.program, "export"], input=b'[Zeta "z"] %s %s *' % (fen, code))
+        pairs = b'%s\n%s\n[SetUp "1"]\n[Zeta "z"]\n' % (code, fen)
+        self.check(ran, 0, HEAD[:-1] + pairs + b"\n*\n\n")
 
 
 class EachBuild(Repository):

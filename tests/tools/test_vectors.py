@@ -141,21 +141,19 @@ class Writer(unittest.TestCase):
         self.assertFalse(os.path.exists(os.path.join(copy.folder, file)))
 
     def test_each_file_that_differs_is_named(self):
-        changes = [
-            ("vectors/main_lines.toml", '"1. e4 *1. d4', '"1. e4 *1. c4',
-             ["crates/pgn_vectors/src/themes/main_lines.rt", "vectors/vectors.json"]),
-            ("crates/pgn_game/src/reason.rt", "Reason::TooDeep => 38", "Reason::TooDeep => 98",
-             ["vectors/vectors.json"]),
-            ("crates/pgn_vectors/src/runs.rt", "Converter<64, 33>", "Converter<64, 34>",
-             ["vectors/vectors.json"]),
-            ("vectors/vectors.json", '"plies": 85', '"plies": 84', ["vectors/vectors.json"]),
-            ("crates/pgn_vectors/src/themes.rt", "        faults::tokens(),\n", "",
-             ["crates/pgn_vectors/src/themes.rt"]),
-            ("crates/pgn_vectors/src/themes/faults.rt", "Refused(1,", "Refused(2,",
-             ["crates/pgn_vectors/src/themes/faults.rt"]),
-        ]
         count = len(programs.vectors())
-        for file, old, new, differ in changes:
+        for file, old, new, differ in (
+                ("vectors/main_lines.toml", '"1. e4 *1. d4', '"1. e4 *1. c4',
+                 ["crates/pgn_vectors/src/themes/main_lines.rt", "vectors/vectors.json"]),
+                ("crates/pgn_game/src/reason.rt", "Reason::TooDeep => 38", "Reason::TooDeep => 98",
+                 ["vectors/vectors.json"]),
+                ("crates/pgn_vectors/src/runs.rt", "Converter<64, 33>", "Converter<64, 34>",
+                 ["vectors/vectors.json"]),
+                ("vectors/vectors.json", '"plies": 85', '"plies": 84', ["vectors/vectors.json"]),
+                ("crates/pgn_vectors/src/themes.rt", "        faults::tokens(),\n", "",
+                 ["crates/pgn_vectors/src/themes.rt"]),
+                ("crates/pgn_vectors/src/themes/faults.rt", "Refused(1,", "Refused(2,",
+                 ["crates/pgn_vectors/src/themes/faults.rt"])):
             copy = Copy(self, file, old, new)
             lines = ["%s: not what the data gives\n" % it for it in differ]
             self.assertEqual(copy.run("--check"), (1, "".join(lines) + "%d vectors\n" % count))
@@ -164,33 +162,31 @@ class Writer(unittest.TestCase):
 
     def test_a_row_that_is_not_understood_stops_it(self):
         more = MARKER.replace("marker-alone", "one more")
-        changes = [
-            *((more.replace(it, ""), "no '%s'" % it.split()[0])
-              for it in ("plies = 0\n", 'input = "*"\n', 'name = "one more"\n')),
-            (more.replace("plies", "moves"), "no 'plies'"),
-            *((more + it, "not expected here: " + it.split()[0])
-              for it in ("moves = 1\n", "at = 1\n", "games = 1\n", "lines = []\n")),
-            (more + 'output = "*"\ngames = 1\n', "not expected here: movetext"),
-            (more.replace("movetext", "output"), "no 'games'"),
-            (more.replace("movetext", "games = 1\noutput").replace(
-                "plies = 0", 'fault = "NotAMove"\nat = 0'), "not expected here: games"),
-            (more.replace("plies = 0", 'plies = "0"'), "plies is a number"),
-            (more + 'fault = "NoSuchFault"\nat = 0\n', "no 'NoSuchFault'"),
-            (more + 'fault = "NotAMove"\nat = 0\n', "not expected here: plies"),
-            (more.replace("plies = 0", 'fault = "NotAMove"'), "no 'at'"),
-            (more.replace("plies = 0", 'fault = "BadFen"\nat = 0'), "no 'field'"),
-            (more.replace('movetext = "*"', 'tags = []'), "not expected here: tags"),
-            (more.replace('input = "*"', 'input = "*"\nmode = "short"'), "full or reduced"),
-            (more.replace('input = "*"', 'input = 1'), "not iterable"),
-            (more.replace("one more", "one-move"), "another row has this name"),
-            (more.replace("one more", "Stalemate!"), "not understood: positions.toml: en_passant"),
-            (15 * more, "1 to 15 rows"),
-            (more.replace("few_tokens", "mine"), "main_lines.toml: mine: no 'shows'"),
-            ("[mine]\nshows = 1\n" + more.replace("few_tokens", "mine"), "shows is a text"),
-            (more + "plies = 1\n", "Cannot overwrite a value"),
-            ("[[few_tokens.rows]\n", "main_lines.toml"),
-        ]
-        for new, why in changes:
+        for new, why in (
+                *((more.replace(it, ""), "no '%s'" % it.split()[0])
+                  for it in ("plies = 0\n", 'input = "*"\n', 'name = "one more"\n')),
+                (more.replace("plies", "moves"), "no 'plies'"),
+                *((more + it, "not expected here: " + it.split()[0])
+                  for it in ("moves = 1\n", "at = 1\n", "games = 1\n", "lines = []\n")),
+                (more + 'output = "*"\ngames = 1\n', "not expected here: movetext"),
+                (more.replace("movetext", "output"), "no 'games'"),
+                (more.replace("movetext", "games = 1\noutput").replace(
+                    "plies = 0", 'fault = "NotAMove"\nat = 0'), "not expected here: games"),
+                (more.replace("plies = 0", 'plies = "0"'), "plies is a number"),
+                (more + 'fault = "NoSuchFault"\nat = 0\n', "no 'NoSuchFault'"),
+                (more + 'fault = "NotAMove"\nat = 0\n', "not expected here: plies"),
+                (more.replace("plies = 0", 'fault = "NotAMove"'), "no 'at'"),
+                (more.replace("plies = 0", 'fault = "BadFen"\nat = 0'), "no 'field'"),
+                (more.replace('movetext = "*"', 'tags = []'), "not expected here: tags"),
+                (more.replace('input = "*"', 'input = "*"\nmode = "short"'), "full or reduced"),
+                (more.replace('input = "*"', 'input = 1'), "not iterable"),
+                (more.replace("one more", "one-move"), "another row has this name"),
+                (more.replace("one more", "Stalemate!"), "not understood: positions.toml: en_passant"),
+                (15 * more, "1 to 15 rows"),
+                (more.replace("few_tokens", "mine"), "main_lines.toml: mine: no 'shows'"),
+                ("[mine]\nshows = 1\n" + more.replace("few_tokens", "mine"), "shows is a text"),
+                (more + "plies = 1\n", "Cannot overwrite a value"),
+                ("[[few_tokens.rows]\n", "main_lines.toml")):
             copy = Copy(self, "vectors/main_lines.toml", MARKER, MARKER + "\n" + new)
             before = copy.text("vectors/vectors.json")
             status, said = copy.run()
