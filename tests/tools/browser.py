@@ -75,8 +75,7 @@ class Browser(webdriver.Chrome):
     def picture(self, path):
         """Writes a picture of the whole page."""
         data = self.command("Page.captureScreenshot", captureBeyondViewport=True)["data"]
-        with open(path, "wb") as file:
-            file.write(base64.b64decode(data))
+        programs.write_file(path, base64.b64decode(data))
 
     def requests(self):
         """The address of each request that the browser has made."""

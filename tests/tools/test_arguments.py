@@ -12,6 +12,7 @@ What is not tried: four words of which the first is no subcommand, or one is no 
 """
 import collections
 import concurrent.futures
+import contextlib
 import functools
 import itertools
 import os
@@ -107,8 +108,8 @@ class Runner:
 
 def compare(proved, program, share):
     """How many lists had which status, and the lists that the programs answer differently."""
-    runner, statuses, differing = Runner(), collections.Counter(), []
-    try:
+    statuses, differing = collections.Counter(), []
+    with contextlib.closing(Runner()) as runner:
         for words in share:
             ours = runner.answer(proved, words)
             theirs = runner.answer(program, words)
@@ -116,8 +117,6 @@ def compare(proved, program, share):
             texts = [[in_present_words(it) for it in ran[1:3]] for ran in (ours, theirs)]
             if (ours[0], texts[0], ours[3]) != (theirs[0], texts[1], theirs[3]):
                 differing.append((words, ours, theirs))
-    finally:
-        runner.close()
     return statuses, differing
 
 

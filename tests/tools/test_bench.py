@@ -105,7 +105,6 @@ RESULT = {
                ("proved", "server"): 1000, ("Cargo", "server"): 1009, ("dependent", "server"): 1081},
     "stack": {"export": 128, "export --checked": 180, "check": 124, "list": 132},
 }
-# Lines of the report of this result, its goals among them.
 REPORT = """\
 - Date: 2001-02-03; the least of 4 rounds
 - Program: pgn_tool 1.2

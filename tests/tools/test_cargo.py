@@ -286,7 +286,6 @@ class Built(CargoTest):
                                for name in ("core", "std"))
         for words in ([], *(["--target=" + it] for it in sorted(with_core - with_std))):
             output_of(self.bare("default-features = false", *words))
-        # The same with std is refused.
         ran = self.bare("default-features = true")
         self.assertIn("error[E0152]: found duplicate lang item `panic_impl`", ran.stderr.decode())
 
@@ -315,7 +314,6 @@ class Built(CargoTest):
         rows = table("docs/PROFILE.md", "No", "Rejected", "Place", "In words", "Name")
         reasons = [code_of(row[4])[0] for row in rows]
         self.assertEqual(len(rows), 38)
-        # The table has each reason of the source, in its order.
         cases = []
         for file in ("pgn_lexer/src/token.rt", "pgn_game/src/reason.rt"):
             enum = re.search(r"(?s)\npub enum \w*Reason \{\n(.*?)\n\}", text_of("crates", file))

@@ -177,22 +177,18 @@ def links_of(lines):
 
 class Links(unittest.TestCase):
     def test_files_and_anchors(self):
-        count = 0
-        for document in documents():
-            for link in links_of(lines_of(document)):
-                if not re.match(r"[a-z]+:", link):
-                    count += 1
-                    with self.subTest("%s: %s" % (document, link)):
-                        self.check(document, link)
-        self.assertGreater(count, 50)
-
-    def check(self, document, link):
-        path, _, anchor = link.partition("#")
-        file = os.path.normpath(os.path.join(os.path.dirname(document), path)) if path else document
-        self.assertFalse(file.startswith(".."), "it leaves the repository")
-        self.assertTrue(os.path.exists(os.path.join(ROOT, file)), "there is no such file")
-        if anchor:
-            self.assertIn(anchor, anchors_of(lines_of(file)), "there is no such heading")
+        links = [(document, it) for document in documents()
+                 for it in links_of(lines_of(document)) if not re.match(r"[a-z]+:", it)]
+        self.assertGreater(len(links), 50)
+        for document, link in links:
+            path, _, anchor = link.partition("#")
+            place = os.path.join(os.path.dirname(document), path)
+            file = os.path.normpath(place) if path else document
+            with self.subTest("%s: %s" % (document, link)):
+                self.assertFalse(file.startswith(".."), "it leaves the repository")
+                self.assertTrue(os.path.exists(os.path.join(ROOT, file)), "there is no such file")
+                if anchor:
+                    self.assertIn(anchor, anchors_of(lines_of(file)), "there is no such heading")
 
 
 class Names(unittest.TestCase):
@@ -261,8 +257,6 @@ class Names(unittest.TestCase):
 class Way(unittest.TestCase):
     """The calls from `main` to a written letter, as ARCHITECTURE draws them."""
 
-    MOST_BETWEEN = 5  # functions that only pass a call on
-
     def functions(self):
         """For each function, by its crate and name, the words of its text that call something."""
         found = {}
@@ -288,7 +282,7 @@ class Way(unittest.TestCase):
             with self.subTest(name):
                 self.assertIn((crate, name), functions)
                 reached = {above[depth - 1]} if depth else {(crate, name)}
-                for _ in range(self.MOST_BETWEEN + 1):
+                for _ in range(6):  # five functions may only pass a call on
                     reached |= {(there, call) for here, it in reached
                                 for call in functions[here, it]
                                 for there in [here, *USES[here]] if (there, call) in functions}

@@ -126,8 +126,7 @@ class Edits(unittest.TestCase):
                 self.assertTrue("fn %s(" % it in sources, it)
 
     def test_counts(self):
-        rows = [names_in(it)
-                for it in printed("--guards").partition("## Private")[0].split("\n- ")]
+        rows = [names_in(it) for it in printed("--guards").partition("## Private")[0].split("\n- ")]
         each = {it.name for it in self.each}
         self.assertEqual(printed("--list").split("\n")[-3:], [
             "%d edits, %d of them tried on each change" % (len(self.edits), len(each)),

@@ -1,28 +1,17 @@
 """Tests of the library for C (crates/pgn_c): its header, and the example in C."""
-import functools
 import glob
 import os
 import re
 import shutil
 import subprocess
-import tempfile
 import unittest
 
 from documents import printed_by
-from programs import ROOT, need, need_library, need_program, output_of, run, text_of, write_file
+from programs import (ROOT, need, need_library, need_program, new_folder, output_of, run, text_of,
+                      write_file)
 from small_repository import Repository
 
 CRATE = ROOT + "/crates/pgn_c"
-
-
-@functools.lru_cache(maxsize=None)
-def folder_of(build):
-    """What examples/build makes of a build of the library, once for all tests."""
-    need_library(build)
-    folder = tempfile.mkdtemp()
-    unittest.addModuleCleanup(shutil.rmtree, folder)
-    output_of(run(["examples/build", build, folder]), err=None)
-    return folder
 
 
 class Builder(Repository, unittest.TestCase):
@@ -49,8 +38,6 @@ class Builder(Repository, unittest.TestCase):
     def test_without_a_compiler(self):
         self.said("to", cwd=self.folder, env={"CC": "/missing/cc"}, status=127)
 
-
-# ---- the header and the exports, each as the declarations of the other
 
 STRUCTS = {"PgnResult": "pgn_result", "PgnText": "pgn_text", "PgnMove": "pgn_move",
            "PgnPlies": "pgn_plies", "PgnGame": "pgn_game", "PgnTag": "pgn_tag",
@@ -180,8 +167,6 @@ class HeaderTest(unittest.TestCase):
             output_of(run([*words, "-"], input=text.encode()))
 
 
-# ---- the example in C
-
 def c_program(sample):
     """A sample that is a program, or one whose lines belong into main."""
     lines = sample.split("\n")
@@ -193,45 +178,48 @@ def c_program(sample):
 
 
 class CExample:
-    def path(self, name):
-        return folder_of(self.build) + "/" + name
+    """The tests of a build."""
+
+    @classmethod
+    def setUpClass(cls):
+        cls.library, cls.folder = need_library(cls.build), new_folder(cls)
+        output_of(run(["examples/build", cls.build, cls.folder]), err=None)
+        cls.pgn_check = cls.folder + "/pgn_check"
 
     def run_sample(self, text):
-        write_file(self.path("sample.c"), c_program(text))
-        words = ["cc", "-O2", "-Wall", "-Werror", "-I" + CRATE, self.path("sample.c"),
-                 need_library(self.build), "-o", self.path("sample")]
+        program = self.folder + "/sample"
+        write_file(program + ".c", c_program(text))
+        words = ["cc", "-O2", "-Wall", "-Werror", "-I" + CRATE, program + ".c", self.library, "-o",
+                 program]
         # a few lines need not use all that they say
         output_of(run(words if "main(" in text else [*words, "-Wno-unused-variable"]))
-        return run([self.path("sample")], stdin=subprocess.DEVNULL)
+        return run([program], stdin=subprocess.DEVNULL)
 
     def test_samples_of_the_documents(self):
-        need_library(self.build)
         moves = rb"(?m)^1\. e4 e5 2\. Bc4 Nc6 3\. Qh5 Nf6 .*4\. Qxf7# (\*|1-0)$"
         self.assertRegex(printed_by(self, "c", self.run_sample), moves)
 
     def test_what_it_prints(self):
         for name, status, said in (("no-such-move", 1, b"fault 34 at byte 77: move is not legal\n"),
                                    ("annotated", 0, b"games: 1, plies: 7\n")):
-            ran = run([self.path("pgn_check"), "examples/%s.pgn" % name])
+            ran = run([self.pgn_check, "examples/%s.pgn" % name])
             self.assertEqual(output_of(ran, status), said)
 
     def test_exports_as_the_program(self):
-        program = need_program()
         for file in sorted(glob.glob(ROOT + "/examples/*.pgn")):
-            theirs = run([program, "export", file])
-            ours = run([self.path("pgn_check"), "--export", file])
+            theirs = run([need_program(), "export", file])
+            ours = run([self.pgn_check, "--export", file])
             self.assertEqual((ours.returncode, ours.stdout), (theirs.returncode, theirs.stdout),
                              file)
 
     def test_small_stack(self):
-        output_of(run(["sh", "-c", "ulimit -s 256 && exec \"$@\"", "sh", self.path("pgn_check"),
+        output_of(run(["sh", "-c", "ulimit -s 256 && exec \"$@\"", "sh", self.pgn_check,
                        "--export", "examples/from-a-position.pgn"]))
 
     def test_valgrind(self):
-        need_library(self.build)
         need("valgrind")
         output_of(run(["valgrind", "--quiet", "--error-exitcode=9", "--leak-check=full",
-                       self.path("pgn_check"), "--export", "examples/annotated.pgn"]))
+                       self.pgn_check, "--export", "examples/annotated.pgn"]))
 
 
 class CExampleOfCargo(CExample, unittest.TestCase):

@@ -28,7 +28,6 @@ compadd() {
     builtin compadd "$@"
 }
 """
-# Prints games, as a script of a shell.
 GAMES = "for n in $(seq 9000); do echo '1. e4 *'; done"
 # What a shell says of a process that a signal ended: 11, or 6, which Rust sends itself.
 KILLED = (-11, 128 + 11, -6, 128 + 6)
@@ -44,7 +43,6 @@ def help_of(name, *words):
 
 
 def rows_of(text, head):
-    """The rows of the help below a head."""
     return re.search(r"^%s:\n((?:  .*\n?)+)" % head, text, re.M)[1]
 
 
@@ -164,8 +162,7 @@ class Page(Shell):
 
     def test_caveats_of_the_file_that_is_read(self):
         ran = self.shell("echo '1. e4 *' > F; pgn_tool export F > F")
-        self.assertEqual(ran.returncode, 0)
-        self.assertEqual(os.path.getsize(self.folder + "/F"), 0)
+        self.assertEqual((ran.returncode, self.get("F")), (0, b""))
         grown = self.shell(GAMES + " > F; ulimit -f 20000; trap '' XFSZ; pgn_tool export F >> F")
         self.assertEqual(grown.returncode, 1)
         self.assertIn(b"output cannot be written", grown.stderr)
@@ -202,8 +199,6 @@ class Page(Shell):
 
 
 class LibraryPage(Folder, unittest.TestCase):
-    """The page of the library for C, against its header."""
-
     def test_every_call_and_every_status_is_there(self):
         calls, declared = {}, test_library.declared()
         for result, text in re.findall(r"^\.Ft (\w+)\n(.*(?:\n\.Fa .*|\n\.Fc)*)",

@@ -119,7 +119,6 @@ class Others(Folder, unittest.TestCase):
         self.assertEqual(ran.stdout.decode().split(), ["debian/" + it for it in left])
 
     def test_what_is_missing_for_a_part_that_was_asked_for(self):
-        # the scripts on the PATH, the part, and what is missing
         old_cargo = "echo '      --no-verify  Do not verify the contents'\n"  # as Debian 12's
         for scripts, part, why in (
                 ({}, "cargo", r"cargo is missing\n\Z"),

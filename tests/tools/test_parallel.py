@@ -10,15 +10,14 @@ from programs import ROOT, Folder, output_of, run
 from test_recipes import sections
 
 SHORT, WHOLE, STREAM, REMOTE, COUNTS = range(5)
-# The files are small, and so are the blocks: about 50 games.
-BLOCK = ("10M", "8k")
 # What is in a comment and looks like the place of a cut.
 LOOKALIKE = '{ a comment\n\n[Event "x"]\n\nthat holds a tag line }\n'
 
 
 def blocks():
     found = sections(ROOT + "/docs/PARALLEL.md").values()
-    return [it.replace(*BLOCK) for blocks in found for it in blocks]
+    # the files are small, and so are the blocks: about 50 games
+    return [it.replace("10M", "8k") for blocks in found for it in blocks]
 
 
 def archive(games=600):
@@ -143,29 +142,6 @@ class OneMachine(Spread):
         self.check_refused_block(self.agrees(with_comment(300), STREAM))
 
 
-class Server(Folder):
-    """A server of ssh on this machine alone, with keys made for one test."""
-
-    def __init__(self, test, path):
-        self.folder = programs.new_folder(test)
-        for name in ("host", "user"):
-            run(["ssh-keygen", "-q", "-t", "ed25519", "-N", "", "-f", self.folder + "/" + name])
-        with socket.socket() as probe:
-            probe.bind(("127.0.0.1", 0))
-            self.port = probe.getsockname()[1]
-        self.put("server", SERVER % {"path": path, "port": self.port, "folder": self.folder})
-        names = {"port": self.port, "folder": self.folder, "user": getpass.getuser()}
-        self.put("client", CLIENT % names)
-        self.client = "ssh -F %s/client" % self.folder
-        words = [programs.found("sshd"), "-D", "-f", self.folder + "/server"]
-        if run(words + ["-t"]).returncode:
-            programs.not_tried("a server of ssh does not start here")
-        with open(self.folder + "/log", "wb") as log:
-            process = subprocess.Popen(words, stdin=subprocess.DEVNULL, stdout=log, stderr=log)
-        test.addCleanup(process.wait)
-        test.addCleanup(process.terminate)
-
-
 SERVER = """ListenAddress 127.0.0.1
 Port %(port)d
 HostKey %(folder)s/host
@@ -190,21 +166,35 @@ CLIENT = """Host alpha beta
 
 
 class SeveralMachines(Spread):
+    """With a server of ssh on this machine alone, and with keys made for one test."""
+
     def setUp(self):
         super().setUp()
         programs.need("ssh", "sshd", "ssh-keygen")
-        path = os.path.dirname(programs.need_program()) + ":/usr/local/bin:/usr/bin:/bin"
-        self.server = Server(self, path)
-        if run(self.server.client.split() + ["alpha", "pgn_tool", "--version"]).returncode:
+        for name in ("host", "user"):
+            run(["ssh-keygen", "-q", "-t", "ed25519", "-N", "", "-f", self.folder + "/" + name])
+        with socket.socket() as probe:
+            probe.bind(("127.0.0.1", 0))
+            port = probe.getsockname()[1]
+        path = os.path.dirname(self.program) + ":/usr/local/bin:/usr/bin:/bin"
+        names = {"port": port, "folder": self.folder, "user": getpass.getuser(), "path": path}
+        words = [programs.found("sshd"), "-D", "-f", self.put("server", SERVER % names)]
+        self.client = "ssh -F " + self.put("client", CLIENT % names)
+        if run(words + ["-t"]).returncode:
+            programs.not_tried("a server of ssh does not start here")
+        with open(self.folder + "/log", "wb") as log:
+            process = subprocess.Popen(words, stdin=subprocess.DEVNULL, stdout=log, stderr=log)
+        self.addCleanup(process.wait)
+        self.addCleanup(process.terminate)
+        if run(self.client.split() + ["alpha", "pgn_tool", "--version"]).returncode:
             programs.not_tried("a server of ssh does not start here")
 
     def test_over_ssh(self):
-        jobs = self.agrees(archive(), REMOTE, PARALLEL_SSH=self.server.client)
+        jobs = self.agrees(archive(), REMOTE, PARALLEL_SSH=self.client)
         self.assertTrue({b"alpha", b"beta"} & {job[1] for job in jobs})
-        broken = put_before(archive(), "e9 ", 300)
-        self.agrees(broken, REMOTE, 1, PARALLEL_SSH=self.server.client)
+        self.agrees(put_before(archive(), "e9 ", 300), REMOTE, 1, PARALLEL_SSH=self.client)
 
     def test_a_machine_without_the_program(self):
-        script = self.server.client + ' "$@"; case $* in *beta*) exit 127;; esac'
-        lacking = self.server.put_script("lacking", script + "\n")
+        script = self.client + ' "$@"; case $* in *beta*) exit 127;; esac\n'
+        lacking = self.put_script("lacking", script)
         self.check_refused_block(self.agrees(archive(), REMOTE, PARALLEL_SSH=lacking))

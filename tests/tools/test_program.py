@@ -20,8 +20,6 @@ class Examples(Folder, unittest.TestCase):
 
 
 class EachBuild(Repository):
-    """What holds of both builds."""
-
     def check_call(self, builds, *words, program="one", **more):
         """What a call of the program says on standard error, which does or does not build it."""
         status, out, told = self.told(*words, **more)
@@ -145,7 +143,6 @@ class Choice(Repository, unittest.TestCase):
             env = {"RUSTC_VERSION": version, "CARGO_VERSION": version}
             self.check_built(self.told(env=env), self.by_cargo)
             os.unlink(self.by_cargo.strip())
-        # one that does not run
         self.put_command("rustc", "echo 'no default toolchain' >&2\nexit 1\n")
         self.check_built(self.told(), self.by_rt, "/rustc does not say its version")
 
@@ -170,9 +167,6 @@ class Choice(Repository, unittest.TestCase):
                    "the program was not built"):
             self.assertIn(it, said)
 
-    def asked(self):
-        return self.get("asked").decode().splitlines()
-
     def test_deps(self):
         self.put_apt(cargo=CARGO)
         self.put("size", "Reading package lists...\n0 upgraded, 172 newly installed, 0 to remove "
@@ -181,14 +175,14 @@ class Choice(Repository, unittest.TestCase):
         self.check_built(self.told("--deps"), self.by_cargo, "installs cargo",
                          "that is 172 packages in all\n", "161 MB to download\n",
                          "780 MB on the disk\n")
-        update, asked, install = self.asked()
+        update, asked, install = self.get("asked").decode().splitlines()
         self.assertEqual(update, "update -q")
         # the size is asked for before
         self.assertEqual(asked, install.replace(" -y ", " --assume-no "))
         self.assertRegex(install, r"^install -q -y --no-install-recommends cargo\b")
         # nothing is installed for a program that is there
         self.check_built(self.told("--deps"), self.by_cargo)
-        self.assertEqual(len(self.asked()), 3)
+        self.assertEqual(self.get("asked").count(b"\n"), 3)
 
     def test_the_package_of_cargo(self):
         """The one by another name is taken where the usual one is too old."""

@@ -101,7 +101,6 @@ class Recipe(Folder, unittest.TestCase):
             self.put("games.pgn", "".join(games))
             self.shell(call)
             self.check_file("sorted.pgn", *sorted(games, key=lambda it: it.split("\n")[0]))
-        # by players
         games = [game(White="B", Black="A"), game("1. d4 { a word } *", White="A", Black="B"),
                  game(White="A", Black="A")]
         ran = self.recipe("Sort by date", 1, of=games)
@@ -175,7 +174,6 @@ class Recipe(Folder, unittest.TestCase):
         self.put("games.pgn", text[:-1].encode("latin-1"))
         kept = self.shell("pgn_tool export games.pgn").stdout
         self.assertEqual(kept, wanted.encode("latin-1"))
-        # UTF-16
         for encoding in ("utf-16", "utf-16-be"):
             mark = "" if encoding == "utf-16" else "\ufeff"
             self.put("games.pgn", (mark + '[White "Müller"]\r\n1. e4 *').encode(encoding))
