@@ -244,7 +244,8 @@ class Words(Folder, unittest.TestCase):
                 (2, "--record --program /bin/true", b"leave out --program"),
                 (2, "parallel --record --program x", b"leave out --program")):
             ran = call(words)
-            self.assertEqual((ran.returncode, ran.stdout), (status, b""), words)
+            is_begun = words in ("old other", "old none")
+            self.assertEqual((ran.returncode, bool(ran.stdout)), (status, is_begun), words)
             self.assertIn(said, ran.stderr)
 
     def test_nothing_is_installed(self):
