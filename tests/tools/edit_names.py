@@ -89,7 +89,6 @@ class Sources:
         return None if None in more else self.types[name].members.union(*more)
 
     def has(self, word, root="crates/"):
-        """Whether a source below this path has a word."""
         return any(word in words for path, words in self.words.items() if path.startswith(root))
 
     def missing_members(self, new, known):

@@ -12,6 +12,7 @@ import io
 import json
 import lzma
 import os
+import pathlib
 import pty
 import re
 import resource
@@ -177,14 +178,12 @@ PACKERS = {"gz": gzip.compress, "bz2": bz2.compress, "xz": lzma.compress,
 
 def text_of(*path):
     """The text of a file, by its path from the root of the repository, or by its whole path."""
-    with open(os.path.join(ROOT, *path), encoding="utf-8") as file:
-        return file.read()
+    return pathlib.Path(ROOT, *path).read_text(encoding="utf-8")
 
 
 def bytes_of(*path):
     """The bytes of a file, by its path as `text_of` takes it."""
-    with open(os.path.join(ROOT, *path), "rb") as file:
-        return file.read()
+    return pathlib.Path(ROOT, *path).read_bytes()
 
 
 def write_file(path, data):

@@ -45,12 +45,11 @@ impl Read for Interrupted {
 
 fn main() {
     use pgn_game::{Games, Inlet, Mode, Nowhere};
-    let games = || (Games::<64, 33>::new(Mode::Full), Interrupted(b"e4 * d4 e5 *", false));
-    let (mut plain, source) = games();
-    let fault = plain.next(&mut Inlet::new(source), &mut Nowhere).unwrap_err();
+    let source = || Interrupted(b"e4 * d4 e5 *", false);
+    let mut games = Games::<64, 33>::new(Mode::Full);
+    let fault = games.next(&mut Inlet::new(source()), &mut Nowhere).unwrap_err();
     assert_eq!(fault.to_string(), "byte 0: input cannot be read");
-    let (mut games, source) = games();
-    let mut source = Inlet::new(NAME(source));
+    let (mut games, mut source) = (Games::<64, 33>::new(Mode::Full), Inlet::new(NAME(source())));
     for plies in [1, 2] {
         assert_eq!(games.next(&mut source, &mut Nowhere), Ok(true));
         assert_eq!(games.plies(), plies);
@@ -211,7 +210,6 @@ def packages(names):
 
 
 def passed_in(said):
-    """How many tests passed, by what cargo says."""
     return sum(map(int, re.findall(r"(\d+) passed; 0 failed", said)))
 
 
@@ -522,8 +520,7 @@ class Workspace(unittest.TestCase):
 
     def test_what_is_not_proved_says_so_and_the_header_is_the_same(self):
         for file in ("rattle_std/src/lib.rs", "pgn_c/src/ffi.rs", "pgn_c/build.rs"):
-            first = text_of(self.out + "/crates/" + file).split("\n", 1)[0]
-            self.assertIn("**Not proved.**", first)
+            self.assertRegex(text_of(self.out + "/crates/" + file), r"\A.*\*\*Not proved\.\*\*")
         self.assertLess(text_of(self.out + "/crates/rattle_std/src/lib.rs").count("\n"), 110)
         header = "/crates/pgn_c/pgn.h"
         self.assertEqual(text_of(self.out + header), text_of(ROOT + header))

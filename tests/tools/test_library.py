@@ -42,8 +42,7 @@ class Builder(Repository, unittest.TestCase):
 STRUCTS = {"PgnResult": "pgn_result", "PgnText": "pgn_text", "PgnMove": "pgn_move",
            "PgnPlies": "pgn_plies", "PgnGame": "pgn_game", "PgnTag": "pgn_tag",
            "PgnItems": "pgn_item_lines", "PgnExplanation": "pgn_explanation",
-           "PgnBadGame": "pgn_bad_game", "PgnSection": "pgn_section",
-           "PgnNumber": "pgn_number"}
+           "PgnBadGame": "pgn_bad_game", "PgnSection": "pgn_section", "PgnNumber": "pgn_number"}
 # A slice is a pointer and a length, and a struct is passed by its address.
 C_TYPES = {"u8": "uint8_t", "u32": "uint32_t", "u64": "uint64_t", "usize": "size_t",
            "&[u8]": "const void *, size_t", "&mut [u8]": "uint8_t *, size_t", **STRUCTS,
@@ -178,8 +177,6 @@ def c_program(sample):
 
 
 class CExample:
-    """The tests of a build."""
-
     @classmethod
     def setUpClass(cls):
         cls.library, cls.folder = need_library(cls.build), new_folder(cls)

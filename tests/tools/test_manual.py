@@ -6,7 +6,7 @@ import unittest
 
 import programs
 import test_library
-from programs import ROOT, Folder, output_of, run, text_of, write_file
+from programs import ROOT, Folder, output_of, run, text_of
 
 PAGE, COMMAND_PAGE, LIBRARY_PAGE = (ROOT + "/share/man/man%s" % it for it in (
     "1/pgn_tool.1", "1/gillspoon.1", "3/pgn_c.3"))
@@ -216,7 +216,7 @@ class LibraryPage(Folder, unittest.TestCase):
     def test_the_example(self):
         programs.need("cc")
         text, said = blocks_of(section(LIBRARY_PAGE, "EXAMPLES"))
-        write_file(self.folder + "/example.c", text)
+        self.put("example.c", text)
         words = ["cc", "-std=c99", "-Wall", "-Wextra", "-Werror", "example.c", "-o", "example"]
         output_of(run([*words, "-I%s/crates/pgn_c" % ROOT, programs.need_library("--cargo")],
                       cwd=self.folder))
@@ -336,15 +336,13 @@ class Completions(Shell):
 
     def zsh(self, line):
         """It runs on a terminal."""
-        folder = programs.new_folder(self)
-        write_file(folder + "/some games.pgn", "")
-        write_file(folder + "/.zshrc", ZSHRC % COMPLETIONS)
-        env = dict(os.environ, ZDOTDIR=folder, TERM="xterm")
+        self.put_all({"words": "", ".zshrc": ZSHRC % COMPLETIONS})
+        env = dict(os.environ, ZDOTDIR=self.folder, TERM="xterm")
         # when it edits a line
         begin = b"\x1b[?2004h"
         programs.on_a_terminal(["zsh", "-d", "-i"], line.encode() + b"\t\x15exit\n", begin, env=env,
-                               cwd=folder, start_new_session=True)
-        return sorted(set(text_of(folder + "/words").split("\n")) - {""})
+                               cwd=self.folder, start_new_session=True)
+        return sorted(set(self.get("words").decode().split("\n")) - {""})
 
     def test_zsh(self):
         programs.need("zsh")

@@ -147,15 +147,12 @@ class Sieve(Kept):
 
 
 class Rest(Kept):
-    """Other scripts, and what is the same for all."""
-
     def test_lint_fix(self):
         """Its output is its input."""
         for name in [*UNREADABLE[2:], *OTHERS, "empty.pgn", "words.pgn", "sound.pgn", "bad.pgn"]:
             status = 1 if name == "bad.pgn" else 3 if name in [*UNREADABLE, *OTHERS] else 0
             for words in ("--fix", "--fix --unsafe-fixes --ignore 'trailing text'"):
-                self.check_file(name, self.get(name), status,
-                                "lint --quiet %s %s" % (words, name))
+                self.check_file(name, self.get(name), status, "lint --quiet %s %s" % (words, name))
 
     def test_without_a_library(self):
         self.stays(127, "bad.pgn", "fmt -o out sound.pgn", "sieve NAME good bad",

@@ -82,8 +82,7 @@ class TestToolsTest(Folder, unittest.TestCase):
         self.put("tests/tools/test_skipped.py",
                  "import unittest\nraise unittest.SkipTest('it is missing')\n")
         status, shown, counts = self.call("--all", "-n0")
-        self.assertIn("it is missing", shown)
-        self.assertEqual((status, counts), (1, "1 skipped"))
+        self.assertEqual((status, "it is missing" in shown, counts), (1, True, "1 skipped"))
 
     def test_names(self):
         self.put("tests/tools/test_one.py", "raise OSError('cannot be loaded')\n")

@@ -300,8 +300,8 @@ class Conform(Folder, unittest.TestCase):
 
     def test_a_closed_pipe_ends_it_quietly(self):
         with programs.closed_pipe() as closed:
-            words = ["bin/pgn_conform", "--theme", "limits", "cat"]
-            programs.output_of(run(words, stdout=closed), 3)
+            ran = run(["bin/pgn_conform", "--theme", "limits", "cat"], stdout=closed)
+        programs.output_of(ran, 3)
 
     def test_a_dash_is_a_word_of_the_converter(self):
         for words in (["cat", "-"], ["--", "cat", "-"], ["--full", "cat -"]):
