@@ -221,6 +221,7 @@ class CargoTest(Folder, unittest.TestCase):
     def setUp(self):
         need_cargo()
         super().setUp()
+        write_out()
 
     def passed(self, *words, **env):
         """What cargo says, which has no warning."""
@@ -232,10 +233,6 @@ class CargoTest(Folder, unittest.TestCase):
 
 
 class Built(CargoTest):
-    def setUp(self):
-        super().setUp()
-        write_out()
-
     def test_the_tests_of_each_crate_pass(self):
         """Those in these files, of which there are so many at least."""
         for least, words, files in (
@@ -455,7 +452,6 @@ class Release(CargoTest):
         changes("# Changes\n\n## %s, later\n\n## 0.0.9\n" % version, version)
 
     def test_clippy_and_the_documentation_have_no_warning(self):
-        write_out()
         self.passed("doc", "--workspace", "--no-deps", "--lib")
         programs.need("cargo-clippy")
         self.passed("clippy", "--workspace", "--all-targets")

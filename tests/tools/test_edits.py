@@ -287,7 +287,8 @@ class Guards(unittest.TestCase):
         return text[text.index("## `low`"):]
 
     def guard(self, kind, name, *rows):
-        found = edit_of(name) if kind == "edit" else SCRIPT.Guard("low", kind, [name], "low.edits:1")
+        other = SCRIPT.Guard("low", kind, [name], "low.edits:1")
+        found = edit_of(name) if kind == "edit" else other
         found.guards = [frozenset(it.split(", ")) for it in rows]
         return found
 
