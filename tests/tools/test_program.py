@@ -23,9 +23,10 @@ class EachBuild(Repository):
     def check_call(self, builds, *words, program="one", **more):
         """What a call of the program says on standard error, which does or does not build it."""
         status, out, told = self.told(*words, **more)
-        text = "%s built %s, called with %s\n" % (self.builder, program, " ".join(words))
+        builder = self.commands[0]
+        text = "%s built %s, called with %s\n" % (builder, program, " ".join(words))
         self.assertEqual((status, out), (0, text), told)
-        self.assertEqual((self.builder + " builds" in told, bool(told)), (builds, builds))
+        self.assertEqual((builder + " builds" in told, bool(told)), (builds, builds))
         return told
 
     def test_builds_once(self):
@@ -40,7 +41,7 @@ class EachBuild(Repository):
                 (("rt",), "crates/pgn_tool/specs/a.antt", "crates/pgn_tool/proofs/a.antt"),
                 (("cargo",), "cargo/rattle_std/lib.rs", "cargo/README.md", "bin/to_cargo"),
                 ((), "crates/pgn_vectors/src/lib.rt", "README.md")):
-            builds = self.builder in builders
+            builds = self.commands[0] in builders
             for path in paths:
                 self.make_older()
                 self.add(path)
@@ -92,11 +93,11 @@ class EachBuild(Repository):
 
 
 class ByRt(EachBuild, unittest.TestCase):
-    commands, builder = ("rt",), "rt"
+    commands = ("rt",)
 
 
 class ByCargo(EachBuild, unittest.TestCase):
-    commands, builder = ("cargo", "rustc"), "cargo"
+    commands = ("cargo", "rustc")
 
 
 class Choice(Repository, unittest.TestCase):
