@@ -143,7 +143,8 @@ class Others(Folder, unittest.TestCase):
         with tarfile.open(path) as archive:
             self.assertEqual(sorted(archive.getnames()), sorted(
                 name + it for it in ("/pgn_tool", "/pgn_tool.1", "/LICENSE-MIT")))
-            self.assertTrue(archive.extractfile(name + "/pgn_tool").read() == bytes_of(self.program))
+            packed = archive.extractfile(name + "/pgn_tool").read()
+            self.assertTrue(packed == bytes_of(self.program))
             self.assertTrue(archive.getmember(name + "/pgn_tool").mode & 0o111)
         programs.need("sha256sum")
         output_of(run(["sha256sum", "-c", path + ".sha256"], cwd=self.folder), err=None)
