@@ -630,11 +630,12 @@ def without_added(path, lines, source):
     crate, left = file.split("/")[1], []
     added = collections.Counter(it.strip() for it in added_to(file, crate, lines, source))
     hints = ["#[track_caller]"] + ["#[inline]"] * (crate in LIBRARIES)
-    for line in lines:
+    # from the end, where a page has lines that the documentation before it has too
+    for line in reversed(lines):
         if added[line.strip()]:
             added[line.strip()] -= 1
         elif line.strip() not in hints:
-            left.append(line)
+            left.insert(0, line)
     assert not any(added.values()), (path, added)
     while left[-2:] == ["", ""]:
         left.pop()
