@@ -1,49 +1,45 @@
 """Tests of bin/check_columns, and of the repository by it."""
-import os
 import sys
 import unittest
 
 from programs import ROOT, Folder, run
 
-# 100 and 101 columns, in words.
-FULL = "word " * 19 + "words"
-LONG = "word " * 19 + "wordss"
 URL = "https://example.org/" + "a" * 90
-DEFINITIONS = ["-- " + LONG, "abbrev pub A : " + "a" * 100, "A = b  -- " + LONG, "a--" + "b" * 100]
-SCRIPT = ["#!/usr/bin/env python3", '"""First.', "", LONG, '"""', "# " + LONG, "A = '%s'" % LONG,
-          "def f():", '    """%s"""' % LONG, "    return 1  # " + LONG]
-OTHER = ["# " + LONG, "// " + LONG]
-# A file, its lines, and the numbers of those that are too long.
-ROWS = (
+DEFINITIONS = "-- LONG\n-- FULL\nabbrev pub A : CODE\nA = b  -- LONG\na--CODE"
+SCRIPT = ('#!/usr/bin/env python3\n"""First.\n\nLONG\n"""\n# LONG\nA = CODE\ndef f():\n'
+          '    """LONG"""\n    return 1  # LONG\n    return 1  # FULL\nCODE')
+OTHER = "# CODE\n// CODE"
+# Files, whose lines with LONG are too long.
+FILES = {
     # prose, whose columns are characters
-    ("docs/A.md", [FULL, LONG, "", "- " + FULL, "# " + LONG], [2, 4, 5]),
-    ("A.md", ["é" * 100, "≡" * 101], [2]),
+    "docs/A.md": "FULL\nLONG\n\n- LONG\n# LONG\nFULL URL\n[text](URL)\nLONG URL",
     # tables and blocks of code
-    ("A.md", ["| " + LONG + " |", "", "    " + LONG, "", "```sh", LONG, "``", "```", LONG, "~~~",
-              "```", LONG, "~~~", LONG], [9, 14]),
+    "A.md": "| CODE |\n\n    CODE\n\n```sh\nCODE\n``\n```\nLONG\n~~~\n```\nCODE\n~~~\nLONG",
     # a line that goes on is prose
-    ("A.md", ["1. first", "    " + LONG], [2]),
-    ("A.md", [FULL[:90] + " " + URL, "[text](" + URL + ")"], []),
-    ("crates/a/src/b/c.rt", [
-        "// " + LONG, "/// " + FULL[:96], "    //! " + LONG, 'const A: &[u8] = b"// %s";' % LONG,
-        "let a = 1; // " + LONG, "ghost use Rattle." + "a" * 90 + ";", "fn %s() {}" % ("a" * 100),
-    ], [1, 3, 5]),
-    ("crates/a/src/a.rt", [
-        "fn a() -> u8", "    requires some { 0 < " + "a" * 90 + " }", "    ensures { result",
-        "        ≡ " + "b" * 100 + " }", "    ensures* after { P }", "{",
-        "    " + "call();" * 20, "}", "    ghost view = { λ c. record {",
-        "      a = " + "c" * 100 + ";", "    } };", "const " + "D" * 100 + ": u8 = 1;",
-    ], [2, 4, 10]),
-    ("crates/a/specs/A.antt", DEFINITIONS, [1, 3]),
-    ("crates/a/proofs/b/A.antt", DEFINITIONS, [1, 3]),
-    ("bin/tool", SCRIPT, [4, 6, 9, 10]),
-    ("tests/b/c.py", SCRIPT, [4, 6, 9, 10]),
-    ("bench/run", ["#!/bin/sh", "# " + LONG, "echo " + LONG, "a  # " + LONG], [2, 4]),
+    "B.md": "1. first\n    LONG",
+    "crates/a/src/b/c.rt": '// LONG\n/// FULL\n    //! LONG\nconst A: &[u8] = b"// CODE";\n'
+                           "let a = 1; // LONG\nghost use Rattle.CODE;\nfn CODE() {}",
+    "crates/a/src/a.rt": "fn a() -> u8\n    requires some { LONG }\n    ensures { result\n"
+                         "        LONG }\n    ensures* after { P }\n{\n    CODE\n}\n"
+                         "    ghost view = { λ c. record {\n      LONG\n    } LONG };\nCODE",
+    "crates/a/specs/A.antt": DEFINITIONS,
+    "crates/a/proofs/b/A.antt": DEFINITIONS,
+    "bin/tool": SCRIPT,
+    "tests/b/c.py": SCRIPT,
+    "tests/d.py": '"""LONG"""',
+    "bench/run": "#!/bin/sh\n# LONG\necho CODE\na  # LONG",
     # other files
-    *((name, OTHER, []) for name in (
-        "bin/sample", "edits/a.edits", "crates/a/out/src/a.rt", "out/A.md", "bench/out/a.sh",
-        "share/a.sh", "a.txt")),
-)
+    "bin/sample": OTHER, "edits/a.edits": OTHER, "crates/a/out/src/a.rt": OTHER, "out/B.md": OTHER,
+    "bench/out/a.sh": OTHER, "share/a.sh": OTHER, "a.txt": OTHER,
+}
+
+
+def filled(line):
+    """The line with FULL, LONG and CODE as words up to 100, 101 and 150 columns before a URL."""
+    line, *url = line.split("URL")
+    for word, columns in ("FULL", 100), ("LONG", 101), ("CODE", 150):
+        line = line.replace(word, ("wörd " * 30)[:columns - len(line) + len(word)])
+    return URL.join([line, *url])
 
 
 class Columns(Folder, unittest.TestCase):
@@ -51,23 +47,19 @@ class Columns(Folder, unittest.TestCase):
         ran = run([sys.executable, ROOT + "/bin/check_columns", *words])
         return ran.returncode, ran.stdout.decode(), ran.stderr.decode()
 
-    def test_the_lines_of_each_row(self):
-        self.assertEqual((len(FULL), len(LONG)), (100, 101))
-        for name, lines, numbers in ROWS:
-            with self.subTest(name=name, numbers=numbers):
-                self.put(name, "\n".join(lines) + "\n")
-                places = "".join("%s:%d: %d columns\n" % (name, it, len(lines[it - 1]))
-                                 for it in numbers)
-                self.assertEqual(self.check(self.folder), (1 if numbers else 0, places, ""))
-                os.remove(self.folder + "/" + name)
-        self.put("A.md", LONG + " " + URL)
-        self.assertEqual(self.check(self.folder)[0], 1)
+    def test_the_long_lines_of_each_file(self):
+        self.put("bin/bytes", b"#!/bin/sh\n\xff")
+        places = ""
+        for name, text in sorted(FILES.items()):
+            lines = text.split("\n")
+            self.put(name, "\n".join(map(filled, lines)))
+            places += "".join("%s:%d: 101 columns\n" % (name, number)
+                              for number, line in enumerate(lines, 1) if "LONG" in line)
+        self.assertEqual(self.check(self.folder), (1, places, ""))
 
     def test_nothing_is_too_long(self):
-        """In the repository, in an empty folder, and in bytes that are no text."""
+        """In the repository, and in an empty folder."""
         self.assertEqual(self.check(), (0, "", ""))
-        self.assertEqual(self.check(self.folder), (0, "", ""))
-        self.put("bin/bytes", b"#!/bin/sh\n\xff")
         self.assertEqual(self.check(self.folder), (0, "", ""))
 
     def test_the_words_of_the_call(self):
