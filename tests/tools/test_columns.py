@@ -6,7 +6,7 @@ from programs import ROOT, Folder, run
 
 URL = "https://example.org/" + "a" * 90
 DEFINITIONS = "-- LONG\n-- FULL\nabbrev pub A : CODE\nA = b  -- LONG\na--CODE"
-SCRIPT = ('#!/usr/bin/env python3\n"""First.\n\nLONG\n"""\n# LONG\nA = CODE\ndef f():\n'
+SCRIPT = ('#!/usr/bin/env python3\n"""First.\n\nLONG\n"""\n# LONG\nA = '#CODE'\ndef f():\n'
           '    """LONG"""\n    return 1  # LONG\n    return 1  # FULL\nCODE')
 OTHER = "# CODE\n// CODE"
 # Files, whose lines with LONG are too long.
@@ -21,7 +21,7 @@ FILES = {
                            "let a = 1; // LONG\nghost use Rattle.CODE;\nfn CODE() {}",
     "crates/a/src/a.rt": "fn a() -> u8\n    requires some { LONG }\n    ensures { result\n"
                          "        LONG }\n    ensures* after { P }\n{\n    CODE\n}\n"
-                         "    ghost view = { λ c. record {\n      LONG\n    } LONG };\nCODE",
+                         "    ghost view = { λ c. record {\n      LONG\n    } LONG };\n    CODE",
     "crates/a/specs/A.antt": DEFINITIONS,
     "crates/a/proofs/b/A.antt": DEFINITIONS,
     "bin/tool": SCRIPT,
