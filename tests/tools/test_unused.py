@@ -15,6 +15,9 @@ WORDS = "crates/pgn_lexer/proofs/Words.antt"
 # A small repository in which everything is used.
 FILES = {
     "crates/pgn_lexer/src/lib.rt": "mod token;\npub use token::{Token, count_of};\n",
+    "crates/pgn_tool/src/main.rt": "checked!(ROOM);\n\nconst ROOM: u8 = 1;\n\n"
+                                   "fn main() {\n    start()\n}\n\nfn start() {}\n\n"
+                                   "#[test]\nfn it_starts() {}\n",
     TOKEN: """ghost use Rattle.pgn_lexer.specs.Tokens.{Token as Seen, total};
 
 pub struct Token {
@@ -51,7 +54,10 @@ pub record Token : Type 0 where
 
 abbrev pub total : List Token → ℕ
 total [] = 0
-total (t ∷ ts) = t.len + total ts
+total (t ∷ ts) = t.len ⊕ total ts
+
+◌⊕◌ : ℕ → ℕ → ℕ
+m ⊕ n = m + n
 """,
     SUMS: """use Rattle.pgn_lexer.specs.Tokens.{Token, total}
 
@@ -117,7 +123,8 @@ USE = "total_small c.ts c.is"
 CHANGED = (
     # what only itself or an import names
     ([(TOKENS, "", "\npub spare : List ℕ → ℕ\nspare [] = 0\nspare (n ∷ l) = spare l\n"),
-      (SUMS, "{Token,", "{Token, spare,")], ["definition spare"]),
+      (TOKEN, "total}", "total, spare}"), (SUMS, "{Token,", "{Token, spare,"),
+      (ANSWERS, "", "\nuse Rattle.pgn_lexer.specs.Tokens.{spare}\n")], ["definition spare"]),
     # a name by its whole path is a use
     ([(ANSWERS, BY_IMPORT, "")], ["lemma nothing", "lemma total_small"]),
     ([(ANSWERS, BY_IMPORT, ""), (ANSWERS, USE, "Rattle.pgn_lexer.proofs.Sums." + USE)], []),
