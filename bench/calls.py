@@ -1,17 +1,14 @@
 """The instructions that a game takes in C: one call for each game, beside one for them all.
 
-    pgn_convert              one call for the whole text
-    pgn_next_game            one for each game, which also gives the position at its end
-    .. result from marker    the same, where a missing Result takes the termination marker: each
-                             game is read before it is written
-    .. no Result tags        the same of the archive without them
-    pgn_read_game            one for each game, which writes its tag section alone
-    pgn_check                one call for the whole text, which writes nothing
-    pgn_line                 pgn_next_game for each game in reduced format, and one call for its
-                             moves: SAN, UCI and FEN of each ply
-    pgn_san                  the same, but one call for each move
-    pgn_items                one for each game: a line for each move, with its SAN, its UCI and the
-                             FEN after it, and for each NAG, comment and variation
+pgn_convert and pgn_check take the whole text, and the others a game each:
+
+    result from marker    a missing Result takes the termination marker: each game is read before it
+                          is written; and the same of the archive without Result tags
+    pgn_read_game         writes the tag section of a game alone
+    pgn_line, pgn_san     one call for the moves of a game in reduced format, or one for each move:
+                          SAN, UCI and FEN of each ply
+    pgn_items             a line for each move, with its SAN, its UCI and the FEN after it, and for
+                          each NAG, comment and variation
 
 The calls of pgn_next_game must write what pgn_convert writes, and pgn_read_game the tag sections
 of that. pgn_line and pgn_items must write what pgn_san says of each move.

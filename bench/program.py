@@ -1,10 +1,4 @@
-"""The program beside pgn-extract: time, memory, instructions, the least stack, and its builds.
-
-pgn-extract and the program convert the same files. Instructions, branch mispredictions and the
-share of each part are callgrind's, and system calls strace's. They are for a game: the difference
-of two small archives, which leaves out the start of the program. bench/README.md says which builds
-are compared.
-"""
+"""The program beside pgn-extract, which converts the same files, and its builds: see README.md."""
 import filecmp
 import glob
 import os
