@@ -2,13 +2,11 @@
 """Writes an archive of legal chess games in PGN import format, for measurements.
 
     bench/make_archive.py --games 20000 --style plain > plain.pgn
-    bench/make_archive.py --games 20000 --style annotated > annotated.pgn
-    bench/make_archive.py --games 20000 --style server > server.pgn
 
 The same arguments give the same bytes. A small player of its own plays the games. It looks one move
 ahead, and likes captures, the centre and safe squares. It plays a number of lines (--lines), and
-each is used for many games, with other tags. An annotated line has comments, NAGs and variations,
-some of them nested. One of a server is a plain line with a clock time after each ply.
+each is used for many games, with other tags. The styles are plain, annotated (with comments, NAGs
+and variations, some of them nested) and server (with a clock time after each ply).
 """
 import argparse
 import random
@@ -36,15 +34,9 @@ def reach(steps, most=7):
 STRAIGHT, SLANTED = [(1, 0), (-1, 0), (0, 1), (0, -1)], [(1, 1), (1, -1), (-1, 1), (-1, -1)]
 JUMPS = [(f, r) for f in (-2, -1, 1, 2) for r in (-2, -1, 1, 2) if abs(f) != abs(r)]
 # of a pawn the squares that it attacks
-WAYS = {
-    "P": reach([(1, 1), (-1, 1)], 1),
-    "p": reach([(1, -1), (-1, -1)], 1),
-    "N": reach(JUMPS, 1),
-    "B": reach(SLANTED),
-    "R": reach(STRAIGHT),
-    "Q": reach(STRAIGHT + SLANTED),
-    "K": reach(STRAIGHT + SLANTED, 1),
-}
+WAYS = {"P": reach([(1, 1), (-1, 1)], 1), "p": reach([(1, -1), (-1, -1)], 1),
+        "N": reach(JUMPS, 1), "B": reach(SLANTED), "R": reach(STRAIGHT),
+        "Q": reach(STRAIGHT + SLANTED), "K": reach(STRAIGHT + SLANTED, 1)}
 # by side the pieces that attack a square along the ways of a kind of piece from there
 ATTACKERS = {True: (("p", "P"), ("N", "N"), ("B", "BQ"), ("R", "RQ"), ("K", "K")),
              False: (("P", "p"), ("N", "n"), ("B", "bq"), ("R", "rq"), ("K", "k"))}
@@ -328,8 +320,8 @@ def game_of(rng, style, result, movetext):
 
 
 def main():
-    form = argparse.RawDescriptionHelpFormatter
-    parser = argparse.ArgumentParser(description=__doc__, formatter_class=form)
+    parser = argparse.ArgumentParser(description=__doc__,
+                                     formatter_class=argparse.RawDescriptionHelpFormatter)
     parser.add_argument("--games", type=int, default=20000)
     parser.add_argument("--style", choices=("plain", "annotated", "server"), default="plain")
     parser.add_argument("--lines", type=int, default=250)

@@ -14,8 +14,8 @@ ROOT = os.path.dirname(HERE)
 OUT = HERE + "/out"
 # The parts of the program, and the beginnings of the names of the functions that belong to each.
 # The first beginning that fits decides. Functions with no part (chess_rules, core, std, memcpy)
-# belong to the part that calls them: so legality is a cost of find and of write_san. Behind them
-# are the main functions of a part: if the compiler inlines one, its caller's part has its cost.
+# belong to the part that calls them. Then come the main functions of a part: if the compiler
+# inlines one, its caller's part has its cost.
 PARTS = (
     ("lexer", ("pgn_lexer::",), ("pgn_lexer::lexer::Lexer::whole_token",)),
     ("find", ("pgn_game::find::", "chess_text::form::", "chess_text::resolution::"),
@@ -45,10 +45,7 @@ def found(name):
 
 
 def check_tools(needed, others=()):
-    """Names what is missing, with the command that installs it. Stops if it is needed.
-
-    The figures of the others are left out without them.
-    """
+    """Names what is missing, and how to install it. Stops if that is needed."""
     lacking = [it for it in (*needed, *others) if not found(it)]
     said = "%s %s missing; to install: apt-get install --no-install-recommends %s" % (
         ", ".join(lacking), "is" if len(lacking) == 1 else "are", " ".join(lacking))
@@ -59,10 +56,7 @@ def check_tools(needed, others=()):
 
 
 def work():
-    """Seconds so far: of the clock, of work of all processors, and of our own work.
-
-    Time that a virtual machine had to wait for its processors counts as work.
-    """
+    """Seconds so far: of the clock, of work of all processors with waits for them, and of ours."""
     user, nice, system, _, _, *others = map(int, read("/proc/stat").split()[1:9])
     ours = os.times()
     busy = (user + nice + system + sum(others)) / os.sysconf("SC_CLK_TCK")
@@ -130,8 +124,8 @@ def output_of(name, folder=OUT):
 def times(calls, rounds, file=None, folder=OUT, prepare=("true",)):
     """The least wall time of each call, and its processor time then, in seconds by hyperfine.
 
-    By hyperfine alone all rounds of a call would come before those of the next one. Here all take
-    turns, since a machine that others use too is slower in some minutes than in others.
+    All take turns, unlike by hyperfine alone: a machine that others use too is slower in some
+    minutes than in others.
     """
     least = {}
     for _ in range(rounds):
@@ -266,23 +260,24 @@ def read_strace(lines):
     return stop("strace has no total")
 
 
+def printed(*words):
+    """What a program prints, without the last line end."""
+    ran = subprocess.run(words, stdout=subprocess.PIPE, check=False)
+    if ran.returncode:
+        stop(shlex.join(words) + " failed")
+    return os.fsdecode(ran.stdout).rstrip("\n")
+
+
 def built(*options):
     """The path of the program or library of the repository, which is built if need be."""
-    ran = subprocess.run([ROOT + "/bin/build_program", *options], stdout=subprocess.PIPE,
-                         check=False)
-    if ran.returncode:
-        stop("it was not built: bin/build_program " + " ".join(options))
-    return os.fsdecode(ran.stdout).rstrip("\n")
+    return printed(ROOT + "/bin/build_program", *options)
 
 
 def program_name(program):
     """The program's version, and how it was built."""
-    ran = subprocess.run([program, "--version"], stdout=subprocess.PIPE, check=False)
-    if ran.returncode:
-        stop("%s --version failed" % program)
     folder = os.path.relpath(os.path.realpath(program), ROOT).split(os.sep)[0]
     kinds = {"crates": "proved and built by rt", "cargo": "built by Cargo"}
-    return "%s, %s" % (ran.stdout.decode().strip(), kinds.get(folder, "another build"))
+    return "%s, %s" % (printed(program, "--version"), kinds.get(folder, "another build"))
 
 
 def machine(*packages):

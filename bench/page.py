@@ -28,12 +28,6 @@ DIGEST = """
 """
 
 
-class Resources(contextlib.ExitStack):
-    """What a test is to the browser: it ends what was begun."""
-
-    addCleanup = contextlib.ExitStack.callback
-
-
 def seconds_of_page(test_page, browser, file):
     browser.get(test_page.need_page())
     browser.wait_for(test_page.IS_READY)
@@ -50,7 +44,9 @@ def figures(given):
     file = archive("annotated", given.games)
     program = measure.times({"program": [given.program, "export", file]}, given.rounds)["program"][0]
     try:
-        with Resources() as resources:
+        with contextlib.ExitStack() as resources:
+            # to the browser it is a test, which ends what was begun
+            resources.addCleanup = resources.callback
             browser = test_page.Browser(resources)
             page = min(seconds_of_page(test_page, browser, file) for _ in range(given.rounds))
             digest = hashlib.sha256(read(output_of("program"))).hexdigest()

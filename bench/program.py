@@ -74,11 +74,6 @@ def check_output(peer, program, file):
         stop("the output of %s has other moves" % file)
 
 
-def games_in(program, file):
-    ran = subprocess.run([program, "check", file], stdout=subprocess.PIPE, check=True)
-    return int(re.search(rb"games: (\d+)", ran.stdout)[1])
-
-
 def call_figures(calls, files, rounds):
     """What each call takes of an archive, and of a game of two small ones."""
     file, *small_files = files
@@ -96,9 +91,8 @@ def call_figures(calls, files, rounds):
 
 def has_room(file, games):
     """Whether there is a file system in memory with room for the outputs of export and split."""
-    if not os.path.isdir(IN_MEMORY):
-        return False
-    return shutil.disk_usage(IN_MEMORY).free > 4 * os.path.getsize(file) + games * BLOCK
+    needed = 4 * os.path.getsize(file) + games * BLOCK
+    return os.path.isdir(IN_MEMORY) and shutil.disk_usage(IN_MEMORY).free > needed
 
 
 def split_figures(program, files, games, rounds):
@@ -143,7 +137,8 @@ def size_figures(program, file, rounds):
 def archive_figures(given, calls, name):
     """All that is measured of one archive."""
     files = [archive(name, it) for it in (given.games, measure.SMALL, measure.LARGE)]
-    games = games_in(given.program, files[0])
+    said = measure.printed(given.program, "check", files[0])
+    games = int(re.search(r"games: (\d+)", said)[1])
     check_output(calls["pgn-extract"], given.program, files[0])
     print("%s: %d games: the output converts to itself" % (name, games), file=sys.stderr)
     tasks = {it: [given.program, *it.split()] for it in TASKS}
