@@ -56,7 +56,7 @@ class Kept(Folder, unittest.TestCase):
             before = sorted(os.listdir(self.folder))
             ran = self.call(line.replace("NAME", name).rstrip("<"), env, input=text)
             with self.subTest(line, name=name):
-                self.assertEqual((ran.returncode, ran.stderr.count(b"\n")), (status, 1), ran.stderr)
+                self.check_refused(ran, status)
                 self.assertEqual({it: self.get(it) for it in outputs}, outputs)
                 self.assertEqual(sorted(os.listdir(self.folder)), before)
 
@@ -155,8 +155,11 @@ class Rest(Kept):
                 self.check_file(name, self.get(name), status, "lint --quiet %s %s" % (words, name))
 
     def test_without_a_library(self):
-        self.stays(127, "bad.pgn", "fmt -o out sound.pgn", "sieve NAME good bad",
+        self.stays(127, "bad.pgn", "fmt -o out sound.pgn", "sieve NAME good bad", "lint NAME",
                    env=WITHOUT_LIBRARY)
+        ran = self.call("lint --fix bad.pgn", WITHOUT_LIBRARY)
+        self.check_refused(ran, 127)
+        self.assertIn(b"/none cannot be used", ran.stderr)
         self.check_file("bad.pgn", SOUND + BAD, 127, "lint --fix bad.pgn", WITHOUT_LIBRARY)
         self.check_file("sound.pgn", SOUND, 127, "fmt --write sound.pgn", WITHOUT_LIBRARY)
 
