@@ -1,5 +1,5 @@
 -- Lists of what is given: their first game, their lines, and their texts.
-use Rattle.pgn_c.proofs.Words.{common_steps, arith, ◌≡◌, ℕ, Bool, true, false, List, [], ◌∷◌, ◌++◌, refl, sym, ap, ◌∙◌, append-nil, append_assoc, if◌then◌else◌, fold, Given, item, marker, shown, tags, are_lines, ends_line, first_game, first_line, given_text, has_marker, texts_behind, NoneEnds, MoveFields}
+use Rattle.pgn_c.proofs.Words.{common_steps, arith, ◌≡◌, Bool, true, false, List, [], ◌∷◌, ◌++◌, refl, sym, ap, ◌∙◌, append-nil, append_assoc, if◌then◌else◌, fold, Given, item, marker, shown, tags, are_lines, ends_line, first_game, first_line, given_text, has_marker, texts_behind, NoneEnds, MoveFields}
 
 -- ---- the items up to a marker
 

@@ -7,10 +7,8 @@ use Rattle.chess_text.specs.Uci.{uci}
 use Rattle.pgn_game.specs.declared.item.Item.{Item as CodeItem}
 use Rattle.pgn_game.specs.declared.item.Item.TheVariants as items
 use Rattle.pgn_game.specs.games.Game as games
-use Rattle.pgn_game.specs.games.Levels.{Levels, first_level, here, levels_after, levels_of, start_of}
-use Rattle.pgn_game.specs.games.Markers.{marker_text}
+use Rattle.pgn_game.specs.games.Levels.{here, levels_of, start_of}
 use Rattle.pgn_game.specs.games.Pairs.{Pair}
-use Rattle.pgn_game.specs.steps.Movetext.{StoredLevels, before_last}
 
 tags_text : (f : MoveFields) (o : Option Shown) (ps : List Pair) → given_text f o (tags ps) ≡ []
 tags_text f o ps = grind (arith, common_steps)

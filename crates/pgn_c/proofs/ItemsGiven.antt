@@ -1,8 +1,6 @@
 -- The items of a text, given call by call, and what is written of them.
-use Rattle.pgn_c.proofs.Words.{rules, common_steps, ◌≡◌, ℕ, zero, suc, take, drop, length-append, length-take-le, append-nil, ◌+◌, ◌<◌, ◌≤◌, ◌^◌, ◌⊎◌, inl, inr, Bool, true, false, List, [], ◌∷◌, ◌++◌, length, Option, None, Some, refl, sym, ap, subst, ◌∙◌, arith, append_assoc, is_some, Device, Token, tokens_of, Given, shown, Current, GivesItem, IsBehindTags, Items, ItemsRead, given_as, given_if, given_next, has_read_marker, shown_word, Full, Fault, read, GameEndsAt, WritesItems, all_result, first_game, game_items, given_text, plain_result, GivenSoFar, LinesSoFar, PutsItem, PutsText, code_ends, front_text, is_marker, passed_one, put_one, profile_in, Lines, MoveFields, PgnItems}
-use Rattle.pgn_game.specs.public.ItemsCalls.{at_end}
+use Rattle.pgn_c.proofs.Words.{rules, common_steps, ◌≡◌, ℕ, take, length-append, length-take-le, append-nil, ◌<◌, ◌≤◌, ◌^◌, ◌⊎◌, inl, inr, Bool, true, false, List, [], ◌∷◌, ◌++◌, length, Option, None, Some, refl, sym, ap, subst, ◌∙◌, arith, append_assoc, is_some, Device, Token, tokens_of, Given, shown, Current, GivesItem, IsBehindTags, Items, ItemsRead, given_as, given_if, given_next, has_read_marker, shown_word, Full, Fault, read, GameEndsAt, WritesItems, all_result, first_game, game_items, given_text, plain_result, GivenSoFar, LinesSoFar, PutsItem, PutsText, code_ends, front_text, is_marker, passed_one, profile_in, Lines, MoveFields, PgnItems}
 use Rattle.pgn_game.specs.declared.item.Item.{Item as CodeItem}
-use Rattle.pgn_game.specs.declared.item.Item.TheVariants as items
 use Rattle.pgn_game.specs.laws.ItemsJoined.{GivenAll, IsFront, ReadHasFailed, all_given}
 use Rattle.pgn_c.specs.ItemLines.{fault_result}
 use Rattle.pgn_c.proofs.GivenLists.{game_goes_on, marker_later, whole_game}

@@ -1,6 +1,6 @@
 -- A game that is read by its marker is also read where a missing Result takes the marker.
 use Rattle.pgn_game.proofs.stepping.GamesInTurn.{passes_before}
-use Rattle.pgn_c.proofs.Words.{◌≡◌, ◌≢◌, ℕ, List, [], ◌∷◌, ◌++◌, length, None, Some, refl, sym, ap, subst, ◌∙◌, append-nil, Token, Marker, Mode, Reason, WriteFault, marker_text, game_text, text_of, Read, read, games_read, PgnGame, IsFilled, ConvertsNext, IsGame, NextOf, HasGameByMarker, game_result, profile_counting, profile_taking, status_for, text_from, arith, common_steps, IsReadAlike, MissingResults, rejects_marker}
+use Rattle.pgn_c.proofs.Words.{◌≡◌, ◌≢◌, ℕ, List, [], ◌∷◌, ◌++◌, length, None, Some, refl, sym, ap, subst, ◌∙◌, append-nil, Token, Marker, Mode, Reason, marker_text, game_text, text_of, Read, read, games_read, PgnGame, IsFilled, ConvertsNext, IsGame, NextOf, HasGameByMarker, game_result, profile_counting, profile_taking, status_for, text_from, arith, common_steps, IsReadAlike, MissingResults, rejects_marker}
 
 -- no other result has status 0
 pub is_fault : (status : ℕ) (r : Reason) → status ≢ 0 → status_for status r ≢ 0

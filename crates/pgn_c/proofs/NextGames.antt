@@ -1,12 +1,9 @@
 -- What a conversion of one game finds, from the calls of the converter.
 use Rattle.pgn_game.proofs.stepping.OneMoreToken.{torn-none, writing_more}
-use Rattle.pgn_c.proofs.Words.{◌≡◌, ℕ, ◌+◌, ◌-◌, ◌^◌, ◌<◌, ◌≤◌, Bool, true, false, List, [], ◌∷◌, ◌++◌, length, take, drop, Option, None, Some, Result, refl, sym, ap, subst, ◌∙◌, append-nil, append_assoc, length-append, arith, bytes_eq, codes, IsTrue, length-take-le, take-append-drop, take_at, bytes_eq-Decides, take-append-add, Kind, Token, EndsAt, tokens_of, Device, Marker, WhiteWins, BlackWins, Draw, Unknown, Mode, InputTooLong, Fault, marker_text, Profile, marker_of, game_text, text_of, read, due, games_read, FinishesGame, PgnGame, AreKnown, NextOf, Finds, fault_result, game_result, nothing, status_for, rules, common_steps, length-take, Game, AreShown, Converter, Ends, finished_game_of, IsLast, Stands, StopsWriting, Stops, refused, unwritten, FedAll, FedGame, FedToFault, within_limit, StopsIn, at_token, too_long, Finishes, FinishesToFault, games_before, position_at_stop, refused_position, reported_position}
-use Rattle.std.proofs.KnownBytes.{Appends-trans}
+use Rattle.pgn_c.proofs.Words.{◌≡◌, ℕ, ◌+◌, ◌-◌, ◌^◌, ◌<◌, ◌≤◌, Bool, true, false, List, [], ◌∷◌, ◌++◌, length, take, drop, Option, None, Some, Result, refl, sym, ap, subst, ◌∙◌, append-nil, append_assoc, length-append, arith, codes, length-take-le, take-append-drop, take_at, bytes_eq-Decides, Kind, Token, EndsAt, tokens_of, Device, Marker, InputTooLong, Fault, marker_text, Profile, marker_of, game_text, text_of, read, due, games_read, FinishesGame, PgnGame, AreKnown, NextOf, Finds, fault_result, game_result, nothing, status_for, rules, common_steps, length-take, Game, AreShown, Converter, Ends, finished_game_of, IsLast, Stands, Stops, refused, unwritten, FedAll, FedGame, FedToFault, within_limit, StopsIn, at_token, too_long, Finishes, FinishesToFault, games_before, position_at_stop, refused_position, reported_position}
 use Rattle.std.specs.Io.KnownBytes.{Appends}
 use Rattle.pgn_lexer.specs.Standing.{coming}
 use Rattle.pgn_lexer.specs.Stands.{Follows, first, still}
-use Rattle.pgn_game.specs.games.Profile.{Missing, counts_as, takes_the_marker}
-use Rattle.pgn_game.specs.export.Text.{torn_for}
 use Rattle.pgn_game.specs.export.Due.{Gains}
 use Rattle.pgn_game.specs.public.Written.{seen}
 use Rattle.pgn_game.specs.laws.GameEnds.{GamesEndByMarker, TextsEndBehindMarker, TextsEndBetweenGames}

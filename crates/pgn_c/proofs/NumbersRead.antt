@@ -1,16 +1,14 @@
 -- What the bytes of a game say of its move numbers, read in one pass.
-use Rattle.pgn_c.proofs.Words.{rules, common_steps, Bool, cond, get_or, map, ap₂, ◌++◌, List, [], ◌∷◌, ap, sym, ◌∙◌, arith, drop, false, true, length, refl, suc, zero, subst, take, ℕ, ◌+◌, ◌-◌, ◌<◌, ◌≤◌, ◌≡◌, inl, inr, None, Option, Some, prefix_len, if◌then◌else◌, take_while, ◌==◌, ◌||◌, nat_le, cases_Bool, eqb-true, or_cases, true≢false, prefix_len-le-length, take_while-cons, drop-drop, drop_more, length-drop, none-some, continues_symbol, is_space, is_blank, is_control, starts_symbol, is_digit, is_letter, is_line_end, is_suffix, Kind, Token, Within, after_brace, after_class, after_first, begins_class, begins_first, after_line, after_run, begins, begins_after, begins_brace, begins_line, next, onto, tokens_from, tokens_of, brace, brace_word, line, line_word, column, outside, in_symbol, in_glyph, in_suffix, in_escape_line, quotes, backslash, AreAccepted, Mark, digits_with, main_line, mark_of_period, mark_of_symbol, marks_behind, number_in, wrong_behind, wrong_number, depth_after, with_other, numbered_by, plies_after, with_period, with_symbol, wrong_at_period, wrong_of, wrong_in, has_brace, with_ply, begins_unusual, skipped, to_brace, to_line_end, to_quote}
+use Rattle.pgn_c.proofs.Words.{rules, common_steps, Bool, cond, get_or, ap₂, ◌++◌, List, [], ◌∷◌, ap, sym, ◌∙◌, arith, drop, false, true, length, refl, suc, zero, subst, take, ℕ, ◌+◌, ◌-◌, ◌<◌, ◌≤◌, ◌≡◌, inl, inr, None, Option, Some, prefix_len, if◌then◌else◌, take_while, ◌==◌, ◌||◌, cases_Bool, eqb-true, or_cases, true≢false, prefix_len-le-length, take_while-cons, drop-drop, drop_more, length-drop, none-some, continues_symbol, is_space, is_blank, is_control, starts_symbol, is_digit, is_letter, is_line_end, is_suffix, Kind, Token, Within, after_brace, after_class, after_first, begins_class, begins_first, after_line, after_run, begins, begins_after, begins_brace, begins_line, next, onto, tokens_from, tokens_of, brace, brace_word, line, line_word, column, outside, in_symbol, in_glyph, in_suffix, in_escape_line, quotes, backslash, AreAccepted, Mark, digits_with, main_line, mark_of_period, mark_of_symbol, marks_behind, number_in, wrong_behind, wrong_number, depth_after, with_other, numbered_by, plies_after, with_period, with_symbol, wrong_at_period, wrong_of, wrong_in, has_brace, with_ply, begins_unusual, skipped, to_brace, to_line_end, to_quote}
 use Rattle.pgn_lexer.specs.Class as classes
 use Rattle.pgn_lexer.specs.Class.{Class}
 use Rattle.pgn_lexer.specs.CommentClass.{CommentClass}
 use Rattle.pgn_lexer.specs.CommentClass as comment_classes
-use Rattle.pgn_lexer.specs.StringClass as string_classes
-use Rattle.pgn_lexer.specs.Spelling.{Found, Reading, broken, class, closed, comment_class, gives, glyph_at, nothing, number_of, numbered_at, reading, stops, string_at, suffix_at, symbol_at, word_at}
+use Rattle.pgn_lexer.specs.Spelling.{Found, Reading, class, comment_class, gives, glyph_at, nothing, reading, stops, string_at, suffix_at, symbol_at, word_at}
 use Rattle.pgn_lexer.specs.Tokens as kinds
 use Rattle.pgn_lexer.specs.TokensOf.{at_end}
 use Rattle.pgn_c.specs.declared.move_numbers.Numbering.{Numbering}
 use Rattle.pgn_c.specs.declared.move_numbers.Digits.{Digits}
-use Rattle.pgn_lexer.specs.declared.token.LexReason.TheVariants.{SymbolTooLong}
 use Rattle.pgn_c.specs.declared.move_numbers.WrongNumber.{WrongNumber}
 
 -- ---- runs of a symbol, of a NAG and of a suffix

@@ -2,7 +2,6 @@
 use Rattle.pgn_c.proofs.Words.{◌≡◌, ℕ, ◌+◌, ◌<◌, ◌≤◌, List, [], ◌∷◌, ◌++◌, length, take, drop, sym, ap, ap₂, ◌∙◌, arith, append-nil, append_assoc, length-append, drop-drop, drop_at, take_at, length-drop, IsFilled, None, common_steps, Line, Ply, behind_ply}
 use Rattle.pgn_c.specs.LinesOfPlay.{WritesLine, line_result, ply_line, ply_lines}
 use Rattle.pgn_c.specs.declared.line_of_play.PgnPlies.{PgnPlies}
-use Rattle.pgn_c.specs.declared.line_of_play.PlyFields.TheVariants.{All, Fen, Key}
 use Rattle.pgn_c.specs.declared.line_of_play.PlyFields.{PlyFields}
 
 -- the line of a ply ends with a line feed

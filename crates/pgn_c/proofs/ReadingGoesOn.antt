@@ -1,7 +1,6 @@
 -- Reading the first tokens of a list, and all of them.
 -- Letters: p is the profile, b the progress, xs and ys are tokens.
-use Rattle.pgn_c.proofs.Words.{◌≡◌, ◌≤◌, List, [], ◌∷◌, ◌++◌, length, Option, None, Some, refl, sym, ap, subst, ◌∙◌, length-append, arith, Token, Reason, Fault, Profile, Read, read, games_read, refusal, common_steps, Game, Next, Progress, no_progress, progress_with, progress_after, read_from}
-use Rattle.pgn_game.specs.games.Progress.{next}
+use Rattle.pgn_c.proofs.Words.{◌≡◌, ◌≤◌, List, [], ◌∷◌, ◌++◌, length, Option, None, Some, refl, length-append, arith, Token, Reason, Fault, Profile, Read, read, games_read, refusal, common_steps, Game, Next, Progress, no_progress, progress_with, progress_after, read_from}
 
 -- what is read where the first token has this row of the fault table
 abbrev after_row : Profile → Progress → Token → List Token → Option Reason → Read

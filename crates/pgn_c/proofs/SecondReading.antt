@@ -1,6 +1,6 @@
 -- A game that is found where a missing Result takes the marker is found again where a missing
 -- Result counts as this marker, unless the buffer is full.
-use Rattle.pgn_c.proofs.Words.{◌≡◌, ◌⊎◌, inl, inr, ℕ, ◌^◌, ◌≤◌, ◌&&◌, Bool, true, IsTrue, List, [], ◌∷◌, ◌++◌, length, drop, Option, None, Some, refl, sym, ap, subst, ◌∙◌, append-nil, length-append, take_all, arith, bytes_eq-Decides, Token, tokens_of, Marker, Mode, marker_text, Read, read, games_read, PgnGame, AreKnown, ConvertsNext, IsGame, NextOf, profile_counting, profile_taking, text_from, common_steps, shown_begins, AreShown, Game, IsReadAlike, MissingResults, all_end_with, ReadsNext, in_first_column, marker_number}
+use Rattle.pgn_c.proofs.Words.{◌≡◌, ◌⊎◌, inl, inr, ℕ, ◌^◌, ◌≤◌, ◌&&◌, Bool, true, IsTrue, List, [], ◌∷◌, ◌++◌, length, drop, Option, None, Some, refl, sym, ap, subst, ◌∙◌, append-nil, length-append, take_all, arith, bytes_eq-Decides, Token, tokens_of, Marker, Mode, marker_text, Read, read, games_read, PgnGame, AreKnown, ConvertsNext, IsGame, NextOf, profile_counting, profile_taking, text_from, common_steps, shown_begins, Game, IsReadAlike, MissingResults, all_end_with, ReadsNext, in_first_column, marker_number}
 use Rattle.pgn_c.proofs.MarkerTaken.{is_fault}
 use Rattle.pgn_c.proofs.ReadingGoesOn.{fault_ends, games_stay}
 use Rattle.pgn_c.proofs.TextAhead.{length_from}

@@ -1,5 +1,5 @@
 -- The struct of C for a game has all of the game.
-use Rattle.pgn_c.proofs.Words.{common_steps, arith, ◌≡◌, ℕ, Bool, true, false, not, Option, None, Some, refl, sym, ap, ◌∙◌, is_some, unwrap_or, BadGame, flag, game_of, is_set, place_if, struct_of}
+use Rattle.pgn_c.proofs.Words.{common_steps, arith, ◌≡◌, ℕ, Bool, not, Option, is_some, unwrap_or, BadGame, flag, game_of, is_set, place_if, struct_of}
 use Rattle.pgn_sections.specs.declared.bad_game.Ends.{Ends}
 
 flag_kept : (b : Bool) → is_set (flag b) ≡ b

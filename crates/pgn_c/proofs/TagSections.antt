@@ -1,7 +1,5 @@
 -- The tag section of the next game, and what a buffer has of it.
-use Rattle.pgn_c.proofs.Words.{◌≡◌, ◌≢◌, ℕ, ◌<◌, ◌≤◌, ◌⊎◌, ◌^◌, List, [], inl, inr, length, take, drop, Option, None, Some, sym, ap, subst, ◌∙◌, arith, length-take-le, take_all, Profile, PgnGame, IsFilled, NextOf, Holds, ReadsTo, text_from, rules, common_steps, Game, Converter, finished_game_of, finished_game_section, ReadsTags, WritesSection, WritesTags, section_of, section_full}
-use Rattle.pgn_game.specs.games.FaultTable.{result_for}
-use Rattle.pgn_game.specs.export.TagSection.{tag_section}
+use Rattle.pgn_c.proofs.Words.{◌≡◌, ◌≢◌, ℕ, ◌<◌, ◌≤◌, ◌⊎◌, ◌^◌, List, length, take, drop, None, Some, arith, length-take-le, take_all, Profile, PgnGame, IsFilled, NextOf, Holds, ReadsTo, text_from, rules, common_steps, Game, Converter, finished_game_of, finished_game_section, ReadsTags, WritesSection, WritesTags, section_of, section_full}
 use Rattle.pgn_c.proofs.MarkerTaken.{is_fault}
 
 -- the section that the converter has is that of the game

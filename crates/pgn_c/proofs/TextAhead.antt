@@ -1,5 +1,5 @@
 -- The length of a text that is read from a place on.
-use Rattle.pgn_c.proofs.Words.{common_steps, ◌≡◌, ℕ, zero, suc, ◌≤◌, Bool, List, ◌++◌, length, drop, refl, arith, length-append, length-drop, length-replicate, white_space}
+use Rattle.pgn_c.proofs.Words.{common_steps, ◌≡◌, ℕ, ◌≤◌, Bool, List, ◌++◌, length, drop, arith, length-append, length-drop, length-replicate, white_space}
 
 pub length_of_white : (n : ℕ) (in_first_column : Bool) → length (white_space n in_first_column) ≡ n
 length_of_white n in_first_column = grind (arith, common_steps, length-append, length-replicate)

@@ -1,4 +1,4 @@
-use Rattle.pgn_c.proofs.Words.{ap, sym, ◌∙◌, arith, common_steps}
+use Rattle.pgn_c.proofs.Words.{arith, common_steps}
 use Rattle.pgn_c.proofs.ConversionToBuffer.{never_full, when_ok}
 use Rattle.pgn_c.proofs.pgn_check.Goals as goal
 

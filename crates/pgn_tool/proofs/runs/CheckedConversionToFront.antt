@@ -1,5 +1,5 @@
 -- A run that reads the same text twice has written a prefix of its output, whichever device fails.
-use Rattle.pgn_tool.proofs.Words.{◌≡◌, ◌∙◌, ℕ, List, ◌∷◌, ◌++◌, length, take, Option, Some, None, [], ap, append_assoc, append-nil, subst, sym, take-append_seam, Result, Ok, Err, Appends, Consumes, Device, Token, tokens_of, decided, Fault, Totals, Profile, takes_the_marker, Verdict, due, output, AreConverted, IsTokenPrefix, TwoReadingsConvert, Decides, FirstStops, SecondStops, TwoReadingsFail, HasTaken, first_too_long, first_unread, second_too_long, second_unread, unwritten, EqualReadings, InterruptedReadings, HasFront, Gives, arith, common_steps, AreShown}
+use Rattle.pgn_tool.proofs.Words.{◌≡◌, ◌∙◌, ℕ, List, ◌∷◌, ◌++◌, length, take, Option, Some, [], ap, append_assoc, append-nil, subst, sym, take-append_seam, Result, Ok, Err, Appends, Consumes, Device, Token, tokens_of, decided, Fault, Totals, Profile, takes_the_marker, Verdict, due, output, AreConverted, IsTokenPrefix, TwoReadingsConvert, Decides, FirstStops, SecondStops, TwoReadingsFail, HasTaken, first_too_long, first_unread, second_too_long, second_unread, unwritten, EqualReadings, InterruptedReadings, HasFront, Gives, arith, common_steps, AreShown}
 use Rattle.pgn_lexer.specs.Laws.{DecidedIsPrefix}
 use Rattle.pgn_game.specs.laws.Laws.{DueGrows, IsPrefix}
 use Rattle.pgn_game.specs.public.Checked.{compared, written_by}

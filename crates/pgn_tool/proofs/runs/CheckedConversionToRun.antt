@@ -1,5 +1,5 @@
 -- What follows of a run from the conversion in it, of an input that is read twice.
-use Rattle.pgn_tool.proofs.Words.{◌≡◌, ℕ, ◌≤◌, List, Option, ◌⊎◌, inl, inr, arith, Result, Ok, Err, Keeps, Counts, Device, IsStill, Mode, Reason, ReadFault, WriteFault, Fault, Totals, Profile, refused, AreConverted, TwoReadingsConvert, CountsThree, FirstStops, SecondStops, TwoReadingsFail, HasTaken, OneFails, WriteStops, first_too_long, first_unread, second_too_long, second_unread, unwritten, EqualReadings, HasFailed, IsCalm, IsSmooth, status_of, AnswersSame, AnswersTwice, BlamesTwice, EndsTwice, RunsTwice, profile_twice, Appends-kept, IfSome_then, common_steps, rules}
+use Rattle.pgn_tool.proofs.Words.{◌≡◌, ℕ, ◌≤◌, List, Option, ◌⊎◌, arith, Result, Ok, Err, Keeps, Counts, Device, IsStill, Mode, Reason, Fault, Totals, Profile, refused, AreConverted, TwoReadingsConvert, CountsThree, FirstStops, SecondStops, TwoReadingsFail, HasTaken, OneFails, WriteStops, first_too_long, first_unread, second_too_long, second_unread, unwritten, EqualReadings, HasFailed, IsCalm, IsSmooth, status_of, AnswersSame, AnswersTwice, BlamesTwice, EndsTwice, RunsTwice, profile_twice, Appends-kept, IfSome_then, common_steps, rules}
 use Rattle.pgn_tool.proofs.runs.ConversionToRun.{CountsOneAtMost, calm_fails, concludes_by_verdict, longer, refuses_by_verdict, risen}
 
 -- ---- a conversion, and a flush after it

@@ -1,5 +1,5 @@
 -- What follows of a run from the conversion in it.
-use Rattle.pgn_tool.proofs.Words.{◌≡◌, ◌∙◌, ℕ, ◌^◌, ◌<◌, ◌≤◌, Bool, true, false, List, ◌++◌, length, ap, refl, subst, sym, arith, take, length-append, Option, None, Some, inl, inr, take-length, Result, Ok, Err, OnOk, is_ok, codes, ◌⊎◌, if◌then◌else◌, Appends, Counted, line_of, Consumes, Keeps, Counts, Device, IsStill, NoneUnflushed, Writes, one_more, Reason, ReadFault, WriteFault, Fault, Totals, Profile, tokens_of, Read, read, refused, totals, verdict_of, profile_of, AfterConversion, CountsDevices, Fails, IsConverted, Stopped, CountsReadFault, ListResult, ListStops, list_profile, Answers, Blames, Concludes, Ends, EndsList, FlushesLast, HasFailed, IsCalm, IsSmooth, Job, Runs, Tells, TellsVerdict, Works, WritesLast, checking, exporting, line, listing, status_of, Appends-kept, device, Verdict, IfSome_then, common_steps}
+use Rattle.pgn_tool.proofs.Words.{◌≡◌, ◌∙◌, ℕ, ◌^◌, ◌<◌, ◌≤◌, Bool, true, false, List, ◌++◌, length, ap, subst, sym, arith, take, length-append, Option, Some, take-length, Result, Ok, Err, OnOk, is_ok, codes, ◌⊎◌, if◌then◌else◌, Appends, Counted, line_of, Consumes, Keeps, Counts, Device, IsStill, NoneUnflushed, Writes, one_more, Reason, Fault, Totals, Profile, tokens_of, Read, read, refused, totals, verdict_of, profile_of, AfterConversion, CountsDevices, Fails, IsConverted, Stopped, CountsReadFault, ListResult, ListStops, list_profile, Answers, Blames, Concludes, Ends, EndsList, FlushesLast, HasFailed, IsCalm, IsSmooth, Job, Runs, Tells, TellsVerdict, Works, WritesLast, checking, exporting, line, listing, status_of, Appends-kept, device, Verdict, IfSome_then, common_steps}
 
 -- ---- devices
 

@@ -1,5 +1,5 @@
 -- How a run of the program is put together from opening its file and carrying out its task.
-use Rattle.pgn_tool.proofs.Words.{◌≡◌, ◌∙◌, ℕ, List, Option, None, Some, Result, Ok, Err, sym, ap, IfOk, Device, SystemFault, Holding, IsOpened, Machine, Reading, holds, missing, Carries, EndsUnopened, IsMissing, RunsAnswer, RunsWords, StartsFrom, by_fault, by_task, file_source, opened, source_of, unopened, IsUntouched, none-some, arith, common_steps}
+use Rattle.pgn_tool.proofs.Words.{◌≡◌, ℕ, List, Option, None, Some, Result, Ok, Err, IfOk, Device, SystemFault, Holding, IsOpened, Machine, Reading, holds, missing, Carries, EndsUnopened, IsMissing, RunsAnswer, RunsWords, StartsFrom, by_fault, by_task, file_source, source_of, unopened, IsUntouched, none-some, arith, common_steps}
 use Rattle.pgn_arguments.specs.declared.arguments.Task.{Task}
 use Rattle.pgn_arguments.specs.declared.arguments.ParseFault.{ParseFault}
 use Rattle.pgn_arguments.specs.Requests.{AnswersBy, file_of, request_in, request_of}

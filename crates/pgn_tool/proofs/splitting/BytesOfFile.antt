@@ -1,5 +1,5 @@
 -- The bytes in the file of a game.
-use Rattle.pgn_tool.proofs.Words.{◌≡◌, ℕ, ◌<◌, ◌≤◌, true, List, [], ◌∷◌, length, length-append, length-take, append-nil, take, Option, None, Some, Result, Ok, Err, refl, sym, ap, subst, ◌∙◌, arith, is_some, IfOk, false≢true, Appends, WriteAppends, Counts, FileStep, IsNew, added, has_bytes, is_text, common_steps}
+use Rattle.pgn_tool.proofs.Words.{◌≡◌, ℕ, ◌<◌, ◌≤◌, true, List, [], ◌∷◌, length, length-append, length-take, append-nil, take, Option, None, Some, Result, Ok, Err, refl, sym, ap, ◌∙◌, arith, is_some, IfOk, false≢true, Appends, WriteAppends, Counts, FileStep, IsNew, added, has_bytes, is_text, common_steps}
 
 -- its bytes are reported, if the log is
 abbrev pub IsKnown : Option (List FileStep) → Option (List ℕ) → Type 0

@@ -1,5 +1,5 @@
 -- The files of a split hold the export texts of the games.
-use Rattle.pgn_tool.proofs.Words.{◌≡◌, ◌∙◌, ℕ, ◌+◌, List, [], ◌∷◌, ◌++◌, length, Option, None, Some, refl, sym, ap, arith, append_assoc, append-nil, length-append, Appends, false≢true, append_cancel_left, one_more, Token, Game, start_of, tag_section, result_for, game_text, text_of, tokens_out, due, read, GameFile, NotMade, Open, list_profile, FileStep, IsBegun, added, bytes_in, closed, failures_in, file_steps, made, number_after, whole_files, torn_file, torn_text, common_steps}
+use Rattle.pgn_tool.proofs.Words.{◌≡◌, ◌∙◌, ℕ, ◌+◌, List, [], ◌∷◌, ◌++◌, length, Option, Some, refl, sym, ap, arith, append_assoc, append-nil, length-append, Appends, append_cancel_left, one_more, Token, Game, start_of, tag_section, result_for, game_text, text_of, tokens_out, due, read, GameFile, list_profile, FileStep, IsBegun, added, bytes_in, closed, failures_in, file_steps, made, number_after, whole_files, torn_file, torn_text, common_steps}
 
 -- ---- logs
 

@@ -1,5 +1,5 @@
 -- What each game makes of the files of the games so far.
-use Rattle.pgn_tool.proofs.Words.{◌≡◌, ◌∙◌, ℕ, ◌^◌, ◌<◌, ◌≤◌, true, false, List, [], ◌∷◌, ◌++◌, length, length-append, length-take, map, take, Option, None, Some, IfSome, Result, Ok, Err, refl, sym, ap, subst, inl, inr, ◌⊎◌, arith, append-nil, Appends, Consumes, Consumes-trans, false≢true, length-map, map-append, Device, one_more, Token, tokens_of, Reason, ReadFault, WriteFault, InputTooLong, Fault, game_text, text_of, Read, due, no_progress, read, StopsWriting, CountsDevices, Games, NextGame, NextStops, NoGame, ReadsNoGame, Decides, GameFile, NotMade, Open, Unsplit, list_profile, FileStep, IsBegun, added, bytes_in, closed, failures_in, file_steps, made, number_after, refusal_step, taken_by, whole_files, CountsSource, CountsSplit, GameSplit, IsOwn, LastFile, SplitFiles, reported, settled, CutFile, CutsFile, IsSplit, IsSplitWhole, Logs, LogsCut, SplitResult, SplitStops, SplitsNoMore, StopsAt, files_of, texts_in, torn_file, torn_text, SplitSoFar, Consumes-whole, CreateFault, Stops, games_before, common_steps, IsRefused, GameState}
+use Rattle.pgn_tool.proofs.Words.{◌≡◌, ◌∙◌, ℕ, ◌^◌, ◌<◌, ◌≤◌, true, false, List, [], ◌∷◌, ◌++◌, length, length-append, length-take, map, take, Option, Some, IfSome, Result, Ok, Err, sym, ap, subst, inl, inr, ◌⊎◌, arith, append-nil, Appends, Consumes, Consumes-trans, false≢true, length-map, map-append, Device, one_more, Token, tokens_of, Reason, ReadFault, WriteFault, InputTooLong, Fault, game_text, text_of, Read, due, no_progress, read, StopsWriting, CountsDevices, Games, NextGame, NextStops, NoGame, ReadsNoGame, Decides, GameFile, NotMade, Open, Unsplit, list_profile, FileStep, IsBegun, added, bytes_in, closed, failures_in, file_steps, made, number_after, refusal_step, taken_by, whole_files, CountsSource, CountsSplit, GameSplit, IsOwn, LastFile, SplitFiles, reported, settled, CutFile, CutsFile, IsSplit, IsSplitWhole, Logs, LogsCut, SplitResult, SplitStops, SplitsNoMore, StopsAt, files_of, texts_in, torn_file, torn_text, SplitSoFar, Consumes-whole, CreateFault, Stops, games_before, common_steps, IsRefused, GameState}
 use Rattle.pgn_game.specs.export.Due.{Gains}
 use Rattle.pgn_tool.proofs.runs.CallToLines.{ReadAs, decides_at_end, decides_at_token, has_read_of, reads_at_end, reads_at_token}
 use Rattle.pgn_tool.proofs.splitting.FilesOfGames.{file_holds, game_is, log_on, none_torn, number_is, taken_is, torn_is, whole_and_one, whole_file}

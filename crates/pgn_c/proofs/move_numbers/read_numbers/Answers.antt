@@ -1,4 +1,4 @@
-use Rattle.pgn_c.proofs.Words.{rules, common_steps, ap, arith, drop, get_or, sym, take, ◌+◌, ◌-◌, ◌≡◌, ◌∙◌, take_rest, none-some, prefix_len, continues_symbol, skipped}
+use Rattle.pgn_c.proofs.Words.{rules, common_steps, ap, arith, drop, get_or, sym, take, ◌+◌, ◌-◌, ◌≡◌, ◌∙◌, take_rest, none-some, prefix_len, continues_symbol}
 use Rattle.pgn_c.proofs.NumbersRead.{letter_turn, other_turn, period_turn, space_turn, starts_by, starts_by_none, symbol_turn, wrong_turn}
 use Rattle.pgn_c.proofs.UnusualRead.{letter_sees, number_sees, other_sees, period_sees, space_sees}
 use Rattle.pgn_c.proofs.move_numbers.read_numbers.Goals as goal

@@ -1,4 +1,3 @@
-use Rattle.pgn_c.proofs.Words.{common_steps, arith}
 use Rattle.pgn_c.proofs.next_game.read_by_marker.Goals as goal
 
 pub returns-clause-next : goal.returns-clause-next

@@ -1,4 +1,4 @@
-use Rattle.pgn_c.proofs.Words.{false, drop, profile_counting, text_from, arith, common_steps, device}
+use Rattle.pgn_c.proofs.Words.{false, drop, profile_counting, text_from, device}
 use Rattle.pgn_c.proofs.NextGames.{finds_as}
 use Rattle.pgn_c.proofs.next_game.read_next.Goals as goal
 

@@ -1,4 +1,4 @@
-use Rattle.pgn_c.proofs.Words.{◌≡◌, Bool, true, false, drop, refl, ap, text_from, ◌∙◌, arith, common_steps, Converter, nowhere}
+use Rattle.pgn_c.proofs.Words.{◌≡◌, Bool, true, drop, ap, text_from, ◌∙◌, arith, common_steps, Converter, nowhere}
 use Rattle.pgn_c.specs.NextGameSteps.{profile_if, silenced_if}
 use Rattle.pgn_c.proofs.NextGames.{finds_as}
 use Rattle.pgn_c.proofs.next_game.read_silently.Goals as goal

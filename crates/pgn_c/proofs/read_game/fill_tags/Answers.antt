@@ -1,4 +1,4 @@
-use Rattle.pgn_c.proofs.Words.{◌≡◌, ℕ, length, take, Some, ap, sym, subst, ◌∙◌, arith, length-take-le, common_steps, Writes, finished_game_section, section_full}
+use Rattle.pgn_c.proofs.Words.{◌≡◌, ℕ, length, take, Some, ap, sym, subst, arith, length-take-le, common_steps, Writes, finished_game_section}
 use Rattle.pgn_c.proofs.ConversionToBuffer.{filled}
 use Rattle.pgn_c.proofs.TagSections.{all_written, some_written}
 use Rattle.pgn_c.proofs.read_game.fill_tags.Goals as goal

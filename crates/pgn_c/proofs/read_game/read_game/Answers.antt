@@ -1,4 +1,4 @@
-use Rattle.pgn_c.proofs.Words.{length, arith, profile_counting, profile_taking, common_steps}
+use Rattle.pgn_c.proofs.Words.{length, arith, profile_counting, profile_taking}
 use Rattle.pgn_game.specs.declared.marker.Marker.TheVariants.{Unknown}
 use Rattle.pgn_c.proofs.TagSections.{in_place, reads_tags}
 use Rattle.pgn_c.proofs.read_game.read_game.Goals as goal

@@ -1,4 +1,4 @@
-use Rattle.pgn_tool.proofs.Words.{arith, ◌≡◌, ℕ, ◌-◌, ◌^◌, ◌<◌, ◌≤◌, false, List, length, Some, String, string_bytes, Global, Appends, Full, profile_of, output, Export, Machine, holds, Carries, opened, unopened, exporting, exporting, SystemFault, common_steps}
+use Rattle.pgn_tool.proofs.Words.{arith, ◌≡◌, ℕ, ◌-◌, ◌^◌, ◌<◌, ◌≤◌, false, List, length, Some, String, string_bytes, Global, Appends, Full, profile_of, output, Export, Machine, holds, Carries, common_steps}
 use Rattle.pgn_tool.proofs.memory_tests.export_named.Goals as goal
 
 carried : (name : String Global) (m : Machine) (status : ℕ) (text : List ℕ) → Carries (Export false (Some name)) m status → status ≡ 0

@@ -1,4 +1,4 @@
-use Rattle.pgn_tool.proofs.Words.{ℕ, List, Option, Result, refl, Device, FileStep, Unsplit, CountsSplit, EndsSplit, RunsSplit, SplitFiles, SplitResult, arith, common_steps}
+use Rattle.pgn_tool.proofs.Words.{ℕ, List, Option, Result, Device, FileStep, Unsplit, CountsSplit, EndsSplit, RunsSplit, SplitFiles, SplitResult, arith, common_steps}
 use Rattle.pgn_tool.proofs.split.split_to.Goals as goal
 
 runs_by : {before after : Option (List FileStep)} {source err : Device} {status : ℕ} (answer : Result Unit Unsplit)

@@ -1,4 +1,4 @@
-use Rattle.pgn_tool.proofs.Words.{rules, Bool, Device, FileStep, GameFile, List, NotMade, Option, None, Some, bytes_in, failures_in, added, ap, append_assoc, ◌∙◌, ◌++◌, ◌≡◌, ℕ, device, false, subst, ReadsNext, seen, CountsResult, arith, common_steps}
+use Rattle.pgn_tool.proofs.Words.{Bool, Device, FileStep, List, Option, added, append_assoc, ◌∙◌, ◌++◌, ◌≡◌, false, subst, seen, arith, common_steps}
 use Rattle.pgn_tool.proofs.split.write_to_file.Goals as goal
 
 -- the sink of games that are written, as it is

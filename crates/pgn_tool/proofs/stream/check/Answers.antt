@@ -1,4 +1,4 @@
-use Rattle.pgn_tool.proofs.Words.{inl, refl, Err, Ok, arith, common_steps}
+use Rattle.pgn_tool.proofs.Words.{arith, common_steps}
 use Rattle.pgn_tool.proofs.runs.ConversionToRun.{concludes_as, flushed_after, flushed_well, flushes_last, silent_blames, tells_as}
 use Rattle.pgn_tool.proofs.stream.check.Goals as goal
 

@@ -1,4 +1,4 @@
-use Rattle.pgn_tool.proofs.Words.{◌∙◌, inl, Err, Ok, arith, common_steps}
+use Rattle.pgn_tool.proofs.Words.{Err, arith, common_steps}
 use Rattle.pgn_tool.proofs.runs.ConversionToRun.{blames_of, concludes_flushed, converts_on, counted_once, flushed_after, flushes_last}
 use Rattle.pgn_tool.proofs.stream.export.Goals as goal
 

@@ -1,4 +1,4 @@
-use Rattle.pgn_tool.proofs.Words.{◌≡◌, ◌∙◌, ap, refl, inl, inr, Err, Ok, Refused, Unwritten, arith, common_steps}
+use Rattle.pgn_tool.proofs.Words.{◌≡◌, ◌∙◌, ap, refl, inl, inr, Err, Refused, Unwritten, arith, common_steps}
 use Rattle.pgn_tool.proofs.runs.ConversionToRun.{concludes_flushed, flushed_after, flushes_last, list_blames, lists_on, risen}
 use Rattle.pgn_tool.proofs.stream.list.Goals as goal
 

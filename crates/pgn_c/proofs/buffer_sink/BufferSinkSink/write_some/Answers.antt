@@ -1,4 +1,4 @@
-use Rattle.pgn_c.proofs.Words.{◌<◌, length, drop, sym, ◌∙◌, ap, subst, arith, common_steps}
+use Rattle.pgn_c.proofs.Words.{length, arith, common_steps}
 use Rattle.pgn_c.proofs.MoreBytesBehind.{length_with, drop_with}
 use Rattle.pgn_c.proofs.buffer_sink.BufferSinkSink.write_some.Goals as goal
 

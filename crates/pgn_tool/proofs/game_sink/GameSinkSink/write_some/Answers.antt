@@ -1,4 +1,4 @@
-use Rattle.pgn_tool.proofs.Words.{◌∙◌, arith, common_steps}
+use Rattle.pgn_tool.proofs.Words.{arith, common_steps}
 use Rattle.pgn_tool.proofs.splitting.BytesOfFile.{has_more, known_made, made_first}
 use Rattle.pgn_tool.proofs.game_sink.GameSinkSink.write_some.Goals as goal
 
