@@ -60,7 +60,7 @@ class Library:
         for name, (result, words) in test_library.declared().items():
             function = getattr(self.calls, name)
             function.restype = {**STRUCTS, **KINDS}[result]
-            function.argtypes = [KINDS.get(it, c_void_p) for it in words]
+            function.argtypes = [KINDS.get(it, c_void_p) for it in words.split(", ") if it]
 
     def call(self, name, *words):
         """The result of a call. A text is handed over as its address and its length, or as none."""

@@ -335,14 +335,16 @@ class Completions(Shell):
             (["games.pgn"], "pgn_tool list ga", "gillspoon sieve --bad ga", "gillspoon fmt ga"))
 
     def zsh(self, line):
-        """It runs on a terminal."""
-        self.put_all({"words": "", ".zshrc": ZSHRC % COMPLETIONS})
-        env = dict(os.environ, ZDOTDIR=self.folder, TERM="xterm")
+        """It runs on a terminal, in a new folder."""
+        folder = programs.new_folder(self)
+        for name, text in (("some games.pgn", ""), ("words", ""), (".zshrc", ZSHRC % COMPLETIONS)):
+            programs.write_file(folder + "/" + name, text)
         # when it edits a line
         begin = b"\x1b[?2004h"
-        programs.on_a_terminal(["zsh", "-d", "-i"], line.encode() + b"\t\x15exit\n", begin, env=env,
-                               cwd=self.folder, start_new_session=True)
-        return sorted(set(self.get("words").decode().split("\n")) - {""})
+        programs.on_a_terminal(["zsh", "-d", "-i"], line.encode() + b"\t\x15exit\n", begin,
+                               env=dict(os.environ, ZDOTDIR=folder, TERM="xterm"), cwd=folder,
+                               start_new_session=True)
+        return sorted(set(text_of(folder + "/words").split("\n")) - {""})
 
     def test_zsh(self):
         programs.need("zsh")

@@ -166,10 +166,11 @@ class Rest(Kept):
     def test_split(self):
         """pgn_tool replaces the file of a game once its movetext has begun."""
         os.mkdir(self.folder + "/out")
-        # it takes a name for nothing: what is compressed is another text to it, and a PDF begins
-        # with escape lines and a number
-        for name in [it for it in [*UNREADABLE, *OTHERS, "empty.pgn", "words.pgn"]
-                     if it not in ("not.pgn.gz", "guide.pgn")]:
+        self.put("letters.pgn", OTHER_KINDS["tape.pgn"][0].replace(b"2026.pgn", b"many.pgn"))
+        # it takes a name for nothing: what is compressed is another text to it, and a PDF, and an
+        # archive with such a name, begin with a number
+        for name in [it for it in [*UNREADABLE, *OTHERS, "letters.pgn", "empty.pgn", "words.pgn"]
+                     if it not in ("not.pgn.gz", "guide.pgn", "tape.pgn")]:
             self.put("out/000001.pgn", OLD)
             run([need_program(), "split", "out", name], cwd=self.folder)
             self.assertEqual((self.get("out/000001.pgn"), os.listdir(self.folder + "/out")),
